@@ -1,0 +1,12 @@
+-- A transport address in a text: an address, a colon and a port.
+use Rattle.std.specs.Prelude.{ℕ, List, Result, Ok}
+use Rattle.audit_model.specs.declared.token.TokenFault.{TokenFault}
+use Rattle.audit_model.specs.declared.address.Addr.{Addr}
+use Rattle.audit_model.specs.Token.{◌>>=◌, halves_of, both_of, number_of}
+use Rattle.audit_model.specs.AddressText.{ip_of}
+
+unfoldable pub addr_of : List ℕ → Result Addr TokenFault
+addr_of word = do
+  halves ← halves_of 58 word
+  both ← both_of (ip_of halves.0) (number_of 65535 halves.1)
+  Ok (record { ip = both.0; port = both.1 })

@@ -1,0 +1,11 @@
+pub mod Token
+pub mod AddressText
+pub mod Addr
+pub mod Window
+pub mod Event
+pub mod Rule
+pub mod Breach
+pub mod Sink
+pub mod PortRange
+pub mod Policy
+pub mod PolicyFault

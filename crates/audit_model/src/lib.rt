@@ -1,0 +1,28 @@
+//! The types that all of turnaudit speaks of, and the policy text.
+#![tactic(auto)]
+
+mod address;
+mod certificate;
+mod event;
+mod listed;
+mod policy;
+mod policy_fault;
+mod policy_text;
+mod rule;
+mod sighting;
+mod sink;
+mod token;
+mod verdict;
+
+pub use address::{Addr, read_ip, read_port};
+pub use certificate::{CertDrop, CertLane, Certificate, MAX_EVENTS, MAX_LANES};
+pub use event::{At, Event, Key};
+pub use listed::Listed;
+pub use policy::{Policy, PortRange};
+pub use policy_fault::{PolicyFault, PolicyFaultKind};
+pub use policy_text::read_policy;
+pub use rule::Rule;
+pub use sighting::{Side, SightId, Sighting, window};
+pub use sink::{Sink, SinkFailed, put_all};
+pub use token::{TokenFault, both, cut, halves, number};
+pub use verdict::{Breach, Tenancy, Verdict};

@@ -1,0 +1,92 @@
+//! The policy: which endpoints are the service, and the three tolerances.
+
+use crate::address::Addr;
+use crate::listed::Listed;
+
+/// UDP ports of one IPv4 address, from `low` to `high`, both of them in it.
+#[derive(Clone, Copy, Debug, PartialEq, Eq)]
+pub struct PortRange {
+    pub ip: u32,
+    pub low: u16,
+    pub high: u16,
+}
+
+impl PortRange {
+    ghost use Rattle.std.specs.Prelude.{◌↔◌, IsTrue};
+    ghost use Rattle.audit_model.specs.PortRange.{IsIn, Meet};
+
+    /// Whether the address is one of the range.
+    pub fn contains(&self, addr: Addr) -> bool
+        ensures { IsTrue result ↔ IsIn addr self.now }
+    {
+        self.ip == addr.ip && self.low <= addr.port && addr.port <= self.high
+    }
+
+    /// Whether some address is in both ranges, neither of which is empty.
+    pub fn meets(&self, other: &PortRange) -> bool
+        ensures { IsTrue result ↔ Meet self.now other.now }
+    {
+        self.ip == other.ip && self.low <= other.high && other.low <= self.high
+    }
+}
+
+/// One address as a range.
+impl From<Addr> for PortRange {
+    ghost use Rattle.std.specs.Prelude.{◌≡◌};
+    ghost use Rattle.audit_model.specs.PortRange.{lone};
+
+    ghost from_gives = { λ addr range. range ≡ lone addr };
+
+    fn from(addr: Addr) -> PortRange {
+        PortRange {
+            ip: addr.ip,
+            low: addr.port,
+            high: addr.port,
+        }
+    }
+}
+
+/// What the auditor is told of the server. Lengths of time are nanoseconds.
+#[derive(Debug, Drop)]
+pub struct Policy {
+    /// Where clients send their requests.
+    pub listen: Listed<Addr>,
+    /// From where the server relays.
+    pub relay: Listed<PortRange>,
+    /// How far a datagram's moment may lie from its stamp.
+    pub skew: u64,
+    /// How long after its end a lease may be used.
+    pub grace: u64,
+    /// How long the server may hold an arrival before it acts, and before what it gives leaves.
+    pub hold: u64,
+}
+
+impl Policy {
+    ghost use Rattle.std.specs.Prelude.{◌↔◌, IsTrue};
+    ghost use Rattle.audit_model.specs.Policy.{Listens, Relays, IsOfService};
+
+    /// Whether clients send their requests to this address. It goes over at most 64 of them.
+    pub fn listens(&self, addr: Addr) -> bool
+        ensures { IsTrue result ↔ Listens self.now addr }
+    {
+        self.listen.as_slice().iter().any(|listen| *listen == addr)
+    }
+
+    /// Whether the address is in a relay range. It goes over at most 64 of them.
+    pub fn relays(&self, addr: Addr) -> bool
+        ensures { IsTrue result ↔ Relays self.now addr }
+    {
+        self.relay
+            .as_slice()
+            .iter()
+            .any(|range| range.contains(addr))
+    }
+
+    /// Whether some endpoint of the service has this IP.
+    pub fn service_ip(&self, ip: u32) -> bool
+        ensures { IsTrue result ↔ IsOfService self.now ip }
+    {
+        self.listen.as_slice().iter().any(|listen| listen.ip == ip)
+            || self.relay.as_slice().iter().any(|range| range.ip == ip)
+    }
+}

@@ -1,0 +1,50 @@
+//! Datagrams of the service, as an interface saw them.
+
+ghost use Rattle.std.specs.Prelude.{◌≡◌};
+ghost use Rattle.audit_model.specs.Window.{first_moment, last_moment};
+
+use crate::address::Addr;
+use crate::listed::Listed;
+
+/// The name of a sighting: its interface, and its place among the sightings of that interface.
+#[derive(Clone, Copy, Debug, PartialEq, Eq, PartialOrd, Ord, Hash)]
+pub struct SightId {
+    /// 64 times the number of the file, plus the interface's number in the file.
+    pub iface: u32,
+    /// Counted from 0 over the sightings of that interface.
+    pub index: u32,
+}
+
+/// Which way a datagram goes.
+#[derive(Clone, Copy, Debug, PartialEq, Eq, Hash)]
+pub enum Side {
+    /// To an endpoint of the service.
+    Arrives,
+    /// From an endpoint of the service.
+    Leaves,
+}
+
+/// A datagram with one endpoint in the service. Times are nanoseconds since 1970.
+#[derive(Debug, Drop)]
+pub struct Sighting {
+    pub payload: Listed<u8>,
+    /// When the capture says that it was seen.
+    pub stamp: u64,
+    /// The first moment of its stamp's window.
+    pub lo: u64,
+    /// The last moment of its stamp's window.
+    pub hi: u64,
+    pub id: SightId,
+    pub from: Addr,
+    pub to: Addr,
+    pub side: Side,
+}
+
+/// The first and the last moment at which a datagram of this stamp may have been seen, in nanoseconds:
+/// `skew` to each side, not below 0 and not past the greatest u64.
+pub fn window(stamp: u64, skew: u64) -> (u64, u64)
+    ensures lo { result.0 ≡ first_moment stamp skew }
+    ensures hi { result.1 ≡ last_moment stamp skew }
+{
+    (stamp.saturating_sub(skew), stamp.saturating_add(skew))
+}
