@@ -1,2 +1,5 @@
 pub mod Cuts
 pub mod Numbers
+pub mod Breaches
+pub mod Sinks
+pub mod PolicyTexts

@@ -3,9 +3,14 @@ pub mod AddressText
 pub mod Addr
 pub mod Window
 pub mod Event
+pub mod EventCount
 pub mod Rule
 pub mod Breach
 pub mod Sink
 pub mod PortRange
 pub mod Policy
 pub mod PolicyFault
+pub mod PolicyLines
+pub mod PolicyDraft
+pub mod Lines
+pub mod PolicyText

@@ -1,9 +1,19 @@
 -- The fault of a policy line that a word of it has.
+use Rattle.std.specs.Prelude.{ℕ, List, codes}
 use Rattle.audit_model.specs.declared.token.TokenFault.{TokenFault}
 use Rattle.audit_model.specs.declared.token.TokenFault.TheVariants as token
 use Rattle.audit_model.specs.declared.policy_fault.PolicyFaultKind.{PolicyFaultKind}
-use Rattle.audit_model.specs.declared.policy_fault.PolicyFaultKind.TheVariants.{Line, Number}
+use Rattle.audit_model.specs.declared.policy_fault.PolicyFaultKind.TheVariants.{Line, Number, Overlap, Missing, Limit, Memory}
 
 abbrev pub policy_fault_of : TokenFault → PolicyFaultKind
 policy_fault_of token.Shape = Line
 policy_fault_of token.Number = Number
+
+-- the name under which users know a fault
+abbrev pub policy_code_of : PolicyFaultKind → List ℕ
+policy_code_of Line = codes "P1"
+policy_code_of Number = codes "P2"
+policy_code_of Overlap = codes "P3"
+policy_code_of Missing = codes "P4"
+policy_code_of Limit = codes "P5"
+policy_code_of Memory = codes "P6"

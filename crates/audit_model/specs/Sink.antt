@@ -1,5 +1,13 @@
--- What a sink has taken of what it was given.
-use Rattle.std.specs.Prelude.{◌≡◌, ℕ, zero, suc, ◌≤◌, List, ◌++◌, length, take, Result, Ok, Err}
+-- What a sink has taken, and how often it failed. None claims nothing, and stays so.
+use Rattle.std.specs.Prelude.{◌≡◌, ℕ, zero, suc, ◌+◌, ◌<◌, ◌≤◌, List, ◌++◌, length, take, Result, Ok, Err, Option, option_map, IfSome}
+
+-- the bytes, and these after them
+abbrev pub followed_by : Option (List ℕ) → List ℕ → Option (List ℕ)
+followed_by taken bytes = option_map (λ before. before ++ bytes) taken
+
+-- the number, and so many more
+abbrev pub raised_by : Option ℕ → ℕ → Option ℕ
+raised_by failures more = option_map (λ n. n + more) failures
 
 -- whether a call failed: an error, or nothing taken of something
 abbrev pub failures_of : {E : Type 0} → Result ℕ E → ℕ → ℕ
@@ -9,5 +17,13 @@ failures_of (Ok zero) zero = 0
 failures_of (Ok zero) (suc n) = 1
 
 -- after is before and then a front of the bytes
-abbrev pub IsFrontOf : List ℕ → List ℕ → List ℕ → Type 0
-IsFrontOf before bytes after = (n : ℕ) × (n ≤ length bytes) × (after ≡ before ++ take n bytes)
+abbrev pub IsFollowedByFront : Option (List ℕ) → List ℕ → Option (List ℕ) → Type 0
+IsFollowedByFront before bytes after = (n : ℕ) × (n ≤ length bytes) × (after ≡ followed_by before (take n bytes))
+
+-- there are more failures than before
+abbrev pub Rose : Option ℕ → Option ℕ → Type 0
+Rose before after = IfSome before (λ m. IfSome after (λ n. m < n))
+
+-- there are as many as before, or more
+abbrev pub NeverFell : Option ℕ → Option ℕ → Type 0
+NeverFell before after = (more : ℕ) × (after ≡ raised_by before more)

@@ -17,6 +17,11 @@ pub struct Addr {
 
 /// As `198.51.100.7:40000`.
 impl fmt::Display for Addr {
+    ghost use Rattle.std.specs.Prelude.{Some};
+    ghost use Rattle.audit_model.specs.Addr.{addr_text};
+
+    ghost output = { λ addr. Some (addr_text addr) };
+
     fn fmt<W: fmt::Write>(&self, f: &mut fmt::Formatter<W>) -> fmt::Result {
         let [a, b, c, d] = self.ip.to_be_bytes();
         let port = self.port;

@@ -1,5 +1,9 @@
 //! Certificates: an order of all that was captured, lane by lane.
 
+ghost use Rattle.std.specs.Prelude.{◌≤◌, ◌+◌, length};
+ghost use Rattle.audit_model.specs.EventCount.{event_count};
+ghost use Rattle.audit_model.specs.declared.certificate.TheConstants.{MAX_LANES, MAX_EVENTS};
+
 use crate::address::Addr;
 use crate::event::{Event, Key};
 use crate::listed::Listed;
@@ -31,4 +35,6 @@ pub struct CertDrop {
 pub struct Certificate {
     pub lanes: Listed<CertLane>,
     pub drops: Listed<CertDrop>,
+    pub ghost few_lanes: { length lanes ≤ MAX_LANES },
+    pub ghost few_events: { event_count lanes + length drops ≤ MAX_EVENTS },
 }

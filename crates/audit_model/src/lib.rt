@@ -13,6 +13,7 @@ mod sighting;
 mod sink;
 mod token;
 mod verdict;
+mod write_fault;
 
 pub use address::{Addr, read_ip, read_port};
 pub use certificate::{CertDrop, CertLane, Certificate, MAX_EVENTS, MAX_LANES};
@@ -26,3 +27,4 @@ pub use sighting::{Side, SightId, Sighting, window};
 pub use sink::{Sink, SinkFailed, put_all};
 pub use token::{TokenFault, both, cut, halves, number};
 pub use verdict::{Breach, Tenancy, Verdict};
+pub use write_fault::WriteFault;

@@ -12,19 +12,21 @@ pub struct PortRange {
 }
 
 impl PortRange {
-    ghost use Rattle.std.specs.Prelude.{◌↔◌, IsTrue};
-    ghost use Rattle.audit_model.specs.PortRange.{IsIn, Meet};
+    ghost use Rattle.std.specs.Prelude.{◌≡◌, ◌↔◌, IsTrue};
+    ghost use Rattle.audit_model.specs.PortRange.{IsIn, Meet, is_in, meet};
 
     /// Whether the address is one of the range.
     pub fn contains(&self, addr: Addr) -> bool
-        ensures { IsTrue result ↔ IsIn addr self.now }
+        ensures means { IsTrue result ↔ IsIn addr self.now }
+        ensures value { result ≡ is_in addr self.now }
     {
         self.ip == addr.ip && self.low <= addr.port && addr.port <= self.high
     }
 
     /// Whether some address is in both ranges, neither of which is empty.
     pub fn meets(&self, other: &PortRange) -> bool
-        ensures { IsTrue result ↔ Meet self.now other.now }
+        ensures means { IsTrue result ↔ Meet self.now other.now }
+        ensures value { result ≡ meet self.now other.now }
     {
         self.ip == other.ip && self.low <= other.high && other.low <= self.high
     }

@@ -33,8 +33,12 @@ pub enum PolicyFaultKind {
 }
 
 impl PolicyFaultKind {
+    ghost use Rattle.audit_model.specs.PolicyFault.{policy_code_of};
+
     /// The number under which users know it.
-    pub fn code(self) -> &'static str {
+    pub fn code(self) -> &'static str
+        ensures { result.now ≡ policy_code_of self }
+    {
         match self {
             PolicyFaultKind::Line => "P1",
             PolicyFaultKind::Number => "P2",

@@ -1,6 +1,9 @@
 //! The policy text, line by line.
 
-ghost use Rattle.std.specs.Prelude.{length, ◌<◌, IfOk};
+ghost use Rattle.std.specs.Prelude.{◌≡◌, ◌*◌, ◌^◌, length, ◌<◌, IfOk, MatchResult, Ok};
+ghost use Rattle.std.specs.List.{list_any};
+ghost use Rattle.audit_model.specs.PortRange.{is_in, meet};
+ghost use Rattle.audit_model.specs.PolicyLines.{listen_of, range_of, tolerance_of};
 
 use crate::address::{Addr, read_ip, read_port};
 use crate::listed::Listed;
@@ -41,7 +44,10 @@ struct Draft {
 }
 
 /// A range as in `192.0.2.1:49152-65535`.
-fn read_range(word: &[u8]) -> Result<PortRange, TokenFault> {
+#[tactic(auto, unfolding(crate::specs::PolicyLines::range_of))]
+fn read_range(word: &[u8]) -> Result<PortRange, TokenFault>
+    ensures { result ≡ range_of word.now }
+{
     let (ip, ports) = halves(word, b':')?;
     let (low, high) = halves(ports, b'-')?;
     let (ip, (low, high)) = both(read_ip(ip), both(read_port(low), read_port(high)))?;
@@ -52,7 +58,10 @@ fn read_range(word: &[u8]) -> Result<PortRange, TokenFault> {
 }
 
 /// A listen address, whose port isn't 0.
-fn read_listen(word: &[u8]) -> Result<Addr, TokenFault> {
+#[tactic(auto, unfolding(crate::specs::PolicyLines::listen_of))]
+fn read_listen(word: &[u8]) -> Result<Addr, TokenFault>
+    ensures { result ≡ listen_of word.now }
+{
     let addr = Addr::read(word)?;
     if addr.port == 0 {
         return Err(TokenFault::Number);
@@ -61,12 +70,16 @@ fn read_listen(word: &[u8]) -> Result<Addr, TokenFault> {
 }
 
 /// A length of time of at most `most` units, in nanoseconds, where there is none yet.
+#[tactic(auto, unfolding(crate::specs::PolicyLines::tolerance_of))]
 fn read_tolerance(
     earlier: Option<u64>,
     word: &[u8],
     most: u64,
     unit: u64,
-) -> Result<Option<u64>, PolicyFaultKind> {
+) -> Result<Option<u64>, PolicyFaultKind>
+    requires { most * unit < 2 ^ 64 }
+    ensures { result ≡ tolerance_of earlier word.now most unit }
+{
     if earlier.is_some() {
         return Err(PolicyFaultKind::Line);
     }
@@ -74,11 +87,31 @@ fn read_tolerance(
     if units > most {
         return Err(PolicyFaultKind::Limit);
     }
-    Ok(Some(units.saturating_mul(unit)))
+    Ok(Some(units * unit))
+}
+
+/// Whether an address is one of the range.
+fn meets_listen(listen: &[Addr], range: &PortRange) -> bool
+    ensures { result ≡ list_any (λ addr. is_in addr range.now) listen.now }
+{
+    listen.iter().any(|addr| range.contains(*addr))
+}
+
+/// Whether a range has an address in common with another one.
+fn meets_relay(relay: &[PortRange], range: &PortRange) -> bool
+    ensures { result ≡ list_any (λ other. meet range.now other) relay.now }
+{
+    relay.iter().any(|other| range.meets(other))
 }
 
 impl Draft {
-    fn new(alloc: Global) -> Draft {
+    ghost use Rattle.audit_model.specs.PolicyLines.{after_listen, after_relay, after_setting, after_line, meets_said};
+    ghost use Rattle.audit_model.specs.PolicyDraft.{said, IsFaultOf};
+    ghost use Rattle.audit_model.specs.PolicyText.{nothing_said, policy_said};
+
+    fn new(alloc: Global) -> Draft
+        ensures { said result ≡ nothing_said }
+    {
         Draft {
             listen: Listed::new(alloc),
             relay: Listed::new(alloc),
@@ -89,14 +122,17 @@ impl Draft {
     }
 
     /// Whether the range meets an endpoint of an earlier line.
-    fn meets(&self, range: &PortRange) -> bool {
-        let listens = self.listen.as_slice();
-        let ranges = self.relay.as_slice();
-        listens.iter().any(|addr| range.contains(*addr))
-            || ranges.iter().any(|other| range.meets(other))
+    fn meets(&self, range: &PortRange) -> bool
+        ensures { result ≡ meets_said (said self.now) range.now }
+    {
+        meets_listen(self.listen.as_slice(), range) || meets_relay(self.relay.as_slice(), range)
     }
 
-    fn add_listen(&mut self, value: &[u8]) -> Result<(), PolicyFaultKind> {
+    #[tactic(auto, unfolding(crate::specs::PolicyLines::after_listen))]
+    fn add_listen(&mut self, value: &[u8]) -> Result<(), PolicyFaultKind>
+        ensures { MatchResult result (λ _. after_listen (said self.old) value.now ≡ Ok (said self.new))
+            (λ fault. IsFaultOf fault (after_listen (said self.old) value.now)) }
+    {
         let addr = read_listen(value)?;
         if self.listen.len() >= MAX_ENDPOINTS {
             return Err(PolicyFaultKind::Limit);
@@ -108,7 +144,11 @@ impl Draft {
         Ok(())
     }
 
-    fn add_relay(&mut self, value: &[u8]) -> Result<(), PolicyFaultKind> {
+    #[tactic(auto, unfolding(crate::specs::PolicyLines::after_relay))]
+    fn add_relay(&mut self, value: &[u8]) -> Result<(), PolicyFaultKind>
+        ensures { MatchResult result (λ _. after_relay (said self.old) value.now ≡ Ok (said self.new))
+            (λ fault. IsFaultOf fault (after_relay (said self.old) value.now)) }
+    {
         let range = read_range(value)?;
         if self.relay.len() >= MAX_ENDPOINTS {
             return Err(PolicyFaultKind::Limit);
@@ -120,29 +160,45 @@ impl Draft {
         Ok(())
     }
 
+    /// Takes in what a setting's line says.
+    #[tactic(auto, unfolding(crate::specs::PolicyLines::after_setting))]
+    fn add_setting(&mut self, word: &[u8], value: &[u8]) -> Result<(), PolicyFaultKind>
+        ensures { MatchResult result (λ _. after_setting (said self.old) word.now value.now ≡ Ok (said self.new))
+            (λ fault. IsFaultOf fault (after_setting (said self.old) word.now value.now)) }
+    {
+        if word == b"skew-us".as_slice() {
+            self.skew = read_tolerance(self.skew, value, MAX_SKEW_US, NANOSECONDS_IN_US)?;
+        } else if word == b"grace-ms".as_slice() {
+            self.grace = read_tolerance(self.grace, value, MAX_MS, NANOSECONDS_IN_MS)?;
+        } else if word == b"hold-ms".as_slice() {
+            self.hold = read_tolerance(self.hold, value, MAX_MS, NANOSECONDS_IN_MS)?;
+        } else {
+            return Err(PolicyFaultKind::Line);
+        }
+        Ok(())
+    }
+
     /// Takes in what one line says.
-    fn add_line(&mut self, line: &[u8]) -> Result<(), PolicyFaultKind> {
+    #[tactic(auto, unfolding(crate::specs::PolicyLines::after_line))]
+    fn add_line(&mut self, line: &[u8]) -> Result<(), PolicyFaultKind>
+        ensures { MatchResult result (λ _. after_line (said self.old) line.now ≡ Ok (said self.new))
+            (λ fault. IsFaultOf fault (after_line (said self.old) line.now)) }
+    {
         let (word, value) = halves(line, b' ')?;
         if word == b"listen".as_slice() {
             self.add_listen(value)
         } else if word == b"relay".as_slice() {
             self.add_relay(value)
-        } else if word == b"skew-us".as_slice() {
-            self.skew = read_tolerance(self.skew, value, MAX_SKEW_US, NANOSECONDS_IN_US)?;
-            Ok(())
-        } else if word == b"grace-ms".as_slice() {
-            self.grace = read_tolerance(self.grace, value, MAX_MS, NANOSECONDS_IN_MS)?;
-            Ok(())
-        } else if word == b"hold-ms".as_slice() {
-            self.hold = read_tolerance(self.hold, value, MAX_MS, NANOSECONDS_IN_MS)?;
-            Ok(())
         } else {
-            Err(PolicyFaultKind::Line)
+            self.add_setting(word, value)
         }
     }
 
     /// The policy, where there is a listen line.
-    fn policy(self) -> Result<Policy, PolicyFaultKind> {
+    #[tactic(auto, unfolding(crate::specs::PolicyText::policy_said))]
+    fn policy(self) -> Result<Policy, PolicyFaultKind>
+        ensures { result ≡ policy_said (said self) }
+    {
         if self.listen.is_empty() {
             return Err(PolicyFaultKind::Missing);
         }
@@ -156,43 +212,6 @@ impl Draft {
     }
 }
 
-/// Takes in the first line of the text, and gives what stands after it.
-fn next_line<'a>(draft: &mut Draft, text: &'a [u8]) -> Result<&'a [u8], PolicyFaultKind>
-    ensures { IfOk result (λ rest. length rest.now < length text.now) }
-{
-    let (line, rest) = halves(text, b'\n')?;
-    draft.add_line(line)?;
-    Ok(rest)
-}
+mod reading;
 
-/// The policy that a text spells, or its first fault. A text's size is the cost.
-pub fn read_policy(alloc: Global, text: &[u8]) -> Result<Policy, PolicyFault> {
-    let mut line = 1u64;
-    let Some((heading, mut rest)) = cut(text, b'\n') else {
-        return Err(PolicyFault {
-            kind: PolicyFaultKind::Line,
-            line,
-        });
-    };
-    if heading != HEADING.as_slice() {
-        return Err(PolicyFault {
-            kind: PolicyFaultKind::Line,
-            line,
-        });
-    }
-    let mut draft = Draft::new(alloc);
-    while !rest.is_empty() {
-        line += 1;
-        match next_line(&mut draft, rest) {
-            Ok(after) => rest = after,
-            Err(kind) => return Err(PolicyFault { kind, line }),
-        }
-    }
-    match draft.policy() {
-        Ok(policy) => Ok(policy),
-        Err(kind) => Err(PolicyFault {
-            kind,
-            line: line + 1,
-        }),
-    }
-}
+pub use reading::read_policy;

@@ -1,0 +1,11 @@
+-- A text cut at its LFs: what stands before the first one, and then what stands after each.
+use Rattle.std.specs.Prelude.{ℕ, ◌==◌, if◌then◌else◌, List, [], ◌∷◌}
+
+pub record Pieces : Type 0 where
+  pub first : List ℕ
+  pub more : List (List ℕ)
+
+-- an LF ends a line
+abbrev pub pieces : List ℕ → Pieces
+pieces [] = record { first = []; more = [] }
+pieces (b ∷ bs) = if b == 10 then record { first = []; more = (pieces bs).first ∷ (pieces bs).more } else record { first = b ∷ (pieces bs).first; more = (pieces bs).more }
