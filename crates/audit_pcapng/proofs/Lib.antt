@@ -1,0 +1,9 @@
+pub mod OptionSteps
+pub mod Prefixes
+pub mod Texts
+pub mod Completing
+pub mod Feeding
+pub mod Endings
+pub mod OneReading
+pub mod FaultsShown
+pub mod OptionSpelling

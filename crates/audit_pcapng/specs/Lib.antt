@@ -1,0 +1,13 @@
+pub mod Reading
+pub mod Faults
+pub mod Numbers
+pub mod Headings
+pub mod Options
+pub mod OptionLists
+pub mod Stamps
+pub mod Clocks
+pub mod Sections
+pub mod Blocks
+pub mod Captures
+pub mod Stretches
+pub mod Readers

@@ -1,0 +1,26 @@
+//! Packets out of a pcapng capture that comes in pieces (draft-ietf-opsawg-pcapng).
+#![tactic(auto)]
+
+mod block_kind;
+mod blocks;
+mod byte_order;
+mod clock;
+mod fault;
+mod heading;
+mod interfaces;
+mod laws;
+mod option;
+mod packet;
+mod reader;
+mod scope;
+mod wire;
+
+pub use fault::CaptureFault;
+pub use laws::{faults_of_blocks, kept_by_longer_texts, one_reading, options_as_spelled};
+pub use packet::Packet;
+pub use reader::BlockReader;
+
+#[cfg(test)]
+mod fault_tests;
+#[cfg(test)]
+mod tests;
