@@ -1,0 +1,5 @@
+pub mod Frame
+pub mod Reading
+pub mod Spelled
+pub mod Headers
+pub mod View

@@ -1,0 +1,14 @@
+//! Which UDP datagram a captured Ethernet frame holds.
+#![tactic(auto)]
+
+mod datagrams;
+mod ethernet;
+mod ipv4;
+mod numbers;
+mod seen;
+#[cfg(test)]
+mod tests;
+mod udp;
+
+pub use datagrams::datagram;
+pub use seen::Seen;
