@@ -1,0 +1,12 @@
+pub mod Attribute
+pub mod MessageType
+pub mod Message
+pub mod Parts
+pub mod Seen
+pub mod Counted
+pub mod Left
+pub mod Covered
+pub mod ChannelData
+pub mod XorAddress
+pub mod ErrorCode
+pub mod Ended

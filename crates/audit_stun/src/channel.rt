@@ -1,0 +1,25 @@
+//! ChannelData.
+
+ghost use Rattle.std.specs.Prelude.{◌≡◌, ℕ, List, length, IfSome, IsSomeAnd};
+ghost use Rattle.audit_stun.specs.ChannelData.{IsChannelData};
+
+/// The number, the data and how many bytes past the data the payload has, where the payload is
+/// ChannelData (RFC 8656, section 12.4). A number's two highest bits are 01.
+pub fn channel_data(payload: &[u8]) -> Option<(u16, &[u8], usize)>
+    ensures found { IfSome result (λ read. (after : List ℕ)
+        × IsChannelData payload.now read.0 read.1.now after × (read.2 ≡ length after)) }
+    // No other number, data and rest fit the payload, and where some do they are found.
+    ensures only { (number : ℕ) (bytes after : List ℕ)
+        → IsChannelData payload.now number bytes after → IsSomeAnd result
+        (λ read. (read.0 ≡ number) × (read.1.now ≡ bytes) × (read.2 ≡ length after)) }
+{
+    let [number_high, number_low, length_high, length_low, rest @ ..] = payload else {
+        return None;
+    };
+    let number = u16::from_be_bytes([*number_high, *number_low]);
+    let length = u16::from_be_bytes([*length_high, *length_low]) as usize;
+    if number >> 14 != 0b01 || rest.len() < length {
+        return None;
+    }
+    Some((number, &rest[..length], rest.len() - length))
+}

@@ -1,0 +1,26 @@
+//! STUN messages (RFC 8489) and ChannelData (RFC 8656), as their bytes say. Nothing here takes
+//! memory.
+#![tactic(auto)]
+
+mod attribute;
+mod channel;
+mod class;
+mod counted;
+mod error;
+mod messages;
+pub mod numbers;
+mod parse;
+mod peers;
+#[cfg(test)]
+mod tests;
+mod transport;
+#[cfg(test)]
+mod vectors;
+
+pub use channel::channel_data;
+pub use class::Class;
+pub use error::error_code;
+pub use messages::Message;
+pub use parse::message;
+pub use peers::Peers;
+pub use transport::address;
