@@ -1,0 +1,64 @@
+//! HMAC-SHA1 (RFC 2104).
+
+ghost use Rattle.std.specs.Prelude.{◌≡◌, ◌-◌, ◌≤◌, map, ◌++◌, length, replicate};
+ghost use Rattle.std.specs.List.{concat};
+ghost use Rattle.audit_keys.specs.Hmac.{block_of, xored, hmac_of};
+
+use sha1::Sha1;
+
+/// Bytes that SHA-1 takes in at once.
+const BLOCK_LENGTH: usize = 64;
+
+const INNER_PAD: u8 = 0x36;
+
+const OUTER_PAD: u8 = 0x5C;
+
+/// The bytes, and zeros up to a block.
+fn filled(bytes: &[u8]) -> [u8; BLOCK_LENGTH]
+    requires { length bytes.now ≤ BLOCK_LENGTH }
+    ensures { result ≡ bytes.now ++ replicate (BLOCK_LENGTH - length bytes.now) 0 }
+{
+    let mut block = [0; BLOCK_LENGTH];
+    block[..bytes.len()].copy_from_slice(bytes);
+    block
+}
+
+/// The key in a block of its own. A longer one is hashed first.
+#[tactic(auto, unfolding(crate::specs::Hmac::block_of))]
+fn key_block(key: &[u8]) -> [u8; BLOCK_LENGTH]
+    ensures { result ≡ block_of key.now }
+{
+    if key.len() > BLOCK_LENGTH {
+        filled(&Sha1::digest(key))
+    } else {
+        filled(key)
+    }
+}
+
+/// The block with the pad upon each byte.
+fn padded(block: &[u8; BLOCK_LENGTH], pad: u8) -> [u8; BLOCK_LENGTH]
+    ensures { result ≡ xored pad block.now }
+{
+    let mut padded = *block;
+    for byte in &mut padded {
+        *byte ^= pad;
+    }
+    padded
+}
+
+/// The HMAC-SHA1 of the pieces, one after the other, under the key (RFC 2104). It takes no memory.
+#[tactic(auto, unfolding(crate::specs::Hmac::hmac_of))]
+pub fn hmac_sha1(key: &[u8], pieces: &[&[u8]]) -> [u8; 20]
+    ensures { result ≡ hmac_of key.now (concat (map (λ piece. piece.now) pieces.now)) }
+{
+    let block = key_block(key);
+    let mut inner = Sha1::new();
+    inner.update(&padded(&block, INNER_PAD));
+    for piece in pieces {
+        inner.update(piece);
+    }
+    let mut outer = Sha1::new();
+    outer.update(&padded(&block, OUTER_PAD));
+    outer.update(&inner.finalize());
+    outer.finalize()
+}

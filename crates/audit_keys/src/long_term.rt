@@ -1,0 +1,20 @@
+//! The key of a user.
+
+ghost use Rattle.std.specs.Prelude.{◌≡◌, ◌++◌};
+ghost use Rattle.audit_keys.specs.LongTerm.{key_of};
+
+use md5::{Digest, Md5};
+
+/// The long-term key: MD5 of `user:realm:password` (RFC 8489, section 9.2.2). It takes no memory.
+#[tactic(auto, unfolding(crate::specs::LongTerm::key_of))]
+pub fn long_term_key(user: &[u8], realm: &[u8], password: &[u8]) -> [u8; 16]
+    ensures { result ≡ key_of user.now realm.now password.now }
+{
+    let mut hasher = Md5::new();
+    hasher.update(user);
+    hasher.update(b":".as_slice());
+    hasher.update(realm);
+    hasher.update(b":".as_slice());
+    hasher.update(password);
+    hasher.finalize()
+}
