@@ -1,0 +1,9 @@
+//! The datagrams of the service that the captures hold, interface by interface.
+#![tactic(auto)]
+
+mod fault;
+mod intake;
+
+pub use audit_model::{Side, SightId, Sighting};
+pub use fault::{IntakeFault, IntakeFaultKind};
+pub use intake::{Intake, MAX_FILES, MAX_SIGHTINGS};
