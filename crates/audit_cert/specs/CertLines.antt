@@ -1,0 +1,62 @@
+-- What one line of a certificate says (after the heading): a word, a space and more words.
+use Rattle.std.specs.Prelude.{ℕ, ◌+◌, Bool, ◌&&◌, ◌==◌, if◌then◌else◌, List, [], ◌∷◌, ◌++◌, length, nat_lt, nat_le, Result, Ok, Err, codes}
+use Rattle.std.specs.Str.{bytes_eq}
+use Rattle.std.specs.List.{list_any}
+use Rattle.audit_model.specs.Token.{◌>>=◌, halves_of, both_of}
+use Rattle.audit_model.specs.Addr.{addr_of}
+use Rattle.audit_model.specs.EventCount.{event_count}
+use Rattle.audit_model.specs.declared.address.Addr.{Addr}
+use Rattle.audit_model.specs.declared.event.Event.{Event}
+use Rattle.audit_model.specs.declared.certificate.CertLane.{CertLane}
+use Rattle.audit_cert.specs.declared.fault.CertFaultKind.{CertFaultKind}
+use Rattle.audit_cert.specs.declared.fault.CertFaultKind.TheVariants.{Line, LaneDouble, Limit}
+use Rattle.audit_cert.specs.CertFault.{of_word}
+use Rattle.audit_cert.specs.DraftView.{Drafted}
+use Rattle.audit_cert.specs.Pairs.{same_pair}
+use Rattle.audit_cert.specs.EventLine.{placed_of, event_of}
+
+-- whether a lane has this client at this listen address
+abbrev pub has_pair : Addr → Addr → List CertLane → Bool
+has_pair client listen lanes = list_any (λ lane. same_pair client listen lane.client lane.listen) lanes
+
+-- the lanes with one event more in the last of them
+abbrev pub with_event : Event → List CertLane → List CertLane
+with_event event [] = []
+with_event event (lane ∷ []) = record lane { events = lane.events ++ event ∷ [] } ∷ []
+with_event event (lane ∷ next ∷ more) = lane ∷ with_event event (next ∷ more)
+
+-- how many events and drops there are
+abbrev pub said_count : Drafted → ℕ
+said_count said = event_count said.lanes + length said.drops
+
+-- a lane of no events, before any drop: CLIENT LISTEN
+unfoldable pub after_lane : Drafted → List ℕ → Result Drafted CertFaultKind
+after_lane said words =
+    if length said.drops == 0 then (do
+      halves ← of_word (halves_of 32 words)
+      both ← of_word (both_of (addr_of halves.0) (addr_of halves.1))
+      if nat_le 65536 (length said.lanes) then Err Limit
+          else (if has_pair both.0 both.1 said.lanes then Err LaneDouble
+          else Ok (record said { lanes = said.lanes ++ record { events = []; client = both.0; listen = both.1 } ∷ [] })))
+    else Err Line
+
+-- an event of the last lane, before any drop
+unfoldable pub after_event : Drafted → List ℕ → List ℕ → Result Drafted CertFaultKind
+after_event said word words =
+    if nat_lt 0 (length said.lanes) && (length said.drops == 0) then (do
+      event ← of_word (event_of word words)
+      if nat_le 50331648 (said_count said) then Err Limit else Ok (record said { lanes = with_event event said.lanes }))
+    else Err Line
+
+unfoldable pub after_drop : Drafted → List ℕ → Result Drafted CertFaultKind
+after_drop said words = do
+  placed ← of_word (placed_of words)
+  if nat_le 50331648 (said_count said) then Err Limit
+      else Ok (record said { drops = said.drops ++ record { sight = placed.0; key = placed.1 } ∷ [] })
+
+-- what is said with one line more, or the line's fault
+unfoldable pub after_line : Drafted → List ℕ → Result Drafted CertFaultKind
+after_line said line = do
+  halves ← of_word (halves_of 32 line)
+  if bytes_eq halves.0 (codes "lane") then after_lane said halves.1
+      else (if bytes_eq halves.0 (codes "drop") then after_drop said halves.1 else after_event said halves.0 halves.1)

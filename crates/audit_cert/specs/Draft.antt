@@ -1,0 +1,18 @@
+-- A draft keeps the limits of a certificate, and the pairs of its lanes.
+use Rattle.std.specs.Prelude.{◌≡◌, ◌≤◌, ◌+◌, length}
+use Rattle.audit_model.specs.EventCount.{event_count}
+use Rattle.audit_model.specs.declared.certificate.TheConstants.{MAX_LANES, MAX_EVENTS}
+use Rattle.audit_model.specs.declared.address.Addr.{Addr}
+use Rattle.audit_cert.specs.Pairs.{has}
+use Rattle.audit_cert.specs.CertLines.{has_pair}
+use Rattle.audit_cert.specs.DraftView.{Drafted}
+use Rattle.audit_cert.specs.declared.draft.Draft.TheInside.{Inside}
+
+abbrev pub drafted : Inside → Drafted
+drafted d = record { lanes = d.lanes.items; drops = d.drops }
+
+pub record IsSound (d : Inside) : Type 0 where
+  pub counted : d.events ≡ event_count d.lanes.items + length d.drops
+  pub few_events : d.events ≤ MAX_EVENTS
+  pub paired : (client listen : Addr) → has d.pairs client listen ≡ has_pair client listen d.lanes.items
+  pub few_lanes : length d.lanes.items ≤ MAX_LANES

@@ -1,0 +1,166 @@
+//! A certificate while its lines are read.
+
+ghost use Rattle.std.specs.Prelude.{◌≡◌, ◌<◌, length, OnOk, OnErr};
+ghost use Rattle.audit_cert.specs.CertLines.{with_event};
+
+use crate::event_line::{read_event, read_placed};
+use crate::fault::CertFaultKind;
+use crate::pairs::Pairs;
+use audit_model::{
+    Addr, CertDrop, CertLane, Certificate, Event, Listed, MAX_EVENTS, MAX_LANES, both, halves,
+};
+use std::alloc::{AllocFailed, Global};
+use std::marker::Model;
+
+/// What the lines so far say.
+#[derive(Drop)]
+pub struct Draft {
+    alloc: Global,
+    lanes: Vec<CertLane>,
+    drops: Listed<CertDrop>,
+    /// The client and the listen address of each lane.
+    pairs: Pairs,
+    /// How many events and drops there are.
+    events: usize,
+}
+
+/// What a line was.
+#[derive(Clone, Copy, Debug, PartialEq, Eq)]
+pub enum Line {
+    Taken,
+    End,
+}
+
+impl Model for Draft {
+    ghost use Rattle.audit_cert.specs.DraftView.{Drafted};
+
+    ghost Value = { Drafted };
+
+    ghost use Rattle.audit_cert.specs.Draft.{drafted, IsSound};
+
+    ghost view = { drafted };
+
+    ghost invariant = { IsSound };
+}
+
+/// Adds an event to the last lane.
+fn push_last(lanes: &mut Vec<CertLane>, event: Event) -> Result<(), AllocFailed<Event>>
+    requires { 0 < length lanes.old.items }
+    ensures ok { OnOk result (lanes.new.items ≡ with_event event lanes.old.items) }
+    ensures err { OnErr result (lanes.new.items ≡ lanes.old.items) }
+{
+    let last = lanes.len() - 1;
+    lanes[last].events.push(event)
+}
+
+impl Draft {
+    ghost use Rattle.std.specs.Prelude.{Ok, MatchResult};
+    ghost use Rattle.audit_cert.specs.CertFault.{IsFaultOf};
+    ghost use Rattle.audit_cert.specs.DraftView.{nothing_said};
+    ghost use Rattle.audit_cert.specs.CertLines.{after_lane, after_event, after_drop};
+    ghost use Rattle.audit_cert.specs.CertText.{line_of};
+
+    pub fn new(alloc: Global) -> Draft
+        ensures { result ≡ nothing_said }
+    {
+        Draft {
+            alloc,
+            lanes: Vec::new(alloc),
+            drops: Listed::new(alloc),
+            pairs: Pairs::new(alloc),
+            events: 0,
+        }
+    }
+
+    /// Adds a lane of no events.
+    #[tactic(auto, unfolding(crate::specs::CertLines::after_lane))]
+    fn add_lane(&mut self, words: &[u8]) -> Result<(), CertFaultKind>
+        ensures { MatchResult result (λ _. after_lane self.old words.now ≡ Ok self.new)
+            (λ fault. IsFaultOf fault (after_lane self.old words.now)) }
+    {
+        if !self.drops.is_empty() {
+            return Err(CertFaultKind::Line);
+        }
+        let (client, listen) = halves(words, b' ')?;
+        let (client, listen) = both(Addr::read(client), Addr::read(listen))?;
+        if self.lanes.len() >= MAX_LANES {
+            return Err(CertFaultKind::Limit);
+        }
+        if self.pairs.contains(client, listen) {
+            return Err(CertFaultKind::LaneDouble);
+        }
+        // Room comes first, so that no pair is kept without its lane.
+        self.lanes.reserve(1)?;
+        self.pairs.insert(client, listen)?;
+        self.lanes.push(CertLane {
+            events: Listed::new(self.alloc),
+            client,
+            listen,
+        })?;
+        Ok(())
+    }
+
+    /// Adds an event to the last lane.
+    #[tactic(auto, unfolding(crate::specs::CertLines::after_event))]
+    fn add_event(&mut self, word: &[u8], words: &[u8]) -> Result<(), CertFaultKind>
+        ensures { MatchResult result (λ _. after_event self.old word.now words.now ≡ Ok self.new)
+            (λ fault. IsFaultOf fault (after_event self.old word.now words.now)) }
+    {
+        if self.lanes.is_empty() || !self.drops.is_empty() {
+            return Err(CertFaultKind::Line);
+        }
+        let event = read_event(word, words)?;
+        if self.events >= MAX_EVENTS {
+            return Err(CertFaultKind::Limit);
+        }
+        push_last(&mut self.lanes, event)?;
+        self.events += 1;
+        Ok(())
+    }
+
+    /// Adds an arrival that was dropped.
+    #[tactic(auto, unfolding(crate::specs::CertLines::after_drop))]
+    fn add_drop(&mut self, words: &[u8]) -> Result<(), CertFaultKind>
+        ensures { MatchResult result (λ _. after_drop self.old words.now ≡ Ok self.new)
+            (λ fault. IsFaultOf fault (after_drop self.old words.now)) }
+    {
+        let (sight, key) = read_placed(words)?;
+        if self.events >= MAX_EVENTS {
+            return Err(CertFaultKind::Limit);
+        }
+        self.drops.push(CertDrop { sight, key })?;
+        self.events += 1;
+        Ok(())
+    }
+
+    /// Takes in what one line says.
+    #[tactic(auto, unfolding(crate::specs::CertText::line_of, crate::specs::CertLines::after_line))]
+    pub fn add_line(&mut self, line: &[u8]) -> Result<Line, CertFaultKind>
+        ensures { MatchResult result (λ step. line_of self.old line.now ≡ Ok (step, self.new))
+            (λ fault. IsFaultOf fault (line_of self.old line.now)) }
+    {
+        if line == b"end".as_slice() {
+            return Ok(Line::End);
+        }
+        let (word, words) = halves(line, b' ')?;
+        if word == b"lane".as_slice() {
+            self.add_lane(words)?;
+        } else if word == b"drop".as_slice() {
+            self.add_drop(words)?;
+        } else {
+            self.add_event(word, words)?;
+        }
+        Ok(Line::Taken)
+    }
+
+    /// What the lines said.
+    pub fn certificate(self) -> Certificate
+        ensures lanes { result.lanes ≡ self.lanes }
+        ensures drops { result.drops ≡ self.drops }
+    {
+        Certificate {
+            lanes: Listed::from(self.lanes),
+            drops: self.drops,
+        }
+    }
+}

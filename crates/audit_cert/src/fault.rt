@@ -1,0 +1,86 @@
+//! Why a certificate text was refused.
+
+ghost use Rattle.std.specs.Prelude.{◌≡◌};
+ghost use Rattle.audit_cert.specs.CertFault.{cert_fault_of};
+ghost use Rattle.audit_cert.specs.declared.fault.CertFaultKind.TheVariants.{Memory};
+
+use audit_model::TokenFault;
+use std::alloc::{AllocError, AllocFailed};
+use thiserror::Error;
+
+/// What is wrong with a line of a certificate text.
+#[derive(Clone, Copy, Debug, PartialEq, Eq, Error)]
+pub enum CertFaultKind {
+    /// T1: another heading than `turnaudit-certificate 1`.
+    #[error("T1 heading")]
+    Heading,
+    /// T2: another shape, an event before any lane, a lane or an event after a drop, bytes after `end`, or no LF.
+    #[error("T2 line")]
+    Line,
+    /// T3: a number with a leading zero or past its greatest value.
+    #[error("T3 number")]
+    Number,
+    /// T4: a second lane of one client at one listen address.
+    #[error("T4 lane double")]
+    LaneDouble,
+    /// T5: over 65,536 lanes, or over 50,331,648 events and drops.
+    #[error("T5 limit")]
+    Limit,
+    /// T6: the text ends before its `end` line.
+    #[error("T6 end missing")]
+    EndMissing,
+    /// T7: there was no memory.
+    #[error("T7 memory")]
+    Memory,
+}
+
+impl CertFaultKind {
+    /// The number under which users know it.
+    pub fn code(self) -> &'static str {
+        match self {
+            CertFaultKind::Heading => "T1",
+            CertFaultKind::Line => "T2",
+            CertFaultKind::Number => "T3",
+            CertFaultKind::LaneDouble => "T4",
+            CertFaultKind::Limit => "T5",
+            CertFaultKind::EndMissing => "T6",
+            CertFaultKind::Memory => "T7",
+        }
+    }
+}
+
+/// A certificate text was refused.
+#[derive(Clone, Copy, Debug, PartialEq, Eq, Error)]
+#[error("{kind} in line {line}")]
+pub struct CertFault {
+    pub kind: CertFaultKind,
+    /// Counted from 1.
+    pub line: u64,
+}
+
+impl From<TokenFault> for CertFaultKind {
+    ghost from_gives = { λ token fault. fault ≡ cert_fault_of token };
+
+    fn from(fault: TokenFault) -> CertFaultKind {
+        match fault {
+            TokenFault::Shape => CertFaultKind::Line,
+            TokenFault::Number => CertFaultKind::Number,
+        }
+    }
+}
+
+impl From<AllocError> for CertFaultKind {
+    ghost from_gives = { λ _ fault. fault ≡ Memory };
+
+    fn from(_error: AllocError) -> CertFaultKind {
+        CertFaultKind::Memory
+    }
+}
+
+impl<T: Drop> From<AllocFailed<T>> for CertFaultKind {
+    ghost from_gives = { λ _ fault. fault ≡ Memory };
+
+    fn from(_failed: AllocFailed<T>) -> CertFaultKind {
+        CertFaultKind::Memory
+    }
+}

@@ -1,0 +1,40 @@
+//! The client and the listen address of each lane.
+
+ghost use Rattle.std.specs.Prelude.{◌≡◌, ◌||◌, false, OnOk, OnErr};
+ghost use Rattle.audit_model.specs.declared.address.Addr.{Addr as Address};
+ghost use Rattle.audit_cert.specs.Pairs.{has, same_pair};
+
+use audit_model::Addr;
+use std::alloc::{AllocFailed, Global};
+use std::collections::BTreeSet;
+
+/// A set of pairs of addresses.
+#[derive(Drop)]
+pub struct Pairs {
+    set: BTreeSet<(Addr, Addr)>,
+}
+
+impl Pairs {
+    pub fn new(alloc: Global) -> Pairs
+        ensures { (client listen : Address) → has result client listen ≡ false }
+    {
+        Pairs {
+            set: BTreeSet::new(alloc),
+        }
+    }
+
+    pub fn contains(&self, client: Addr, listen: Addr) -> bool
+        ensures { result ≡ has self.now client listen }
+    {
+        self.set.contains(&(client, listen))
+    }
+
+    /// Adds a pair. The cost is the logarithm of their number.
+    pub fn insert(&mut self, client: Addr, listen: Addr) -> Result<(), AllocFailed<(Addr, Addr)>>
+        ensures ok { OnOk result ((c l : Address) → has self.new c l ≡ (same_pair client listen c l || has self.old c l)) }
+        ensures err { OnErr result (self.new ≡ self.old) }
+    {
+        self.set.insert((client, listen))?;
+        Ok(())
+    }
+}
