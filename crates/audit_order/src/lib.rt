@@ -1,0 +1,10 @@
+//! Placement: whether a certificate places each sighting once, in its window and in order.
+#![tactic(auto)]
+
+mod events;
+mod first;
+mod interfaces;
+mod placing;
+mod single;
+
+pub use placing::{Placement, placed};
