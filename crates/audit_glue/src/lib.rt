@@ -1,0 +1,8 @@
+//! The verdict: placement, then each lane alone.
+#![tactic(auto)]
+
+mod lanes;
+mod verdict;
+
+pub use lanes::job;
+pub use verdict::{check, conclude};
