@@ -1,0 +1,8 @@
+//! The report of a verdict.
+#![tactic(auto)]
+
+mod reporting;
+mod rules;
+
+pub use reporting::report;
+pub use rules::rule_text;
