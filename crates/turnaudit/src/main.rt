@@ -1,0 +1,40 @@
+//! turnaudit judges captures of a TURN server by a certificate.
+#![tactic(auto)]
+
+mod command_line;
+mod host;
+mod reading;
+mod running;
+mod source;
+mod stop;
+mod writing;
+
+use host::{HostFiles, HostStream};
+use running::run;
+use std::process::ExitCode;
+use std::rt::Env;
+use std::{env, io};
+
+/// The words that the program was started with, its name among them.
+fn words_of<R: Env + AllocGlobal>(rt: &R) -> io::Result<Vec<String>> {
+    let mut words = Vec::new(rt.alloc());
+    for word in env::args(rt)? {
+        words.push(word)?;
+    }
+    Ok(words)
+}
+
+fn main(rt: HostRuntime) -> ExitCode {
+    let alloc = rt.alloc();
+    let mut out = HostStream::new(rt.stdout());
+    let mut err = HostStream::new(rt.stderr());
+    let mut files = HostFiles::new(&rt);
+    let status = match words_of(&rt) {
+        Ok(words) => run(alloc, &words, &mut files, &mut out, &mut err),
+        Err(_) => 5,
+    };
+    ExitCode::from(status)
+}
+
+#[cfg(test)]
+mod tests;

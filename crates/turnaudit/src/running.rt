@@ -1,0 +1,91 @@
+//! The whole program as a function.
+
+use crate::command_line::{Check, Request, read as read_words};
+use crate::reading::{feed_capture, read_whole};
+use crate::source::Source;
+use crate::stop::Stop;
+use crate::writing::{put_line, put_text};
+use audit_glue::check;
+use audit_model::{Sink, Verdict, read_policy};
+use audit_report::report;
+use audit_sightings::Intake;
+use std::alloc::Global;
+use std::convert::AsStr;
+
+/// The captures, each fed from its first byte to its last, and then asked for its end.
+fn take_in<S: Source>(
+    alloc: Global,
+    source: &mut S,
+    names: &[&str],
+    mut intake: Intake,
+) -> Result<Intake, Stop> {
+    for name in names {
+        let file = intake.add_file()?;
+        feed_capture(alloc, source, name, &mut intake, file)?;
+    }
+    intake.finish()?;
+    Ok(intake)
+}
+
+/// Judges the captures by the certificate, and writes the report. Files are read in the order policy, certificate, captures, and each is
+/// judged before the next is read.
+fn run_check<S: Source, O: Sink>(
+    alloc: Global,
+    request: &Check<'_>,
+    source: &mut S,
+    out: &mut O,
+) -> Result<u8, Stop> {
+    let policy = read_policy(alloc, &read_whole(alloc, source, request.policy)?)?;
+    let certificate = audit_cert::read(alloc, &read_whole(alloc, source, request.certificate)?)?;
+    let intake = take_in(alloc, source, &request.captures, Intake::new(alloc, policy))?;
+    let verdict = check(alloc, &intake, &certificate)?;
+    report(alloc, &verdict, &intake, out)?;
+    match verdict {
+        Verdict::Conforming { .. } => Ok(0),
+        Verdict::NotShown(_) => Ok(1),
+    }
+}
+
+/// Does what is asked for, and gives the exit status.
+fn run_request<S: Source, O: Sink, E: Sink>(
+    alloc: Global,
+    request: &Request<'_>,
+    source: &mut S,
+    out: &mut O,
+    err: &mut E,
+) -> Result<u8, Stop> {
+    match request {
+        Request::Check(check) => run_check(alloc, check, source, out),
+        Request::Help(text) => {
+            put_text(out, text.as_str())?;
+            Ok(0)
+        }
+        Request::Usage(text) => {
+            put_text(err, text.as_str())?;
+            Ok(5)
+        }
+    }
+}
+
+/// Runs the program on its words, the first of which is its name, and gives its exit status: 0 conforming, or help; 1 not shown; 2 input refused;
+/// 3 out of memory; 4 a file that can't be read or an answer that can't be written; 5 words that are no request.
+/// What ended it before its answer is one line on `err`.
+pub fn run<N: AsStr, S: Source, O: Sink, E: Sink>(
+    alloc: Global,
+    words: &[N],
+    source: &mut S,
+    out: &mut O,
+    err: &mut E,
+) -> u8 {
+    let done = match read_words(alloc, words) {
+        Ok(request) => run_request(alloc, &request, source, out, err),
+        Err(error) => Err(Stop::from(error)),
+    };
+    match done {
+        Ok(status) => status,
+        Err(stop) => {
+            put_line(alloc, err, &stop);
+            stop.status()
+        }
+    }
+}
