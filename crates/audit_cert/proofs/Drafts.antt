@@ -1,15 +1,19 @@
 -- The lanes with one event more in the last of them.
-use Rattle.std.proofs.Common.{◌≡◌, ℕ, zero, suc, ◌+◌, ◌<◌, Bool, false, ◌||◌, List, [], ◌∷◌, ◌++◌, length, get_or, Result, Ok, Err, refl, sym, ap, ◌∙◌, arith}
+use Rattle.std.proofs.Common.{◌≡◌, ℕ, zero, suc, ◌+◌, ◌<◌, Bool, false, ◌||◌, List, [], ◌∷◌, ◌++◌, length, get_or, Result, Ok, Err, refl, subst, sym, ap, ◌∙◌, arith}
 use Rattle.std.specs.Prelude.{OnOk, OnErr}
+use Rattle.std.specs.Cmp.{IsEquivalence}
+use Rattle.std.specs.List.{IsDistinct, AllByRecursion}
 use Rattle.std.proofs.Math.ListN.{set}
+use Rattle.std.proofs.lemmas.Cmp.{nat_eq_equiv, on_equiv, and_equiv}
+use Rattle.std.proofs.lemmas.Map.Keys.{IsDistinct-push}
 use Rattle.std.proofs.lemmas.List.{set-get_or, length-append}
 use Rattle.std.proofs.lemmas.List.Sums.{sum_by-cons}
 use Rattle.audit_model.specs.declared.address.Addr.{Addr}
 use Rattle.audit_model.specs.declared.event.Event.{Event}
 use Rattle.audit_model.specs.declared.certificate.CertLane.{CertLane}
 use Rattle.audit_model.specs.EventCount.{event_count}
-use Rattle.audit_cert.specs.Pairs.{same_pair}
-use Rattle.audit_cert.specs.CertLines.{with_event, has_pair}
+use Rattle.audit_cert.specs.Pairs.{same_addr, same_pair}
+use Rattle.audit_cert.specs.CertLines.{with_event, has_pair, same_lane}
 
 abbrev pub longer : Event → CertLane → CertLane
 longer event lane = record lane { events = lane.events ++ event ∷ [] }
@@ -42,7 +46,7 @@ pairs_with_event event (x ∷ y ∷ more) client listen = ap (λ (t : Bool). sam
 one_longer : (event : Event) (lane : CertLane) → length (lane.events ++ event ∷ []) ≡ length lane.events + 1
 one_longer event lane = omega (arith, length-append lane.events (event ∷ []))
 
-abbrev events_of : CertLane → ℕ
+abbrev pub events_of : CertLane → ℕ
 events_of lane = length lane.events
 
 pub count_with_event : (event : Event) (lanes : List CertLane) → 0 < length lanes → event_count (with_event event lanes) ≡ event_count lanes + 1
@@ -50,3 +54,32 @@ count_with_event event [] some = absurd (omega arith)
 count_with_event event (x ∷ []) some = omega (arith, one_longer event x)
 count_with_event event (x ∷ y ∷ more) some =
     omega (arith, count_with_event event (y ∷ more) (omega arith), sum_by-cons events_of x (y ∷ more), sum_by-cons events_of x (with_event event (y ∷ more)))
+
+-- ---- no two lanes have one pair
+
+same_addr_equiv : IsEquivalence same_addr
+same_addr_equiv = and_equiv (on_equiv (λ (a : Addr). a.ip) nat_eq_equiv) (on_equiv (λ (a : Addr). a.port) nat_eq_equiv)
+
+same_lane_equiv : IsEquivalence same_lane
+same_lane_equiv = and_equiv (on_equiv (λ (l : CertLane). l.client) same_addr_equiv) (on_equiv (λ (l : CertLane). l.listen) same_addr_equiv)
+
+pub same_lane_symm : (a b : CertLane) → same_lane a b ≡ same_lane b a
+same_lane_symm a b = same_lane_equiv.symm a b
+
+pub none_apart : (lanes : List CertLane) → lanes ≡ [] → IsDistinct same_lane lanes
+unfolding IsDistinct
+none_apart lanes e = subst (IsDistinct same_lane) (sym e) tt
+
+pub apart_push : (lanes : List CertLane) (lane : CertLane) → IsDistinct same_lane lanes → has_pair lane.client lane.listen lanes ≡ false → IsDistinct same_lane (lanes ++ lane ∷ [])
+apart_push lanes lane apart new = IsDistinct-push same_lane_equiv lanes lane apart new
+
+apart_from : (event : Event) (lane : CertLane) (lanes : List CertLane) → AllByRecursion (λ other. same_lane lane other ≡ false) lanes → AllByRecursion (λ other. same_lane lane other ≡ false) (with_event event lanes)
+apart_from event lane [] apart = tt
+apart_from event lane (x ∷ []) apart = apart
+apart_from event lane (x ∷ y ∷ more) apart = (apart.0, apart_from event lane (y ∷ more) apart.1)
+
+pub apart_with_event : (event : Event) (lanes : List CertLane) → IsDistinct same_lane lanes → IsDistinct same_lane (with_event event lanes)
+unfolding IsDistinct
+apart_with_event event [] apart = tt
+apart_with_event event (x ∷ []) apart = apart
+apart_with_event event (x ∷ y ∷ more) apart = (apart_from event x (y ∷ more) apart.0, apart_with_event event (y ∷ more) apart.1)

@@ -1,3 +1,12 @@
 pub mod PairSets
 pub mod Drafts
 pub mod Texts
+pub mod Writings
+pub mod Steps
+pub mod Words
+pub mod Found
+pub mod FoundTexts
+pub mod Laws
+pub mod Again
+pub mod AgainLines
+pub mod AgainTexts

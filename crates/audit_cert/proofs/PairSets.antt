@@ -1,10 +1,10 @@
 -- A set of pairs, and the lanes that have them.
 use Rattle.std.proofs.Common.{◌≡◌, ℕ, Bool, true, false, cond, eqb, ◌&&◌, ◌||◌, refl, sym, ap, ◌∙◌}
 use Rattle.std.specs.BTreeSet.{BTreeSet, contains, Updates}
-use Rattle.std.specs.Ordering.{is_eq, nat_cmp, ordering_then}
+use Rattle.std.specs.Ordering.{is_eq, nat_cmp}
 use Rattle.std.specs.Cmp.{tied_then, unsigned_tied}
 use Rattle.audit_model.specs.declared.address.Addr.{Addr}
-use Rattle.audit_cert.specs.Pairs.{same_addr, same_pair, addr_cmp, pair_cmp, has}
+use Rattle.audit_cert.specs.Pairs.{same_addr, same_pair, addr_cmp, pair_cmp}
 
 same_number : (x y : ℕ) → is_eq (nat_cmp x y) ≡ eqb x y
 same_number x y = unsigned_tied x y

@@ -1,10 +1,9 @@
 -- A text read from its first line on, as its pieces are.
-use Rattle.std.proofs.Common.{◌≡◌, ℕ, zero, suc, ◌+◌, ◌<◌, Bool, true, false, cond, eqb, List, [], ◌∷◌, length, Option, Some, None, option_map, not, Result, Ok, Err, codes, refl, sym, ap, ◌∙◌, subst, arith}
+use Rattle.std.proofs.Common.{◌≡◌, ℕ, zero, suc, ◌+◌, ◌<◌, Bool, true, false, cond, eqb, List, [], ◌∷◌, length, Option, Some, None, option_map, not, Result, Ok, Err, codes, refl, sym, ap, ◌∙◌, arith}
 use Rattle.std.specs.Prelude.{ok_or}
 use Rattle.std.specs.Str.{bytes_eq}
 use Rattle.std.proofs.lemmas.Bool.{ne_eqb}
-use Rattle.audit_model.specs.Token.{◌>>=◌, cut_of, halves_of}
-use Rattle.audit_model.specs.declared.token.TokenFault.{TokenFault}
+use Rattle.audit_model.specs.Token.{◌>>=◌, cut_of}
 use Rattle.audit_model.specs.declared.token.TokenFault.TheVariants.{Shape}
 use Rattle.audit_model.specs.Lines.{Pieces, pieces}
 use Rattle.audit_cert.specs.declared.draft.Line.{Line as Step}
@@ -79,13 +78,13 @@ then_read line (Err kind) = fault_at line kind
 then_read line (Ok (step.Taken, next, rest)) = read_rest (line + 1) next rest
 then_read line (Ok (step.End, next, rest)) = ended (line + 1) next (pieces rest).first (pieces rest).more
 
-abbrev took : Drafted → Result (Step × Drafted) CertFaultKind
+abbrev pub took : Drafted → Result (Step × Drafted) CertFaultKind
 took next = Ok (step.Taken, next)
 
-abbrev ends : Drafted → Result (Step × Drafted) CertFaultKind
+abbrev pub ends : Drafted → Result (Step × Drafted) CertFaultKind
 ends said = Ok (step.End, said)
 
-abbrev with_rest : List ℕ → Result (Step × Drafted) CertFaultKind → Result (Step × Drafted × List ℕ) CertFaultKind
+abbrev pub with_rest : List ℕ → Result (Step × Drafted) CertFaultKind → Result (Step × Drafted × List ℕ) CertFaultKind
 with_rest rest read = read >>= λ next. Ok (next.0, next.1, rest)
 
 after_said : (line : ℕ) (said : Drafted) (rest : List ℕ) (t : Bool) (after : Result Drafted CertFaultKind) →

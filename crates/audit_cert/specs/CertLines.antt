@@ -19,6 +19,10 @@ use Rattle.audit_cert.specs.EventLine.{placed_of, event_of}
 abbrev pub has_pair : Addr → Addr → List CertLane → Bool
 has_pair client listen lanes = list_any (λ lane. same_pair client listen lane.client lane.listen) lanes
 
+-- two lanes of one client at one listen address
+abbrev pub same_lane : CertLane → CertLane → Bool
+same_lane a b = same_pair a.client a.listen b.client b.listen
+
 -- the lanes with one event more in the last of them
 abbrev pub with_event : Event → List CertLane → List CertLane
 with_event event [] = []

@@ -8,7 +8,6 @@ use Rattle.audit_model.specs.declared.sighting.SightId.{SightId}
 use Rattle.audit_model.specs.declared.event.Key.{Key}
 use Rattle.audit_model.specs.declared.event.Event.{Event}
 use Rattle.audit_model.specs.declared.event.Event.TheVariants.{In, Act, Out}
-use Rattle.audit_model.specs.declared.certificate.CertDrop.{CertDrop}
 
 -- a number of 32 bits, and one of 64
 abbrev pub word32_of : List ℕ → Result ℕ TokenFault

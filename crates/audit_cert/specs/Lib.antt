@@ -5,3 +5,6 @@ pub mod DraftView
 pub mod Draft
 pub mod CertLines
 pub mod CertText
+pub mod Spelling
+pub mod Writing
+pub mod Fits

@@ -6,6 +6,12 @@ mod event_line;
 mod fault;
 mod pairs;
 mod reading;
+mod spelling;
+mod writing;
 
 pub use fault::{CertFault, CertFaultKind};
 pub use reading::read;
+pub use writing::write;
+
+#[cfg(test)]
+mod tests;

@@ -2,7 +2,13 @@
 
 ghost use Rattle.std.specs.Prelude.{◌≡◌, length, ◌<◌, IfOk, MatchResult, Ok};
 ghost use Rattle.audit_cert.specs.CertFault.{IsFaultOf, IsFirstFault};
+ghost use Rattle.std.specs.List.{IsDistinct};
+ghost use Rattle.audit_cert.specs.declared.fault.CertFaultKind.TheVariants.{Memory};
+ghost use Rattle.audit_cert.specs.DraftView.{Drafted};
+ghost use Rattle.audit_cert.specs.CertLines.{same_lane};
+ghost use Rattle.audit_cert.specs.Fits.{IsCertificate};
 ghost use Rattle.audit_cert.specs.CertText.{next_of, cert_of};
+ghost use Rattle.audit_cert.specs.Spelling.{spelling, said_by};
 
 use crate::draft::{Draft, Line};
 use crate::fault::{CertFault, CertFaultKind};
@@ -23,9 +29,9 @@ fn next_line<'a>(draft: &mut Draft, text: &'a [u8]) -> Result<(Line, &'a [u8]), 
     Ok((line, rest))
 }
 
-/// The certificate that a text spells, or its first fault. One pass, n log n in the lanes.
-pub fn read(alloc: Global, text: &[u8]) -> Result<Certificate, CertFault>
-    ensures exact { MatchResult result (λ cert. cert_of text.now ≡ Ok (record { lanes = cert.lanes; drops = cert.drops })) (λ fault. IsFirstFault fault (cert_of text.now)) }
+/// What the text says, line by line.
+fn read_text(alloc: Global, text: &[u8]) -> Result<Certificate, CertFault>
+    ensures { MatchResult result (λ cert. cert_of text.now ≡ Ok (said_by cert)) (λ fault. IsFirstFault fault (cert_of text.now)) }
 {
     let heading_fault = CertFault {
         kind: CertFaultKind::Heading,
@@ -59,4 +65,18 @@ pub fn read(alloc: Global, text: &[u8]) -> Result<Certificate, CertFault>
         kind: CertFaultKind::EndMissing,
         line: line + 1,
     })
+}
+
+/// The certificate that a text spells, or its first fault: the kind, and the line from 1. One pass, n log n in the lanes.
+pub fn read(alloc: Global, text: &[u8]) -> Result<Certificate, CertFault>
+    ensures exact { MatchResult result (λ cert. cert_of text.now ≡ Ok (said_by cert)) (λ fault. IsFirstFault fault (cert_of text.now)) }
+    // What is read is spelled so.
+    ensures found { IfOk result (λ cert. text.now ≡ spelling (said_by cert)) }
+    // What is spelled so is read, unless memory runs out.
+    ensures only { (said : Drafted) → IsCertificate said → text.now ≡ spelling said
+        → MatchResult result (λ cert. said_by cert ≡ said) (λ fault. fault.kind ≡ Memory) }
+    // No two lanes have one client at one listen address.
+    ensures distinct { IfOk result (λ cert. IsDistinct same_lane cert.lanes) }
+{
+    read_text(alloc, text)
 }

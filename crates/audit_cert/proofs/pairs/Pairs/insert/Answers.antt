@@ -1,4 +1,3 @@
-use Rattle.std.proofs.Common.{rules}
 use Rattle.audit_cert.proofs.PairSets.{after_insert}
 use Rattle.audit_cert.proofs.pairs.Pairs.insert.Goals as goal
 

@@ -1,7 +1,7 @@
 use Rattle.std.proofs.Common.{◌≡◌, ◌+◌, ◌≤◌, length}
 use Rattle.audit_cert.specs.CertText.{cert_of}
 use Rattle.audit_cert.proofs.Texts.{read_rest}
-use Rattle.audit_cert.proofs.reading.read.Given as goal
+use Rattle.audit_cert.proofs.reading.read_text.Given as goal
 
 -- each line has a byte at least, and the heading has more; what is said and the lines to come make the whole
 abbrev pub invariant-loop-rest : goal.invariant-loop-rest

@@ -1,0 +1,180 @@
+-- A text that is read is the text that is spelled.
+use Rattle.std.proofs.Common.{◌≡◌, ℕ, ◌+◌, Bool, true, false, cond, eqb, leb, ltb, ◌&&◌, List, [], ◌∷◌, ◌++◌, length, Result, Ok, Err, codes, inl, inr, refl, sym, ap, subst, ◌∙◌, append_assoc}
+use Rattle.std.specs.Str.{bytes_eq}
+use Rattle.std.specs.List.{flat_map, IsDistinct}
+use Rattle.std.specs.Cmp.Lexicographic.{same_text}
+use Rattle.std.proofs.lemmas.Bool.{eqb-true, ltb-true}
+use Rattle.std.proofs.lemmas.List.{nil_from_length}
+use Rattle.audit_model.specs.declared.address.Addr.{Addr}
+use Rattle.audit_model.specs.declared.event.Event.{Event}
+use Rattle.audit_model.specs.declared.sighting.SightId.{SightId}
+use Rattle.audit_model.specs.declared.event.Key.{Key}
+use Rattle.audit_model.specs.Token.{◌>>=◌, halves_of, both_of}
+use Rattle.audit_model.specs.Lines.{Pieces, pieces}
+use Rattle.audit_model.specs.Addr.{addr_of, addr_text}
+use Rattle.audit_cert.specs.declared.fault.CertFault.{CertFault}
+use Rattle.audit_cert.specs.declared.fault.CertFaultKind.{CertFaultKind}
+use Rattle.audit_cert.specs.declared.fault.CertFaultKind.TheVariants.{Heading, Line, LaneDouble, Limit}
+use Rattle.audit_cert.specs.CertFault.{of_word}
+use Rattle.audit_cert.specs.DraftView.{Drafted, nothing_said}
+use Rattle.audit_cert.specs.EventLine.{placed_of, event_of}
+use Rattle.audit_cert.specs.CertLines.{has_pair, same_lane, with_event, said_count, after_lane, after_event, after_drop, after_line}
+use Rattle.audit_cert.specs.CertText.{fault_at, at_line, ended, read_lines, read_heading, cert_of}
+use Rattle.audit_cert.specs.Spelling.{lane_lines, drop_line, spelling}
+use Rattle.audit_cert.proofs.Steps.{bind_ok, both_ok, word_ok, guard_false, guard_true, chosen, ok_is}
+use Rattle.audit_cert.proofs.Words.{halves_found, joins, placed_word, placed_found, addr_found}
+use Rattle.audit_cert.proofs.Found.{event_word, event_found, begins, body, Adds, empty_lane, adds_lane, adds_event, adds_drop}
+use Rattle.audit_cert.proofs.Drafts.{none_apart}
+
+abbrev pub Said : Type 0
+Said = Result Drafted CertFaultKind
+
+-- ---- one line
+
+abbrev pub lane_kept : Drafted → Addr × Addr → Said
+lane_kept said p = cond (leb 65536 (length said.lanes)) (Err Limit) (cond (has_pair p.0 p.1 said.lanes) (Err LaneDouble) (Ok (record said { lanes = said.lanes ++ empty_lane p.0 p.1 ∷ [] })))
+
+abbrev pub lane_read : Drafted → List ℕ × List ℕ → Said
+lane_read said h = of_word (both_of (addr_of h.0) (addr_of h.1)) >>= lane_kept said
+
+lane_found : (said next : Drafted) (line word words : List ℕ) → line ≡ word ++ 32 ∷ words → bytes_eq word (codes "lane") ≡ true → after_lane said words ≡ Ok next → Adds said line next
+unfolding after_lane
+lane_found said next line word words parts same e =
+    let none = guard_true (eqb (length said.drops) 0) Line (of_word (halves_of 32 words) >>= lane_read said) next e in
+    let h = bind_ok (of_word (halves_of 32 words)) (lane_read said) next none.1 in
+    let p = bind_ok (of_word (both_of (addr_of h.0.0) (addr_of h.0.1))) (lane_kept said) next h.2 in
+    let both = both_ok (addr_of h.0.0) (addr_of h.0.1) p.0 (word_ok _ p.0 p.1) in
+    let made : Drafted = record said { lanes = said.lanes ++ empty_lane p.0.0 p.0.1 ∷ [] } in
+    let room = guard_false (leb 65536 (length said.lanes)) Limit (cond (has_pair p.0.0 p.0.1 said.lanes) (Err LaneDouble) (Ok made)) next p.2 in
+    let new = guard_false (has_pair p.0.0 p.0.1 said.lanes) LaneDouble (Ok made) next room.1 in
+    let text = begins line word words (codes "lane") _ parts same (joins 32 words h.0 (addr_text p.0.0) (addr_text p.0.1) (word_ok _ h.0 h.1) (addr_found h.0.0 p.0.0 both.0) (addr_found h.0.1 p.0.1 both.1)) in
+    let drops : said.drops ≡ [] = nil_from_length said.drops (eqb-true _ _ none.0) in
+    subst (λ (l : List ℕ). Adds said l next) (sym text) (subst (λ (d : Drafted). Adds said (codes "lane" ++ 32 ∷ (addr_text p.0.0 ++ 32 ∷ addr_text p.0.1)) d) (ok_is made next new.1) (adds_lane said p.0.0 p.0.1 drops new.0))
+
+abbrev pub event_kept : Drafted → Event → Said
+event_kept said event = cond (leb 50331648 (said_count said)) (Err Limit) (Ok (record said { lanes = with_event event said.lanes }))
+
+both_true : (s t : Bool) → (s && t) ≡ true → (s ≡ true) × (t ≡ true)
+both_true true t e = (refl, e)
+both_true false t e = absurd cc
+
+event_line_found : (said next : Drafted) (line word words : List ℕ) → line ≡ word ++ 32 ∷ words → after_event said word words ≡ Ok next → Adds said line next
+unfolding after_event
+event_line_found said next line word words parts e =
+    let may = guard_true (ltb 0 (length said.lanes) && eqb (length said.drops) 0) Line (of_word (event_of word words) >>= event_kept said) next e in
+    let tests = both_true (ltb 0 (length said.lanes)) (eqb (length said.drops) 0) may.0 in
+    let p = bind_ok (of_word (event_of word words)) (event_kept said) next may.1 in
+    let made : Drafted = record said { lanes = with_event p.0 said.lanes } in
+    let room = guard_false (leb 50331648 (said_count said)) Limit (Ok made) next p.2 in
+    let text = event_found line word words p.0 parts (word_ok _ p.0 p.1) in
+    let drops : said.drops ≡ [] = nil_from_length said.drops (eqb-true _ _ tests.1) in
+    subst (λ (l : List ℕ). Adds said l next) (sym text) (subst (λ (d : Drafted). Adds said (event_word p.0) d) (ok_is made next room.1) (adds_event said p.0 (ltb-true _ _ tests.0) drops))
+
+abbrev pub drop_kept : Drafted → SightId × Key → Said
+drop_kept said p = cond (leb 50331648 (said_count said)) (Err Limit) (Ok (record said { drops = said.drops ++ record { sight = p.0; key = p.1 } ∷ [] }))
+
+drop_found : (said next : Drafted) (line word words : List ℕ) → line ≡ word ++ 32 ∷ words → bytes_eq word (codes "drop") ≡ true → after_drop said words ≡ Ok next → Adds said line next
+unfolding after_drop
+drop_found said next line word words parts same e =
+    let p = bind_ok (of_word (placed_of words)) (drop_kept said) next e in
+    let made : Drafted = record said { drops = said.drops ++ record { sight = p.0.0; key = p.0.1 } ∷ [] } in
+    let room = guard_false (leb 50331648 (said_count said)) Limit (Ok made) next p.2 in
+    let text = begins line word words (codes "drop") _ parts same (placed_found words p.0 (word_ok _ p.0 p.1)) in
+    subst (λ (l : List ℕ). Adds said l next) (sym text) (subst (λ (d : Drafted). Adds said (codes "drop" ++ 32 ∷ placed_word p.0.0 p.0.1) d) (ok_is made next room.1) (adds_drop said (record { sight = p.0.0; key = p.0.1 })))
+
+abbrev pub by_word : Drafted → List ℕ × List ℕ → Said
+by_word said h = cond (bytes_eq h.0 (codes "lane")) (after_lane said h.1) (cond (bytes_eq h.0 (codes "drop")) (after_drop said h.1) (after_event said h.0 h.1))
+
+pub line_found : (said next : Drafted) (line : List ℕ) → after_line said line ≡ Ok next → Adds said line next
+unfolding after_line
+line_found said next line e =
+    let h = bind_ok (of_word (halves_of 32 line)) (by_word said) next e in
+    let parts = halves_found 32 line h.0 (word_ok _ h.0 h.1) in
+    elim (chosen (bytes_eq h.0.0 (codes "lane")) (after_lane said h.0.1) (cond (bytes_eq h.0.0 (codes "drop")) (after_drop said h.0.1) (after_event said h.0.0 h.0.1)) (Ok next) h.2) [
+      | inl is ↦ lane_found said next line h.0.0 h.0.1 parts is.0 is.1
+      | inr not_lane ↦
+          elim (chosen (bytes_eq h.0.0 (codes "drop")) (after_drop said h.0.1) (after_event said h.0.0 h.0.1) (Ok next) not_lane.1) [
+            | inl is ↦ drop_found said next line h.0.0 h.0.1 parts is.0 is.1
+            | inr not_drop ↦ event_line_found said next line h.0.0 h.0.1 parts not_drop.1
+          ]
+    ]
+
+-- ---- lines
+
+-- a text of these pieces
+abbrev pub joined : List ℕ → List (List ℕ) → List ℕ
+joined piece [] = piece
+joined piece (next ∷ more) = piece ++ 10 ∷ joined next more
+
+first_more : (b : ℕ) (first : List ℕ) (more : List (List ℕ)) → joined (b ∷ first) more ≡ b ∷ joined first more
+first_more b first [] = refl
+first_more b first (next ∷ more) = refl
+
+rejoined : (b : ℕ) (bs : List ℕ) (q : Pieces) (t : Bool) → eqb b 10 ≡ t → joined q.first q.more ≡ bs →
+    (λ (p : Pieces). joined p.first p.more) (cond t (record { first = []; more = q.first ∷ q.more }) (record { first = b ∷ q.first; more = q.more })) ≡ b ∷ bs
+rejoined b bs q true e h = ap (λ (l : List ℕ). 10 ∷ l) h ∙ ap (λ (x : ℕ). x ∷ bs) (sym (eqb-true b 10 e))
+rejoined b bs q false e h = first_more b q.first q.more ∙ ap (λ (l : List ℕ). b ∷ l) h
+
+pub joined_pieces : (text : List ℕ) → joined (pieces text).first (pieces text).more ≡ text
+joined_pieces [] = refl
+joined_pieces (b ∷ bs) = rejoined b bs (pieces bs) (eqb b 10) refl (joined_pieces bs)
+
+at_ok : {A B : Type 0} (line : ℕ) (r : Result A CertFaultKind) (f : A → Result B CertFault) (y : B) → at_line line r f ≡ Ok y → (x : A) × (r ≡ Ok x) × (f x ≡ Ok y)
+at_ok line (Ok x) f y e = (x, refl, e)
+at_ok line (Err kind) f y e = absurd cc
+
+-- the lines still to come are those of what they add, and `end`
+pub record Reads (said : Drafted) (text : List ℕ) (all : Drafted) : Type 0 where
+  pub lines : body said ++ text ≡ body all ++ codes "end\n"
+  pub apart : IsDistinct same_lane said.lanes → IsDistinct same_lane all.lanes
+
+end_found : (line : ℕ) (said all : Drafted) (piece next : List ℕ) (more : List (List ℕ)) → bytes_eq piece (codes "end") ≡ true → ended line said next more ≡ Ok all → Reads said (joined piece (next ∷ more)) all
+end_found line said all piece [] [] same e =
+    subst (λ (d : Drafted). Reads said (piece ++ 10 ∷ []) d) (ok_is said all e) (record {
+      lines = ap (λ (l : List ℕ). body said ++ (l ++ 10 ∷ [])) (same_text piece (codes "end") (sym same));
+      apart = λ apart. apart;
+    })
+end_found line said all piece [] (x ∷ more) same e = absurd cc
+end_found line said all piece (b ∷ bs) more same e = absurd cc
+
+pub lines_found : (line : ℕ) (said all : Drafted) (piece : List ℕ) (more : List (List ℕ)) → read_lines line said piece more ≡ Ok all → Reads said (joined piece more) all
+lines_found line said all piece [] e = absurd cc
+lines_found line said all piece (next ∷ more) e =
+    elim (chosen (bytes_eq piece (codes "end")) (ended (line + 1) said next more) (at_line line (after_line said piece) (λ then_said. read_lines (line + 1) then_said next more)) (Ok all) e) [
+      | inl is ↦ end_found (line + 1) said all piece next more is.0 is.1
+      | inr goes ↦
+          let x = at_ok line (after_line said piece) (λ then_said. read_lines (line + 1) then_said next more) all goes.1 in
+          let adds = line_found said x.0 piece x.1 in
+          let rest = lines_found (line + 1) x.0 all next more x.2 in
+          record {
+            lines = ap (λ (l : List ℕ). body said ++ l) (sym (append_assoc piece (10 ∷ []) (joined next more)))
+                ∙ sym (append_assoc (body said) (piece ++ 10 ∷ []) (joined next more))
+                ∙ ap (λ (l : List ℕ). l ++ joined next more) (sym adds.lines) ∙ rest.lines;
+            apart = λ apart. rest.apart (adds.apart apart);
+          }
+    ]
+
+-- ---- the whole
+
+pub record IsFound (text : List ℕ) (all : Drafted) : Type 0 where
+  pub spelled : text ≡ spelling all
+  pub apart : IsDistinct same_lane all.lanes
+
+guard_heading : (t : Bool) (r : Result Drafted CertFault) (y : Drafted) → cond t r (fault_at 1 Heading) ≡ Ok y → (t ≡ true) × (r ≡ Ok y)
+guard_heading true r y e = (refl, e)
+guard_heading false r y e = absurd cc
+
+heading_found : (first : List ℕ) (more : List (List ℕ)) (all : Drafted) → read_heading first more ≡ Ok all → IsFound (joined first more) all
+heading_found first [] all e = absurd cc
+heading_found first (next ∷ more) all e =
+    let g = guard_heading (bytes_eq first (codes "turnaudit-certificate 1")) (read_lines 2 nothing_said next more) all e in
+    let r = lines_found 2 nothing_said all next more g.1 in
+    record {
+      spelled = ap (λ (l : List ℕ). l ++ 10 ∷ joined next more) (same_text first (codes "turnaudit-certificate 1") (sym g.0))
+          ∙ ap (λ (l : List ℕ). codes "turnaudit-certificate 1\n" ++ l) (r.lines ∙ append_assoc (flat_map lane_lines all.lanes) (flat_map drop_line all.drops) (codes "end\n"));
+      apart = r.apart (none_apart [] refl);
+    }
+
+pub cert_found : (text : List ℕ) (all : Drafted) → cert_of text ≡ Ok all → IsFound text all
+unfolding cert_of
+cert_found text all e = subst (λ (l : List ℕ). IsFound l all) (joined_pieces text) (heading_found (pieces text).first (pieces text).more all e)

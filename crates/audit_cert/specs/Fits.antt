@@ -1,0 +1,42 @@
+-- What has a spelling: a certificate whose numbers are of their types, within the limits, with no two lanes of one pair.
+use Rattle.std.specs.Prelude.{◌≤◌, ◌<◌, ◌^◌, length}
+use Rattle.std.specs.List.{AllByRecursion, IsDistinct}
+use Rattle.audit_model.specs.declared.address.Addr.{Addr}
+use Rattle.audit_model.specs.declared.sighting.SightId.{SightId}
+use Rattle.audit_model.specs.declared.event.Key.{Key}
+use Rattle.audit_model.specs.declared.event.Event.{Event}
+use Rattle.audit_model.specs.declared.event.Event.TheVariants.{In, Act, Out}
+use Rattle.audit_model.specs.declared.certificate.CertLane.{CertLane}
+use Rattle.audit_model.specs.declared.certificate.CertDrop.{CertDrop}
+use Rattle.audit_model.specs.declared.certificate.TheConstants.{MAX_LANES, MAX_EVENTS}
+use Rattle.audit_cert.specs.DraftView.{Drafted}
+use Rattle.audit_cert.specs.CertLines.{same_lane, said_count}
+
+abbrev pub AddrFits : Addr → Type 0
+AddrFits a = (a.ip < 2 ^ 32) × (a.port < 2 ^ 16)
+
+abbrev pub SightFits : SightId → Type 0
+SightFits s = (s.iface < 2 ^ 32) × (s.index < 2 ^ 32)
+
+abbrev pub KeyFits : Key → Type 0
+KeyFits k = (k.moment < 2 ^ 64) × (k.tie < 2 ^ 32)
+
+abbrev pub EventFits : Event → Type 0
+EventFits (In sight key) = SightFits sight × KeyFits key
+EventFits (Act sight gives key) = SightFits sight × (SightFits gives × KeyFits key)
+EventFits (Out sight key) = SightFits sight × KeyFits key
+
+pub record LaneFits (lane : CertLane) : Type 0 where
+  pub client : AddrFits lane.client
+  pub listen : AddrFits lane.listen
+  pub events : AllByRecursion EventFits lane.events
+
+abbrev pub DropFits : CertDrop → Type 0
+DropFits drop = SightFits drop.sight × KeyFits drop.key
+
+pub record IsCertificate (said : Drafted) : Type 0 where
+  pub lanes : AllByRecursion LaneFits said.lanes
+  pub drops : AllByRecursion DropFits said.drops
+  pub distinct : IsDistinct same_lane said.lanes
+  pub few_lanes : length said.lanes ≤ MAX_LANES
+  pub few_events : said_count said ≤ MAX_EVENTS

@@ -1,0 +1,124 @@
+//! Certificates read and written, and what goes wrong.
+
+use crate::{CertFaultKind, read, write};
+use audit_model::{Sink, SinkFailed, WriteFault};
+use std::alloc::Global;
+use std::test::*;
+
+/// Of a Binding transaction.
+const BINDING: &[u8; 124] = b"turnaudit-certificate 1
+lane 198.51.100.7:40000 192.0.2.1:3478
+in 0.0 1000000 0
+act 0.0 0.1 1000000 1
+out 0.1 1500000 0
+end
+";
+
+/// Of an arrival that the server never acted on.
+const DROPPED: &[u8; 48] = b"turnaudit-certificate 1
+drop 64.0 1000000 0
+end
+";
+
+/// Takes some bytes, one by one, and then fails.
+#[derive(Drop)]
+struct Narrow {
+    bytes: Vec<u8>,
+    room: usize,
+}
+
+impl Sink for Narrow {
+    ghost use Rattle.std.specs.Prelude.{None};
+
+    ghost taken = { λ _. None };
+
+    ghost failures = { λ _. None };
+
+    fn put(&mut self, piece: &[u8]) -> Result<usize, SinkFailed> {
+        if self.room == 0 {
+            return Err(SinkFailed);
+        }
+        match piece {
+            [] => Ok(0),
+            [first, ..] => {
+                if self.bytes.push(*first).is_err() {
+                    return Err(SinkFailed);
+                }
+                self.room -= 1;
+                Ok(1)
+            }
+        }
+    }
+}
+
+/// What a sink with that much room has after the text is read and written.
+fn through(
+    alloc: Global,
+    text: &[u8],
+    room: usize,
+) -> Result<(Result<(), WriteFault>, Vec<u8>), Fail> {
+    let certificate = read(alloc, text).ok().ok_or("the text is a certificate")?;
+    let mut sink = Narrow {
+        bytes: Vec::new(alloc),
+        room,
+    };
+    let written = write(alloc, &certificate, &mut sink);
+    Ok((written, sink.bytes))
+}
+
+#[test]
+fn written_as_it_was_read(rt: HostRuntime) -> Result<(), Fail> {
+    for text in [BINDING.as_slice(), DROPPED.as_slice()] {
+        let (written, bytes) = through(rt.alloc(), text, text.len())?;
+        assert_eq!(rt; written, Ok(()));
+        assert_eq!(rt; bytes.as_slice(), text);
+        for room in 0..text.len() {
+            let (written, bytes) = through(rt.alloc(), text, room)?;
+            assert_eq!(rt; written, Err(WriteFault::Device));
+            assert_eq!(rt; bytes.as_slice(), &text[..room]);
+        }
+    }
+    Ok(())
+}
+
+/// The fault of a text after the heading, with its line.
+fn fault_of(rt: &HostRuntime, text: &[u8]) -> Option<(CertFaultKind, u64)> {
+    match read(rt.alloc(), text) {
+        Ok(_) => None,
+        Err(fault) => Some((fault.kind, fault.line)),
+    }
+}
+
+#[test]
+fn first_fault(rt: HostRuntime) {
+    let cases: [(&[u8], CertFaultKind, u64); 9] = [
+        (b"", CertFaultKind::Heading, 1),
+        (b"turnaudit-certificate 1", CertFaultKind::Heading, 1),
+        (b"turnaudit-certificate 1\n", CertFaultKind::EndMissing, 2),
+        (b"turnaudit-certificate 1\nend", CertFaultKind::Line, 2),
+        (b"turnaudit-certificate 1\nend\n\n", CertFaultKind::Line, 3),
+        (
+            b"turnaudit-certificate 1\nin 0.0 1 0\nend\n",
+            CertFaultKind::Line,
+            2,
+        ),
+        (
+            b"turnaudit-certificate 1\nlane 1.2.3.4:5 6.7.8.9:1\nin 0.0 01 0\nend\n",
+            CertFaultKind::Number,
+            3,
+        ),
+        (
+            b"turnaudit-certificate 1\nlane 1.2.3.4:5 6.7.8.9:1\nlane 1.2.3.4:5 6.7.8.9:1\nend\n",
+            CertFaultKind::LaneDouble,
+            3,
+        ),
+        (
+            b"turnaudit-certificate 1\ndrop 0.0 1 0\nlane 1.2.3.4:5 6.7.8.9:1\nend\n",
+            CertFaultKind::Line,
+            3,
+        ),
+    ];
+    for (text, kind, line) in cases {
+        assert_eq!(rt; fault_of(&rt, text), Some((kind, line)));
+    }
+}

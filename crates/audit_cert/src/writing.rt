@@ -1,0 +1,125 @@
+//! A certificate written to a sink, line by line.
+
+ghost use Rattle.std.specs.Prelude.{◌≡◌, ◌++◌, codes, OnOk, OnErr, IfErr};
+ghost use Rattle.std.specs.List.{flat_map};
+ghost use Rattle.audit_model.specs.Sink.{followed_by, IsFollowedByFront, Rose};
+ghost use Rattle.audit_model.specs.declared.write_fault.WriteFault.TheVariants as fault;
+ghost use Rattle.audit_cert.specs.Spelling.{lane_line, lane_lines, event_line, drop_line, spelling, said_by};
+ghost use Rattle.audit_cert.specs.Writing.{Puts};
+
+use crate::spelling::{text_of_drop, text_of_event, text_of_lane};
+use audit_model::{CertDrop, CertLane, Certificate, Event, Sink, WriteFault, put_all};
+use std::alloc::Global;
+
+const HEADING_LINE: &[u8; 24] = b"turnaudit-certificate 1\n";
+
+const END_LINE: &[u8; 4] = b"end\n";
+
+/// Puts the bytes, all of them where it answers Ok.
+fn put<W: Sink>(bytes: &[u8], out: &mut W) -> Result<(), WriteFault>
+    ensures { Puts bytes.now result (record { taken = W.taken out.old; taken_now = W.taken out.new; failures = W.failures out.old; failures_now = W.failures out.new }) }
+{
+    put_all(out, bytes)?;
+    Ok(())
+}
+
+fn put_event<W: Sink>(alloc: Global, event: &Event, out: &mut W) -> Result<(), WriteFault>
+    ensures { Puts (event_line event.now) result (record { taken = W.taken out.old; taken_now = W.taken out.new; failures = W.failures out.old; failures_now = W.failures out.new }) }
+{
+    let line = text_of_event(alloc, event)?;
+    put(line.as_bytes(), out)
+}
+
+fn put_events<W: Sink>(alloc: Global, events: &[Event], out: &mut W) -> Result<(), WriteFault>
+    ensures { Puts (flat_map event_line events.now) result (record { taken = W.taken out.old; taken_now = W.taken out.new; failures = W.failures out.old; failures_now = W.failures out.new }) }
+{
+    for event in events {
+        put_event(alloc, event, out)?;
+    }
+    Ok(())
+}
+
+fn put_lane_line<W: Sink>(alloc: Global, lane: &CertLane, out: &mut W) -> Result<(), WriteFault>
+    ensures { Puts (lane_line lane.now) result (record { taken = W.taken out.old; taken_now = W.taken out.new; failures = W.failures out.old; failures_now = W.failures out.new }) }
+{
+    let line = text_of_lane(alloc, lane)?;
+    put(line.as_bytes(), out)
+}
+
+/// Puts a lane's line, and then its events'.
+fn put_lane<W: Sink>(alloc: Global, lane: &CertLane, out: &mut W) -> Result<(), WriteFault>
+    ensures { Puts (lane_lines lane.now) result (record { taken = W.taken out.old; taken_now = W.taken out.new; failures = W.failures out.old; failures_now = W.failures out.new }) }
+{
+    put_lane_line(alloc, lane, out)?;
+    put_events(alloc, lane.events.as_slice(), out)
+}
+
+fn put_lanes<W: Sink>(alloc: Global, lanes: &[CertLane], out: &mut W) -> Result<(), WriteFault>
+    ensures { Puts (flat_map lane_lines lanes.now) result (record { taken = W.taken out.old; taken_now = W.taken out.new; failures = W.failures out.old; failures_now = W.failures out.new }) }
+{
+    for lane in lanes {
+        put_lane(alloc, lane, out)?;
+    }
+    Ok(())
+}
+
+fn put_drop<W: Sink>(alloc: Global, drop: &CertDrop, out: &mut W) -> Result<(), WriteFault>
+    ensures { Puts (drop_line drop.now) result (record { taken = W.taken out.old; taken_now = W.taken out.new; failures = W.failures out.old; failures_now = W.failures out.new }) }
+{
+    let line = text_of_drop(alloc, drop)?;
+    put(line.as_bytes(), out)
+}
+
+fn put_drops<W: Sink>(alloc: Global, drops: &[CertDrop], out: &mut W) -> Result<(), WriteFault>
+    ensures { Puts (flat_map drop_line drops.now) result (record { taken = W.taken out.old; taken_now = W.taken out.new; failures = W.failures out.old; failures_now = W.failures out.new }) }
+{
+    for drop in drops {
+        put_drop(alloc, drop, out)?;
+    }
+    Ok(())
+}
+
+/// Puts the drops' lines and the last line.
+fn put_drops_on<W: Sink>(alloc: Global, drops: &[CertDrop], out: &mut W) -> Result<(), WriteFault>
+    ensures { Puts (flat_map drop_line drops.now ++ codes "end\n") result (record { taken = W.taken out.old; taken_now = W.taken out.new; failures = W.failures out.old; failures_now = W.failures out.new }) }
+{
+    put_drops(alloc, drops, out)?;
+    put(END_LINE, out)
+}
+
+/// Puts the lanes' lines, and what stands after them.
+fn put_lanes_on<W: Sink>(
+    alloc: Global,
+    certificate: &Certificate,
+    out: &mut W,
+) -> Result<(), WriteFault>
+    ensures { Puts (flat_map lane_lines certificate.now.lanes ++ (flat_map drop_line certificate.now.drops ++ codes "end\n")) result (record { taken = W.taken out.old; taken_now = W.taken out.new; failures = W.failures out.old; failures_now = W.failures out.new }) }
+{
+    put_lanes(alloc, certificate.lanes.as_slice(), out)?;
+    put_drops_on(alloc, certificate.drops.as_slice(), out)
+}
+
+fn put_certificate<W: Sink>(
+    alloc: Global,
+    certificate: &Certificate,
+    out: &mut W,
+) -> Result<(), WriteFault>
+    ensures { Puts (spelling (said_by certificate.now)) result (record { taken = W.taken out.old; taken_now = W.taken out.new; failures = W.failures out.old; failures_now = W.failures out.new }) }
+{
+    put(HEADING_LINE, out)?;
+    put_lanes_on(alloc, certificate, out)
+}
+
+/// Writes the certificate's one spelling. After an error a front of it may have gone out: `Device` where the sink
+/// failed, `Memory` where there was no room for a line.
+pub fn write<W: Sink>(
+    alloc: Global,
+    certificate: &Certificate,
+    out: &mut W,
+) -> Result<(), WriteFault>
+    ensures ok { OnOk result (W.taken out.new ≡ followed_by (W.taken out.old) (spelling (said_by certificate.now))) }
+    ensures front { OnErr result (IsFollowedByFront (W.taken out.old) (spelling (said_by certificate.now)) (W.taken out.new)) }
+    ensures device { IfErr result (λ f. f ≡ fault.Device → Rose (W.failures out.old) (W.failures out.new)) }
+{
+    put_certificate(alloc, certificate, out)
+}
