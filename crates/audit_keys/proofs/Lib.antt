@@ -1,1 +1,3 @@
 pub mod Pads
+pub mod Keyrings
+pub mod CredTexts

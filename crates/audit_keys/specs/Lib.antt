@@ -1,3 +1,10 @@
 pub mod Hmac
 pub mod LongTerm
 pub mod Signed
+pub mod CredLine
+pub mod Seen
+pub mod Keys
+pub mod CredText
+pub mod Kept
+pub mod Authentic
+pub mod CredFault

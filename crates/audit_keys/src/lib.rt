@@ -1,13 +1,19 @@
-//! Keys, and what is signed under them: HMAC-SHA1 (RFC 2104) and the long-term keys of STUN
-//! (RFC 8489, section 9.2.2).
+//! Keys, and what is signed under them: HMAC-SHA1 (RFC 2104), the long-term keys of STUN
+//! (RFC 8489, section 9.2.2) and the credentials file.
 #![tactic(auto)]
 
+mod cred_fault;
+mod credential_line;
 mod hmac;
 mod integrity;
+mod keyring;
 mod long_term;
+mod reading;
 #[cfg(test)]
 mod tests;
 
+pub use cred_fault::{CredFault, CredFaultKind};
 pub use hmac::hmac_sha1;
 pub use integrity::signed;
+pub use keyring::Credentials;
 pub use long_term::long_term_key;

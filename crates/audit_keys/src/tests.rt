@@ -2,6 +2,9 @@ use super::*;
 use audit_stun::message;
 use std::test::*;
 
+/// The key of user `user` of realm `realm` with password `pass`.
+const KEY: u128 = 0x8493_fbc5_3ba5_82fb_4c04_4c45_6bdc_40eb;
+
 #[test]
 fn long_term(rt: HostRuntime) {
     let key = long_term_key(b"user", b"realm", b"pass");
@@ -99,5 +102,104 @@ fn long_term_request(rt: HostRuntime) -> Result<(), Fail> {
     let user = &LONG_TERM_REQUEST[24..42];
     assert!(rt; signed(&request, &long_term_key(user, b"example.org", b"TheMatrIX")));
     assert!(rt; !signed(&request, &long_term_key(user, b"example.org", b"TheMatrix")));
+    Ok(())
+}
+
+#[test]
+fn lookups(rt: HostRuntime) -> Result<(), Fail> {
+    let text = b"user\trealm\tpass\nuser\trealm 2\t\nother\trealm\tpass\n";
+    let credentials = Credentials::read(rt.alloc(), text)?;
+    let found = credentials.lookup(b"user", b"realm").ok_or("a key")?;
+    assert_eq!(rt; u128::from_be_bytes(found), KEY);
+    assert!(rt; credentials.lookup(b"user", b"realm 2").is_some());
+    assert!(rt; credentials.lookup(b"other", b"realm").is_some());
+    assert!(rt; credentials.lookup(b"other", b"realm 2").is_none());
+    assert!(rt; credentials.lookup(b"user", b"real").is_none());
+    assert!(rt; credentials.lookup(b"realm", b"user").is_none());
+    let none = Credentials::read(rt.alloc(), b"")?;
+    assert!(rt; none.lookup(b"user", b"realm").is_none());
+    Ok(())
+}
+
+#[test]
+fn faults(rt: HostRuntime) -> Result<(), Fail> {
+    let texts: [(&[u8], CredFaultKind, u64); 12] = [
+        (b"user\trealm\tpass\r\n", CredFaultKind::Character, 1),
+        (
+            b"user\trealm\tpass\nuser\trealm\tpass\n",
+            CredFaultKind::Double,
+            2,
+        ),
+        (
+            b"user\trealm\tpass\nuser\trealm\tother\n",
+            CredFaultKind::Double,
+            2,
+        ),
+        (b"user\trealm\tpass", CredFaultKind::Line, 1),
+        (b"user\trealm\tpass\n\n", CredFaultKind::Line, 2),
+        (b"user\trealm\n", CredFaultKind::Line, 1),
+        (b"user\trealm\tpass\tmore\n", CredFaultKind::Line, 1),
+        (b"\trealm\tpass\n", CredFaultKind::Line, 1),
+        (b"user\t\tpass\n", CredFaultKind::Line, 1),
+        (b"user\x7F\n", CredFaultKind::Character, 1),
+        (b"user\x1F", CredFaultKind::Character, 1),
+        (b"us\xC3\xA9r\trealm\tpass\n", CredFaultKind::Character, 1),
+    ];
+    for (text, kind, line) in texts {
+        let read = Credentials::read(rt.alloc(), text);
+        assert_eq!(rt; read.err().ok_or("a fault")?, CredFault { kind, line });
+    }
+    Ok(())
+}
+
+#[test]
+fn long_fields(rt: HostRuntime) -> Result<(), Fail> {
+    let field = [b'x'; 509];
+    for (length, is_read) in [(508, true), (509, false)] {
+        for (user, realm, password) in [(length, 1, 1), (1, length, 1), (1, 1, length)] {
+            let mut text = Vec::new(rt.alloc());
+            text.extend_from_slice(&field[..user])?;
+            text.push(b'\t')?;
+            text.extend_from_slice(&field[..realm])?;
+            text.push(b'\t')?;
+            text.extend_from_slice(&field[..password])?;
+            text.push(b'\n')?;
+            match Credentials::read(rt.alloc(), text.as_slice()) {
+                Ok(_) => assert!(rt; is_read),
+                Err(fault) => {
+                    assert!(rt; !is_read);
+                    assert_eq!(rt;
+                        fault,
+                        CredFault {
+                            kind: CredFaultKind::Limit,
+                            line: 1
+                        }
+                    );
+                }
+            }
+        }
+    }
+    Ok(())
+}
+
+#[test]
+fn many_lines(rt: HostRuntime) -> Result<(), Fail> {
+    let mut text = Vec::new(rt.alloc());
+    for number in 0..65_536u32 {
+        let user = number.to_be_bytes().map(|byte| b' ' + byte % 64);
+        let realm = number.to_be_bytes().map(|byte| b' ' + byte / 64);
+        text.extend_from_slice(&user)?;
+        text.push(b'\t')?;
+        text.extend_from_slice(&realm)?;
+        text.extend_from_slice(b"\tpass\n")?;
+    }
+    // The same line again: that it is one too many is told before that it is a double.
+    text.extend_from_slice(b"    \t    \tpass\n")?;
+    let read = Credentials::read(rt.alloc(), text.as_slice());
+    let limit = CredFault {
+        kind: CredFaultKind::Limit,
+        line: 65_537,
+    };
+    assert_eq!(rt; read.err().ok_or("a fault")?, limit);
     Ok(())
 }
