@@ -9,6 +9,7 @@ mod source;
 mod stop;
 mod writing;
 
+use audit_model::{Sink, put_all};
 use host::{HostFiles, HostStream};
 use running::run;
 use std::process::ExitCode;
@@ -24,6 +25,16 @@ fn words_of<R: Env + AllocGlobal>(rt: &R) -> io::Result<Vec<String>> {
     Ok(words)
 }
 
+/// Says that the words could not be read, and gives the exit status.
+fn refuse_words<W: Sink>(err: &mut W, error: &io::Error) -> u8 {
+    if error.kind() == io::ErrorKind::OutOfMemory {
+        let _ = put_all(err, b"turnaudit: out of memory\n");
+        return 3;
+    }
+    let _ = put_all(err, b"turnaudit: a word is not UTF-8\n");
+    5
+}
+
 fn main(rt: HostRuntime) -> ExitCode {
     let alloc = rt.alloc();
     let mut out = HostStream::new(rt.stdout());
@@ -31,7 +42,7 @@ fn main(rt: HostRuntime) -> ExitCode {
     let mut files = HostFiles::new(&rt);
     let status = match words_of(&rt) {
         Ok(words) => run(alloc, &words, &mut files, &mut out, &mut err),
-        Err(_) => 5,
+        Err(error) => refuse_words(&mut err, &error),
     };
     ExitCode::from(status)
 }
