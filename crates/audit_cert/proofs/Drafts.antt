@@ -12,8 +12,8 @@ use Rattle.audit_model.specs.declared.address.Addr.{Addr}
 use Rattle.audit_model.specs.declared.event.Event.{Event}
 use Rattle.audit_model.specs.declared.certificate.CertLane.{CertLane}
 use Rattle.audit_model.specs.EventCount.{event_count}
-use Rattle.audit_cert.specs.Pairs.{same_addr, same_pair}
-use Rattle.audit_cert.specs.CertLines.{with_event, has_pair, same_lane}
+use Rattle.audit_model.specs.Lanes.{same_addr, same_pair, same_lane}
+use Rattle.audit_cert.specs.CertLines.{with_event, has_pair}
 
 abbrev pub longer : Event → CertLane → CertLane
 longer event lane = record lane { events = lane.events ++ event ∷ [] }

@@ -1,7 +1,6 @@
 -- What is read is spelled so, and what is spelled so is read.
 use Rattle.std.proofs.Common.{◌≡◌, ℕ, List, Result, Ok, Err, refl, sym, ap, ◌∙◌, subst}
 use Rattle.std.specs.Prelude.{IfOk, MatchResult}
-use Rattle.std.specs.List.{IsDistinct}
 use Rattle.audit_model.specs.declared.certificate.Certificate.{Certificate}
 use Rattle.audit_cert.specs.declared.fault.CertFault.{CertFault}
 use Rattle.audit_cert.specs.declared.fault.CertFaultKind.{CertFaultKind}
@@ -9,7 +8,6 @@ use Rattle.audit_cert.specs.declared.fault.CertFaultKind.TheVariants.{Heading, L
 use Rattle.audit_cert.specs.CertFault.{IsFirstFault, UnlessMemory}
 use Rattle.audit_cert.specs.DraftView.{Drafted}
 use Rattle.audit_cert.specs.Fits.{IsCertificate}
-use Rattle.audit_cert.specs.CertLines.{same_lane}
 use Rattle.audit_cert.specs.CertText.{cert_of}
 use Rattle.audit_cert.specs.Spelling.{spelling, said_by}
 use Rattle.audit_cert.proofs.FoundTexts.{cert_found}
@@ -23,10 +21,6 @@ Exact text result = MatchResult result (λ cert. cert_of text ≡ Ok (said_by ce
 pub is_found : (text : List ℕ) (result : Result Certificate CertFault) → Exact text result → IfOk result (λ cert. text ≡ spelling (said_by cert))
 is_found text (Ok cert) exact = (cert_found text (said_by cert) exact).spelled
 is_found text (Err fault) exact = tt
-
-pub is_distinct : (text : List ℕ) (result : Result Certificate CertFault) → Exact text result → IfOk result (λ cert. IsDistinct same_lane cert.lanes)
-is_distinct text (Ok cert) exact = (cert_found text (said_by cert) exact).apart
-is_distinct text (Err fault) exact = tt
 
 abbrev read_as : Drafted → Result Drafted CertFault
 read_as said = Ok said

@@ -1,10 +1,20 @@
 -- The fault of a certificate line that a word of it has, and what is claimed of a fault.
-use Rattle.std.specs.Prelude.{◌≡◌, Result, Ok, Err}
+use Rattle.std.specs.Prelude.{◌≡◌, ℕ, List, Result, Ok, Err, codes}
 use Rattle.audit_model.specs.declared.token.TokenFault.{TokenFault}
 use Rattle.audit_model.specs.declared.token.TokenFault.TheVariants as token
 use Rattle.audit_cert.specs.declared.fault.CertFault.{CertFault}
 use Rattle.audit_cert.specs.declared.fault.CertFaultKind.{CertFaultKind}
 use Rattle.audit_cert.specs.declared.fault.CertFaultKind.TheVariants.{Heading, Line, Number, LaneDouble, Limit, EndMissing, Memory}
+
+-- the number under which users know a fault
+abbrev pub cert_code_of : CertFaultKind → List ℕ
+cert_code_of Heading = codes "T1"
+cert_code_of Line = codes "T2"
+cert_code_of Number = codes "T3"
+cert_code_of LaneDouble = codes "T4"
+cert_code_of Limit = codes "T5"
+cert_code_of EndMissing = codes "T6"
+cert_code_of Memory = codes "T7"
 
 abbrev pub cert_fault_of : TokenFault → CertFaultKind
 cert_fault_of token.Shape = Line

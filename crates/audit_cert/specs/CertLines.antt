@@ -5,6 +5,7 @@ use Rattle.std.specs.List.{list_any}
 use Rattle.audit_model.specs.Token.{◌>>=◌, halves_of, both_of}
 use Rattle.audit_model.specs.Addr.{addr_of}
 use Rattle.audit_model.specs.EventCount.{event_count}
+use Rattle.audit_model.specs.Lanes.{same_pair}
 use Rattle.audit_model.specs.declared.address.Addr.{Addr}
 use Rattle.audit_model.specs.declared.event.Event.{Event}
 use Rattle.audit_model.specs.declared.certificate.CertLane.{CertLane}
@@ -12,16 +13,11 @@ use Rattle.audit_cert.specs.declared.fault.CertFaultKind.{CertFaultKind}
 use Rattle.audit_cert.specs.declared.fault.CertFaultKind.TheVariants.{Line, LaneDouble, Limit}
 use Rattle.audit_cert.specs.CertFault.{of_word}
 use Rattle.audit_cert.specs.DraftView.{Drafted}
-use Rattle.audit_cert.specs.Pairs.{same_pair}
 use Rattle.audit_cert.specs.EventLine.{placed_of, event_of}
 
 -- whether a lane has this client at this listen address
 abbrev pub has_pair : Addr → Addr → List CertLane → Bool
 has_pair client listen lanes = list_any (λ lane. same_pair client listen lane.client lane.listen) lanes
-
--- two lanes of one client at one listen address
-abbrev pub same_lane : CertLane → CertLane → Bool
-same_lane a b = same_pair a.client a.listen b.client b.listen
 
 -- the lanes with one event more in the last of them
 abbrev pub with_event : Event → List CertLane → List CertLane

@@ -1,6 +1,8 @@
 -- A draft keeps the limits of a certificate, and the pairs of its lanes.
 use Rattle.std.specs.Prelude.{◌≡◌, ◌≤◌, ◌+◌, length}
+use Rattle.std.specs.List.{IsDistinct}
 use Rattle.audit_model.specs.EventCount.{event_count}
+use Rattle.audit_model.specs.Lanes.{same_lane}
 use Rattle.audit_model.specs.declared.certificate.TheConstants.{MAX_LANES, MAX_EVENTS}
 use Rattle.audit_model.specs.declared.address.Addr.{Addr}
 use Rattle.audit_cert.specs.Pairs.{has}
@@ -15,4 +17,5 @@ pub record IsSound (d : Inside) : Type 0 where
   pub counted : d.events ≡ event_count d.lanes.items + length d.drops
   pub few_events : d.events ≤ MAX_EVENTS
   pub paired : (client listen : Addr) → has d.pairs client listen ≡ has_pair client listen d.lanes.items
+  pub distinct : IsDistinct same_lane d.lanes.items
   pub few_lanes : length d.lanes.items ≤ MAX_LANES

@@ -9,8 +9,9 @@ use Rattle.audit_model.specs.declared.event.Event.TheVariants.{In, Act, Out}
 use Rattle.audit_model.specs.declared.certificate.CertLane.{CertLane}
 use Rattle.audit_model.specs.declared.certificate.CertDrop.{CertDrop}
 use Rattle.audit_model.specs.declared.certificate.TheConstants.{MAX_LANES, MAX_EVENTS}
+use Rattle.audit_model.specs.Lanes.{same_lane}
 use Rattle.audit_cert.specs.DraftView.{Drafted}
-use Rattle.audit_cert.specs.CertLines.{same_lane, said_count}
+use Rattle.audit_cert.specs.CertLines.{said_count}
 
 abbrev pub AddrFits : Addr → Type 0
 AddrFits a = (a.ip < 2 ^ 32) × (a.port < 2 ^ 16)

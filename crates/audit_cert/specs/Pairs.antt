@@ -1,16 +1,10 @@
 -- The client and the listen address of each lane, as a set of pairs.
-use Rattle.std.specs.Prelude.{Bool, ◌&&◌, ◌==◌}
+use Rattle.std.specs.Prelude.{Bool}
 use Rattle.std.specs.declared.cmp.Ordering.{Ordering}
 use Rattle.std.specs.Ordering.{nat_cmp, ordering_then}
 use Rattle.std.specs.BTreeSet.{contains}
 use Rattle.audit_model.specs.declared.address.Addr.{Addr}
 use Rattle.audit_cert.specs.declared.pairs.Pairs.{Pairs}
-
-abbrev pub same_addr : Addr → Addr → Bool
-same_addr a b = (a.ip == b.ip) && (a.port == b.port)
-
-abbrev pub same_pair : Addr → Addr → Addr → Addr → Bool
-same_pair client listen c l = same_addr client c && same_addr listen l
 
 abbrev pub addr_cmp : Addr → Addr → Ordering
 addr_cmp a b = ordering_then (nat_cmp a.ip b.ip) (nat_cmp a.port b.port)

@@ -1,7 +1,9 @@
 //! A certificate while its lines are read.
 
-ghost use Rattle.std.specs.Prelude.{◌≡◌, ◌<◌, length, OnOk, OnErr};
-ghost use Rattle.audit_cert.specs.CertLines.{with_event};
+ghost use Rattle.std.specs.Prelude.{◌≡◌, ◌<◌, false, [], ◌∷◌, ◌++◌, length, vec_len, vec_capacity, OnOk, OnErr};
+ghost use Rattle.std.specs.List.{IsDistinct};
+ghost use Rattle.audit_model.specs.Lanes.{same_lane};
+ghost use Rattle.audit_cert.specs.CertLines.{has_pair, with_event};
 
 use crate::event_line::{read_event, read_placed};
 use crate::fault::CertFaultKind;
@@ -53,6 +55,18 @@ fn push_last(lanes: &mut Vec<CertLane>, event: Event) -> Result<(), AllocFailed<
     lanes[last].events.push(event)
 }
 
+/// Adds a lane of another client or another listen address than those before it.
+#[tactic(auto, using(crate::proofs::Drafts::apart_push))]
+fn push_lane(lanes: &mut Vec<CertLane>, lane: CertLane)
+    requires room { vec_len lanes.old < vec_capacity lanes.old }
+    requires other { has_pair lane.client lane.listen lanes.old.items ≡ false }
+    requires apart { IsDistinct same_lane lanes.old.items }
+    ensures items { lanes.new.items ≡ lanes.old.items ++ lane ∷ [] }
+    ensures apart { IsDistinct same_lane lanes.new.items }
+{
+    lanes.push_reserved(lane);
+}
+
 impl Draft {
     ghost use Rattle.std.specs.Prelude.{Ok, MatchResult};
     ghost use Rattle.audit_cert.specs.CertFault.{IsFaultOf};
@@ -60,6 +74,7 @@ impl Draft {
     ghost use Rattle.audit_cert.specs.CertLines.{after_lane, after_event, after_drop};
     ghost use Rattle.audit_cert.specs.CertText.{line_of};
 
+    #[tactic(auto, using(crate::proofs::Drafts::none_apart))]
     pub fn new(alloc: Global) -> Draft
         ensures { result ≡ nothing_said }
     {
@@ -92,11 +107,12 @@ impl Draft {
         // Room comes first, so that no pair is kept without its lane.
         self.lanes.reserve(1)?;
         self.pairs.insert(client, listen)?;
-        self.lanes.push(CertLane {
+        let lane = CertLane {
             events: Listed::new(self.alloc),
             client,
             listen,
-        })?;
+        };
+        push_lane(&mut self.lanes, lane);
         Ok(())
     }
 

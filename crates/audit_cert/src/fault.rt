@@ -35,8 +35,12 @@ pub enum CertFaultKind {
 }
 
 impl CertFaultKind {
+    ghost use Rattle.audit_cert.specs.CertFault.{cert_code_of};
+
     /// The number under which users know it.
-    pub fn code(self) -> &'static str {
+    pub fn code(self) -> &'static str
+        ensures { result.now ≡ cert_code_of self }
+    {
         match self {
             CertFaultKind::Heading => "T1",
             CertFaultKind::Line => "T2",

@@ -2,7 +2,8 @@
 
 ghost use Rattle.std.specs.Prelude.{◌≡◌, ◌||◌, false, OnOk, OnErr};
 ghost use Rattle.audit_model.specs.declared.address.Addr.{Addr as Address};
-ghost use Rattle.audit_cert.specs.Pairs.{has, same_pair};
+ghost use Rattle.audit_model.specs.Lanes.{same_pair};
+ghost use Rattle.audit_cert.specs.Pairs.{has};
 
 use audit_model::Addr;
 use std::alloc::{AllocFailed, Global};

@@ -2,10 +2,8 @@
 
 ghost use Rattle.std.specs.Prelude.{◌≡◌, length, ◌<◌, IfOk, MatchResult, Ok};
 ghost use Rattle.audit_cert.specs.CertFault.{IsFaultOf, IsFirstFault};
-ghost use Rattle.std.specs.List.{IsDistinct};
 ghost use Rattle.audit_cert.specs.declared.fault.CertFaultKind.TheVariants.{Memory};
 ghost use Rattle.audit_cert.specs.DraftView.{Drafted};
-ghost use Rattle.audit_cert.specs.CertLines.{same_lane};
 ghost use Rattle.audit_cert.specs.Fits.{IsCertificate};
 ghost use Rattle.audit_cert.specs.CertText.{next_of, cert_of};
 ghost use Rattle.audit_cert.specs.Spelling.{spelling, said_by};
@@ -75,8 +73,6 @@ pub fn read(alloc: Global, text: &[u8]) -> Result<Certificate, CertFault>
     // What is spelled so is read, unless memory runs out.
     ensures only { (said : Drafted) → IsCertificate said → text.now ≡ spelling said
         → MatchResult result (λ cert. said_by cert ≡ said) (λ fault. fault.kind ≡ Memory) }
-    // No two lanes have one client at one listen address.
-    ensures distinct { IfOk result (λ cert. IsDistinct same_lane cert.lanes) }
 {
     read_text(alloc, text)
 }

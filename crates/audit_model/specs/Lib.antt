@@ -4,6 +4,7 @@ pub mod Addr
 pub mod Window
 pub mod Event
 pub mod EventCount
+pub mod Lanes
 pub mod Rule
 pub mod Breach
 pub mod Sink

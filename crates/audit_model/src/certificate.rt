@@ -1,7 +1,10 @@
 //! Certificates: an order of all that was captured, lane by lane.
 
 ghost use Rattle.std.specs.Prelude.{◌≤◌, ◌+◌, length};
+ghost use Rattle.std.specs.List.{IsDistinct};
+ghost use Rattle.std.proofs.Props.{props};
 ghost use Rattle.audit_model.specs.EventCount.{event_count};
+ghost use Rattle.audit_model.specs.Lanes.{same_lane};
 ghost use Rattle.audit_model.specs.declared.certificate.TheConstants.{MAX_LANES, MAX_EVENTS};
 
 use crate::address::Addr;
@@ -35,6 +38,8 @@ pub struct CertDrop {
 pub struct Certificate {
     pub lanes: Listed<CertLane>,
     pub drops: Listed<CertDrop>,
+    /// No two lanes have one client at one listen address.
+    pub ghost distinct: { IsDistinct same_lane lanes } by { Prim.hlevel props },
     pub ghost few_lanes: { length lanes ≤ MAX_LANES },
     pub ghost few_events: { event_count lanes + length drops ≤ MAX_EVENTS },
 }

@@ -1,8 +1,10 @@
-use Rattle.std.proofs.Common.{◌<◌, length, ap, sym, ◌∙◌, arith}
+use Rattle.std.proofs.Common.{◌<◌, length, ap, sym, subst, ◌∙◌, arith}
+use Rattle.std.specs.List.{IsDistinct}
 use Rattle.std.proofs.lemmas.Bool.Decides.{nat_tests}
 use Rattle.audit_model.specs.EventCount.{event_count}
+use Rattle.audit_model.specs.Lanes.{same_lane}
 use Rattle.audit_cert.specs.CertLines.{has_pair}
-use Rattle.audit_cert.proofs.Drafts.{length_with_event, pairs_with_event, count_with_event}
+use Rattle.audit_cert.proofs.Drafts.{length_with_event, pairs_with_event, count_with_event, apart_with_event}
 use Rattle.audit_cert.proofs.draft.Draft.add_event.Goals as goal
 
 pub invariant_of-self-2 : goal.invariant_of-self-2
@@ -16,5 +18,6 @@ invariant_of-self-2 c =
       counted = omega (arith, count, c.self.invariant.counted);
       few_events = omega (arith, c.self.invariant.few_events);
       paired = λ client listen. c.self.invariant.paired client listen ∙ sym (ap (has_pair client listen) e ∙ pairs_with_event event lanes client listen);
+      distinct = subst (IsDistinct same_lane) (sym e) (apart_with_event event lanes c.self.invariant.distinct);
       few_lanes = omega (arith, ap length e, length_with_event event lanes, c.self.invariant.few_lanes);
     }
