@@ -1,0 +1,17 @@
+pub mod Allocation
+pub mod Situation
+pub mod Values
+pub mod Standing
+pub mod Responses
+pub mod Allocating
+pub mod Granting
+pub mod Relaying
+pub mod Answer
+pub mod Check
+pub mod Checks
+pub mod FirstRule
+pub mod Seen
+pub mod Fault
+pub mod Effect
+pub mod Tenancies
+pub mod Changes

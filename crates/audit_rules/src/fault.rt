@@ -1,6 +1,10 @@
 //! Why an act is refused.
 
+ghost use Rattle.std.specs.Prelude.{◌≡◌};
+ghost use Rattle.audit_rules.specs.declared.fault.ActFault.TheVariants.{Broken, Memory};
+
 use audit_model::Rule;
+use std::alloc::AllocError;
 use thiserror::Error;
 
 /// An act that is not judged to be right.
@@ -12,4 +16,20 @@ pub enum ActFault {
     /// There was no memory to judge it.
     #[error("out of memory")]
     Memory,
+}
+
+impl From<Rule> for ActFault {
+    ghost from_gives = { λ rule fault. fault ≡ Broken rule };
+
+    fn from(rule: Rule) -> ActFault {
+        ActFault::Broken(rule)
+    }
+}
+
+impl From<AllocError> for ActFault {
+    ghost from_gives = { λ _ fault. fault ≡ Memory };
+
+    fn from(_error: AllocError) -> ActFault {
+        ActFault::Memory
+    }
 }

@@ -1,68 +1,170 @@
-//! One act, by its case.
+//! One act, by its paths.
 
-ghost use Rattle.std.specs.Prelude.{◌≡◌};
+ghost use Rattle.std.specs.Prelude.{◌≡◌, false, Some, IsTrue, MatchResult};
+ghost use Rattle.audit_model.specs.Policy.{listens};
+ghost use Rattle.audit_rules.specs.declared.path.Path.TheVariants as paths;
+ghost use Rattle.audit_rules.specs.Allocation.{Same};
+ghost use Rattle.audit_rules.specs.Situation.{arrival_path, departure_path};
+ghost use Rattle.audit_rules.specs.Relaying.{GoesUp, GoesDown};
+ghost use Rattle.audit_rules.specs.Answer.{MayAnswer};
+ghost use Rattle.audit_rules.specs.Check.{FirstFails};
+ghost use Rattle.audit_rules.specs.FirstRule.{FirstRule, response_checks, up_checks, down_checks, is_channel};
+ghost use Rattle.audit_rules.specs.Fault.{IsBroken};
+ghost use Rattle.audit_rules.specs.Effect.{change_of};
+ghost use Rattle.audit_rules.specs.Seen.{situation};
 
-use crate::binding::binding;
+use crate::acts::Act;
+use crate::channel_down::channel_down;
+use crate::channel_up::channel_up;
+use crate::data::data;
+use crate::effect::Effect;
 use crate::fault::ActFault;
 use crate::path::{Path, path_of_arrival, path_of_departure};
-use crate::table::LaneTable;
-use audit_model::{At, Policy, Rule, Sighting, Tenancy};
-use audit_stun::numbers::method::BINDING;
-use audit_stun::{Class, message};
+use crate::responses::{error_response, success_response};
+use crate::send::send;
+use audit_model::Rule;
+use audit_stun::numbers::method::{DATA, SEND};
+use audit_stun::{Class, channel_data, message};
+use std::alloc::Global;
 
-/// A request of the client and what goes back to it: the answer is a success or an error with the request's method and
-/// transaction id (RFC 8489, 6.3).
-fn response(table: &LaneTable, arrives: &Sighting, leaves: &Sighting) -> Result<(), Rule> {
-    let Some(answer) = message(leaves.payload.as_slice()) else {
-        return Err(Rule::Malformed);
+/// A request of the client and what goes back to it: a success or an error with the request's method and transaction id
+/// (RFC 8489, section 6.3).
+fn response<'a>(alloc: Global, act: &Act<'_, 'a>) -> Result<Effect<'a>, ActFault>
+    requires served { IsTrue (listens (situation act.now).policy (situation act.now).listen) }
+    requires forth { arrival_path (situation act.now) ≡ Some paths.Client }
+    requires back { departure_path (situation act.now) ≡ Some paths.Client }
+    ensures { MatchResult result
+        (λ effect. MayAnswer (situation act.now) (change_of act.now.moment effect))
+        (λ fault. IsBroken fault (λ rule. FirstFails (response_checks (situation act.now)) rule)) }
+{
+    let Some(answer) = message(act.leaves.payload.as_slice()) else {
+        return Err(ActFault::Broken(Rule::Malformed));
     };
-    let Some(request) = message(arrives.payload.as_slice()) else {
-        return Err(Rule::NotAnAnswer);
+    let Some(request) = message(act.arrives.payload.as_slice()) else {
+        return Err(ActFault::Broken(Rule::NotAnAnswer));
     };
     if request.class() != Class::Request
         || answer.method() != request.method()
         || answer.tid() != request.tid()
     {
-        return Err(Rule::NotAnAnswer);
+        return Err(ActFault::Broken(Rule::NotAnAnswer));
     }
     match answer.class() {
-        Class::Success if answer.method() == BINDING => binding(table, &answer),
-        _ => Err(Rule::NotAnAnswer),
+        Class::Success => success_response(alloc, act, &request, &answer),
+        Class::Error => Ok(error_response(act, &request, &answer)?),
+        Class::Request | Class::Indication => Err(ActFault::Broken(Rule::NotAnAnswer)),
     }
 }
 
-/// The act's first broken rule, by its case.
-fn judged(
-    table: &LaneTable,
-    policy: &Policy,
-    arrives: &Sighting,
-    leaves: &Sighting,
-) -> Result<(), Rule> {
-    if !policy.listens(table.listen) {
+/// Whether the first two bits are those of ChannelData (RFC 8656, section 12).
+fn begins_channel(payload: &[u8]) -> bool
+    ensures { result ≡ is_channel payload.now }
+{
+    match payload {
+        [first, ..] => *first / 64 == 1,
+        [] => false,
+    }
+}
+
+/// ChannelData of the client.
+#[tactic(auto, using(crate::proofs::Answered::channel_up_may))]
+fn sent_in_channel<'a>(act: &Act<'_, '_>) -> Result<Effect<'a>, Rule>
+    requires served { IsTrue (listens (situation act.now).policy (situation act.now).listen) }
+    requires goes { GoesUp (situation act.now) }
+    requires channel { IsTrue (is_channel (situation act.now).arrives.payload) }
+    ensures { MatchResult result
+        (λ effect. MayAnswer (situation act.now) (change_of act.now.moment effect))
+        (λ rule. FirstFails (up_checks (situation act.now)) rule) }
+{
+    let Some((number, bytes, past)) = channel_data(act.arrives.payload.as_slice()) else {
+        return Err(Rule::NotAnAnswer);
+    };
+    channel_up(act, number, bytes, past)?;
+    Ok(Effect::Same)
+}
+
+/// A Send indication.
+#[tactic(auto, using(crate::proofs::Answered::send_may))]
+fn sent_in_indication<'a>(act: &Act<'_, '_>) -> Result<Effect<'a>, Rule>
+    requires served { IsTrue (listens (situation act.now).policy (situation act.now).listen) }
+    requires goes { GoesUp (situation act.now) }
+    requires channel { is_channel (situation act.now).arrives.payload ≡ false }
+    ensures { MatchResult result
+        (λ effect. MayAnswer (situation act.now) (change_of act.now.moment effect))
+        (λ rule. FirstFails (up_checks (situation act.now)) rule) }
+{
+    let Some(indication) = message(act.arrives.payload.as_slice()) else {
+        return Err(Rule::NotAnAnswer);
+    };
+    if indication.class() != Class::Indication || indication.method() != SEND {
         return Err(Rule::NotAnAnswer);
     }
-    let arrival = path_of_arrival(table, policy, arrives);
-    let departure = path_of_departure(table, policy, leaves);
-    match (arrival, departure) {
-        (Some(Path::Client), Some(Path::Client)) => response(table, arrives, leaves),
-        // What is relayed wants an allocation, and no act makes one yet.
-        _ => Err(Rule::NotAnAnswer),
-    }
+    send(act, &indication)?;
+    Ok(Effect::Same)
 }
 
-/// Judges the act that answers an arrival by a departure, and changes the table as the server does.
-/// It gives the tenancy that the act ended, if any; a refused act leaves the table as it was.
-pub fn act(
-    table: &mut LaneTable,
-    policy: &Policy,
-    arrives: &Sighting,
-    leaves: &Sighting,
-    _at: At,
-) -> Result<Option<Tenancy>, ActFault>
-    ensures { table.new ≡ table.old }
+/// ChannelData to the client.
+#[tactic(auto, using(crate::proofs::Answered::channel_down_may))]
+fn told_in_channel<'a>(act: &Act<'_, '_>) -> Result<Effect<'a>, Rule>
+    requires served { IsTrue (listens (situation act.now).policy (situation act.now).listen) }
+    requires goes { GoesDown (situation act.now) }
+    requires channel { IsTrue (is_channel (situation act.now).leaves.payload) }
+    ensures { MatchResult result
+        (λ effect. MayAnswer (situation act.now) (change_of act.now.moment effect))
+        (λ rule. FirstFails (down_checks (situation act.now)) rule) }
 {
-    match judged(table, policy, arrives, leaves) {
-        Ok(()) => Ok(None),
-        Err(rule) => Err(ActFault::Broken(rule)),
+    let Some((number, bytes, past)) = channel_data(act.leaves.payload.as_slice()) else {
+        return Err(Rule::Malformed);
+    };
+    channel_down(act, number, bytes, past)?;
+    Ok(Effect::Same)
+}
+
+/// A Data indication.
+#[tactic(auto, using(crate::proofs::Answered::data_may))]
+fn told_in_indication<'a>(act: &Act<'_, '_>) -> Result<Effect<'a>, Rule>
+    requires served { IsTrue (listens (situation act.now).policy (situation act.now).listen) }
+    requires goes { GoesDown (situation act.now) }
+    requires channel { is_channel (situation act.now).leaves.payload ≡ false }
+    ensures { MatchResult result
+        (λ effect. MayAnswer (situation act.now) (change_of act.now.moment effect))
+        (λ rule. FirstFails (down_checks (situation act.now)) rule) }
+{
+    let Some(indication) = message(act.leaves.payload.as_slice()) else {
+        return Err(Rule::Malformed);
+    };
+    if indication.class() != Class::Indication || indication.method() != DATA {
+        return Err(Rule::NotAnAnswer);
+    }
+    data(act, &indication)?;
+    Ok(Effect::Same)
+}
+
+/// What the act does to the table, or the first rule that it breaks.
+pub fn judged<'a>(alloc: Global, act: &Act<'_, 'a>) -> Result<Effect<'a>, ActFault>
+    ensures { MatchResult result
+        (λ effect. MayAnswer (situation act.now) (change_of act.now.moment effect))
+        (λ fault. IsBroken fault (λ rule. FirstRule (situation act.now) rule)) }
+{
+    if !act.policy.listens(act.table.listen) {
+        return Err(ActFault::Broken(Rule::NotAnAnswer));
+    }
+    match (path_of_arrival(act), path_of_departure(act)) {
+        (Some(Path::Client), Some(Path::Client)) => response(alloc, act),
+        (Some(Path::Client), Some(Path::Relay)) => {
+            if begins_channel(act.arrives.payload.as_slice()) {
+                Ok(sent_in_channel(act)?)
+            } else {
+                Ok(sent_in_indication(act)?)
+            }
+        }
+        (Some(Path::Relay), Some(Path::Client)) => {
+            if begins_channel(act.leaves.payload.as_slice()) {
+                Ok(told_in_channel(act)?)
+            } else {
+                Ok(told_in_indication(act)?)
+            }
+        }
+        _ => Err(ActFault::Broken(Rule::NotAnAnswer)),
     }
 }

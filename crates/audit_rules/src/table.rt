@@ -1,10 +1,38 @@
 //! What the server has for one client at one listen address.
 
-use audit_model::{Addr, Tenancy};
+use audit_expiry::{Lease, Leases};
+use audit_model::{Addr, At, Listed, SightId, Tenancy};
+
+/// What a channel number is bound to (RFC 8656, section 12).
+#[derive(Clone, Copy, Debug, PartialEq, Eq)]
+pub struct Channel {
+    pub lease: Lease,
+    pub peer: Addr,
+}
+
+/// The allocation of a client (RFC 8656, section 5). Times are nanoseconds since 1970.
+#[derive(Debug, Drop)]
+pub struct Allocation {
+    pub permissions: Leases<u32>,
+    pub channels: Leases<u16, Channel>,
+    /// The user whose request made it.
+    pub user: Listed<u8>,
+    pub lease: Lease,
+    /// The end, with the grace of the policy of the act that set it.
+    pub last: u64,
+    /// The act that made it.
+    pub born: At,
+    /// The arrival of that act.
+    pub sight: SightId,
+    pub relayed: Addr,
+    /// The transaction id of the request that made it.
+    pub id: [u8; 12],
+}
 
 /// The table of one lane: what the server has for its client at its listen address.
 #[derive(Debug, Drop)]
 pub struct LaneTable {
+    pub allocation: Option<Allocation>,
     pub client: Addr,
     pub listen: Addr,
     /// The lane's number.
@@ -13,22 +41,30 @@ pub struct LaneTable {
 
 impl LaneTable {
     ghost use Rattle.std.specs.Prelude.{◌≡◌, None};
+    ghost use Rattle.audit_rules.specs.Effect.{standing};
 
     /// A table with no allocation. It takes no memory.
     pub fn new(lane: u32, client: Addr, listen: Addr) -> LaneTable
-        ensures { result ≡ record { client = client; listen = listen; lane = lane } }
+        ensures { result ≡ record { allocation = None; client = client; listen = listen; lane = lane } }
     {
         LaneTable {
+            allocation: None,
             client,
             listen,
             lane,
         }
     }
-
-    /// The tenancy of the allocation that is there.
+    /// The tenancy of the allocation that is there, from the act that made it. It takes no memory.
     pub fn running(&self) -> Option<Tenancy>
-        ensures { result ≡ None }
+        ensures { result ≡ (standing self.now).tenancy }
     {
-        None
+        let found = self.allocation.as_ref()?;
+        Some(Tenancy {
+            born: found.born,
+            stopped: None,
+            last: found.last,
+            relayed: found.relayed,
+            sight: found.sight,
+        })
     }
 }

@@ -2,7 +2,7 @@
 
 ghost use Rattle.std.specs.Prelude.{◌≡◌, IfSome, Some};
 ghost use Rattle.audit_model.specs.declared.address.Addr.{Addr};
-ghost use Rattle.audit_stun.specs.XorAddress.{IsXorAddress};
+ghost use Rattle.audit_stun.specs.XorAddress.{IsXorAddress, address_of};
 
 use crate::numbers::{FAMILY_IPV4, MAGIC_COOKIE};
 use audit_model::Addr;
@@ -10,7 +10,9 @@ use audit_model::Addr;
 /// The IPv4 address that the value of an XOR-MAPPED-ADDRESS, XOR-PEER-ADDRESS or
 /// XOR-RELAYED-ADDRESS says (RFC 8489, section 14.2; RFC 8656, section 18). None where its length or
 /// its family is another.
+#[tactic(auto, unfolding(crate::specs::XorAddress::address_of))]
 pub fn address(value: &[u8]) -> Option<Addr>
+    ensures value { result ≡ address_of value.now }
     ensures found { IfSome result (λ address. IsXorAddress value.now address) }
     ensures only { (address : Addr) → IsXorAddress value.now address → result ≡ Some address }
 {

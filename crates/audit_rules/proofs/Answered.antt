@@ -1,0 +1,288 @@
+-- Where all checks of a case hold, the departure may answer so.
+use Rattle.std.proofs.Common.{◌≡◌, ◌≢◌, ◌⊎◌, inl, inr, ◌↔◌, ℕ, ◌<◌, ◌≤◌, ◌==◌, if◌then◌else◌, List, Option, Some, None, true, false, refl, ap, subst, ◌∙◌, arith}
+use Rattle.std.specs.Prelude.{IsTrue, IsSome, IsSomeAnd, length}
+use Rattle.std.proofs.lemmas.Bool.Decides.{nat_tests}
+use Rattle.std.proofs.lemmas.Slice.Eq.{bytes_eq-Decides}
+use Rattle.audit_model.specs.declared.address.Addr.{Addr}
+use Rattle.audit_model.specs.Policy.{listens}
+use Rattle.audit_stun.specs.declared.class.Class.TheVariants.{Indication, Success, Error}
+use Rattle.audit_stun.specs.declared.numbers.method.TheConstants.{BINDING, ALLOCATE, REFRESH, CREATE_PERMISSION, CHANNEL_BIND, SEND, DATA as DATA_METHOD}
+use Rattle.audit_stun.specs.declared.numbers.attribute.TheConstants.{USERNAME, XOR_RELAYED_ADDRESS, XOR_PEER_ADDRESS}
+use Rattle.audit_stun.specs.Counted.{first_of}
+use Rattle.audit_stun.specs.ChannelData.{channel_data_of}
+use Rattle.audit_rules.specs.declared.table.Channel.{Channel}
+use Rattle.audit_rules.specs.Allocation.{Allocation, Same, Makes, Renews, Grants, Binds, Removes}
+use Rattle.audit_rules.specs.Situation.{Situation, asked, answered, IsOf}
+use Rattle.audit_rules.specs.Values.{Names, address_named, code_of, lifetime_of, channel_number_of, peer_ips_of}
+use Rattle.audit_rules.specs.Standing.{IsResponse, UsableNow, WithUsable, IsOwn, Permits, Carries}
+use Rattle.audit_rules.specs.Responses.{Fits}
+use Rattle.audit_rules.specs.Allocating.{seconds_after, made_by, MayBeRelayed, EndsNothing, IsRefreshed}
+use Rattle.audit_rules.specs.Granting.{NoConflict, IsChannelNumber}
+use Rattle.audit_rules.specs.Relaying.{GoesUp, GoesDown}
+use Rattle.audit_rules.specs.Answer.{MayAnswer, Binding, Error as ErrorCase, New, Again, Refresh, Permission, ChannelBind, Send, ChannelUp, Data, ChannelDown}
+use Rattle.audit_rules.specs.Check.{AllHold}
+use Rattle.audit_rules.specs.Checks.{WithAllocation, SaysChannel, binding_checks, error_checks, new_checks, again_checks, refresh_checks, permission_checks, channel_bind_checks, send_checks, channel_up_checks, data_checks, channel_down_checks}
+use Rattle.audit_rules.specs.FirstRule.{made_it}
+use Rattle.audit_rules.proofs.Facts.{some_and, has_some, both_some, authentic, authentic_as}
+
+abbrev Served : Situation → Type 0
+Served x = IsTrue (listens x.policy x.listen)
+
+pub binding_may : (x : Situation) → Served x → IsResponse x Success BINDING → AllHold (binding_checks x) → MayAnswer x Same
+unfolding MayAnswer
+binding_may x served response all = (served, Binding, (record { response = response; mapped = all.1.0 }, refl))
+
+pub error_may : (x : Situation) → Served x → IsResponse x Error (asked x).method → AllHold (error_checks x) → MayAnswer x Same
+unfolding MayAnswer
+error_may x served response all =
+    let s = some_and (code_of (answered x)) (Fits x) all.1.0 in
+    (served, ErrorCase, (record { response = response; code = s.0; tells = s.1; fits = s.2 }, refl))
+
+made_is : (x : Situation) (found : Option Allocation) → made_it x found ≡ true → IsSomeAnd found (λ a. UsableNow x a.until × (a.id ≡ (asked x).tid))
+made_is x None e = absurd cc
+made_is x (Some a) e = (grind (arith, nat_tests, bytes_eq-Decides, e), grind (arith, nat_tests, bytes_eq-Decides, e))
+
+not_made : (x : Situation) (found : Option Allocation) → made_it x found ≡ false → IsSomeAnd found (λ a. UsableNow x a.until × (a.id ≡ (asked x).tid)) → ⊥
+not_made x None e h = absurd h
+not_made x (Some a) e h = grind (arith, nat_tests, bytes_eq-Decides, e, h)
+
+is_some_time : (n : ℕ) (time : Option ℕ) → time ≡ Some n → time ≢ Some 0 → 0 < n
+is_some_time n time e not_zero =
+    let h : n ≢ 0 = λ z. not_zero (e ∙ ap Some z) in
+    omega (arith, h)
+
+pub new_may : (x : Situation) → Served x → IsResponse x Success ALLOCATE → made_it x x.allocation ≡ false → AllHold (new_checks x)
+    → (user : List ℕ) (relayed : Addr) (seconds : ℕ) → first_of USERNAME (asked x).attributes ≡ Some user → address_named XOR_RELAYED_ADDRESS (answered x) ≡ Some relayed → lifetime_of (answered x) ≡ Some seconds
+    → MayAnswer x (Makes (made_by x relayed user seconds))
+unfolding MayAnswer
+new_may x served response first all user relayed seconds u r s =
+    let more = all.1.1.1.1.1.1 in (
+      served,
+      New,
+      record {
+        response = response;
+        first = λ again. not_made x x.allocation first again;
+        user = user;
+        authentic = authentic_as x user all.0 u;
+        free = all.1.0;
+        served = all.1.1.0;
+        relayed = relayed;
+        tells = r;
+        in_range = has_some (address_named XOR_RELAYED_ADDRESS (answered x)) (MayBeRelayed x) relayed r more.0;
+        seconds = seconds;
+        lasts = (s, is_some_time seconds (lifetime_of (answered x)) s more.1.0);
+        mapped = more.1.1.0;
+        signed = more.1.1.1.0;
+        changes = refl;
+      },
+    )
+
+same_again : (x : Situation) (found : Option Allocation) → IsSomeAnd found (λ a. UsableNow x a.until × (a.id ≡ (asked x).tid)) → IsSomeAnd found (IsOwn x) → IsSomeAnd found (λ a. Names XOR_RELAYED_ADDRESS (answered x) a.relayed)
+    → IsSomeAnd found (λ a. UsableNow x a.until × ((a.id ≡ (asked x).tid) × IsOwn x a × Names XOR_RELAYED_ADDRESS (answered x) a.relayed))
+same_again x (Some a) made own names = (made.0, (made.1, own, names))
+same_again x None made own names = absurd made
+
+pub again_may : (x : Situation) → Served x → IsResponse x Success ALLOCATE → made_it x x.allocation ≡ true → AllHold (again_checks x) → MayAnswer x Same
+unfolding MayAnswer
+again_may x served response again all =
+    let by = authentic x all.0 in
+    let more = all.1.1.1.1 in (
+      served,
+      Again,
+      (
+        record {
+          response = response;
+          user = by.0;
+          authentic = by.2;
+          same = same_again x x.allocation (made_is x x.allocation again) all.1.0 more.0;
+          mapped = more.1.0;
+          signed = more.1.1.0;
+        },
+        refl,
+      ),
+    )
+
+allowed : (x : Situation) → (EndsNothing x ⊎ IsSome x.allocation) → (EndsNothing x ⊎ WithUsable x (λ a. Unit {0})) → (EndsNothing x ⊎ WithAllocation x (IsOwn x))
+    → (EndsNothing x ⊎ ((lifetime_of (asked x) ≡ Some 0) ↔ (lifetime_of (answered x) ≡ Some 0))) → EndsNothing x ⊎ IsRefreshed x
+allowed x (inl e) b c d = inl e
+allowed x (inr a) (inl e) c d = inl e
+allowed x (inr a) (inr b) (inl e) d = inl e
+allowed x (inr a) (inr b) (inr c) (inl e) = inl e
+allowed x (inr a) (inr b) (inr c) (inr d) = inr (both_some x.allocation (λ a. UsableNow x a.until) (IsOwn x) b c, d)
+
+pub refresh_may : (x : Situation) → Served x → IsResponse x Success REFRESH → AllHold (refresh_checks x) → (seconds : ℕ) → lifetime_of (answered x) ≡ Some seconds
+    → MayAnswer x (if seconds == 0 then Removes else Renews (seconds_after x.moment seconds))
+unfolding MayAnswer
+refresh_may x served response all seconds s =
+    let by = authentic x all.0 in
+    let more = all.1.1 in (
+      served,
+      Refresh,
+      record {
+        response = response;
+        user = by.0;
+        authentic = by.2;
+        seconds = seconds;
+        lasts = s;
+        allowed = allowed x more.0 more.1.0 more.1.1.0 more.1.1.1.0;
+        signed = more.1.1.1.1.0;
+        changes = refl;
+      },
+    )
+
+pub permission_may : (x : Situation) → Served x → IsResponse x Success CREATE_PERMISSION → AllHold (permission_checks x) → (ips : List ℕ) → peer_ips_of (asked x) ≡ Some ips
+    → MayAnswer x (Grants ips (seconds_after x.moment 300))
+unfolding MayAnswer
+permission_may x served response all ips p =
+    let by = authentic x all.0 in
+    let more = all.1.1 in (
+      served,
+      Permission,
+      record {
+        response = response;
+        user = by.0;
+        authentic = by.2;
+        own = both_some x.allocation (λ a. UsableNow x a.until) (IsOwn x) more.0 more.1.0;
+        ips = ips;
+        names = p;
+        some = has_some (peer_ips_of (asked x)) (λ l. 0 < length l) ips p more.1.1.0;
+        signed = more.1.1.1.0;
+        changes = refl;
+      },
+    )
+
+own_and : (x : Situation) (found : Option Allocation) (P : Allocation → Type 0) → IsSomeAnd found (λ a. UsableNow x a.until × Unit {0}) → IsSomeAnd found (IsOwn x) → IsSomeAnd found P
+    → IsSomeAnd found (λ a. UsableNow x a.until × (IsOwn x a × P a))
+own_and x (Some a) P u own p = (u.0, (own, p))
+own_and x None P u own p = absurd u
+
+pub channel_bind_may : (x : Situation) → Served x → IsResponse x Success CHANNEL_BIND → AllHold (channel_bind_checks x) → (number : ℕ) (peer : Addr) → channel_number_of (asked x) ≡ Some number
+    → address_named XOR_PEER_ADDRESS (asked x) ≡ Some peer → MayAnswer x (Binds number peer (seconds_after x.moment 600) (seconds_after x.moment 300))
+unfolding MayAnswer
+channel_bind_may x served response all number peer n p =
+    let by = authentic x all.0 in
+    let more = all.1.1.1 in
+    let after = more.1.1.1 in
+    let of_peer = has_some (address_named XOR_PEER_ADDRESS (asked x)) (λ one. IsSomeAnd (channel_number_of (asked x)) (λ k. WithAllocation x (NoConflict x k one))) peer p after.0 in
+    let free = has_some (channel_number_of (asked x)) (λ k. WithAllocation x (NoConflict x k peer)) number n of_peer in (
+      served,
+      ChannelBind,
+      record {
+        response = response;
+        user = by.0;
+        authentic = by.2;
+        number = number;
+        asks = n;
+        in_range = has_some (channel_number_of (asked x)) IsChannelNumber number n more.1.0;
+        peer = peer;
+        names = p;
+        own = own_and x x.allocation (NoConflict x number peer) all.1.1.0 more.0 free;
+        signed = after.1.0;
+        changes = refl;
+      },
+    )
+
+send_relays : (x : Situation) (found : Option Allocation) → IsSomeAnd found (λ a. UsableNow x a.until × Unit {0}) → IsSomeAnd found (λ a. x.leaves.from ≡ a.relayed) → IsSomeAnd found (λ a. Permits x a x.leaves.to.ip)
+    → IsSomeAnd found (λ a. UsableNow x a.until × ((x.leaves.from ≡ a.relayed) × Permits x a x.leaves.to.ip))
+send_relays x (Some a) u r p = (u.0, (r, p))
+send_relays x None u r p = absurd u
+
+pub send_may : (x : Situation) → Served x → GoesUp x → IsOf x.arrives.payload Indication SEND → AllHold (send_checks x) → MayAnswer x Same
+unfolding MayAnswer
+send_may x served goes is all =
+    let more = all.1.1 in (
+      served,
+      Send,
+      (
+        record {
+          goes = goes;
+          indication = is;
+          relays = send_relays x x.allocation all.1.0 more.0 more.1.1.1.0;
+          peer = more.1.0;
+          sends = more.1.1.1.1.0;
+        },
+        refl,
+      ),
+    )
+
+data_relays : (x : Situation) (found : Option Allocation) → IsSomeAnd found (λ a. UsableNow x a.until × Unit {0}) → IsSomeAnd found (λ a. x.arrives.to ≡ a.relayed) → IsSomeAnd found (λ a. Permits x a x.arrives.from.ip)
+    → IsSomeAnd found (λ a. UsableNow x a.until × ((x.arrives.to ≡ a.relayed) × Permits x a x.arrives.from.ip))
+data_relays x (Some a) u r p = (u.0, (r, p))
+data_relays x None u r p = absurd u
+
+pub data_may : (x : Situation) → Served x → GoesDown x → IsOf x.leaves.payload Indication DATA_METHOD → AllHold (data_checks x) → MayAnswer x Same
+unfolding MayAnswer
+data_may x served goes is all =
+    let more = all.1.1.1.1 in (
+      served,
+      Data,
+      (
+        record {
+          goes = goes;
+          indication = is;
+          relays = data_relays x x.allocation all.1.1.1.0 more.0 more.1.1.0;
+          peer = more.1.1.1.0;
+          sends = more.1.1.1.1.0;
+        },
+        refl,
+      ),
+    )
+
+-- the channel of a number is there, to this peer, and usable
+carried : (x : Situation) (channel : Option Channel) (peer : Addr) → IsSomeAnd channel (λ c. UsableNow x c.lease.until) → IsSomeAnd channel (λ c. c.peer ≡ peer) → IsSomeAnd channel (λ c. (c.peer ≡ peer) × UsableNow x c.lease.until)
+carried x (Some c) peer u p = (p, u)
+carried x None peer u p = absurd u
+
+up_relays : (x : Situation) (found : Option Allocation) (number : ℕ) → IsSomeAnd found (λ a. UsableNow x a.until × Unit {0}) → IsSomeAnd found (λ a. x.leaves.from ≡ a.relayed)
+    → IsSomeAnd found (λ a. IsSomeAnd (a.channels number) (λ c. UsableNow x c.lease.until)) → IsSomeAnd found (λ a. IsSomeAnd (a.channels number) (λ c. c.peer ≡ x.leaves.to))
+    → IsSomeAnd found (λ a. UsableNow x a.until × ((x.leaves.from ≡ a.relayed) × Carries x a number x.leaves.to))
+up_relays x (Some a) number u r c p = (u.0, (r, carried x (a.channels number) x.leaves.to c p))
+up_relays x None number u r c p = absurd u
+
+pub channel_up_may : (x : Situation) → Served x → GoesUp x → AllHold (channel_up_checks x) → (number : ℕ) (bytes : List ℕ) (past : ℕ) → channel_data_of x.arrives.payload ≡ Some (number, bytes, past) → MayAnswer x Same
+unfolding MayAnswer
+channel_up_may x served goes all number bytes past said =
+    let more = all.1.1 in
+    let at : (P : ℕ → List ℕ → ℕ → Type 0) → SaysChannel x.arrives.payload P → P number bytes past = λ P h. has_some (channel_data_of x.arrives.payload) (λ s. P s.0 s.1 s.2) (number, bytes, past) said h in
+    let sent : bytes ≡ x.leaves.payload = at (λ k b p. b ≡ x.leaves.payload) more.1.1.1.1.0 in (
+      served,
+      ChannelUp,
+      (
+        record {
+          goes = goes;
+          number = number;
+          past = past;
+          says = subst (λ b. channel_data_of x.arrives.payload ≡ Some (number, b, past)) sent said;
+          relays = up_relays x x.allocation number all.1.0 more.0 (at (λ k b p. WithAllocation x (λ a. IsSomeAnd (a.channels k) (λ c. UsableNow x c.lease.until))) more.1.1.0) (at (λ k b p. WithAllocation x (λ a. IsSomeAnd (a.channels k) (λ c. c.peer ≡ x.leaves.to))) more.1.1.1.0);
+        },
+        refl,
+      ),
+    )
+
+down_relays : (x : Situation) (found : Option Allocation) (number : ℕ) → IsSomeAnd found (λ a. UsableNow x a.until × Unit {0}) → IsSomeAnd found (λ a. x.arrives.to ≡ a.relayed) → IsSomeAnd found (λ a. Permits x a x.arrives.from.ip)
+    → IsSomeAnd found (λ a. IsSomeAnd (a.channels number) (λ c. UsableNow x c.lease.until)) → IsSomeAnd found (λ a. IsSomeAnd (a.channels number) (λ c. c.peer ≡ x.arrives.from))
+    → IsSomeAnd found (λ a. UsableNow x a.until × ((x.arrives.to ≡ a.relayed) × Permits x a x.arrives.from.ip × Carries x a number x.arrives.from))
+down_relays x (Some a) number u r q c p = (u.0, (r, q, carried x (a.channels number) x.arrives.from c p))
+down_relays x None number u r q c p = absurd u
+
+pub channel_down_may : (x : Situation) → Served x → GoesDown x → AllHold (channel_down_checks x) → (number : ℕ) (bytes : List ℕ) (past : ℕ) → channel_data_of x.leaves.payload ≡ Some (number, bytes, past) → MayAnswer x Same
+unfolding MayAnswer
+channel_down_may x served goes all number bytes past said =
+    let more = all.1.1.1 in
+    let at : (P : ℕ → List ℕ → ℕ → Type 0) → SaysChannel x.leaves.payload P → P number bytes past = λ P h. has_some (channel_data_of x.leaves.payload) (λ s. P s.0 s.1 s.2) (number, bytes, past) said h in
+    let channel = more.1.1.1 in
+    let sent : bytes ≡ x.arrives.payload = at (λ k b p. b ≡ x.arrives.payload) channel.1.1.1.0 in (
+      served,
+      ChannelDown,
+      (
+        record {
+          goes = goes;
+          number = number;
+          past = past;
+          says = subst (λ b. channel_data_of x.leaves.payload ≡ Some (number, b, past)) sent said;
+          padding = at (λ k b p. p ≤ 3) all.0;
+          relays = down_relays x x.allocation number all.1.1.0 more.0 more.1.1.0 (at (λ k b p. WithAllocation x (λ a. IsSomeAnd (a.channels k) (λ c. UsableNow x c.lease.until))) channel.1.0) (at (λ k b p. WithAllocation x (λ a. IsSomeAnd (a.channels k) (λ c. c.peer ≡ x.arrives.from))) channel.1.1.0);
+        },
+        refl,
+      ),
+    )

@@ -1,0 +1,80 @@
+-- When an allocation may be made, told again, renewed or removed (RFC 8656, sections 6 to 8).
+use Rattle.std.specs.Prelude.{◌≡◌, ◌⊎◌, ◌↔◌, ℕ, ◌*◌, ◌%◌, ◌<◌, ◌==◌, if◌then◌else◌, List, Some, None, IsSome, IsTrue}
+use Rattle.audit_model.specs.declared.address.Addr.{Addr}
+use Rattle.audit_model.specs.Policy.{relays}
+use Rattle.audit_model.specs.Window.{later}
+use Rattle.audit_stun.specs.declared.class.Class.TheVariants.{Success}
+use Rattle.audit_stun.specs.declared.numbers.method.TheConstants.{ALLOCATE, REFRESH}
+use Rattle.audit_stun.specs.declared.numbers.attribute.TheConstants.{XOR_MAPPED_ADDRESS, XOR_RELAYED_ADDRESS, EVEN_PORT}
+use Rattle.audit_stun.specs.Counted.{first_of}
+use Rattle.audit_keys.specs.Authentic.{IsAuthentic}
+use Rattle.audit_rules.specs.Allocation.{Allocation, Change, Makes, Renews, Removes}
+use Rattle.audit_rules.specs.Situation.{Situation, asked, answered}
+use Rattle.audit_rules.specs.Values.{Names, lifetime_of, transport_of, family_of}
+use Rattle.audit_rules.specs.Standing.{IsResponse, IsSignedBack, WithUsable, NothingLasts, IsOwn}
+
+-- so many seconds after the moment
+abbrev pub seconds_after : ℕ → ℕ → ℕ
+seconds_after moment seconds = later moment (seconds * 1000000000)
+
+-- the request asks for UDP, and for IPv4 or for no family
+abbrev pub AsksServed : Situation → Type 0
+AsksServed x = (transport_of (asked x) ≡ Some 17) × ((family_of (asked x) ≡ None) ⊎ (family_of (asked x) ≡ Some 1))
+
+-- an address of a relay range, with an even port where EVEN-PORT was asked for
+abbrev pub MayBeRelayed : Situation → Addr → Type 0
+MayBeRelayed x relayed = IsTrue (relays x.policy relayed) × (IsSome (first_of EVEN_PORT (asked x).attributes) → relayed.port % 2 ≡ 0)
+
+-- an allocation of no permissions and no channels, made by this act
+abbrev pub made_by : Situation → Addr → List ℕ → ℕ → Allocation
+made_by x relayed user seconds =
+    record { relayed = relayed; user = user; id = (asked x).tid; until = seconds_after x.moment seconds; permissions = λ _. None; channels = λ _. None }
+
+-- this request made the client's usable allocation
+abbrev pub IsAgain : Situation → Type 0
+IsAgain x = WithUsable x (λ a. a.id ≡ (asked x).tid)
+
+-- A new allocation (RFC 8656, section 7.2): for a user, where none lasts. That its address is nobody else's is asked of the whole server.
+pub record AnswersNew (x : Situation) (change : Change) : Type 0 where
+  pub response : IsResponse x Success ALLOCATE
+  pub first : IsAgain x → ⊥
+  pub user : List ℕ
+  pub authentic : IsAuthentic x.key_for x.arrives.payload user
+  pub free : NothingLasts x
+  pub served : AsksServed x
+  pub relayed : Addr
+  pub tells : Names XOR_RELAYED_ADDRESS (answered x) relayed
+  pub in_range : MayBeRelayed x relayed
+  pub seconds : ℕ
+  pub lasts : (lifetime_of (answered x) ≡ Some seconds) × (0 < seconds)
+  pub mapped : Names XOR_MAPPED_ADDRESS (answered x) x.client
+  pub signed : IsSignedBack x
+  pub changes : change ≡ Makes (made_by x relayed user seconds)
+
+-- The same request again (RFC 8656, section 7.2; RFC 8489, section 6.3.1): it is told the same address.
+pub record AnswersAgain (x : Situation) : Type 0 where
+  pub response : IsResponse x Success ALLOCATE
+  pub user : List ℕ
+  pub authentic : IsAuthentic x.key_for x.arrives.payload user
+  pub same : WithUsable x (λ a. (a.id ≡ (asked x).tid) × IsOwn x a × Names XOR_RELAYED_ADDRESS (answered x) a.relayed)
+  pub mapped : Names XOR_MAPPED_ADDRESS (answered x) x.client
+  pub signed : IsSignedBack x
+
+-- both ask for the end of an allocation that isn't usable any more (own: RFC 8656 answers 437, which is accepted too)
+abbrev pub EndsNothing : Situation → Type 0
+EndsNothing x = (WithUsable x (λ a. Unit {0}) → ⊥) × (lifetime_of (asked x) ≡ Some 0) × (lifetime_of (answered x) ≡ Some 0)
+
+-- its user asks, and the answer is 0 exactly where the request asks 0; a request without a lifetime doesn't
+abbrev pub IsRefreshed : Situation → Type 0
+IsRefreshed x = WithUsable x (IsOwn x) × ((lifetime_of (asked x) ≡ Some 0) ↔ (lifetime_of (answered x) ≡ Some 0))
+
+-- A Refresh (RFC 8656, section 8.2): the allocation lasts for the seconds that it says, and is removed where these are 0.
+pub record AnswersRefresh (x : Situation) (change : Change) : Type 0 where
+  pub response : IsResponse x Success REFRESH
+  pub user : List ℕ
+  pub authentic : IsAuthentic x.key_for x.arrives.payload user
+  pub seconds : ℕ
+  pub lasts : lifetime_of (answered x) ≡ Some seconds
+  pub allowed : EndsNothing x ⊎ IsRefreshed x
+  pub signed : IsSignedBack x
+  pub changes : change ≡ (if seconds == 0 then Removes else Renews (seconds_after x.moment seconds))

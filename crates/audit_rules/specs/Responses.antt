@@ -1,0 +1,46 @@
+-- When a Binding success or an error may answer (RFC 8489, sections 6.3, 7.3 and 9.2.4; RFC 8656, sections 5, 7.2 and 8.2).
+use Rattle.std.specs.Prelude.{◌≡◌, ◌≢◌, ◌⊎◌, ℕ, Some, IsSome, IsSomeAnd}
+use Rattle.audit_stun.specs.declared.class.Class.TheVariants.{Success, Error}
+use Rattle.audit_stun.specs.declared.numbers.method.TheConstants.{BINDING, ALLOCATE}
+use Rattle.audit_stun.specs.declared.numbers.attribute.TheConstants.{XOR_MAPPED_ADDRESS, REALM, NONCE, UNKNOWN_ATTRIBUTES}
+use Rattle.audit_stun.specs.Counted.{first_of}
+use Rattle.audit_rules.specs.Situation.{Situation, asked, answered}
+use Rattle.audit_rules.specs.Values.{Names, code_of, transport_of}
+use Rattle.audit_rules.specs.Standing.{IsResponse, IsByUser, IsOwn, WithUsable, NothingLasts}
+
+-- Binding (RFC 8489, section 3): the client is told its own address
+pub record AnswersBinding (x : Situation) : Type 0 where
+  pub response : IsResponse x Success BINDING
+  pub mapped : Names XOR_MAPPED_ADDRESS (answered x) x.client
+
+-- a transport is asked for, and it isn't UDP; a value that can't be read asks for none
+abbrev pub AsksOtherTransport : Situation → Type 0
+AsksOtherTransport x = IsSomeAnd (transport_of (asked x)) (λ protocol. protocol ≢ 17)
+
+-- an allocation is asked for where one is usable, or something else where none lasts (RFC 8656, sections 5 and 7.2)
+abbrev pub IsMismatch : Situation → Type 0
+IsMismatch x = ((asked x).method ≡ ALLOCATE → WithUsable x (λ a. Unit {0})) × ((asked x).method ≢ ALLOCATE → NothingLasts x)
+
+-- the request is a user's, and the usable allocation another's (RFC 8656, section 5)
+abbrev pub IsByOther : Situation → Type 0
+IsByOther x = WithUsable x (λ a. IsByUser x × (IsOwn x a → ⊥))
+
+-- What these codes ask of the server's state. Other codes have no condition.
+pub record Fits (x : Situation) (code : ℕ) : Type 0 where
+  -- Unauthenticated and Stale Nonce (RFC 8489, section 9.2.4)
+  pub challenges : (code ≡ 401) ⊎ (code ≡ 438) → IsSome (first_of REALM (answered x).attributes) × IsSome (first_of NONCE (answered x).attributes)
+  -- Unknown Attribute (RFC 8489, section 6.3.1)
+  pub unknown : code ≡ 420 → IsSome (first_of UNKNOWN_ATTRIBUTES (answered x).attributes)
+  -- Allocation Mismatch
+  pub mismatch : code ≡ 437 → IsMismatch x
+  -- Wrong Credentials
+  pub other_user : code ≡ 441 → IsByOther x
+  -- Unsupported Transport Protocol (RFC 8656, section 7.2)
+  pub transport : code ≡ 442 → ((asked x).method ≡ ALLOCATE) × AsksOtherTransport x
+
+-- an error, to a request of any method
+pub record AnswersError (x : Situation) : Type 0 where
+  pub response : IsResponse x Error (asked x).method
+  pub code : ℕ
+  pub tells : code_of (answered x) ≡ Some code
+  pub fits : Fits x code

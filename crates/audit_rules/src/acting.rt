@@ -1,0 +1,59 @@
+//! Judging an act, and changing the table by it.
+
+ghost use Rattle.std.specs.Prelude.{◌≡◌, IfOk, IfErr, OnErr};
+ghost use Rattle.audit_rules.specs.Allocation.{Change};
+ghost use Rattle.audit_rules.specs.Answer.{MayAnswer};
+ghost use Rattle.audit_rules.specs.FirstRule.{FirstRule};
+ghost use Rattle.audit_rules.specs.Fault.{IsBroken};
+ghost use Rattle.audit_rules.specs.Effect.{standing};
+ghost use Rattle.audit_rules.specs.Changes.{IsChanged};
+ghost use Rattle.audit_rules.specs.Seen.{situation_of};
+
+use crate::acts::Act;
+use crate::change::{Cause, change};
+use crate::credentials::CredRow;
+use crate::fault::ActFault;
+use crate::judging::judged;
+use crate::table::LaneTable;
+use audit_model::{At, Policy, Sighting, Tenancy};
+use std::alloc::Global;
+
+/// Judges the act that answers an arrival by a departure, and changes the table as the server does (RFC 8656).
+///
+/// It gives the tenancy that the act ended, if any. It fails by the first rule, R1 to R21, that the act breaks, or for
+/// want of memory; the table stays as it was then. It looks through the users and, for a ChannelBind, the channels; it
+/// hashes only what the case asks to be signed, and takes memory only for what the table gains.
+pub fn act(
+    alloc: Global,
+    table: &mut LaneTable,
+    users: &[CredRow<'_>],
+    policy: &Policy,
+    arrives: &Sighting,
+    leaves: &Sighting,
+    at: At,
+) -> Result<Option<Tenancy>, ActFault>
+    // The server may answer so, and the table is changed accordingly.
+    ensures ok { IfOk result (λ ended. (change : Change) × MayAnswer (situation_of table.old users.now policy.now arrives.now leaves.now at.key.moment) change
+        × IsChanged policy.now.grace at arrives.now.id change (standing table.old) (standing table.new) ended) }
+    // The rule is that of the first check that fails.
+    ensures broken { IfErr result (λ fault. IsBroken fault (λ rule. FirstRule (situation_of table.old users.now policy.now arrives.now leaves.now at.key.moment) rule)) }
+    ensures err { OnErr result (standing table.new ≡ standing table.old) }
+{
+    let effect = judged(
+        alloc,
+        &Act {
+            table,
+            users,
+            policy,
+            arrives,
+            leaves,
+            moment: at.key.moment,
+        },
+    )?;
+    let cause = Cause {
+        at,
+        sight: arrives.id,
+        grace: policy.grace,
+    };
+    Ok(change(alloc, table, cause, effect)?)
+}

@@ -1,0 +1,77 @@
+//! The users that an act may be by.
+
+ghost use Rattle.std.specs.Prelude.{◌≡◌, ◌↔◌, IsTrue, Some, None, MatchOption};
+ghost use Rattle.audit_stun.specs.declared.numbers.attribute.TheConstants.{USERNAME};
+ghost use Rattle.audit_stun.specs.Counted.{first_of};
+ghost use Rattle.audit_stun.specs.Parts.{parts_of};
+ghost use Rattle.audit_rules.specs.Situation.{asked};
+ghost use Rattle.audit_rules.specs.Standing.{key_named, IsByUser, IsSignedBack};
+ghost use Rattle.audit_rules.specs.Seen.{key_in, situation};
+
+use crate::acts::Act;
+use audit_keys::signed;
+use audit_stun::Message;
+use audit_stun::numbers::attribute::{NONCE, REALM, USERNAME};
+
+/// The long-term key of a user of a realm (RFC 8489, section 9.2.2).
+#[derive(Clone, Copy, Debug)]
+pub struct CredRow<'a> {
+    pub user: &'a [u8],
+    pub realm: &'a [u8],
+    pub key: [u8; 16],
+}
+
+/// Who signed a request.
+#[derive(Clone, Copy)]
+pub struct Signer<'a> {
+    pub user: &'a [u8],
+    pub key: [u8; 16],
+}
+
+/// The key of the first row of the user and the realm.
+fn key_of(users: &[CredRow<'_>], user: &[u8], realm: &[u8]) -> Option<[u8; 16]>
+    ensures { result ≡ key_in users.now user.now realm.now }
+{
+    let row = users
+        .iter()
+        .find(|row| row.user == user && row.realm == realm)?;
+    Some(row.key)
+}
+
+/// The user that the request names, with the key for the realm that it names.
+fn named<'a>(users: &[CredRow<'_>], request: &Message<'a>) -> Option<Signer<'a>>
+    ensures { MatchOption result (key_named (key_in users.now) (parts_of request.now) ≡ None)
+        (λ signer. (first_of USERNAME (parts_of request.now).attributes ≡ Some signer.user.now)
+        × (key_named (key_in users.now) (parts_of request.now) ≡ Some signer.key)) }
+{
+    let user = request.first(USERNAME)?;
+    let realm = request.first(REALM)?;
+    let key = key_of(users, user, realm)?;
+    Some(Signer { user, key })
+}
+
+/// Whose request it is, if it is authentic: it has a nonce, and is signed under the key of the user and the realm that it names
+/// (RFC 8489, section 9.2.4).
+pub fn authenticated<'a>(act: &Act<'_, '_>, request: &Message<'a>) -> Option<Signer<'a>>
+    requires { request.now ≡ (situation act.now).arrives.payload }
+    ensures { MatchOption result (IsByUser (situation act.now) → ⊥)
+        (λ signer. IsByUser (situation act.now) × (first_of USERNAME (asked (situation act.now)).attributes ≡ Some signer.user.now)
+        × (key_named (situation act.now).key_for (asked (situation act.now)) ≡ Some signer.key)) }
+{
+    request.first(NONCE)?;
+    let signer = named(act.users, request)?;
+    if signed(request, &signer.key) {
+        Some(signer)
+    } else {
+        None
+    }
+}
+
+/// Whether the response is signed under the key of its request.
+pub fn signed_back(act: &Act<'_, '_>, signer: &Signer<'_>, response: &Message<'_>) -> bool
+    requires response { response.now ≡ (situation act.now).leaves.payload }
+    requires key { key_named (situation act.now).key_for (asked (situation act.now)) ≡ Some signer.now.key }
+    ensures { IsTrue result ↔ IsSignedBack (situation act.now) }
+{
+    signed(response, &signer.key)
+}

@@ -1,0 +1,93 @@
+//! An error response (RFC 8489, section 6.3.4; RFC 8656, sections 5, 7.2 and 8.2).
+
+ghost use Rattle.std.specs.Prelude.{◌≡◌, ◌↔◌, IsTrue, MatchResult};
+ghost use Rattle.audit_rules.specs.Situation.{asked};
+ghost use Rattle.audit_rules.specs.Responses.{Fits, IsMismatch, IsByOther, AsksOtherTransport};
+ghost use Rattle.audit_rules.specs.Check.{AllHold, FirstFails};
+ghost use Rattle.audit_rules.specs.Checks.{error_checks};
+ghost use Rattle.audit_rules.specs.Seen.{situation};
+
+use crate::acts::Act;
+use crate::credentials::authenticated;
+use crate::values::{error_code_in, transport_in};
+use audit_model::Rule;
+use audit_stun::Message;
+use audit_stun::numbers::attribute::{NONCE, REALM, UNKNOWN_ATTRIBUTES};
+use audit_stun::numbers::method::ALLOCATE;
+
+/// The protocol number of UDP.
+const UDP: u8 = 17;
+
+/// Whether another transport than UDP is asked for.
+fn asks_other_transport(act: &Act<'_, '_>, request: &Message<'_>) -> bool
+    requires { request.now ≡ (situation act.now).arrives.payload }
+    ensures { IsTrue result ↔ AsksOtherTransport (situation act.now) }
+{
+    match transport_in(request) {
+        None => false,
+        Some(protocol) => protocol != UDP,
+    }
+}
+
+/// 437, Allocation Mismatch: an Allocate where an allocation is usable, or another request where none lasts.
+fn is_mismatch(act: &Act<'_, '_>, request: &Message<'_>) -> bool
+    requires { request.now ≡ (situation act.now).arrives.payload }
+    ensures { IsTrue result ↔ IsMismatch (situation act.now) }
+{
+    let allocates = request.method() == ALLOCATE;
+    match &act.table.allocation {
+        None => !allocates,
+        Some(found) if allocates => found.lease.usable(act.moment, act.policy.grace),
+        Some(found) => found.lease.gone(act.moment),
+    }
+}
+
+/// 441, Wrong Credentials: another user asks for the usable allocation.
+fn is_by_other(act: &Act<'_, '_>, request: &Message<'_>) -> bool
+    requires { request.now ≡ (situation act.now).arrives.payload }
+    ensures { IsTrue result ↔ IsByOther (situation act.now) }
+{
+    let Some(found) = &act.table.allocation else {
+        return false;
+    };
+    if !found.lease.usable(act.moment, act.policy.grace) {
+        return false;
+    }
+    match authenticated(act, request) {
+        None => false,
+        Some(signer) => signer.user != found.user.as_slice(),
+    }
+}
+
+/// Whether the server's state is what the code says.
+fn fits(act: &Act<'_, '_>, request: &Message<'_>, response: &Message<'_>, code: u16) -> bool
+    requires request { request.now ≡ (situation act.now).arrives.payload }
+    requires response { response.now ≡ (situation act.now).leaves.payload }
+    ensures { IsTrue result ↔ Fits (situation act.now) code }
+{
+    match code {
+        401 | 438 => response.first(REALM).is_some() && response.first(NONCE).is_some(),
+        420 => response.first(UNKNOWN_ATTRIBUTES).is_some(),
+        437 => is_mismatch(act, request),
+        441 => is_by_other(act, request),
+        442 => request.method() == ALLOCATE && asks_other_transport(act, request),
+        _ => true,
+    }
+}
+
+/// An error of any method: its code can be read, and the server's state is what it says.
+pub fn error(act: &Act<'_, '_>, request: &Message<'_>, response: &Message<'_>) -> Result<(), Rule>
+    requires request { request.now ≡ (situation act.now).arrives.payload }
+    requires response { response.now ≡ (situation act.now).leaves.payload }
+    ensures { MatchResult result
+        (λ _. AllHold (error_checks (situation act.now)))
+        (λ rule. FirstFails (error_checks (situation act.now)) rule) }
+{
+    let Some(code) = error_code_in(response) else {
+        return Err(Rule::Malformed);
+    };
+    if !fits(act, request, response, code) {
+        return Err(Rule::ErrorCondition);
+    }
+    Ok(())
+}

@@ -1,0 +1,62 @@
+//! A Refresh request and its success (RFC 8656, section 8).
+
+ghost use Rattle.std.specs.Prelude.{◌≡◌, ◌↔◌, IsTrue, Some, MatchResult};
+ghost use Rattle.audit_rules.specs.Situation.{asked, answered};
+ghost use Rattle.audit_rules.specs.Values.{lifetime_of};
+ghost use Rattle.audit_rules.specs.Standing.{WithUsable};
+ghost use Rattle.audit_rules.specs.Allocating.{EndsNothing};
+ghost use Rattle.audit_rules.specs.Check.{AllHold, FirstFails};
+ghost use Rattle.audit_rules.specs.Checks.{refresh_checks};
+ghost use Rattle.audit_rules.specs.Seen.{situation};
+
+use crate::acts::Act;
+use crate::credentials::{authenticated, signed_back};
+use crate::values::lifetime_in;
+use audit_model::Rule;
+use audit_stun::Message;
+
+/// Whether a usable allocation is there.
+fn is_usable(act: &Act<'_, '_>) -> bool
+    ensures { IsTrue result ↔ WithUsable (situation act.now) (λ a. Unit {0}) }
+{
+    match &act.table.allocation {
+        None => false,
+        Some(found) => found.lease.usable(act.moment, act.policy.grace),
+    }
+}
+
+/// The seconds for which the allocation lasts from now on; 0 where it is removed. A success of 0 to a request of 0 is accepted
+/// where no usable allocation is there (own: RFC 8656 answers 437).
+pub fn refresh(act: &Act<'_, '_>, request: &Message<'_>, success: &Message<'_>) -> Result<u32, Rule>
+    requires request { request.now ≡ (situation act.now).arrives.payload }
+    requires success { success.now ≡ (situation act.now).leaves.payload }
+    ensures { MatchResult result
+        (λ seconds. AllHold (refresh_checks (situation act.now)) × (lifetime_of (answered (situation act.now)) ≡ Some seconds))
+        (λ rule. FirstFails (refresh_checks (situation act.now)) rule) }
+{
+    let Some(signer) = authenticated(act, request) else {
+        return Err(Rule::NotAuthentic);
+    };
+    let Some(seconds) = lifetime_in(success) else {
+        return Err(Rule::Malformed);
+    };
+    let asks_end = lifetime_in(request) == Some(0);
+    if is_usable(act) || !asks_end || seconds != 0 {
+        let Some(found) = &act.table.allocation else {
+            return Err(Rule::NoAllocation);
+        };
+        if !found.lease.usable(act.moment, act.policy.grace) {
+            return Err(Rule::AllocationOver);
+        }
+        if signer.user != found.user.as_slice() {
+            return Err(Rule::OtherUser);
+        }
+        if asks_end != (seconds == 0) {
+            return Err(Rule::Lifetime);
+        }
+    }
+    if !signed_back(act, &signer, success) {
+        return Err(Rule::ResponseIntegrity);
+    }
+    Ok(seconds)
+}
