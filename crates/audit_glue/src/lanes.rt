@@ -4,6 +4,7 @@ ghost use Rattle.std.specs.Prelude.{vec_len, length, IfOk, ◌≡◌, ◌≤◌}
 ghost use Rattle.audit_model.specs.declared.certificate.TheConstants.{MAX_LANES};
 ghost use Rattle.audit_order.specs.Named.{AllNamed};
 
+use audit_keys::Credentials;
 use audit_lane::{Finding, Job, judge, lane_input};
 use audit_model::Certificate;
 use audit_order::Placement;
@@ -14,6 +15,7 @@ use std::alloc::{AllocError, Global};
 pub fn job<'a>(
     alloc: Global,
     intake: &'a Intake,
+    credentials: &Credentials,
     certificate: &Certificate,
     _placement: &Placement,
 ) -> Result<Job<'a>, AllocError>
@@ -22,7 +24,7 @@ pub fn job<'a>(
 {
     let mut inputs = Vec::with_capacity(alloc, certificate.lanes.len())?;
     'lanes: for (number, lane) in certificate.lanes.as_slice().iter().enumerate() {
-        inputs.push(lane_input(alloc, number as u32, lane, intake)?)?;
+        inputs.push(lane_input(alloc, number as u32, lane, intake, credentials)?)?;
     }
     Ok(Job { inputs })
 }

@@ -56,7 +56,13 @@ fn outcome_of(alloc: Global, input: &LaneInput<'_>) -> Result<Outcome, AllocErro
     }
     match lane.end() {
         Err(breach) => Ok(Outcome::Broken(breach)),
-        Ok(()) => Ok(Outcome::Passed(Listed::from(Vec::from_slice(alloc, lane.tenancies())?))),
+        Ok(()) => {
+            let mut tenancies = Vec::from_slice(alloc, lane.tenancies())?;
+            if let Some(running) = lane.running() {
+                tenancies.push(running)?;
+            }
+            Ok(Outcome::Passed(Listed::from(tenancies)))
+        }
     }
 }
 

@@ -4,7 +4,10 @@ ghost use Rattle.std.specs.Prelude.{All, length, vec_len, ◌≤◌};
 ghost use Rattle.audit_model.specs.declared.certificate.TheConstants.{MAX_EVENTS};
 ghost use Rattle.audit_sightings.specs.Intake.{NamesWhatIsThere};
 
+use crate::users::users_of;
+use audit_keys::Credentials;
 use audit_model::{Addr, CertLane, Event, Key, Policy};
+use audit_rules::CredRow;
 use audit_sightings::{Intake, Sighting};
 use std::alloc::{AllocError, Global};
 use std::sync::Arc;
@@ -37,6 +40,8 @@ pub struct LaneInput<'a> {
     pub client: Addr,
     pub listen: Addr,
     pub policy: &'a Policy,
+    /// The key of each user of a realm that a request of the lane names and the credentials have.
+    pub users: Vec<CredRow<'a>>,
     pub events: Vec<LaneEvent<'a>>,
     pub ghost few: { vec_len events ≤ MAX_EVENTS },
 }
@@ -68,6 +73,7 @@ pub fn lane_input<'a>(
     number: u32,
     lane: &CertLane,
     intake: &'a Intake,
+    credentials: &Credentials,
 ) -> Result<Arc<LaneInput<'a>>, AllocError>
     requires few { length lane.now.events ≤ MAX_EVENTS }
     requires named { All (NamesWhatIsThere intake.now) lane.now.events }
@@ -81,6 +87,7 @@ pub fn lane_input<'a>(
         client: lane.client,
         listen: lane.listen,
         policy: intake.policy(),
+        users: users_of(alloc, credentials, events.as_slice())?,
         events,
     };
     Ok(Arc::new(alloc, input)?)

@@ -64,6 +64,7 @@ pub struct Lane {
     /// By the place of the act.
     owed: BTreeMap<u32, Owed>,
     tenancies: Listed<Tenancy>,
+    alloc: Global,
 }
 
 impl Lane {
@@ -77,6 +78,7 @@ impl Lane {
             departures: BTreeMap::new(alloc),
             owed: BTreeMap::new(alloc),
             tenancies: Listed::new(alloc),
+            alloc,
         }
     }
 
@@ -161,7 +163,15 @@ impl Lane {
             Ok(arrived) => arrived,
             Err(rule) => return Err(self.broken(at, arrives.id, rule)),
         };
-        match act(&mut self.table, input.policy, arrives, leaves, at) {
+        match act(
+            self.alloc,
+            &mut self.table,
+            input.users.as_slice(),
+            input.policy,
+            arrives,
+            leaves,
+            at,
+        ) {
             Ok(None) => {}
             Ok(Some(ended)) => self.tenancies.push(ended)?,
             Err(ActFault::Broken(rule)) => return Err(self.broken(at, arrives.id, rule)),
@@ -218,5 +228,10 @@ impl Lane {
     /// The tenancies that acts of the lane ended, in order of birth. It takes no memory.
     pub fn tenancies(&self) -> &[Tenancy] {
         self.tenancies.as_slice()
+    }
+
+    /// The tenancy that runs on after the events so far. It takes no memory.
+    pub fn running(&self) -> Option<Tenancy> {
+        self.table.running()
     }
 }

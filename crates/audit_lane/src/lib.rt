@@ -4,6 +4,7 @@
 mod finding;
 mod input;
 mod lane;
+mod users;
 
 pub use finding::{Finding, Job, Outcome, judge};
 pub use input::{LaneEvent, LaneInput, lane_input};

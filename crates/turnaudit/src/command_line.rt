@@ -20,6 +20,8 @@ pub enum Request<'a> {
 #[derive(Drop)]
 pub struct Check<'a> {
     pub policy: &'a str,
+    /// Without it there are no users.
+    pub credentials: Option<&'a str>,
     pub certificate: &'a str,
     pub captures: Vec<&'a str>,
 }
@@ -34,7 +36,7 @@ fn file_option<'a>(alloc: Global, name: &'a str, value: &'a str, help: &'a str) 
         .action(ArgAction::Set)
 }
 
-/// `check --policy P --cert F CAPTURE..`
+/// `check --policy P [--creds C] --cert F CAPTURE..`
 fn check_command<'a>(alloc: Global) -> Result<Command<'a>, AllocError> {
     let captures = Arg::new(alloc, "captures")
         .value_name("CAPTURE")
@@ -43,9 +45,12 @@ fn check_command<'a>(alloc: Global) -> Result<Command<'a>, AllocError> {
         .num_args(1..)
         .action(ArgAction::Append);
     let policy = file_option(alloc, "policy", "P", "Which endpoints are the server's");
+    let credentials =
+        file_option(alloc, "creds", "C", "The server's users and their passwords").required(false);
     let certificate = file_option(alloc, "cert", "F", "Where each datagram is placed");
     Command::new(alloc, "check")
         .arg(policy)?
+        .arg(credentials)?
         .arg(certificate)?
         .arg(captures)
 }
@@ -81,6 +86,7 @@ fn check_of<'a>(alloc: Global, matches: &ArgMatches<'a>) -> Result<Option<Check<
     let captures = Vec::from_slice(alloc, names)?;
     Ok(Some(Check {
         policy,
+        credentials: matches.get_str("creds"),
         certificate,
         captures,
     }))

@@ -6,6 +6,7 @@ use crate::source::Source;
 use crate::stop::Stop;
 use crate::writing::{put_line, put_text};
 use audit_glue::check;
+use audit_keys::Credentials;
 use audit_model::{Sink, Verdict, read_policy};
 use audit_report::report;
 use audit_sightings::Intake;
@@ -27,8 +28,20 @@ fn take_in<S: Source>(
     Ok(intake)
 }
 
-/// Judges the captures by the certificate, and writes the report. Files are read in the order policy, certificate, captures, and each is
-/// judged before the next is read.
+/// The users that a file has; none where no file is named.
+fn read_users<S: Source>(
+    alloc: Global,
+    source: &mut S,
+    name: Option<&str>,
+) -> Result<Credentials, Stop> {
+    match name {
+        Some(name) => Ok(Credentials::read(alloc, &read_whole(alloc, source, name)?)?),
+        None => Ok(Credentials::read(alloc, b"")?),
+    }
+}
+
+/// Judges the captures by the certificate, and writes the report. Files are read in the order policy, credentials, certificate, captures, and
+/// each is judged before the next is read.
 fn run_check<S: Source, O: Sink>(
     alloc: Global,
     request: &Check<'_>,
@@ -36,9 +49,10 @@ fn run_check<S: Source, O: Sink>(
     out: &mut O,
 ) -> Result<u8, Stop> {
     let policy = read_policy(alloc, &read_whole(alloc, source, request.policy)?)?;
+    let users = read_users(alloc, source, request.credentials)?;
     let certificate = audit_cert::read(alloc, &read_whole(alloc, source, request.certificate)?)?;
     let intake = take_in(alloc, source, &request.captures, Intake::new(alloc, policy))?;
-    let verdict = check(alloc, &intake, &certificate)?;
+    let verdict = check(alloc, &intake, &users, &certificate)?;
     report(alloc, &verdict, &intake, out)?;
     match verdict {
         Verdict::Conforming { .. } => Ok(0),
