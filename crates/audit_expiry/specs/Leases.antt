@@ -1,0 +1,27 @@
+-- A table of leases as a function from a key to what it has there. Keys are the same where their order says so.
+use Rattle.std.specs.Prelude.{Bool, List, Option, None, Some, if◌then◌else◌, ◌≡◌}
+use Rattle.std.specs.declared.cmp.Ordering.{Ordering}
+use Rattle.std.specs.Ordering.{is_eq}
+use Rattle.std.specs.List.{list_any}
+use Rattle.std.specs.Map.{lookup}
+
+-- whether two keys are the same
+abbrev pub is_same : {K : Type 0} → (K → K → Ordering) → K → K → Bool
+is_same order one other = is_eq (order one other)
+
+module _ {K V : Type 0} (order : K → K → Ordering) where
+  -- what the table has at a key
+  abbrev pub value_at : List (K × V) → K → Option V
+  value_at table key = lookup (is_same order key) table
+
+  -- the new table has the value at this key, and at each other key what the old one has
+  abbrev pub Puts : List (K × V) → List (K × V) → K → V → Type 0
+  Puts old new key value = (q : K) → value_at new q ≡ (if is_same order key q then Some value else value_at old q)
+
+  -- the same for each of some keys
+  abbrev pub PutsAll : List (K × V) → List (K × V) → List K → V → Type 0
+  PutsAll old new keys value = (q : K) → value_at new q ≡ (if list_any (λ key. is_same order key q) keys then Some value else value_at old q)
+
+  -- the new table has nothing at this key, and at each other key what the old one has
+  abbrev pub Removes : List (K × V) → List (K × V) → K → Type 0
+  Removes old new key = (q : K) → value_at new q ≡ (if is_same order key q then None else value_at old q)

@@ -1,0 +1,60 @@
+//! Leases by their keys.
+
+ghost use Rattle.std.specs.Prelude.{◌≡◌, [], IsSome, IsOk, OnOk, OnErr, None};
+ghost use Rattle.audit_expiry.specs.Leases.{value_at, Puts, Removes};
+
+use crate::lease::Lease;
+use std::alloc::{AllocError, Global};
+use std::collections::BTreeMap;
+use std::marker::Model;
+
+/// What each key has: a lease, or a value that holds one. Contracts see the list of its entries, in the
+/// order of the keys, so that two tables are equal where they have the same at each key.
+#[derive(Debug, Drop)]
+pub struct Leases<K: Ord, V = Lease> {
+    values: BTreeMap<K, V>,
+}
+
+impl<K: Ord, V> Model for Leases<K, V> {
+    ghost use Rattle.std.specs.Prelude.{List};
+
+    ghost Value = { List (K × V) };
+
+    ghost view = { λ leases. leases.values.entries };
+}
+
+impl<K: Ord + Copy, V: Copy> Leases<K, V> {
+    /// No keys. It takes no memory.
+    pub fn new(alloc: Global) -> Self
+        ensures { result ≡ [] }
+    {
+        Leases {
+            values: BTreeMap::new(alloc),
+        }
+    }
+
+    /// What the key has. It takes logarithmic time.
+    pub fn get(&self, key: K) -> Option<V>
+        ensures { result ≡ value_at K.cmp self.now key }
+    {
+        self.values.get(&key).copied()
+    }
+
+    /// Gives the key this value in place of any other; a key that has one already takes no memory. Where
+    /// memory is refused, nothing changes. It takes logarithmic time.
+    pub fn put(&mut self, key: K, value: V) -> Result<(), AllocError>
+        ensures ok { OnOk result (Puts K.cmp self.old self.new key value) }
+        ensures err { OnErr result (self.new ≡ self.old) }
+        ensures full_only { OnErr result (value_at K.cmp self.old key ≡ None) }
+    {
+        self.values.insert(key, value)?;
+        Ok(())
+    }
+
+    /// Takes the key out. It takes logarithmic time.
+    pub fn remove(&mut self, key: K)
+        ensures { Removes K.cmp self.old self.new key }
+    {
+        self.values.remove(&key);
+    }
+}
