@@ -25,3 +25,11 @@ module _ {K V : Type 0} (order : K → K → Ordering) where
   -- the new table has nothing at this key, and at each other key what the old one has
   abbrev pub Removes : List (K × V) → List (K × V) → K → Type 0
   Removes old new key = (q : K) → value_at new q ≡ (if is_same order key q then None else value_at old q)
+
+  -- some key has a value of which the fact holds
+  abbrev pub Somewhere : List (K × V) → (K → V → Type 0) → Type 0
+  Somewhere table Fact = (key : K) × (value : V) × (value_at table key ≡ Some value) × Fact key value
+
+  -- the fact holds of each key that has a value, and of that value
+  abbrev pub Everywhere : List (K × V) → (K → V → Type 0) → Type 0
+  Everywhere table Fact = (key : K) → (value : V) → value_at table key ≡ Some value → Fact key value

@@ -1,12 +1,30 @@
 //! Leases by their keys.
 
-ghost use Rattle.std.specs.Prelude.{◌≡◌, [], IsSome, IsOk, OnOk, OnErr, None};
-ghost use Rattle.audit_expiry.specs.Leases.{value_at, Puts, Removes};
+ghost use Rattle.std.specs.Prelude.{◌≡◌, [], true, false, IsTrue, OnOk, OnErr, None};
+ghost use Rattle.std.specs.declared.cmp.Ordering.TheVariants.{Equal};
+ghost use Rattle.audit_expiry.specs.Leases.{value_at, Puts, Removes, Somewhere, Everywhere};
 
 use crate::lease::Lease;
 use std::alloc::{AllocError, Global};
 use std::collections::BTreeMap;
 use std::marker::Model;
+
+/// Keys whose order says of two that they are the same only where they are equal.
+pub trait ExactKey: Ord + Copy {
+    ghost exact: { (one other : Self) → Self.cmp one other ≡ Equal → one ≡ other };
+}
+
+impl ExactKey for u16 {
+    ghost use Rattle.std.proofs.lemmas.Map.Lookups.{exact_unsigned};
+
+    ghost exact = { exact_unsigned };
+}
+
+impl ExactKey for u32 {
+    ghost use Rattle.std.proofs.lemmas.Map.Lookups.{exact_unsigned};
+
+    ghost exact = { exact_unsigned };
+}
 
 /// What each key has: a lease, or a value that holds one. Contracts see the list of its entries, in the
 /// order of the keys, so that two tables are equal where they have the same at each key.
@@ -56,5 +74,23 @@ impl<K: Ord + Copy, V: Copy> Leases<K, V> {
         ensures { Removes K.cmp self.old self.new key }
     {
         self.values.remove(&key);
+    }
+}
+
+impl<K: ExactKey, V: Copy> Leases<K, V> {
+    /// Whether the test holds of some key and what it has. It takes time in proportion to the number of keys.
+    pub fn any<F: Fn(K, V) -> bool>(&self, test: F) -> bool
+    where
+        F: Drop,
+        requires { F.IsAlwaysCallable test }
+        ensures some { IsTrue result → Somewhere K.cmp self.now (λ key value. F.post test key value true) }
+        ensures none { result ≡ false → Everywhere K.cmp self.now (λ key value. F.post test key value false) }
+    {
+        for (key, value) in &self.values {
+            if test(*key, *value) {
+                return true;
+            }
+        }
+        false
     }
 }

@@ -5,4 +5,4 @@ mod lease;
 mod leases;
 
 pub use lease::Lease;
-pub use leases::Leases;
+pub use leases::{ExactKey, Leases};
