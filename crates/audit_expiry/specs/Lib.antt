@@ -1,2 +1,3 @@
 pub mod Lease
 pub mod Leases
+pub mod Growth

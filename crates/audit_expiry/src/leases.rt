@@ -1,8 +1,9 @@
 //! Leases by their keys.
 
-ghost use Rattle.std.specs.Prelude.{◌≡◌, [], true, false, IsTrue, OnOk, OnErr, None};
+ghost use Rattle.std.specs.Prelude.{◌≡◌, List, [], true, false, IsTrue, OnOk, OnErr, None};
 ghost use Rattle.std.specs.declared.cmp.Ordering.TheVariants.{Equal};
 ghost use Rattle.audit_expiry.specs.Leases.{value_at, Puts, Removes, Somewhere, Everywhere};
+ghost use Rattle.audit_expiry.specs.Growth.{Adds, Grew};
 
 use crate::lease::Lease;
 use std::alloc::{AllocError, Global};
@@ -31,6 +32,7 @@ impl ExactKey for u32 {
 #[derive(Debug, Drop)]
 pub struct Leases<K: Ord, V = Lease> {
     values: BTreeMap<K, V>,
+    alloc: Global,
 }
 
 impl<K: Ord, V> Model for Leases<K, V> {
@@ -48,6 +50,7 @@ impl<K: Ord + Copy, V: Copy> Leases<K, V> {
     {
         Leases {
             values: BTreeMap::new(alloc),
+            alloc,
         }
     }
 
@@ -74,6 +77,35 @@ impl<K: Ord + Copy, V: Copy> Leases<K, V> {
         ensures { Removes K.cmp self.old self.new key }
     {
         self.values.remove(&key);
+    }
+}
+
+/// Several keys at once.
+impl<K: Ord + Copy, V: Copy> Leases<K, V> {
+    // Adds the key where it isn't there yet, and notes it then.
+    fn add(&mut self, key: K, value: V, added: &mut Vec<K>) -> Result<(), AllocError>
+        ensures ok { OnOk result (Adds K.cmp self.old self.new key value added.old.items added.new.items) }
+        ensures err { OnErr result (self.new ≡ self.old) }
+        ensures noted { OnErr result (added.new.items ≡ added.old.items) }
+    {
+        if self.values.contains_key(&key) {
+            return Ok(());
+        }
+        added.push(key)?;
+        if let Err(refused) = self.values.insert(key, value) {
+            added.pop();
+            return Err(refused.into());
+        }
+        Ok(())
+    }
+
+    // Takes out what was added, the last first.
+    fn take_out(&mut self, mut added: Vec<K>)
+        ensures { (before : List (K × V)) → (value : V) → Grew K.cmp value before added.items self.old → self.new ≡ before }
+    {
+        while let Some(key) = added.pop() {
+            self.values.remove(&key);
+        }
     }
 }
 
