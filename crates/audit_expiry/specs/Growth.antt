@@ -1,8 +1,9 @@
 -- Keys added to a table one by one, so that they can be taken out again.
-use Rattle.std.specs.Prelude.{List, [], ◌∷◌, ◌++◌, Option, None, ◌≡◌, MatchOption}
+use Rattle.std.specs.Prelude.{List, [], ◌∷◌, ◌++◌, Option, None, false, ◌≡◌, MatchOption, IsSome, All}
 use Rattle.std.specs.declared.cmp.Ordering.{Ordering}
+use Rattle.std.specs.List.{list_any}
 use Rattle.std.specs.BTreeMap.{insert_entry}
-use Rattle.audit_expiry.specs.Leases.{value_at, Puts}
+use Rattle.audit_expiry.specs.Leases.{is_same, value_at, Puts}
 
 module _ {K V : Type 0} (order : K → K → Ordering) where
   -- a key that is new gets the value and is noted; one that is there stays as it is
@@ -15,3 +16,11 @@ module _ {K V : Type 0} (order : K → K → Ordering) where
   abbrev pub Grew : V → List (K × V) → List K → List (K × V) → Type 0
   Grew value before [] after = after ≡ before
   Grew value before (key ∷ keys) after = (value_at order before key ≡ None) × Grew value (insert_entry order before key value) keys after
+
+  -- each of the keys has something
+  abbrev pub HasEach : List (K × V) → List K → Type 0
+  HasEach table keys = All (λ key. IsSome (value_at order table key)) keys
+
+  -- what a key has that is not among these stays
+  abbrev pub KeepsOthers : List (K × V) → List (K × V) → List K → Type 0
+  KeepsOthers old new keys = (q : K) → list_any (λ key. is_same order key q) keys ≡ false → value_at order new q ≡ value_at order old q

@@ -1,9 +1,9 @@
 //! Leases by their keys.
 
-ghost use Rattle.std.specs.Prelude.{◌≡◌, List, [], true, false, IsTrue, OnOk, OnErr, None};
+ghost use Rattle.std.specs.Prelude.{◌≡◌, List, [], true, false, IsTrue, IsSome, OnOk, OnErr, None};
 ghost use Rattle.std.specs.declared.cmp.Ordering.TheVariants.{Equal};
-ghost use Rattle.audit_expiry.specs.Leases.{value_at, Puts, Removes, Somewhere, Everywhere};
-ghost use Rattle.audit_expiry.specs.Growth.{Adds, Grew};
+ghost use Rattle.audit_expiry.specs.Leases.{value_at, Puts, PutsAll, Removes, Somewhere, Everywhere};
+ghost use Rattle.audit_expiry.specs.Growth.{Adds, Grew, HasEach, KeepsOthers};
 
 use crate::lease::Lease;
 use std::alloc::{AllocError, Global};
@@ -82,6 +82,43 @@ impl<K: Ord + Copy, V: Copy> Leases<K, V> {
 
 /// Several keys at once.
 impl<K: Ord + Copy, V: Copy> Leases<K, V> {
+    /// Gives each of the keys this value, as `put` does. Where memory is refused for any of them, nothing
+    /// changes. It takes logarithmic time for each key, and notes the keys that are new.
+    pub fn put_all(&mut self, keys: &[K], value: V) -> Result<(), AllocError>
+        ensures ok { OnOk result (PutsAll K.cmp self.old self.new keys.now value) }
+        ensures err { OnErr result (self.new ≡ self.old) }
+    {
+        self.add_missing(keys, value)?;
+        self.overwrite(keys, value);
+        Ok(())
+    }
+
+    // Adds those keys that aren't there yet, or none of them.
+    fn add_missing(&mut self, keys: &[K], value: V) -> Result<(), AllocError>
+        ensures has { OnOk result (HasEach K.cmp self.new keys.now) }
+        ensures others { OnOk result (KeepsOthers K.cmp self.old self.new keys.now) }
+        ensures err { OnErr result (self.new ≡ self.old) }
+    {
+        let mut added = Vec::new(self.alloc);
+        for key in keys {
+            if let Err(refused) = self.add(*key, value, &mut added) {
+                self.take_out(added);
+                return Err(refused);
+            }
+        }
+        Ok(())
+    }
+
+    // Gives keys that are there another value, which takes no memory.
+    fn overwrite(&mut self, keys: &[K], value: V)
+        requires { HasEach K.cmp self.old keys.now }
+        ensures { PutsAll K.cmp self.old self.new keys.now value }
+    {
+        for key in keys {
+            let _never_refused = self.put(*key, value);
+        }
+    }
+
     // Adds the key where it isn't there yet, and notes it then.
     fn add(&mut self, key: K, value: V, added: &mut Vec<K>) -> Result<(), AllocError>
         ensures ok { OnOk result (Adds K.cmp self.old self.new key value added.old.items added.new.items) }
