@@ -3,6 +3,10 @@
 
 mod lease;
 mod leases;
+#[cfg(test)]
+mod tests;
+#[cfg(test)]
+mod usage;
 
 pub use lease::Lease;
 pub use leases::{ExactKey, Leases};
