@@ -1,0 +1,4 @@
+pub mod Addresses
+pub mod Longest
+pub mod Keeping
+pub mod Found
