@@ -2,3 +2,5 @@ pub mod Addresses
 pub mod Longest
 pub mod Keeping
 pub mod Found
+pub mod Passing
+pub mod Sorting

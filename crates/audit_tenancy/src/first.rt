@@ -1,8 +1,9 @@
 //! The first clash.
 
-ghost use Rattle.std.specs.Prelude.{IfOk};
-ghost use Rattle.audit_model.specs.Clash.{ShowsClash};
+ghost use Rattle.std.specs.Prelude.{◌≡◌, IfOk, IsSorted};
+ghost use Rattle.audit_model.specs.Clash.{ShowsClash, breach_of};
 ghost use Rattle.audit_model.specs.Least.{IsLeast};
+ghost use Rattle.audit_tenancy.specs.Kept.{tenancy_cmp};
 
 use crate::hold::order;
 use crate::kept::Kept;
@@ -22,7 +23,10 @@ pub fn clash(alloc: Global, tenancies: &[Tenancy]) -> Result<Option<Breach>, All
 }
 
 /// The same of tenancies in order.
-fn first_clash(sorted: &[Tenancy]) -> Option<Breach> {
+fn first_clash(sorted: &[Tenancy]) -> Option<Breach>
+    requires { IsSorted tenancy_cmp sorted.now }
+    ensures { IsLeast (ShowsClash sorted.now) result }
+{
     let mut kept = Kept {
         longest: None,
         other: None,
@@ -37,7 +41,9 @@ fn first_clash(sorted: &[Tenancy]) -> Option<Breach> {
     least
 }
 
-fn breach(tenancy: &Tenancy) -> Breach {
+fn breach(tenancy: &Tenancy) -> Breach
+    ensures { result ≡ breach_of tenancy.now }
+{
     Breach {
         at: tenancy.born,
         sight: tenancy.sight,
