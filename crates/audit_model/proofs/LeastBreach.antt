@@ -1,5 +1,5 @@
 -- The least of some breaches, as one more is shown.
-use Rattle.std.proofs.Common.{◌≡◌, Option, Some, None, Ordering, false, refl, sym, ap, ◌∙◌, subst, ◌⊎◌, inl, inr}
+use Rattle.std.proofs.Common.{◌≡◌, Option, Some, None, Ordering, false, refl, ap, ◌∙◌, ◌⊎◌, inl, inr}
 use Rattle.std.specs.Ordering.{is_gt, ordering_reverse}
 use Rattle.std.specs.Cmp.{upto, tied_itself}
 use Rattle.std.specs.declared.cmp.Ordering.TheVariants.{Less, Equal, Greater}

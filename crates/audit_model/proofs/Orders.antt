@@ -1,8 +1,6 @@
 -- The orders of keys, acts and breaches are total.
-use Rattle.std.proofs.Common.{◌≡◌, ℕ, ◌<◌, sym, refl}
-use Rattle.std.specs.Cmp.{IsTotalOrder, nat_cmp_total, nat_cmp_is, on_total, then_total}
-use Rattle.std.specs.Ordering.{nat_cmp}
-use Rattle.std.specs.declared.cmp.Ordering.TheVariants.{Less, Greater}
+use Rattle.std.proofs.Common.{ℕ}
+use Rattle.std.specs.Cmp.{IsTotalOrder, nat_cmp_total, on_total, then_total}
 use Rattle.audit_model.specs.declared.event.Key.{Key}
 use Rattle.audit_model.specs.declared.sighting.SightId.{SightId}
 use Rattle.audit_model.specs.declared.verdict.Breach.{Breach}
@@ -24,14 +22,7 @@ pub breach_total : IsTotalOrder breach_cmp
 breach_total =
     then_total
     (then_total
-     (then_total (then_total (on_total (λ (b : Breach). b.at.key) key_total) (on_total (λ (b : Breach). b.at.lane) nat_cmp_total))
-      (on_total (λ (b : Breach). rank_of b.rule) nat_cmp_total))
-     (on_total (λ (b : Breach). b.at.place) nat_cmp_total))
+    (then_total (then_total (on_total (λ (b : Breach). b.at.key) key_total) (on_total (λ (b : Breach). b.at.lane) nat_cmp_total))
+    (on_total (λ (b : Breach). rank_of b.rule) nat_cmp_total))
+    (on_total (λ (b : Breach). b.at.place) nat_cmp_total))
     (on_total (λ (b : Breach). b.sight) sight_total)
-
--- where one moment is below the other
-pub before_by_moment : (one other : Key) (lane other_lane : ℕ) → one.moment < other.moment → act_cmp one lane other other_lane ≡ Less
-before_by_moment one other lane other_lane h = rw (sym (nat_cmp_is one.moment other.moment Less h)) refl
-
-pub after_by_moment : (one other : Key) (lane other_lane : ℕ) → other.moment < one.moment → act_cmp one lane other other_lane ≡ Greater
-after_by_moment one other lane other_lane h = rw (sym (nat_cmp_is one.moment other.moment Greater h)) refl

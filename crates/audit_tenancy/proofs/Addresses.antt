@@ -1,19 +1,17 @@
 -- The order of addresses, and of tenancies by address and birth.
-use Rattle.std.proofs.Common.{◌≡◌, ◌≢◌, ℕ, Bool, not, ◌&&◌, nat_eq, false, true, List, refl, sym, ap, ◌∙◌, subst}
+use Rattle.std.proofs.Common.{◌≡◌, ◌≢◌, ℕ, Bool, not, ◌&&◌, nat_eq, false, true, refl, sym, ap, ◌∙◌, subst}
 use Rattle.std.proofs.lemmas.Bool.{true≢false}
-use Rattle.std.specs.Prelude.{Contains}
 use Rattle.std.specs.Cmp.{IsTotalOrder, unsigned_Decides, nat_cmp_total, on_total, then_total, tied_itself}
-use Rattle.std.specs.Ordering.{is_gt, is_eq, is_lt, ordering_then, ordering_reverse, nat_cmp}
+use Rattle.std.specs.Ordering.{is_gt, is_lt, ordering_then, ordering_reverse, nat_cmp}
 use Rattle.std.proofs.lemmas.Map.Lookups.{exact_unsigned}
 use Rattle.std.specs.declared.cmp.Ordering.{Ordering}
 use Rattle.std.specs.declared.cmp.Ordering.TheVariants.{Less, Equal, Greater}
 use Rattle.audit_model.specs.declared.address.Addr.{Addr}
 use Rattle.audit_model.specs.declared.event.Key.{Key}
 use Rattle.audit_model.specs.declared.verdict.Tenancy.{Tenancy}
-use Rattle.audit_model.specs.Breach.{key_cmp}
-use Rattle.audit_model.specs.Clash.{act_cmp, Precedes}
+use Rattle.audit_model.specs.Clash.{Precedes}
 use Rattle.audit_model.proofs.Orders.{act_total}
-use Rattle.audit_tenancy.specs.Kept.{addr_cmp, tenancy_cmp, ComeBefore}
+use Rattle.audit_tenancy.specs.Kept.{addr_cmp, tenancy_cmp}
 
 pub addr_total : IsTotalOrder addr_cmp
 addr_total = then_total (on_total (λ (a : Addr). a.ip) nat_cmp_total) (on_total (λ (a : Addr). a.port) nat_cmp_total)

@@ -1,5 +1,5 @@
 -- The tenancy that is held longest, as one more comes.
-use Rattle.std.proofs.Common.{◌≡◌, List, [], ◌∷◌, ◌++◌, Option, Some, None, ◌⊎◌, inl, inr, refl, sym, subst}
+use Rattle.std.proofs.Common.{List, [], ◌∷◌, ◌++◌, Option, Some, None, inl, inr, sym, subst}
 use Rattle.std.specs.Prelude.{Contains}
 use Rattle.std.proofs.lemmas.List.Elements.{Contains-push, Contains-push_cases, Contains-append_left}
 use Rattle.audit_model.specs.declared.verdict.Tenancy.{Tenancy}
@@ -30,7 +30,9 @@ module _ (earlier : List Tenancy) (new : Tenancy) where
         → IsLongest Fact (earlier ++ new ∷ []) (Some longer)
     longest_more longest longer holds is so_far =
         let among : Contains (earlier ++ new ∷ []) longer =
-            elim is.0 [ inl same ↦ rw same (Contains-append_left earlier (new ∷ []) longest so_far.0) | inr same ↦ rw same (Contains-push earlier new) ] in
-        let of_longer : Fact longer = elim is.0 [ inl same ↦ subst Fact (sym same) so_far.1 | inr same ↦ subst Fact (sym same) holds ] in
-        (among, of_longer,
-         each_more (λ one. Fact one → Outlasts longer one) (λ one there h key lane held. is.1 key lane (so_far.2 one there h key lane held)) (λ h. is.2))
+        elim is.0 [ inl same ↦ rw same (Contains-append_left earlier (new ∷ []) longest so_far.0) | inr same ↦ rw same (Contains-push earlier new) ] in
+        let of_longer : Fact longer = elim is.0 [ inl same ↦ subst Fact (sym same) so_far.1 | inr same ↦ subst Fact (sym same) holds ] in (
+          among,
+          of_longer,
+          each_more (λ one. Fact one → Outlasts longer one) (λ one there h key lane held. is.1 key lane (so_far.2 one there h key lane held)) (λ h. is.2),
+        )

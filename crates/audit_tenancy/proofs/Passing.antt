@@ -1,10 +1,10 @@
 -- The breaches that are shown so far, as one more tenancy comes.
-use Rattle.std.proofs.Common.{◌≡◌, ◌<◌, ◌≤◌, ◌+◌, ℕ, false, true, List, [], ◌∷◌, ◌++◌, length, take, get_or, Option, Some, None, ◌⊎◌, inl, inr, refl, sym, ap, ◌∙◌, subst, arith, length-take, rules}
+use Rattle.std.proofs.Common.{◌≡◌, ◌<◌, ◌≤◌, ◌+◌, ℕ, false, List, [], ◌∷◌, ◌++◌, length, take, get_or, Option, Some, ◌⊎◌, inl, inr, refl, sym, ap, ◌∙◌, subst, arith, length-take}
 use Rattle.std.proofs.lemmas.Bool.{true≢false}
 use Rattle.std.proofs.lemmas.List.{get_or-take, get_or_default, take_more}
 use Rattle.std.proofs.lemmas.List.Elements.{Contains-push, Contains-push_cases, Contains-append_left}
 use Rattle.std.proofs.lemmas.List.Sorted.{sorted_far, ranks_by}
-use Rattle.std.specs.Prelude.{Contains, IsSorted}
+use Rattle.std.specs.Prelude.{IsSorted}
 use Rattle.std.specs.Ordering.{is_lt, is_gt, ordering_reverse}
 use Rattle.std.specs.declared.cmp.Ordering.{Ordering}
 use Rattle.std.specs.declared.cmp.Ordering.TheVariants.{Less, Equal, Greater}
@@ -32,7 +32,7 @@ come_before sorted i t order within here one (k, below, is) =
     let there : one ≡ get_or sorted k t = sym is ∙ get_or-take i sorted k one lower ∙ get_or_default sorted k one t inside in
     let up_to : k ≤ i = omega arith in
     let not_less : is_lt (tenancy_cmp t one) ≡ false =
-        rw (here, there) (sorted_far (λ x y. is_lt (tenancy_cmp x y)) (ranks_by tenancy_total (λ x. x)) sorted order k i t up_to within) in
+    rw (here, there) (sorted_far (λ x y. is_lt (tenancy_cmp x y)) (ranks_by tenancy_total (λ x. x)) sorted order k i t up_to within) in
     turned _ _ (tenancy_total.antisymm one t) not_less
 
 module _ (earlier : List Tenancy) (new : Tenancy) (before : ComeBefore earlier new) where
@@ -40,12 +40,15 @@ module _ (earlier : List Tenancy) (new : Tenancy) (before : ComeBefore earlier n
   old_or_new : (b : Breach) → ShowsClash (earlier ++ new ∷ []) b → ShowsClash earlier b ⊎ ((b ≡ breach_of new) × ClashesWithOne earlier new)
   old_or_new b (one, held, one_in, held_in, clash, is) =
       elim (Contains-push_cases earlier new one one_in) [
-        inl one_there ↦ elim (Contains-push_cases earlier new held held_in) [
-          inl held_there ↦ inl (one, held, one_there, held_there, clash, is)
-        | inr last ↦ absurd (not_born_before one held (subst (λ t. is_gt (tenancy_cmp one t) ≡ false) last (before one one_there)) clash.same_address clash.born_before) ]
-      | inr last ↦ elim (Contains-push_cases earlier new held held_in) [
-          inl held_there ↦ inr (is ∙ ap breach_of (sym last), (held, held_there, subst (λ t. Clashes t held) (sym last) clash))
-        | inr both ↦ absurd (clash.other_lane (ap (λ (t : Tenancy). t.born.lane) (sym both ∙ last))) ] ]
+        | inl one_there ↦ elim (Contains-push_cases earlier new held held_in) [
+          | inl held_there ↦ inl (one, held, one_there, held_there, clash, is)
+          | inr last ↦ absurd (not_born_before one held (subst (λ t. is_gt (tenancy_cmp one t) ≡ false) last (before one one_there)) clash.same_address clash.born_before)
+        ]
+        | inr last ↦ elim (Contains-push_cases earlier new held held_in) [
+          | inl held_there ↦ inr (is ∙ ap breach_of (sym last), (held, held_there, subst (λ t. Clashes t held) (sym last) clash))
+          | inr both ↦ absurd (clash.other_lane (ap (λ (t : Tenancy). t.born.lane) (sym both ∙ last)))
+        ]
+      ]
 
   still_shown : (b : Breach) → ShowsClash earlier b → ShowsClash (earlier ++ new ∷ []) b
   still_shown b (one, held, one_in, held_in, clash, is) =

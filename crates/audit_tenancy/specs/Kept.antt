@@ -1,10 +1,9 @@
 -- What is kept of the tenancies so far, taken by address and birth: of the newest address, the one that is held longest, and the one
 -- that is held longest among the other lanes.
-use Rattle.std.specs.Prelude.{◌≡◌, ◌≢◌, ℕ, List, Option, Some, None, Contains, false}
+use Rattle.std.specs.Prelude.{◌≡◌, ◌≢◌, List, Option, Some, None, Contains, false}
 use Rattle.std.specs.declared.cmp.Ordering.{Ordering}
 use Rattle.std.specs.Ordering.{nat_cmp, ordering_then, is_gt}
 use Rattle.audit_model.specs.declared.address.Addr.{Addr}
-use Rattle.audit_model.specs.declared.event.Key.{Key}
 use Rattle.audit_model.specs.declared.verdict.Tenancy.{Tenancy}
 use Rattle.audit_model.specs.Clash.{act_cmp, Clashes}
 use Rattle.audit_tenancy.specs.Hold.{Outlasts}

@@ -17,9 +17,12 @@ pub(crate) struct Kept {
 }
 
 impl Kept {
+    /// Whether the new one clashes with any of those of which this is kept, where it comes after them.
     pub(crate) fn clashes(&self, new: &Tenancy) -> bool
-        ensures some { (earlier : List Tenancy) → Keeps earlier self.now.longest self.now.other → ComeBefore earlier new.now → IsTrue result → ClashesWithOne earlier new.now }
-        ensures none { (earlier : List Tenancy) → Keeps earlier self.now.longest self.now.other → ComeBefore earlier new.now → result ≡ false → ¬ ClashesWithOne earlier new.now }
+        ensures some { (earlier : List Tenancy) → Keeps earlier self.now.longest self.now.other → ComeBefore earlier new.now
+            → IsTrue result → ClashesWithOne earlier new.now }
+        ensures none { (earlier : List Tenancy) → Keeps earlier self.now.longest self.now.other → ComeBefore earlier new.now
+            → result ≡ false → ¬ ClashesWithOne earlier new.now }
     {
         let Some(longest) = self.longest else {
             return false;
@@ -36,8 +39,10 @@ impl Kept {
         }
     }
 
+    /// What is kept once the new one has come after them.
     pub(crate) fn with(self, new: Tenancy) -> Kept
-        ensures { (earlier : List Tenancy) → Keeps earlier self.longest self.other → ComeBefore earlier new → Keeps (earlier ++ new ∷ []) result.longest result.other }
+        ensures { (earlier : List Tenancy) → Keeps earlier self.longest self.other → ComeBefore earlier new
+            → Keeps (earlier ++ new ∷ []) result.longest result.other }
     {
         let Some(longest) = self.longest else {
             return Kept::one(new);

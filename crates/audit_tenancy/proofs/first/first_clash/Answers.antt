@@ -8,11 +8,13 @@ loop-tenancy-preserved c =
     let sorted = c.args.sorted.now in
     let i = c.loop-tenancy.tenancy-index in
     let within = c.loop-tenancy-test.true in
-    let so_far = c.loop-tenancy.invariant in
-    (keeps_next sorted i _ within _ _ (c.with-kept.ensures _ so_far.0 (before_at sorted i _ within c.requires)),
-     elim c.if-clashes.branch [
-       then-clashes w ↦
-         rw (w.least-is, w.least-least.ensures, w.breach.ensures)
-         (shown_next sorted i _ within _ c.requires (w.if-clashes.ensures.some _ so_far.0 (before_at sorted i _ within c.requires) refl) so_far.1)
-     | else-clashes w ↦
-         rw w.least-is (kept_next sorted i _ within _ c.requires (w.if-clashes.ensures.none _ so_far.0 (before_at sorted i _ within c.requires) refl) so_far.1) ])
+    let so_far = c.loop-tenancy.invariant in (
+      keeps_next sorted i _ within _ _ (c.with-kept.ensures _ so_far.0 (before_at sorted i _ within c.requires)),
+      elim c.if-clashes.branch [
+        | then-clashes w ↦
+            rw (w.least-is, w.least-least.ensures, w.breach.ensures)
+            (shown_next sorted i _ within _ c.requires (w.if-clashes.ensures.some _ so_far.0 (before_at sorted i _ within c.requires) refl) so_far.1)
+        | else-clashes w ↦
+            rw w.least-is (kept_next sorted i _ within _ c.requires (w.if-clashes.ensures.none _ so_far.0 (before_at sorted i _ within c.requires) refl) so_far.1)
+      ],
+    )

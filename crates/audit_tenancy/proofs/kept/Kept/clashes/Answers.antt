@@ -1,4 +1,4 @@
-use Rattle.std.proofs.Common.{sym, ◌∙◌}
+use Rattle.std.proofs.Common.{sym}
 use Rattle.audit_tenancy.proofs.Addresses.{addresses_same}
 use Rattle.audit_tenancy.proofs.Keeping.{keeps_some}
 use Rattle.audit_tenancy.proofs.Found.{none_kept, found_other, none_other}

@@ -11,7 +11,7 @@ pub returns-then-ne : goal.returns-then-ne
 returns-then-ne c = λ earlier keeps before.
     rw (c.one-then-ne.ensures.longest, c.one-then-ne.ensures.other)
     (restart_after earlier c.args.new before c.in-Some.longest c.args.self.other (keeps_some earlier _ _ _ c.in-Some.is keeps)
-     (addresses_differ _ _ (sym c.ne.ensures ∙ c.if-ne.true)))
+    (addresses_differ _ _ (sym c.ne.ensures ∙ c.if-ne.true)))
 
 pub returns-then-longest-new : goal.returns-then-longest-new
 returns-then-longest-new c = λ earlier keeps before.
@@ -22,17 +22,17 @@ pub returns-in-Some-other : goal.returns-in-Some-other
 returns-in-Some-other c = λ earlier keeps before.
     rw c.in-Some.is
     (keeps_longer_other earlier c.args.new before c.in-Some.longest c.args.self.other (keeps_some earlier _ _ _ c.in-Some.is keeps)
-     (sym (addresses_same _ _ (sym c.if-ne.ensures))) (λ same. c.if-longest-new.false (sym same)) (c.if-outlasts.ensures.longer refl)
-     c.in-Some-other.other c.longer-other.result c.in-Some-other.is c.longer-other.ensures)
+    (sym (addresses_same _ _ (sym c.if-ne.ensures))) (λ same. c.if-longest-new.false (sym same)) (c.if-outlasts.ensures.longer refl)
+    c.in-Some-other.other c.longer-other.result c.in-Some-other.is c.longer-other.ensures)
 
 pub returns-in-None : goal.returns-in-None
 returns-in-None c = λ earlier keeps before.
     rw c.in-Some.is
     (keeps_first_other earlier c.args.new before c.in-Some.longest c.args.self.other (keeps_some earlier _ _ _ c.in-Some.is keeps)
-     (sym (addresses_same _ _ (sym c.if-ne.ensures))) (λ same. c.if-longest-new.false (sym same)) (c.if-outlasts.ensures.longer refl) c.in-None.is)
+    (sym (addresses_same _ _ (sym c.if-ne.ensures))) (λ same. c.if-longest-new.false (sym same)) (c.if-outlasts.ensures.longer refl) c.in-None.is)
 
 pub returns : goal.returns
 returns c = λ earlier keeps before.
     rw c.in-Some.is
     (keeps_new earlier c.args.new before c.in-Some.longest c.args.self.other (keeps_some earlier _ _ _ c.in-Some.is keeps)
-     (sym (addresses_same _ _ (sym c.if-ne.ensures))) (λ same. c.if-longest-new.false (sym same)) (c.if-outlasts.ensures.shorter refl))
+    (sym (addresses_same _ _ (sym c.if-ne.ensures))) (λ same. c.if-longest-new.false (sym same)) (c.if-outlasts.ensures.shorter refl))
