@@ -3,6 +3,13 @@
 
 mod lease;
 mod leases;
+<<<<<<< HEAD
+=======
+#[cfg(test)]
+mod tests;
+#[cfg(test)]
+mod usage;
+>>>>>>> leases
 
 pub use lease::Lease;
 pub use leases::{ExactKey, Leases};

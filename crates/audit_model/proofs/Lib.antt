@@ -3,3 +3,5 @@ pub mod Numbers
 pub mod Breaches
 pub mod Sinks
 pub mod PolicyTexts
+pub mod Orders
+pub mod LeastBreach

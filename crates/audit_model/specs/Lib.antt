@@ -15,3 +15,5 @@ pub mod PolicyLines
 pub mod PolicyDraft
 pub mod Lines
 pub mod PolicyText
+pub mod Clash
+pub mod Least
