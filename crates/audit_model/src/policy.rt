@@ -64,19 +64,22 @@ pub struct Policy {
 }
 
 impl Policy {
-    ghost use Rattle.std.specs.Prelude.{◌↔◌, IsTrue};
-    ghost use Rattle.audit_model.specs.Policy.{Listens, Relays, IsOfService};
+    ghost use Rattle.std.specs.Prelude.{◌≡◌, ◌==◌, ◌↔◌, IsTrue, Any};
+    ghost use Rattle.std.specs.List.{list_any};
+    ghost use Rattle.audit_model.specs.Policy.{Listens, Relays, IsOfService, listens, relays, is_of_service};
 
     /// Whether clients send their requests to this address. It goes over at most 64 of them.
     pub fn listens(&self, addr: Addr) -> bool
-        ensures { IsTrue result ↔ Listens self.now addr }
+        ensures means { IsTrue result ↔ Listens self.now addr }
+        ensures value { result ≡ listens self.now addr }
     {
         self.listen.as_slice().iter().any(|listen| *listen == addr)
     }
 
     /// Whether the address is in a relay range. It goes over at most 64 of them.
     pub fn relays(&self, addr: Addr) -> bool
-        ensures { IsTrue result ↔ Relays self.now addr }
+        ensures means { IsTrue result ↔ Relays self.now addr }
+        ensures value { result ≡ relays self.now addr }
     {
         self.relay
             .as_slice()
@@ -86,9 +89,23 @@ impl Policy {
 
     /// Whether some endpoint of the service has this IP.
     pub fn service_ip(&self, ip: u32) -> bool
-        ensures { IsTrue result ↔ IsOfService self.now ip }
+        ensures means { IsTrue result ↔ IsOfService self.now ip }
+        ensures value { result ≡ is_of_service self.now ip }
+    {
+        self.listens_at_ip(ip) || self.relays_at_ip(ip)
+    }
+
+    fn listens_at_ip(&self, ip: u32) -> bool
+        ensures means { IsTrue result ↔ Any (λ listen. listen.ip ≡ ip) self.now.listen }
+        ensures value { result ≡ list_any (λ listen. listen.ip == ip) self.now.listen }
     {
         self.listen.as_slice().iter().any(|listen| listen.ip == ip)
-            || self.relay.as_slice().iter().any(|range| range.ip == ip)
+    }
+
+    fn relays_at_ip(&self, ip: u32) -> bool
+        ensures means { IsTrue result ↔ Any (λ range. range.ip ≡ ip) self.now.relay }
+        ensures value { result ≡ list_any (λ range. range.ip == ip) self.now.relay }
+    {
+        self.relay.as_slice().iter().any(|range| range.ip == ip)
     }
 }
