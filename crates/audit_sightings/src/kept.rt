@@ -1,0 +1,101 @@
+//! What a packet is to the service.
+
+ghost use Rattle.std.specs.Prelude.{◌≡◌, ◌||◌};
+ghost use Rattle.audit_model.specs.Policy.{is_of_service};
+ghost use Rattle.audit_packets.specs.View.{view as view_seen};
+ghost use Rattle.audit_sightings.specs.Kept.{kept_of, kept_datagram, kept_by_ends, is_endpoint};
+ghost use Rattle.audit_sightings.specs.View.{view_found};
+
+use crate::fault::IntakeFaultKind;
+use audit_model::{Addr, Policy, Side};
+use audit_packets::{Seen, datagram};
+use audit_pcapng::Packet;
+
+/// A datagram with one endpoint in the service, in a packet.
+#[derive(Clone, Copy)]
+pub struct Kept<'a> {
+    /// Nanoseconds since 1970.
+    pub stamp: u64,
+    pub side: Side,
+    pub from: Addr,
+    pub to: Addr,
+    pub payload: &'a [u8],
+}
+
+/// The packet's datagram where it is one of the service, or why the capture is refused.
+#[tactic(auto, unfolding(crate::specs::Kept::kept_of))]
+pub fn service_datagram<'a>(
+    policy: &Policy,
+    packet: &'a Packet,
+) -> Result<Option<Kept<'a>>, IntakeFaultKind>
+    ensures { view_found result ≡ kept_of policy.now packet.now }
+{
+    kept_seen(policy, packet.stamp, datagram(packet))
+}
+
+fn kept_seen<'a>(
+    policy: &Policy,
+    stamp: u64,
+    seen: Seen<'a>,
+) -> Result<Option<Kept<'a>>, IntakeFaultKind>
+    ensures { view_found result ≡ kept_datagram policy.now stamp (view_seen seen.entry) }
+{
+    match seen {
+        Seen::Udp { from, to, payload } => kept_udp(policy, stamp, from, to, payload),
+        Seen::Other => Ok(None),
+        Seen::Fragment { from, to } => {
+            if touches_service(policy, from, to) {
+                return Err(IntakeFaultKind::Fragment);
+            }
+            Ok(None)
+        }
+        Seen::Cut { ips: None } => Err(IntakeFaultKind::CutDatagram),
+        Seen::Cut {
+            ips: Some((from, to)),
+        } => {
+            if touches_service(policy, from, to) {
+                return Err(IntakeFaultKind::CutDatagram);
+            }
+            Ok(None)
+        }
+    }
+}
+
+fn kept_udp<'a>(
+    policy: &Policy,
+    stamp: u64,
+    from: Addr,
+    to: Addr,
+    payload: &'a [u8],
+) -> Result<Option<Kept<'a>>, IntakeFaultKind>
+    ensures { view_found result
+        ≡ kept_by_ends (is_endpoint policy.now from) (is_endpoint policy.now to) stamp from to payload.now }
+{
+    let leaves = is_of_endpoint(policy, from);
+    let arrives = is_of_endpoint(policy, to);
+    let side = match (leaves, arrives) {
+        (true, true) => return Err(IntakeFaultKind::Hairpin),
+        (true, false) => Side::Leaves,
+        (false, true) => Side::Arrives,
+        (false, false) => return Ok(None),
+    };
+    Ok(Some(Kept {
+        stamp,
+        side,
+        from,
+        to,
+        payload,
+    }))
+}
+
+fn is_of_endpoint(policy: &Policy, addr: Addr) -> bool
+    ensures { result ≡ is_endpoint policy.now addr }
+{
+    policy.listens(addr) || policy.relays(addr)
+}
+
+fn touches_service(policy: &Policy, from: u32, to: u32) -> bool
+    ensures { result ≡ (is_of_service policy.now from || is_of_service policy.now to) }
+{
+    policy.service_ip(from) || policy.service_ip(to)
+}
