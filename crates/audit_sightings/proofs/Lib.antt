@@ -1,1 +1,3 @@
 pub mod RowSteps
+pub mod TakingSteps
+pub mod Refusing

@@ -1,5 +1,5 @@
 -- The sightings of packets, interface by interface.
-use Rattle.std.specs.Prelude.{◌≡◌, ℕ, ◌+◌, ◌*◌, ◌<◌, ◌==◌, List, [], ◌∷◌, ◌++◌, map, filter, All, Any, Option, Some, None, Result, Ok, Err, IsOk, if◌then◌else◌}
+use Rattle.std.specs.Prelude.{◌≡◌, ◌⊎◌, ℕ, ◌+◌, ◌*◌, ◌<◌, ◌≤◌, ◌==◌, List, [], ◌∷◌, ◌++◌, map, filter, All, Option, Some, None, Result, Ok, Err, IsOk, if◌then◌else◌}
 use Rattle.std.specs.List.{filter_map, enumerate_from}
 use Rattle.std.specs.Result.{result_unwrap_or}
 use Rattle.audit_model.specs.declared.policy.Policy.{Policy}
@@ -57,5 +57,14 @@ pub record TakesIn (policy : Policy) (old : List (List Sighting)) (file : ℕ) (
 -- the packet is a reason to refuse the capture, it would be a sighting too many, or there was no memory for it
 abbrev pub IsRefused : Policy → List (List Sighting) → Packet → IntakeFaultKind → Type 0
 IsRefused policy rows packet faults.Memory = Unit {0}
-IsRefused policy rows packet faults.Limit = (count_of rows ≡ 16777216) × (kept : Kept) × (kept_of policy packet ≡ Ok (Some kept))
+IsRefused policy rows packet faults.Limit = ((count_of rows ≡ 16777216) ⊎ (64 ≤ packet.iface)) × (kept : Kept) × (kept_of policy packet ≡ Ok (Some kept))
 IsRefused policy rows packet fault = kept_of policy packet ≡ Err fault
+
+-- the packets before one that is refused were taken in
+pub record Stops (policy : Policy) (old : List (List Sighting)) (file : ℕ) (packets : List Packet) (new : List (List Sighting)) (fault : IntakeFaultKind) : Type 0 where
+  pub before : List Packet
+  pub packet : Packet
+  pub after : List Packet
+  pub parts : packets ≡ before ++ packet ∷ after
+  pub taken : TakesIn policy old file before new
+  pub refused : IsRefused policy new packet fault

@@ -5,6 +5,7 @@ mod fault;
 mod intake;
 mod kept;
 mod rows;
+mod taking;
 
 pub use audit_model::{Side, SightId, Sighting};
 pub use fault::{IntakeFault, IntakeFaultKind};

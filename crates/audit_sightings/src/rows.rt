@@ -34,8 +34,8 @@ impl Model for Rows {
 }
 
 impl Rows {
-    ghost use Rattle.std.specs.Prelude.{◌≡◌, ◌≤◌, ◌<◌, [], length, OnOk, OnErr, IfOk, IfErr, option_copied, option_and_then, slice_get, Err};
-    ghost use Rattle.audit_sightings.specs.Rows.{row_at, count_of, Adds, AreRows};
+    ghost use Rattle.std.specs.Prelude.{◌≡◌, ◌⊎◌, ◌<◌, [], length, OnOk, OnErr, IfSome, IfErr, option_copied, option_and_then, slice_get};
+    ghost use Rattle.audit_sightings.specs.Rows.{row_at, count_of, IsNumbered, Adds};
     ghost use Rattle.audit_sightings.specs.View.{view};
     ghost use Rattle.audit_sightings.specs.Sightings.{sighting_of};
 
@@ -53,6 +53,7 @@ impl Rows {
     /// The sightings of an interface.
     pub fn row(&self, iface: u32) -> &[Sighting]
         ensures exact { result.now ≡ row_at self.now iface }
+        ensures numbered { IsNumbered iface result.now }
     {
         match self.rows.get(iface as usize) {
             Some(row) => row.as_slice(),
@@ -62,7 +63,7 @@ impl Rows {
 
     /// The sighting of that name.
     pub fn sighting(&self, id: SightId) -> Option<&Sighting>
-        ensures { option_copied result
+        ensures exact { option_copied result
             ≡ option_and_then (λ row. slice_get row id.index) (slice_get self.now id.iface) }
     {
         let row = self.rows.get(id.iface as usize)?;
@@ -89,7 +90,8 @@ impl Rows {
         ensures ok { OnOk result (Adds self.old iface
             (sighting_of skew iface (length (row_at self.old iface)) (view kept.entry)) self.new) }
         ensures full { count_of self.old ≡ MAX_SIGHTINGS → result ≡ Err IntakeFaultKind.Limit }
-        ensures room { count_of self.old < MAX_SIGHTINGS → IfErr result (λ fault. fault ≡ IntakeFaultKind.Memory) }
+        ensures refused { IfErr result (λ fault. (fault ≡ IntakeFaultKind.Memory)
+            ⊎ ((fault ≡ IntakeFaultKind.Limit) × (count_of self.old ≡ MAX_SIGHTINGS))) }
         ensures err { OnErr result (self.new ≡ self.old) }
     {
         if self.count >= MAX_SIGHTINGS {
