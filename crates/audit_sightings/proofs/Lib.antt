@@ -1,3 +1,4 @@
 pub mod RowSteps
 pub mod TakingSteps
 pub mod Refusing
+pub mod FilesSteps

@@ -67,7 +67,7 @@ more_of-then packets_of file a b other = elim (eqb_tells other file) [
   | inr ne ↦ rw ne.0 refl
 ]
 
-AreSightings-same : (policy : Policy) (rows : List (List Sighting)) (p q : ℕ → List Packet) → ((file : ℕ) → p file ≡ q file) → AreSightings policy rows p → AreSightings policy rows q
+pub AreSightings-same : (policy : Policy) (rows : List (List Sighting)) (p q : ℕ → List Packet) → ((file : ℕ) → p file ≡ q file) → AreSightings policy rows p → AreSightings policy rows q
 AreSightings-same policy rows p q same are = record {
   each = λ file number within. are.each file number within ∙ ap (λ (packets : List Packet). sightings_of policy (64 * file + number) (filter (λ packet. packet.iface == number) packets)) (same file);
   last = are.last;
@@ -118,6 +118,7 @@ TakesIn-other policy rows file packet e =
         | inl same ↦ ap (sightings_of policy iface) (filter_same packets packet number same.1) ∙ sightings_of-none policy iface (filter (λ p. p.iface == number) packets) packet none
         | inr ne ↦ ap (sightings_of policy iface) (filter_other packets packet number ne.1)
       ]
+
       unchanged : (packets_of : ℕ → List Packet) (other number : ℕ) → kept_in policy packet ≡ None
           → sightings_of policy (64 * other + number) (filter (λ p. p.iface == number) (more_of packets_of file (packet ∷ []) other)) ≡ sightings_of policy (64 * other + number) (filter (λ p. p.iface == number) (packets_of other))
       unchanged packets_of other number none = elim (eqb_tells other file) [
@@ -144,22 +145,22 @@ TakesIn-kept policy old new file iface packet kept e within iface_is adds =
         each = λ other number less. elim (eqb_tells other file) [
           | inl same ↦ elim (eqb_tells packet.iface number) [
             | inl here ↦ let at : 64 * other + number ≡ iface = omega (arith, same.1, here.1) in
-            let before : List Packet = filter (λ p. p.iface == number) (packets_of other) in
-            let are_so : row_at old iface ≡ sightings_of policy iface before = ap (row_at old) (sym at) ∙ are.each other number less ∙ ap (λ (i : ℕ). sightings_of policy i before) at in
-            ap (row_at new) at ∙ adds.row
-            ∙ ap (λ (r : List Sighting). r ++ sighting_of policy.skew iface (length r) kept ∷ []) are_so
-            ∙ sym (sightings_of-some policy iface before packet kept some)
-            ∙ ap (λ (i : ℕ). sightings_of policy i (before ++ packet ∷ [])) (sym at)
-            ∙ ap (sightings_of policy (64 * other + number)) (sym (filter_same (packets_of other) packet number here.1))
-            ∙ ap (λ (packets : List Packet). sightings_of policy (64 * other + number) (filter (λ p. p.iface == number) packets)) (as_more packets_of other same.0)
+                let before : List Packet = filter (λ p. p.iface == number) (packets_of other) in
+                let are_so : row_at old iface ≡ sightings_of policy iface before = ap (row_at old) (sym at) ∙ are.each other number less ∙ ap (λ (i : ℕ). sightings_of policy i before) at in
+                ap (row_at new) at ∙ adds.row
+                ∙ ap (λ (r : List Sighting). r ++ sighting_of policy.skew iface (length r) kept ∷ []) are_so
+                ∙ sym (sightings_of-some policy iface before packet kept some)
+                ∙ ap (λ (i : ℕ). sightings_of policy i (before ++ packet ∷ [])) (sym at)
+                ∙ ap (sightings_of policy (64 * other + number)) (sym (filter_same (packets_of other) packet number here.1))
+                ∙ ap (λ (packets : List Packet). sightings_of policy (64 * other + number) (filter (λ p. p.iface == number) packets)) (as_more packets_of other same.0)
             | inr ne ↦ let away : 64 * other + number ≢ iface = λ at. ne.1 (omega (arith, same.1, at, iface_is)) in
-            adds.others (64 * other + number) away ∙ are.each other number less
-            ∙ ap (sightings_of policy (64 * other + number)) (sym (filter_other (packets_of other) packet number ne.1))
-            ∙ ap (λ (packets : List Packet). sightings_of policy (64 * other + number) (filter (λ p. p.iface == number) packets)) (as_more packets_of other same.0)
+                adds.others (64 * other + number) away ∙ are.each other number less
+                ∙ ap (sightings_of policy (64 * other + number)) (sym (filter_other (packets_of other) packet number ne.1))
+                ∙ ap (λ (packets : List Packet). sightings_of policy (64 * other + number) (filter (λ p. p.iface == number) packets)) (as_more packets_of other same.0)
           ]
           | inr ne ↦ let away : 64 * other + number ≢ iface = λ at. ne.1 (omega (arith, at, iface_is, less, within)) in
-          adds.others (64 * other + number) away ∙ are.each other number less
-          ∙ ap (λ (packets : List Packet). sightings_of policy (64 * other + number) (filter (λ p. p.iface == number) packets)) (sym (more_of-other packets_of file (packet ∷ []) other ne.1))
+              adds.others (64 * other + number) away ∙ are.each other number less
+              ∙ ap (λ (packets : List Packet). sightings_of policy (64 * other + number) (filter (λ p. p.iface == number) packets)) (sym (more_of-other packets_of file (packet ∷ []) other ne.1))
         ];
         last = adds.tight are.last;
       };

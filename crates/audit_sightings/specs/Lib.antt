@@ -4,3 +4,4 @@ pub mod View
 pub mod Rows
 pub mod Sightings
 pub mod Intake
+pub mod Files

@@ -1,17 +1,14 @@
 //! What is taken in of the captures.
 
 use crate::fault::{IntakeFault, IntakeFaultKind};
-use crate::kept::service_datagram;
 use crate::rows::Rows;
+use crate::taking::take_packets;
 use audit_model::{Policy, SightId, Sighting};
-use audit_pcapng::{BlockReader, Packet};
+use audit_pcapng::BlockReader;
 use std::alloc::Global;
 
 /// How many files there may be.
 pub const MAX_FILES: usize = 16;
-
-/// How many interface numbers each file has.
-const INTERFACES_OF_FILE: u32 = 64;
 
 ghost use Rattle.std.specs.Prelude.{◌≤◌, vec_len};
 
@@ -28,12 +25,16 @@ pub struct Intake {
 }
 
 impl Intake {
-    ghost use Rattle.std.specs.Prelude.{◌≡◌, ◌<◌, ◌+◌, [], length, OnOk, OnErr, IfOk, option_copied};
+    ghost use Rattle.std.specs.Prelude.{◌≡◌, ◌<◌, ◌+◌, ℕ, List, [], ◌∷◌, ◌++◌, length, vec_len, OnOk, OnErr, IfOk, IfErr, IfSome, IsOkUnless, option_copied, Some, None, Err};
+    ghost use Rattle.audit_pcapng.specs.Captures.{Ends};
+    ghost use Rattle.audit_sightings.specs.Rows.{Grows, IsNumbered, count_of};
     ghost use Rattle.audit_sightings.specs.Intake.{taken, sighting_at, interface_at};
+    ghost use Rattle.audit_sightings.specs.Files.{Fed, not_fed, StandsFor, GoesOn, Refuses, FilesEnd};
 
     /// An intake of no files. It takes no memory.
     pub fn new(alloc: Global, policy: Policy) -> Intake
-        ensures { taken result ≡ record { policy = policy; files = 0; interfaces = [] } }
+        ensures empty { taken result ≡ record { policy = policy; files = 0; interfaces = [] } }
+        ensures stands { StandsFor result [] }
     {
         Intake {
             policy,
@@ -44,10 +45,152 @@ impl Intake {
         }
     }
 
+    /// One file more, whose number is given: from 0 in order.
+    /// It fails by V6 after a fault of a feed, by V4 after 16 files, and by V5; nothing changes then.
+    pub fn add_file(&mut self) -> Result<u32, IntakeFault>
+        ensures number { IfOk result (λ file. file ≡ vec_len self.old.files) }
+        ensures ok { OnOk result (taken self.new ≡ record (taken self.old) { files = vec_len self.old.files + 1 }) }
+        ensures stands { (files : List Fed) → StandsFor self.old files → OnOk result (StandsFor self.new (files ++ not_fed ∷ [])) }
+        ensures err { OnErr result (taken self.new ≡ taken self.old) }
+        ensures kept { (files : List Fed) → StandsFor self.old files → OnErr result (StandsFor self.new files) }
+        ensures failed { self.new.failed ≡ self.old.failed }
+        ensures room { self.old.failed ≡ None → vec_len self.old.files < MAX_FILES →
+            IsOkUnless result (record { kind = IntakeFaultKind.Memory; file = vec_len self.old.files }) }
+        ensures full { self.old.failed ≡ None → vec_len self.old.files ≡ MAX_FILES →
+            result ≡ Err (record { kind = IntakeFaultKind.Limit; file = MAX_FILES }) }
+        ensures again { (failed : ℕ) → self.old.failed ≡ Some failed →
+            result ≡ Err (record { kind = IntakeFaultKind.Failed; file = failed }) }
+    {
+        if let Some(file) = self.failed {
+            return Err(IntakeFault {
+                kind: IntakeFaultKind::Failed,
+                file,
+            });
+        }
+        let count = self.files.len();
+        if count >= MAX_FILES {
+            return Err(IntakeFault {
+                kind: IntakeFaultKind::Limit,
+                file: MAX_FILES as u32,
+            });
+        }
+        let file = count as u32;
+        match self.files.push(BlockReader::new(self.alloc)) {
+            Ok(()) => Ok(file),
+            Err(_) => Err(IntakeFault {
+                kind: IntakeFaultKind::Memory,
+                file,
+            }),
+        }
+    }
+
+    /// Takes the next bytes of a file, cut anywhere: its packets in order, up to the first fault of a block or a frame.
+    /// What was taken in before a fault stays, and every later call then fails by V6 with this file's number.
+    pub fn feed(&mut self, file: u32, piece: &[u8]) -> Result<(), IntakeFault>
+        requires { file < vec_len self.old.files }
+        ensures ok { (files : List Fed) → StandsFor self.old files → OnOk result (GoesOn self.new files file piece.now) }
+        ensures err { (files : List Fed) → StandsFor self.old files → IfErr result (λ fault.
+            (fault.file ≡ file) × Refuses self.new.policy self.new.rows files file piece.now fault.kind) }
+        ensures failed { self.old.failed ≡ None → OnErr result (self.new.failed ≡ Some file) }
+        ensures again { (failed : ℕ) → self.old.failed ≡ Some failed →
+            (result ≡ Err (record { kind = IntakeFaultKind.Failed; file = failed })) × (self.new ≡ self.old) }
+        ensures grows { Grows self.old.rows self.new.rows }
+        ensures policy { self.new.policy ≡ self.old.policy }
+        ensures files { vec_len self.new.files ≡ vec_len self.old.files }
+    {
+        if let Some(failed) = self.failed {
+            return Err(IntakeFault {
+                kind: IntakeFaultKind::Failed,
+                file: failed,
+            });
+        }
+        match self.take_piece(file, piece) {
+            Ok(()) => Ok(()),
+            Err(kind) => {
+                self.failed = Some(file);
+                Err(IntakeFault { kind, file })
+            }
+        }
+    }
+
+    fn take_piece(&mut self, file: u32, piece: &[u8]) -> Result<(), IntakeFaultKind>
+        requires { file < vec_len self.old.files }
+        ensures ok { (files : List Fed) → StandsFor self.old files → OnOk result (GoesOn self.new files file piece.now) }
+        ensures err { (files : List Fed) → StandsFor self.old files →
+            IfErr result (Refuses self.old.policy self.new.rows files file piece.now) }
+        ensures grows { Grows self.old.rows self.new.rows }
+        ensures policy { self.new.policy ≡ self.old.policy }
+        ensures files { vec_len self.new.files ≡ vec_len self.old.files }
+    {
+        let mut packets = Vec::new(self.alloc);
+        let reader = &mut self.files[file as usize];
+        let read = reader.feed(piece, &mut packets);
+        match take_packets(&self.policy, &mut self.rows, file, &packets) {
+            Err(fault) => Err(fault),
+            Ok(()) => match read {
+                Ok(()) => Ok(()),
+                Err(fault) => Err(IntakeFaultKind::Capture(fault)),
+            },
+        }
+    }
+
+    /// Whether each file may end where it does, asked in the order of the files. It takes no memory.
+    pub fn finish(&self) -> Result<(), IntakeFault>
+        ensures ends { (files : List Fed) → StandsFor self.now files → FilesEnd result files }
+        ensures again { (failed : ℕ) → self.now.failed ≡ Some failed →
+            result ≡ Err (record { kind = IntakeFaultKind.Failed; file = failed }) }
+    {
+        if let Some(file) = self.failed {
+            return Err(IntakeFault {
+                kind: IntakeFaultKind::Failed,
+                file,
+            });
+        }
+        'files: for (file, reader) in self.files.iter().enumerate() {
+            if let Err(fault) = reader.finish() {
+                return Err(IntakeFault {
+                    kind: IntakeFaultKind::Capture(fault),
+                    file: file as u32,
+                });
+            }
+        }
+        Ok(())
+    }
+
+    /// The sighting of that name. It takes no memory.
+    pub fn sighting(&self, id: SightId) -> Option<&Sighting>
+        ensures { option_copied result ≡ sighting_at (taken self.now) id }
+    {
+        self.rows.sighting(id)
+    }
+
+    /// The sightings of the interface of that number, in block order; none where there is no such interface.
+    pub fn interface(&self, iface: u32) -> &[Sighting]
+        ensures exact { result.now ≡ interface_at (taken self.now) iface }
+        ensures numbered { IsNumbered iface result.now }
+    {
+        self.rows.row(iface)
+    }
+
+    /// How many interface numbers there are, the greatest that has a sighting and those below it.
+    pub fn interfaces(&self) -> u32
+        ensures { result ≡ length (taken self.now).interfaces }
+    {
+        self.rows.len()
+    }
+
     /// How many files there are, and how many sightings. It takes no memory.
     pub fn counts(&self) -> (u32, u32)
         ensures files { result.0 ≡ (taken self.now).files }
+        ensures sightings { result.1 ≡ count_of (taken self.now).interfaces }
     {
         (self.files.len() as u32, self.rows.count())
+    }
+
+    /// The policy that it was made with. It takes no memory.
+    pub fn policy(&self) -> &Policy
+        ensures { result.now ≡ (taken self.now).policy }
+    {
+        &self.policy
     }
 }
