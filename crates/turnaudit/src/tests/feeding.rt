@@ -46,7 +46,14 @@ fn five_thousand_sightings_by_one_feed(rt: HostRuntime) -> Result<(), Fail> {
         assert_eq!(rt; sighting.side, side);
         assert_eq!(rt; sighting.payload.len(), size);
     }
-    assert!(rt; intake.sighting(SightId { iface: 0, index: 5000 }).is_none());
+    assert!(rt;
+        intake
+            .sighting(SightId {
+                iface: 0,
+                index: 5000
+            })
+            .is_none()
+    );
     Ok(())
 }
 
@@ -59,7 +66,13 @@ fn what_comes_before_a_fragment_is_kept(rt: HostRuntime) -> Result<(), Fail> {
     let mut fragment = binding_parts();
     fragment.first_flags = [0x20, 0x00];
     let fed = intake.feed(file, &repeated(alloc, &fragment, 1500)?);
-    assert_eq!(rt; fed, Err(IntakeFault { kind: IntakeFaultKind::Fragment, file: 0 }));
+    assert_eq!(rt;
+        fed,
+        Err(IntakeFault {
+            kind: IntakeFaultKind::Fragment,
+            file: 0
+        })
+    );
     assert_eq!(rt; intake.counts(), (1, 3000));
     let failed = IntakeFault {
         kind: IntakeFaultKind::Failed,
