@@ -52,10 +52,10 @@ fed_at-past (fed ∷ files) zero h = absurd (omega arith)
 fed_at-past (fed ∷ files) (suc file) h = fed_at-past files file (omega arith)
 
 -- of one file, as of another that is the same
-read_as : (after : BlockReader) (one other : Fed) → one ≡ other → reader.StandsFor after other.text other.packets → reader.StandsFor after one.text one.packets
+pub read_as : (after : BlockReader) (one other : Fed) → one ≡ other → reader.StandsFor after other.text other.packets → reader.StandsFor after one.text one.packets
 read_as after one other e stands = subst (λ (fed : Fed). reader.StandsFor after fed.text fed.packets) (sym e) stands
 
-sound_as : (policy : Policy) (one other : Fed) → one ≡ other → AreSound policy other.packets → AreSound policy one.packets
+pub sound_as : (policy : Policy) (one other : Fed) → one ≡ other → AreSound policy other.packets → AreSound policy one.packets
 sound_as policy one other e sound = subst (λ (fed : Fed). AreSound policy fed.packets) (sym e) sound
 
 -- one file more
@@ -76,39 +76,11 @@ stands_more old new files added stands failed policy rows items len len_is fresh
       sightings = rw (policy, rows) (AreSightings-same old.policy old.rows (packets_of files) (packets_of (files ++ not_fed ∷ [])) same stands.sightings);
     }
 
-packets_of-piece : (files : List Fed) (file : ℕ) (piece : List ℕ) (more : List Packet) (other : ℕ) → file < length files → more_of (packets_of files) file more other ≡ packets_of (with_piece files file piece more) other
+pub packets_of-piece : (files : List Fed) (file : ℕ) (piece : List ℕ) (more : List Packet) (other : ℕ) → file < length files → more_of (packets_of files) file more other ≡ packets_of (with_piece files file piece more) other
 packets_of-piece files file piece more other less = elim (eqb_tells other file) [
   | inl same ↦ rw (same.0, same.1) (ap (λ (fed : Fed). fed.packets) (sym (get_or-set_same files file (record { text = (fed_at files file).text ++ piece; packets = packets_of files file ++ more }) not_fed less)))
   | inr ne ↦ rw ne.0 (ap (λ (fed : Fed). fed.packets) (sym (get_or-set_other files file other (record { text = (fed_at files file).text ++ piece; packets = packets_of files file ++ more }) not_fed ne.1)))
 ]
-
--- the intake goes on with the file's packets
-pub stands_fed : (old new : Intake) (files : List Fed) (file : ℕ) (piece : List ℕ) (packets : List Packet) (after : BlockReader) → StandsFor old files → file < vec_len old.files → vec_len old.files ≡ length old.files.items
-    → new.failed ≡ old.failed → new.policy ≡ old.policy → new.files.items ≡ slice_set old.files.items file after → vec_len new.files ≡ vec_len old.files
-    → reader.GoesOn after ((fed_at files file).text ++ piece) (packets_of files file) [] packets → TakesIn old.policy old.rows file packets new.rows → GoesOn new files file piece
-stands_fed old new files file piece packets after stands within long failed policy items len goes taken =
-    let now : Fed = record { text = (fed_at files file).text ++ piece; packets = packets_of files file ++ goes.more } in
-    let less : file < length files = omega (arith, stands.count) in
-    let taken_so : TakesIn old.policy old.rows file goes.more new.rows = subst (λ (p : List Packet). TakesIn old.policy old.rows file p new.rows) goes.added taken in
-    let here : fed_at (with_piece files file piece goes.more) file ≡ now = get_or-set_same files file now not_fed less in
-    record {
-      more = goes.more;
-      stands = record {
-        unfailed = failed ∙ stands.unfailed;
-        count = length-set files file now ∙ stands.count ∙ sym len;
-        read = λ other none inside. rw items (elim (eqb_tells other file) [
-          | inl same ↦ rw (same.1, get_or-set_same old.files.items file after none (omega arith)) (read_as after _ _ here goes.stands)
-          | inr ne ↦ rw (get_or-set_other old.files.items file other after none ne.1)
-              (read_as (get_or old.files.items other none) _ _ (get_or-set_other files file other now not_fed ne.1) (stands.read other none (omega arith)))
-        ]);
-        sound = λ other. rw policy (elim (eqb_tells other file) [
-          | inl same ↦ rw same.1 (sound_as old.policy _ _ here (All-append (λ packet. IsOk (kept_of old.policy packet)) (packets_of files file) goes.more (stands.sound file) taken_so.sound))
-          | inr ne ↦ sound_as old.policy _ _ (get_or-set_other files file other now not_fed ne.1) (stands.sound other)
-        ]);
-        sightings = rw policy (AreSightings-same old.policy new.rows (more_of (packets_of files) file goes.more) (packets_of (with_piece files file piece goes.more))
-            (λ other. packets_of-piece files file piece goes.more other less) (taken_so.taken (packets_of files) stands.sightings));
-      };
-    }
 
 -- the next block has a fault
 pub refused_by_block : (old : Intake) (rows : List (List Sighting)) (files : List Fed) (file : ℕ) (piece : List ℕ) (packets : List Packet) (fault : CaptureFault) → StandsFor old files
@@ -162,7 +134,7 @@ begins_first text packets others begins =
       },
     )
 
-next_by_packet : (policy : Policy) (rows : List (List Sighting)) (text : List ℕ) (packets : List Packet) (packet : Packet) (fault : IntakeFaultKind) → BeginsWith text (packets ++ packet ∷ [])
+pub next_by_packet : (policy : Policy) (rows : List (List Sighting)) (text : List ℕ) (packets : List Packet) (packet : Packet) (fault : IntakeFaultKind) → BeginsWith text (packets ++ packet ∷ [])
     → IsRefused policy rows packet fault → IsNext policy rows text packets fault
 next_by_packet policy rows text packets packet (faults.Capture fault) begins refused = absurd refused
 next_by_packet policy rows text packets packet faults.Fragment begins refused = (packet, begins, refused)
@@ -188,13 +160,6 @@ refused_by_frame old rows files file piece packets fault stands begins stops =
       sightings = stops.taken.taken (packets_of files) stands.sightings;
       next = next_by_packet old.policy rows text (so_far ++ stops.before) stops.packet fault through stops.refused;
     }
-
--- what the reader gave begins the text, whether it goes on or refuses
-pub begins_read : (after : BlockReader) (text : List ℕ) (packets given : List Packet) (read : Result (Unit {0}) CaptureFault) → OnOk read (reader.GoesOn after text packets [] given)
-    → IfErr read (reader.Refuses text packets [] given) → BeginsWith text (packets ++ given)
-begins_read after text packets given (Ok done) goes refuses =
-    subst (λ (p : List Packet). BeginsWith text (packets ++ p)) (sym goes.added) (after.scope, after.held.items, goes.stands.1.front)
-begins_read after text packets given (Err fault) goes refuses = subst (λ (p : List Packet). BeginsWith text (packets ++ p)) (sym refuses.added) refuses.begins
 
 -- the reader of a file, as a loop has it
 pub read_at : (intake : Intake) (files : List Fed) (file : ℕ) (readers : List BlockReader) (at : BlockReader) → StandsFor intake files → readers ≡ intake.files.items → length readers ≡ vec_len intake.files → file < length readers

@@ -2,3 +2,4 @@ pub mod RowSteps
 pub mod TakingSteps
 pub mod Refusing
 pub mod FilesSteps
+pub mod AmidSteps

@@ -2,7 +2,7 @@
 
 use crate::fault::{IntakeFault, IntakeFaultKind};
 use crate::rows::Rows;
-use crate::taking::take_packets;
+use crate::taking::{take_packet, take_packets};
 use audit_model::{Policy, SightId, Sighting};
 use audit_pcapng::BlockReader;
 use std::alloc::Global;
@@ -25,10 +25,11 @@ pub struct Intake {
 }
 
 impl Intake {
-    ghost use Rattle.std.specs.Prelude.{◌≡◌, ◌<◌, ◌+◌, ℕ, List, [], ◌∷◌, ◌++◌, length, vec_len, OnOk, OnErr, IfOk, IfErr, IfSome, IsOkUnless, option_copied, Some, None, Err};
+    ghost use Rattle.std.specs.Prelude.{◌≡◌, ◌<◌, ◌+◌, ℕ, List, [], ◌∷◌, ◌++◌, length, vec_len, OnOk, OnErr, IfOk, IfErr, IfSome, IfNone, IsOkUnless, option_copied, Some, None, Err};
     ghost use Rattle.audit_pcapng.specs.Captures.{Ends};
     ghost use Rattle.audit_sightings.specs.Rows.{Grows, IsNumbered, count_of};
     ghost use Rattle.audit_sightings.specs.Intake.{taken, sighting_at, interface_at};
+    ghost use Rattle.audit_sightings.specs.Amid.{Amid};
     ghost use Rattle.audit_sightings.specs.Files.{Fed, not_fed, StandsFor, GoesOn, Refuses, FilesEnd};
 
     /// An intake of no files. It takes no memory.
@@ -122,15 +123,64 @@ impl Intake {
         ensures policy { self.new.policy ≡ self.old.policy }
         ensures files { vec_len self.new.files ≡ vec_len self.old.files }
     {
-        let mut packets = Vec::new(self.alloc);
+        let mut held = Vec::new(self.alloc);
         let reader = &mut self.files[file as usize];
-        let read = reader.feed(piece, &mut packets);
-        match take_packets(&self.policy, &mut self.rows, file, &packets) {
+        let started = reader.start(piece, &mut held);
+        match take_packets(&self.policy, &mut self.rows, file, &held) {
             Err(fault) => Err(fault),
-            Ok(()) => match read {
-                Ok(()) => Ok(()),
+            Ok(()) => match started {
+                Ok(rest) => self.take_rest(file, rest),
                 Err(fault) => Err(IntakeFaultKind::Capture(fault)),
             },
+        }
+    }
+
+    /// Takes in the packets of what is left of a piece.
+    fn take_rest(&mut self, file: u32, rest: &[u8]) -> Result<(), IntakeFaultKind>
+        requires { file < vec_len self.old.files }
+        ensures ok { (files : List Fed) (piece : List ℕ) → Amid self.old files file piece rest.now →
+            OnOk result (GoesOn self.new files file piece) }
+        ensures err { (files : List Fed) (piece : List ℕ) → Amid self.old files file piece rest.now →
+            IfErr result (Refuses self.old.policy self.new.rows files file piece) }
+        ensures grows { Grows self.old.rows self.new.rows }
+        ensures policy { self.new.policy ≡ self.old.policy }
+        ensures files { vec_len self.new.files ≡ vec_len self.old.files }
+    {
+        let mut rest = rest;
+        'packets: while let Some(behind) = self.take_next(file, rest)? {
+            rest = behind;
+        }
+        Ok(())
+    }
+
+    /// Takes in the next packet of what is left of a piece, and gives the bytes behind it if there is one.
+    fn take_next<'a>(
+        &mut self,
+        file: u32,
+        rest: &'a [u8],
+    ) -> Result<Option<&'a [u8]>, IntakeFaultKind>
+        requires { file < vec_len self.old.files }
+        ensures packet { (files : List Fed) (piece : List ℕ) → Amid self.old files file piece rest.now →
+            IfOk result (λ step. IfSome step (λ behind. Amid self.new files file piece behind.now)) }
+        ensures none { (files : List Fed) (piece : List ℕ) → Amid self.old files file piece rest.now →
+            IfOk result (λ step. IfNone step (GoesOn self.new files file piece)) }
+        ensures err { (files : List Fed) (piece : List ℕ) → Amid self.old files file piece rest.now →
+            IfErr result (Refuses self.old.policy self.new.rows files file piece) }
+        ensures shorter { IfOk result (λ step. IfSome step (λ behind. length behind.now < length rest.now)) }
+        ensures grows { Grows self.old.rows self.new.rows }
+        ensures policy { self.new.policy ≡ self.old.policy }
+        ensures files { vec_len self.new.files ≡ vec_len self.old.files }
+    {
+        let reader = &mut self.files[file as usize];
+        match reader.next(rest) {
+            Ok(None) => Ok(None),
+            Ok(Some((packet, behind))) => {
+                match take_packet(&self.policy, &mut self.rows, file, packet) {
+                    Ok(()) => Ok(Some(behind)),
+                    Err(fault) => Err(fault),
+                }
+            }
+            Err(fault) => Err(IntakeFaultKind::Capture(fault)),
         }
     }
 

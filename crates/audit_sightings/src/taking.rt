@@ -1,13 +1,14 @@
 //! Packets that are taken in.
 
 ghost use Rattle.std.specs.Prelude.{◌≡◌, ◌<◌, [], ◌∷◌, OnOk, OnErr, IfErr};
+ghost use Rattle.audit_pcapng.specs.Packets.{packet_of};
 ghost use Rattle.audit_sightings.specs.Sightings.{TakesIn, IsRefused, Stops};
 
 use crate::fault::IntakeFaultKind;
 use crate::kept::service_datagram;
 use crate::rows::Rows;
 use audit_model::Policy;
-use audit_pcapng::Packet;
+use audit_pcapng::{Packet, PacketSlice};
 
 /// How many interface numbers each file has.
 const INTERFACES_OF_FILE: u32 = 64;
@@ -17,11 +18,11 @@ pub fn take_packet(
     policy: &Policy,
     rows: &mut Rows,
     file: u32,
-    packet: &Packet,
+    packet: PacketSlice<'_>,
 ) -> Result<(), IntakeFaultKind>
     requires { file < 16 }
-    ensures ok { OnOk result (TakesIn policy.now rows.old file (packet.now ∷ []) rows.new) }
-    ensures err { IfErr result (IsRefused policy.now rows.old packet.now) }
+    ensures ok { OnOk result (TakesIn policy.now rows.old file (packet_of packet.entry ∷ []) rows.new) }
+    ensures err { IfErr result (IsRefused policy.now rows.old (packet_of packet.entry)) }
     ensures unchanged { OnErr result (rows.new ≡ rows.old) }
 {
     match service_datagram(policy, packet) {
@@ -49,7 +50,7 @@ pub fn take_packets(
     ensures err { IfErr result (Stops policy.now rows.old file packets.now rows.new) }
 {
     'packets: for packet in packets {
-        take_packet(policy, rows, file, packet)?;
+        take_packet(policy, rows, file, packet.as_slice())?;
     }
     Ok(())
 }
