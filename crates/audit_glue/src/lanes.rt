@@ -3,6 +3,7 @@
 ghost use Rattle.std.specs.Prelude.{vec_len, length, IfOk, ◌≡◌, ◌≤◌};
 ghost use Rattle.audit_model.specs.declared.certificate.TheConstants.{MAX_LANES};
 ghost use Rattle.audit_order.specs.Named.{AllNamed};
+ghost use Rattle.audit_sightings.specs.Intake.{taken};
 
 use audit_keys::Credentials;
 use audit_lane::{Finding, Job, judge, lane_input};
@@ -19,7 +20,7 @@ pub fn job<'a>(
     certificate: &Certificate,
     _placement: &Placement,
 ) -> Result<Job<'a>, AllocError>
-    requires { AllNamed intake.now certificate.now }
+    requires { AllNamed (taken intake.now) certificate.now }
     ensures { IfOk result (λ job. vec_len job.inputs ≡ length certificate.now.lanes) }
 {
     let mut inputs = Vec::with_capacity(alloc, certificate.lanes.len())?;

@@ -2,7 +2,7 @@
 
 ghost use Rattle.std.specs.Prelude.{All, length, vec_len, ◌≤◌};
 ghost use Rattle.audit_model.specs.declared.certificate.TheConstants.{MAX_EVENTS};
-ghost use Rattle.audit_sightings.specs.Intake.{NamesWhatIsThere};
+ghost use Rattle.audit_sightings.specs.Intake.{NamesWhatIsThere, taken};
 
 use crate::users::users_of;
 use audit_keys::Credentials;
@@ -48,7 +48,7 @@ pub struct LaneInput<'a> {
 
 /// The event with the sightings that it names.
 fn with_sightings(intake: &Intake, event: Event) -> LaneEvent<'_>
-    requires { NamesWhatIsThere intake.now event }
+    requires { NamesWhatIsThere (taken intake.now) event }
 {
     match event {
         Event::In { sight, key } => LaneEvent::In {
@@ -76,7 +76,7 @@ pub fn lane_input<'a>(
     credentials: &Credentials,
 ) -> Result<Arc<LaneInput<'a>>, AllocError>
     requires few { length lane.now.events ≤ MAX_EVENTS }
-    requires named { All (NamesWhatIsThere intake.now) lane.now.events }
+    requires named { All (NamesWhatIsThere (taken intake.now)) lane.now.events }
 {
     let mut events = Vec::with_capacity(alloc, lane.events.len())?;
     'events: for event in lane.events.as_slice() {

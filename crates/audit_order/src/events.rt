@@ -1,7 +1,7 @@
 //! What the events of a lane, and the drops, show of placement.
 
 ghost use Rattle.std.specs.Prelude.{All, IfOk, IfNone, length, ◌<◌, ◌^◌};
-ghost use Rattle.audit_sightings.specs.Intake.{NamesWhatIsThere};
+ghost use Rattle.audit_sightings.specs.Intake.{NamesWhatIsThere, taken};
 
 use crate::first::FirstPlaces;
 use crate::single::{Before, event_rule, placing_rule};
@@ -17,7 +17,7 @@ fn event_breach(
     before: Before,
     at: At,
 ) -> Option<Breach>
-    ensures { IfNone result (NamesWhatIsThere intake.now event) }
+    ensures { IfNone result (NamesWhatIsThere (taken intake.now) event) }
 {
     let (rule, sight) = event_rule(intake, lane, event, before)?;
     Some(Breach {
@@ -48,7 +48,7 @@ pub fn lane_breach(
     lane: &CertLane,
 ) -> Result<Option<Breach>, AllocError>
     requires { length lane.now.events < 2 ^ 32 }
-    ensures { IfOk result (λ least. IfNone least (All (NamesWhatIsThere intake.now) lane.now.events)) }
+    ensures { IfOk result (λ least. IfNone least (All (NamesWhatIsThere (taken intake.now)) lane.now.events)) }
 {
     let mut least = None;
     let mut last: Option<Key> = None;

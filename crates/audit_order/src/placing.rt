@@ -2,6 +2,7 @@
 
 ghost use Rattle.std.specs.Prelude.{IfOk, IfNone, OnOk};
 ghost use Rattle.audit_order.specs.Named.{AllNamed};
+ghost use Rattle.audit_sightings.specs.Intake.{taken};
 
 use crate::events::{drops_breach, lane_breach};
 use crate::first::FirstPlaces;
@@ -29,7 +30,7 @@ fn lanes_breach(
     first: &mut FirstPlaces,
     certificate: &Certificate,
 ) -> Result<Option<Breach>, AllocError>
-    ensures { IfOk result (λ least. IfNone least (AllNamed intake.now certificate.now)) }
+    ensures { IfOk result (λ least. IfNone least (AllNamed (taken intake.now) certificate.now)) }
 {
     let mut least = None;
     'lanes: for (number, lane) in certificate.lanes.as_slice().iter().enumerate() {
@@ -46,7 +47,7 @@ pub fn placed(
     intake: &Intake,
     certificate: &Certificate,
 ) -> Result<Result<Placement, Breach>, AllocError>
-    ensures { IfOk result (λ found. OnOk found (AllNamed intake.now certificate.now)) }
+    ensures { IfOk result (λ found. OnOk found (AllNamed (taken intake.now) certificate.now)) }
 {
     let mut first = FirstPlaces::new(alloc, intake)?;
     let lanes = certificate.lanes.len() as u32;

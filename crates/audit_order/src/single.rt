@@ -1,7 +1,7 @@
 //! What one event shows of placement.
 
 ghost use Rattle.std.specs.Prelude.{IfNone};
-ghost use Rattle.audit_sightings.specs.Intake.{IsThere, NamesWhatIsThere};
+ghost use Rattle.audit_sightings.specs.Intake.{IsThere, NamesWhatIsThere, taken};
 
 use audit_model::{CertLane, Event, Key, Policy, Rule, Side, SightId, Sighting};
 use audit_sightings::Intake;
@@ -41,7 +41,7 @@ pub fn placing_rule(
     key: Key,
     before: Before,
 ) -> Option<Rule>
-    ensures { IfNone result (IsThere intake.now side sight) }
+    ensures { IfNone result (IsThere (taken intake.now) side sight) }
 {
     if before.placed {
         return Some(Rule::PlacedTwice);
@@ -74,7 +74,7 @@ fn act_rule(
     key: Key,
     before: Before,
 ) -> Option<(Rule, SightId)>
-    ensures { IfNone result (NamesWhatIsThere intake.now (Event.Act sight gives key)) }
+    ensures { IfNone result (NamesWhatIsThere (taken intake.now) (Event.Act sight gives key)) }
 {
     let Some(arrival) = intake.sighting(sight) else {
         return Some((Rule::Stranger, sight));
@@ -98,7 +98,7 @@ pub fn event_rule(
     event: Event,
     before: Before,
 ) -> Option<(Rule, SightId)>
-    ensures { IfNone result (NamesWhatIsThere intake.now event) }
+    ensures { IfNone result (NamesWhatIsThere (taken intake.now) event) }
 {
     match event {
         Event::In { sight, key } => {

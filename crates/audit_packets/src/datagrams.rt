@@ -13,7 +13,7 @@ use crate::numbers::{IPV4_TYPE, UDP_HEADER};
 use crate::seen::Seen;
 use crate::udp::Udp;
 use audit_model::Addr;
-use audit_pcapng::Packet;
+use audit_pcapng::{Packet, PacketSlice};
 
 /// What the packet's frame holds: Ethernet, at most two VLAN tags, IPv4 and UDP. The payload is a
 /// part of the frame. A frame that ends too early is cut where less was captured than the link had.
@@ -28,6 +28,14 @@ pub fn datagram(packet: &Packet) -> Seen<'_>
     let frame = packet.bytes.as_slice();
     let is_cut = packet.captured < packet.original;
     seen_in(frame, is_cut)
+}
+
+/// What the frame of a packet holds whose bytes stand elsewhere, as `datagram` says it.
+pub fn slice_datagram<'a>(packet: PacketSlice<'a>) -> Seen<'a>
+    ensures { view result
+        ≡ datagram_of packet.entry.bytes.now (nat_lt packet.entry.captured packet.entry.original) }
+{
+    seen_in(packet.bytes, packet.captured < packet.original)
 }
 
 /// What a frame holds. `is_cut` says whether the link had more of it.

@@ -10,5 +10,5 @@ mod seen;
 mod tests;
 mod udp;
 
-pub use datagrams::datagram;
+pub use datagrams::{datagram, slice_datagram};
 pub use seen::Seen;

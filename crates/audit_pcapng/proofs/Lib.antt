@@ -7,3 +7,4 @@ pub mod Endings
 pub mod OneReading
 pub mod FaultsShown
 pub mod OptionSpelling
+pub mod Stepping

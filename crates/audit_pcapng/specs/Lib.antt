@@ -10,4 +10,6 @@ pub mod Sections
 pub mod Blocks
 pub mod Captures
 pub mod Stretches
+pub mod Packets
 pub mod Readers
+pub mod Steps

@@ -1,6 +1,8 @@
 //! Blocks one after another.
 
-ghost use Rattle.std.specs.Prelude.{◌≡◌, ◌≢◌, ◌<◌, ◌≤◌, [], ◌++◌, length, max, IfOk, IfErr, OnOk, OnErr, List, ℕ, MatchOption};
+ghost use Rattle.std.specs.Prelude.{◌≡◌, ◌≢◌, ◌<◌, ◌≤◌, [], ◌++◌, length, max, IfOk, IfErr, IfSome, IfNone, OnOk, OnErr, List, ℕ, MatchOption};
+ghost use Rattle.std.specs.Option.{option_to_list};
+ghost use Rattle.audit_pcapng.specs.Packets.{given_of};
 ghost use Rattle.audit_pcapng.specs.declared.fault.CaptureFault.TheVariants.{Memory};
 ghost use Rattle.audit_pcapng.specs.Headings.{heading, least_length};
 ghost use Rattle.audit_pcapng.specs.Captures.{IsCut};
@@ -8,7 +10,7 @@ ghost use Rattle.audit_pcapng.specs.Stretches.{Adds, Declines, Consumes, Stops};
 
 use crate::fault::CaptureFault;
 use crate::heading::{HEADING_LENGTH, Heading};
-use crate::packet::Packet;
+use crate::packet::{Packet, PacketSlice};
 use crate::scope::Scope;
 use std::alloc::Global;
 
@@ -51,10 +53,38 @@ fn take_block(
     ensures err { IfErr result (Declines scope.old heading block.now) }
     ensures unchanged { OnErr result (out.new.items ≡ out.old.items) }
 {
-    if let Some(packet) = scope.take_block(alloc, heading, block)? {
-        out.push(packet)?;
+    if let Some(packet) = scope.take_block(heading, block)? {
+        out.push(packet.to_packet(alloc)?)?;
     }
     Ok(())
+}
+
+/// Takes blocks up to the first that has a packet. Gives that packet if there is one, and the bytes behind it, which are
+/// less than a block where there is none.
+pub fn next_packet<'a>(
+    scope: &mut Scope,
+    bytes: &'a [u8],
+) -> Result<(Option<PacketSlice<'a>>, &'a [u8]), CaptureFault>
+    ensures ok { IfOk result (λ step. Consumes scope.old bytes.now [] scope.new (option_to_list (given_of step.0)) step.1.now) }
+    ensures cut { IfOk result (λ step. IfNone step.0 (IsCut scope.new step.1.now)) }
+    ensures shorter { IfOk result (λ step. IfSome step.0 (λ _. length step.1.now < length bytes.now)) }
+    ensures err { IfErr result (Stops scope.old bytes.now [] []) }
+{
+    let mut rest = bytes;
+    for _ in 0..bytes.len() {
+        let Some(heading) = Heading::read(scope.order(), rest)? else {
+            return Ok((None, rest));
+        };
+        if rest.len() < heading.length {
+            return Ok((None, rest));
+        }
+        let (block, after) = rest.split_at(heading.length);
+        if let Some(packet) = scope.take_block(heading, block)? {
+            return Ok((Some(packet), after));
+        }
+        rest = after;
+    }
+    Ok((None, rest))
 }
 
 /// Adds to the block that is held what it lacks and takes it once it is whole. Gives back the bytes

@@ -1,8 +1,8 @@
 //! Reading a capture in pieces.
 
-use crate::blocks::{complete, take_blocks};
+use crate::blocks::{complete, next_packet, take_blocks};
 use crate::fault::CaptureFault;
-use crate::packet::Packet;
+use crate::packet::{Packet, PacketSlice};
 use crate::scope::Scope;
 use std::alloc::Global;
 
@@ -17,10 +17,11 @@ pub struct BlockReader {
 }
 
 impl BlockReader {
-    ghost use Rattle.std.specs.Prelude.{◌≡◌, [], ◌++◌, ℕ, List, IfErr, OnOk, OnErr};
+    ghost use Rattle.std.specs.Prelude.{◌≡◌, ◌<◌, [], ◌++◌, ℕ, List, length, IfOk, IfErr, IfSome, IfNone, OnOk, OnErr};
     ghost use Rattle.audit_pcapng.specs.declared.packet.Packet.{Packet};
     ghost use Rattle.audit_pcapng.specs.Captures.{IsCut, Ends};
     ghost use Rattle.audit_pcapng.specs.Stretches.{Consumes, Stops};
+    ghost use Rattle.audit_pcapng.specs.Steps.{IsAt, Begins, Gave, EndsBy};
     ghost use Rattle.audit_pcapng.specs.Readers.{StandsFor, IsFailed, GoesOn, Refuses};
 
     /// A reader of no bytes. It takes no memory.
@@ -51,6 +52,74 @@ impl BlockReader {
         }
         match self.take(piece, out) {
             Ok(()) => Ok(()),
+            Err(fault) => {
+                self.failed = true;
+                Err(fault)
+            }
+        }
+    }
+
+    /// Takes of the next piece what the block that is held lacks, adds the packet of that block once it is whole, and
+    /// gives the bytes behind it, to be stepped through by `next` until there is none. Its faults are those of `feed`.
+    pub fn start<'a>(
+        &mut self,
+        piece: &'a [u8],
+        out: &mut Vec<Packet>,
+    ) -> Result<&'a [u8], CaptureFault>
+        ensures ok { (text : List ℕ) (packets : List Packet) → StandsFor self.old text packets →
+            IfOk result (λ rest. Begins self.new (text ++ piece.now) packets out.old.items out.new.items rest.now) }
+        ensures err { (text : List ℕ) (packets : List Packet) → StandsFor self.old text packets →
+            IfErr result (Refuses (text ++ piece.now) packets out.old.items out.new.items) }
+        ensures failed { OnErr result (IsFailed self.new) }
+        ensures again { IsFailed self.old → (result ≡ Err CaptureFault.Failed) × (out.new.items ≡ out.old.items) }
+    {
+        if self.failed {
+            return Err(CaptureFault::Failed);
+        }
+        if self.held.is_empty() {
+            return Ok(piece);
+        }
+        match complete(&mut self.scope, &mut self.held, self.alloc, piece, out) {
+            Ok(Some(rest)) => Ok(rest),
+            Ok(None) => Ok(&[]),
+            Err(fault) => {
+                self.failed = true;
+                Err(fault)
+            }
+        }
+    }
+
+    /// The next packet of what is left of a piece, and the bytes behind it. Where there is none the piece is taken.
+    /// The packet's bytes are not copied. Its faults are those of `feed`.
+    pub fn next<'a>(
+        &mut self,
+        rest: &'a [u8],
+    ) -> Result<Option<(PacketSlice<'a>, &'a [u8])>, CaptureFault>
+        ensures packet { (text : List ℕ) (packets : List Packet) → IsAt self.old text packets rest.now →
+            IfOk result (λ step. IfSome step (λ given. Gave self.new text packets given.0 given.1.now)) }
+        ensures none { (text : List ℕ) (packets : List Packet) → IsAt self.old text packets rest.now →
+            IfOk result (λ step. IfNone step (StandsFor self.new text packets)) }
+        ensures err { (text : List ℕ) (packets : List Packet) → IsAt self.old text packets rest.now →
+            IfErr result (EndsBy text packets) }
+        ensures shorter { IfOk result (λ step. IfSome step (λ given. length given.1.now < length rest.now)) }
+        ensures failed { OnErr result (IsFailed self.new) }
+        ensures again { IsFailed self.old → result ≡ Err CaptureFault.Failed }
+    {
+        if self.failed {
+            return Err(CaptureFault::Failed);
+        }
+        if rest.is_empty() {
+            return Ok(None);
+        }
+        match next_packet(&mut self.scope, rest) {
+            Ok((Some(packet), behind)) => Ok(Some((packet, behind))),
+            Ok((None, behind)) => match self.held.extend_from_slice(behind) {
+                Ok(()) => Ok(None),
+                Err(_) => {
+                    self.failed = true;
+                    Err(CaptureFault::Memory)
+                }
+            },
             Err(fault) => {
                 self.failed = true;
                 Err(fault)

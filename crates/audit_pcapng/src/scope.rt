@@ -7,14 +7,12 @@ use crate::fault::CaptureFault;
 use crate::heading::Heading;
 use crate::interfaces::Interfaces;
 use crate::option::{drop_count, padded};
-use crate::packet::Packet;
+use crate::packet::PacketSlice;
 use crate::wire::{
     CAPTURED_LENGTH, EPB_DROPCOUNT, ETHERNET, INTERFACE_ID, INTERFACE_OPTIONS, ISB_IFDROP,
     ISB_OSDROP, LINK_TYPE, MAJOR_VERSION, MAX_INTERFACES, MAX_RESOLUTION, ORIGINAL_LENGTH,
     PACKET_DATA, SECOND_LENGTH, SECTION_MAJOR, STAMP_HIGH, STAMP_LOW, STATISTICS_OPTIONS,
 };
-use audit_model::Listed;
-use std::alloc::Global;
 
 /// What the blocks so far say about the next one.
 #[derive(Debug, Drop)]
@@ -32,6 +30,7 @@ impl Scope {
     ghost use Rattle.audit_pcapng.specs.Reading.{Gives};
     ghost use Rattle.audit_pcapng.specs.Headings.{least_length};
     ghost use Rattle.audit_pcapng.specs.Sections.{no_blocks, section, description, interface_of};
+    ghost use Rattle.audit_pcapng.specs.Packets.{packet_of, read_of};
     ghost use Rattle.audit_pcapng.specs.Blocks.{statistics, packet, block, Takes};
 
     pub fn new() -> Self
@@ -53,14 +52,13 @@ impl Scope {
 
     /// Takes in a whole block, and gives its packet if it has one. After a fault nothing is changed.
     #[tactic(auto, unfolding(crate::specs::Blocks::block, crate::specs::Blocks::content))]
-    pub fn take_block(
+    pub fn take_block<'a>(
         &mut self,
-        alloc: Global,
         heading: Heading,
-        bytes: &[u8],
-    ) -> Result<Option<Packet>, CaptureFault>
+        bytes: &'a [u8],
+    ) -> Result<Option<PacketSlice<'a>>, CaptureFault>
         requires { least_length heading.kind ≤ length bytes.now }
-        ensures { Takes result self.old self.new (block self.old heading bytes.now) }
+        ensures { Takes (read_of result) self.old self.new (block self.old heading bytes.now) }
     {
         let order = heading.order;
         let end = bytes.len() - SECOND_LENGTH;
@@ -82,7 +80,7 @@ impl Scope {
                 Ok(None)
             }
             BlockKind::Packet => {
-                let packet = self.packet(alloc, order, body)?;
+                let packet = self.packet(order, body)?;
                 Ok(Some(packet))
             }
             BlockKind::NoStamp => Err(CaptureFault::NoStamp),
@@ -162,9 +160,9 @@ impl Scope {
 
     /// An Enhanced Packet Block (section 4.3).
     #[tactic(auto, unfolding(crate::specs::Blocks::packet))]
-    fn packet(&self, alloc: Global, order: ByteOrder, body: &[u8]) -> Result<Packet, CaptureFault>
+    fn packet<'a>(&self, order: ByteOrder, body: &'a [u8]) -> Result<PacketSlice<'a>, CaptureFault>
         requires { 28 ≤ length body.now }
-        ensures { Gives (λ p. p) result (packet self.now order body.now) }
+        ensures { Gives packet_of result (packet self.now order body.now) }
     {
         let captured = order.u32_at(body, CAPTURED_LENGTH);
         let (_, from) = body.split_at(PACKET_DATA);
@@ -180,9 +178,9 @@ impl Scope {
         let low = u64::from(order.u32_at(body, STAMP_LOW));
         let stamp = interface.stamp((high << 32) + low)?;
         let (data, _) = from.split_at(captured as usize);
-        Ok(Packet {
+        Ok(PacketSlice {
             stamp,
-            bytes: Listed::from(Vec::from_slice(alloc, data)?),
+            bytes: data,
             iface,
             captured,
             original: order.u32_at(body, ORIGINAL_LENGTH),

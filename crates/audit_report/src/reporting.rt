@@ -3,6 +3,7 @@
 ghost use Rattle.std.specs.Prelude.{◌≡◌, ◌++◌, IfOk, OnOk, OnErr, IfErr, option_copied, string_bytes};
 ghost use Rattle.audit_model.specs.Sink.{followed_by, IsFollowedByFront, Rose};
 ghost use Rattle.audit_report.specs.ReportText.{datagram_text, name_text, sighting_line, place_line, rule_line, verdict_lines, report_text};
+ghost use Rattle.audit_sightings.specs.Intake.{taken};
 
 use crate::rules::rule_text;
 use audit_model::{Breach, SightId, Sink, Verdict, WriteFault, put_all};
@@ -66,7 +67,7 @@ fn line_of_rule(alloc: Global, breach: &Breach) -> Result<String, AllocError>
 
 /// What follows the heading.
 fn lines_of_verdict(alloc: Global, verdict: &Verdict, intake: &Intake) -> Result<String, AllocError>
-    ensures { IfOk result (λ lines. string_bytes lines ≡ verdict_lines verdict.now intake.now) }
+    ensures { IfOk result (λ lines. string_bytes lines ≡ verdict_lines verdict.now (taken intake.now)) }
 {
     match verdict {
         Verdict::Conforming { datagrams, lanes } => {
@@ -84,7 +85,7 @@ fn lines_of_verdict(alloc: Global, verdict: &Verdict, intake: &Intake) -> Result
 
 /// The whole report.
 fn whole_report(alloc: Global, verdict: &Verdict, intake: &Intake) -> Result<String, AllocError>
-    ensures { IfOk result (λ text. string_bytes text ≡ report_text verdict.now intake.now) }
+    ensures { IfOk result (λ text. string_bytes text ≡ report_text verdict.now (taken intake.now)) }
 {
     let mut text = String::from_str(alloc, "turnaudit-report 1\n")?;
     text.push_str(lines_of_verdict(alloc, verdict, intake)?.as_str())?;
@@ -99,8 +100,8 @@ pub fn report<W: Sink>(
     intake: &Intake,
     out: &mut W,
 ) -> Result<(), WriteFault>
-    ensures ok { OnOk result (W.taken out.new ≡ followed_by (W.taken out.old) (report_text verdict.now intake.now)) }
-    ensures front { OnErr result (IsFollowedByFront (W.taken out.old) (report_text verdict.now intake.now) (W.taken out.new)) }
+    ensures ok { OnOk result (W.taken out.new ≡ followed_by (W.taken out.old) (report_text verdict.now (taken intake.now))) }
+    ensures front { OnErr result (IsFollowedByFront (W.taken out.old) (report_text verdict.now (taken intake.now)) (W.taken out.new)) }
     ensures device { IfErr result (λ fault. fault ≡ WriteFault.Device → Rose (W.failures out.old) (W.failures out.new)) }
     ensures memory { IfErr result (λ fault. fault ≡ WriteFault.Memory → W.taken out.new ≡ W.taken out.old) }
 {

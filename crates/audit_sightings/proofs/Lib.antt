@@ -1,0 +1,5 @@
+pub mod RowSteps
+pub mod TakingSteps
+pub mod Refusing
+pub mod FilesSteps
+pub mod AmidSteps

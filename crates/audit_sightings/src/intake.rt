@@ -1,121 +1,46 @@
 //! What is taken in of the captures.
 
-ghost use Rattle.std.specs.Prelude.{◌+◌, ◌<◌, ◌≤◌, max, vec_len, OnOk};
-
 use crate::fault::{IntakeFault, IntakeFaultKind};
-use audit_model::{Addr, Listed, Policy, Side, SightId, Sighting, window};
-use audit_packets::{Seen, datagram};
-use audit_pcapng::{BlockReader, Packet};
-use std::alloc::{AllocError, Global};
-use std::marker::Model;
+use crate::rows::Rows;
+use crate::taking::{take_packet, take_packets};
+use audit_model::{Policy, SightId, Sighting};
+use audit_pcapng::BlockReader;
+use std::alloc::Global;
 
 /// How many files there may be.
 pub const MAX_FILES: usize = 16;
 
-/// How many interface numbers each file has.
-const INTERFACES_OF_FILE: u32 = 64;
-
-/// How many sightings there may be.
-pub const MAX_SIGHTINGS: u32 = 16_777_216;
-
-/// A datagram of the service in a frame.
-#[derive(Clone, Copy)]
-struct Datagram<'a> {
-    from: Addr,
-    to: Addr,
-    side: Side,
-    payload: &'a [u8],
-}
-
-/// A stamp and its window.
-#[derive(Clone, Copy)]
-struct Stamped {
-    stamp: u64,
-    lo: u64,
-    hi: u64,
-}
+ghost use Rattle.std.specs.Prelude.{◌≤◌, vec_len};
 
 /// The sightings of the captures that it was fed, and the policy that says what the service is.
 #[derive(Drop)]
 pub struct Intake {
     policy: Policy,
     files: Vec<BlockReader>,
-    /// By the interface's number.
-    interfaces: Vec<Listed<Sighting>>,
-    sightings: u32,
+    rows: Rows,
     /// The file whose feed failed.
     failed: Option<u32>,
     alloc: Global,
-}
-
-/// Makes room for the interface of that number.
-fn add_interfaces(
-    alloc: Global,
-    interfaces: &mut Vec<Listed<Sighting>>,
-    iface: usize,
-) -> Result<(), AllocError>
-    ensures ok { OnOk result (iface < vec_len interfaces.new) }
-    ensures bound { vec_len interfaces.new ≤ max (vec_len interfaces.old) (iface + 1) }
-{
-    'room: while interfaces.len() <= iface {
-        interfaces.push(Listed::new(alloc))?;
-    }
-    Ok(())
-}
-
-/// Adds a sighting at the end of its interface's.
-fn add_sighting(
-    alloc: Global,
-    interfaces: &mut Vec<Listed<Sighting>>,
-    iface: u32,
-    stamped: Stamped,
-    datagram: Datagram<'_>,
-) -> Result<(), IntakeFaultKind>
-    ensures { vec_len interfaces.new ≤ max (vec_len interfaces.old) (iface + 1) }
-{
-    add_interfaces(alloc, interfaces, iface as usize)?;
-    let row = &mut interfaces[iface as usize];
-    let Ok(index) = u32::try_from(row.len()) else {
-        return Err(IntakeFaultKind::Limit);
-    };
-    let payload = Vec::from_slice(alloc, datagram.payload)?;
-    row.push(Sighting {
-        payload: Listed::from(payload),
-        stamp: stamped.stamp,
-        lo: stamped.lo,
-        hi: stamped.hi,
-        id: SightId { iface, index },
-        from: datagram.from,
-        to: datagram.to,
-        side: datagram.side,
-    })?;
-    Ok(())
-}
-
-impl Model for Intake {
-    ghost use Rattle.std.specs.Prelude.{vec_len, ◌≤◌};
-    ghost use Rattle.audit_sightings.specs.Intake.{Taken};
-
-    ghost Value = { Taken };
-
-    ghost view = { λ a. record { policy = a.policy; files = vec_len a.files; interfaces = a.interfaces.items } };
-
-    ghost invariant = { λ a. (vec_len a.files ≤ 16) × (vec_len a.interfaces ≤ 1024) };
+    pub ghost few_files: { vec_len files ≤ 16 },
 }
 
 impl Intake {
-    ghost use Rattle.std.specs.Prelude.{◌≡◌, ◌<◌, ◌+◌, [], length, OnOk, OnErr, IfOk, option_copied};
-    ghost use Rattle.audit_sightings.specs.Intake.{sighting_at, interface_at};
+    ghost use Rattle.std.specs.Prelude.{◌≡◌, ◌<◌, ◌+◌, ℕ, List, [], ◌∷◌, ◌++◌, length, vec_len, OnOk, OnErr, IfOk, IfErr, IfSome, IfNone, IsOkUnless, option_copied, Some, None, Err};
+    ghost use Rattle.audit_pcapng.specs.Captures.{Ends};
+    ghost use Rattle.audit_sightings.specs.Rows.{Grows, IsNumbered, count_of};
+    ghost use Rattle.audit_sightings.specs.Intake.{taken, sighting_at, interface_at};
+    ghost use Rattle.audit_sightings.specs.Amid.{Amid};
+    ghost use Rattle.audit_sightings.specs.Files.{Fed, not_fed, StandsFor, GoesOn, Refuses, FilesEnd};
 
     /// An intake of no files. It takes no memory.
     pub fn new(alloc: Global, policy: Policy) -> Intake
-        ensures { result ≡ record { policy = policy; files = 0; interfaces = [] } }
+        ensures empty { taken result ≡ record { policy = policy; files = 0; interfaces = [] } }
+        ensures stands { StandsFor result [] }
     {
         Intake {
             policy,
             files: Vec::new(alloc),
-            interfaces: Vec::new(alloc),
-            sightings: 0,
+            rows: Rows::new(alloc),
             failed: None,
             alloc,
         }
@@ -124,9 +49,18 @@ impl Intake {
     /// One file more, whose number is given: from 0 in order.
     /// It fails by V6 after a fault of a feed, by V4 after 16 files, and by V5; nothing changes then.
     pub fn add_file(&mut self) -> Result<u32, IntakeFault>
-        ensures number { IfOk result (λ file. file ≡ self.old.files) }
-        ensures ok { OnOk result (self.new ≡ record self.old { files = self.old.files + 1 }) }
-        ensures err { OnErr result (self.new ≡ self.old) }
+        ensures number { IfOk result (λ file. file ≡ vec_len self.old.files) }
+        ensures ok { OnOk result (taken self.new ≡ record (taken self.old) { files = vec_len self.old.files + 1 }) }
+        ensures stands { (files : List Fed) → StandsFor self.old files → OnOk result (StandsFor self.new (files ++ not_fed ∷ [])) }
+        ensures err { OnErr result (taken self.new ≡ taken self.old) }
+        ensures kept { (files : List Fed) → StandsFor self.old files → OnErr result (StandsFor self.new files) }
+        ensures failed { self.new.failed ≡ self.old.failed }
+        ensures room { self.old.failed ≡ None → vec_len self.old.files < MAX_FILES →
+            IsOkUnless result (record { kind = IntakeFaultKind.Memory; file = vec_len self.old.files }) }
+        ensures full { self.old.failed ≡ None → vec_len self.old.files ≡ MAX_FILES →
+            result ≡ Err (record { kind = IntakeFaultKind.Limit; file = MAX_FILES }) }
+        ensures again { (failed : ℕ) → self.old.failed ≡ Some failed →
+            result ≡ Err (record { kind = IntakeFaultKind.Failed; file = failed }) }
     {
         if let Some(file) = self.failed {
             return Err(IntakeFault {
@@ -152,11 +86,18 @@ impl Intake {
     }
 
     /// Takes the next bytes of a file, cut anywhere: its packets in order, up to the first fault of a block or a frame.
-    /// What was taken in before a fault stays, and every later call then fails by V6.
+    /// What was taken in before a fault stays, and every later call then fails by V6 with this file's number.
     pub fn feed(&mut self, file: u32, piece: &[u8]) -> Result<(), IntakeFault>
-        requires { file < self.old.files }
+        requires { file < vec_len self.old.files }
+        ensures ok { (files : List Fed) → StandsFor self.old files → OnOk result (GoesOn self.new files file piece.now) }
+        ensures err { (files : List Fed) → StandsFor self.old files → IfErr result (λ fault.
+            (fault.file ≡ file) × Refuses self.new.policy self.new.rows files file piece.now fault.kind) }
+        ensures failed { self.old.failed ≡ None → OnErr result (self.new.failed ≡ Some file) }
+        ensures again { (failed : ℕ) → self.old.failed ≡ Some failed →
+            (result ≡ Err (record { kind = IntakeFaultKind.Failed; file = failed })) × (self.new ≡ self.old) }
+        ensures grows { Grows self.old.rows self.new.rows }
         ensures policy { self.new.policy ≡ self.old.policy }
-        ensures files { self.new.files ≡ self.old.files }
+        ensures files { vec_len self.new.files ≡ vec_len self.old.files }
     {
         if let Some(failed) = self.failed {
             return Err(IntakeFault {
@@ -174,100 +115,88 @@ impl Intake {
     }
 
     fn take_piece(&mut self, file: u32, piece: &[u8]) -> Result<(), IntakeFaultKind>
-        requires { file < self.old.files }
+        requires { file < vec_len self.old.files }
+        ensures ok { (files : List Fed) → StandsFor self.old files → OnOk result (GoesOn self.new files file piece.now) }
+        ensures err { (files : List Fed) → StandsFor self.old files →
+            IfErr result (Refuses self.old.policy self.new.rows files file piece.now) }
+        ensures grows { Grows self.old.rows self.new.rows }
         ensures policy { self.new.policy ≡ self.old.policy }
-        ensures files { self.new.files ≡ self.old.files }
+        ensures files { vec_len self.new.files ≡ vec_len self.old.files }
     {
-        let mut packets = Vec::new(self.alloc);
+        let mut held = Vec::new(self.alloc);
         let reader = &mut self.files[file as usize];
-        let read = reader.feed(piece, &mut packets);
-        'packets: for packet in &packets {
-            self.take_packet(file, packet)?;
-        }
-        read.map_err(IntakeFaultKind::Capture)
-    }
-
-    /// Takes in a packet's datagram, if it is one of the service.
-    fn take_packet(&mut self, file: u32, packet: &Packet) -> Result<(), IntakeFaultKind>
-        requires { file < MAX_FILES }
-        ensures policy { self.new.policy ≡ self.old.policy }
-        ensures files { self.new.files ≡ self.old.files }
-    {
-        match datagram(packet) {
-            Seen::Other => Ok(()),
-            Seen::Fragment { from, to } => {
-                if self.policy.service_ip(from) || self.policy.service_ip(to) {
-                    return Err(IntakeFaultKind::Fragment);
-                }
-                Ok(())
-            }
-            Seen::Cut { ips: None } => Err(IntakeFaultKind::CutDatagram),
-            Seen::Cut {
-                ips: Some((from, to)),
-            } => {
-                if self.policy.service_ip(from) || self.policy.service_ip(to) {
-                    return Err(IntakeFaultKind::CutDatagram);
-                }
-                Ok(())
-            }
-            Seen::Udp { from, to, payload } => {
-                let leaves = self.is_of_service(from);
-                let arrives = self.is_of_service(to);
-                let side = match (arrives, leaves) {
-                    (true, true) => return Err(IntakeFaultKind::Hairpin),
-                    (true, false) => Side::Arrives,
-                    (false, true) => Side::Leaves,
-                    (false, false) => return Ok(()),
-                };
-                self.take_datagram(
-                    file,
-                    packet,
-                    Datagram {
-                        from,
-                        to,
-                        side,
-                        payload,
-                    },
-                )
-            }
+        let started = reader.start(piece, &mut held);
+        match take_packets(&self.policy, &mut self.rows, file, &held) {
+            Err(fault) => Err(fault),
+            Ok(()) => match started {
+                Ok(rest) => self.take_rest(file, rest),
+                Err(fault) => Err(IntakeFaultKind::Capture(fault)),
+            },
         }
     }
 
-    /// Takes in a datagram of the service.
-    fn take_datagram(
-        &mut self,
-        file: u32,
-        packet: &Packet,
-        datagram: Datagram<'_>,
-    ) -> Result<(), IntakeFaultKind>
-        requires { file < MAX_FILES }
+    /// Takes in the packets of what is left of a piece.
+    fn take_rest(&mut self, file: u32, rest: &[u8]) -> Result<(), IntakeFaultKind>
+        requires { file < vec_len self.old.files }
+        ensures ok { (files : List Fed) (piece : List ℕ) → Amid self.old files file piece rest.now →
+            OnOk result (GoesOn self.new files file piece) }
+        ensures err { (files : List Fed) (piece : List ℕ) → Amid self.old files file piece rest.now →
+            IfErr result (Refuses self.old.policy self.new.rows files file piece) }
+        ensures grows { Grows self.old.rows self.new.rows }
         ensures policy { self.new.policy ≡ self.old.policy }
-        ensures files { self.new.files ≡ self.old.files }
+        ensures files { vec_len self.new.files ≡ vec_len self.old.files }
     {
-        if self.sightings >= MAX_SIGHTINGS || packet.iface >= INTERFACES_OF_FILE {
-            return Err(IntakeFaultKind::Limit);
+        let mut rest = rest;
+        'packets: while let Some(behind) = self.take_next(file, rest)? {
+            rest = behind;
         }
-        let iface = INTERFACES_OF_FILE * file + packet.iface;
-        let (lo, hi) = window(packet.stamp, self.policy.skew);
-        let stamped = Stamped {
-            stamp: packet.stamp,
-            lo,
-            hi,
-        };
-        add_sighting(self.alloc, &mut self.interfaces, iface, stamped, datagram)?;
-        self.sightings += 1;
         Ok(())
     }
 
+    /// Takes in the next packet of what is left of a piece, and gives the bytes behind it if there is one.
+    fn take_next<'a>(
+        &mut self,
+        file: u32,
+        rest: &'a [u8],
+    ) -> Result<Option<&'a [u8]>, IntakeFaultKind>
+        requires { file < vec_len self.old.files }
+        ensures packet { (files : List Fed) (piece : List ℕ) → Amid self.old files file piece rest.now →
+            IfOk result (λ step. IfSome step (λ behind. Amid self.new files file piece behind.now)) }
+        ensures none { (files : List Fed) (piece : List ℕ) → Amid self.old files file piece rest.now →
+            IfOk result (λ step. IfNone step (GoesOn self.new files file piece)) }
+        ensures err { (files : List Fed) (piece : List ℕ) → Amid self.old files file piece rest.now →
+            IfErr result (Refuses self.old.policy self.new.rows files file piece) }
+        ensures shorter { IfOk result (λ step. IfSome step (λ behind. length behind.now < length rest.now)) }
+        ensures grows { Grows self.old.rows self.new.rows }
+        ensures policy { self.new.policy ≡ self.old.policy }
+        ensures files { vec_len self.new.files ≡ vec_len self.old.files }
+    {
+        let reader = &mut self.files[file as usize];
+        match reader.next(rest) {
+            Ok(None) => Ok(None),
+            Ok(Some((packet, behind))) => {
+                match take_packet(&self.policy, &mut self.rows, file, packet) {
+                    Ok(()) => Ok(Some(behind)),
+                    Err(fault) => Err(fault),
+                }
+            }
+            Err(fault) => Err(IntakeFaultKind::Capture(fault)),
+        }
+    }
+
     /// Whether each file may end where it does, asked in the order of the files. It takes no memory.
-    pub fn finish(&self) -> Result<(), IntakeFault> {
+    pub fn finish(&self) -> Result<(), IntakeFault>
+        ensures ends { (files : List Fed) → StandsFor self.now files → FilesEnd result files }
+        ensures again { (failed : ℕ) → self.now.failed ≡ Some failed →
+            result ≡ Err (record { kind = IntakeFaultKind.Failed; file = failed }) }
+    {
         if let Some(file) = self.failed {
             return Err(IntakeFault {
                 kind: IntakeFaultKind::Failed,
                 file,
             });
         }
-        for (file, reader) in self.files.iter().enumerate() {
+        'files: for (file, reader) in self.files.iter().enumerate() {
             if let Err(fault) = reader.finish() {
                 return Err(IntakeFault {
                     kind: IntakeFaultKind::Capture(fault),
@@ -280,44 +209,38 @@ impl Intake {
 
     /// The sighting of that name. It takes no memory.
     pub fn sighting(&self, id: SightId) -> Option<&Sighting>
-        ensures { option_copied result ≡ sighting_at self.now id }
+        ensures { option_copied result ≡ sighting_at (taken self.now) id }
     {
-        let row = self.interfaces.get(id.iface as usize)?;
-        row.as_slice().get(id.index as usize)
+        self.rows.sighting(id)
     }
 
     /// The sightings of the interface of that number, in block order; none where there is no such interface.
     pub fn interface(&self, iface: u32) -> &[Sighting]
-        ensures { result.now ≡ interface_at self.now iface }
+        ensures exact { result.now ≡ interface_at (taken self.now) iface }
+        ensures numbered { IsNumbered iface result.now }
     {
-        match self.interfaces.get(iface as usize) {
-            Some(row) => row.as_slice(),
-            None => &[],
-        }
+        self.rows.row(iface)
     }
 
     /// How many interface numbers there are, the greatest that has a sighting and those below it.
     pub fn interfaces(&self) -> u32
-        ensures { result ≡ length self.now.interfaces }
+        ensures { result ≡ length (taken self.now).interfaces }
     {
-        self.interfaces.len() as u32
+        self.rows.len()
     }
 
     /// How many files there are, and how many sightings. It takes no memory.
     pub fn counts(&self) -> (u32, u32)
-        ensures files { result.0 ≡ self.now.files }
+        ensures files { result.0 ≡ (taken self.now).files }
+        ensures sightings { result.1 ≡ count_of (taken self.now).interfaces }
     {
-        (self.files.len() as u32, self.sightings)
+        (self.files.len() as u32, self.rows.count())
     }
 
     /// The policy that it was made with. It takes no memory.
     pub fn policy(&self) -> &Policy
-        ensures { result.now ≡ self.now.policy }
+        ensures { result.now ≡ (taken self.now).policy }
     {
         &self.policy
-    }
-
-    fn is_of_service(&self, addr: Addr) -> bool {
-        self.policy.listens(addr) || self.policy.relays(addr)
     }
 }

@@ -1,6 +1,7 @@
 //! Words in, status and both streams out, over files in memory.
 
 mod captures;
+mod feeding;
 mod memory;
 
 use captures::{SECTION, binding_capture, binding_parts};

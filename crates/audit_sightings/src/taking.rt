@@ -1,0 +1,56 @@
+//! Packets that are taken in.
+
+ghost use Rattle.std.specs.Prelude.{◌≡◌, ◌<◌, [], ◌∷◌, OnOk, OnErr, IfErr};
+ghost use Rattle.audit_pcapng.specs.Packets.{packet_of};
+ghost use Rattle.audit_sightings.specs.Sightings.{TakesIn, IsRefused, Stops};
+
+use crate::fault::IntakeFaultKind;
+use crate::kept::service_datagram;
+use crate::rows::Rows;
+use audit_model::Policy;
+use audit_pcapng::{Packet, PacketSlice};
+
+/// How many interface numbers each file has.
+const INTERFACES_OF_FILE: u32 = 64;
+
+/// Takes in a packet of a file. After a fault nothing is changed.
+pub fn take_packet(
+    policy: &Policy,
+    rows: &mut Rows,
+    file: u32,
+    packet: PacketSlice<'_>,
+) -> Result<(), IntakeFaultKind>
+    requires { file < 16 }
+    ensures ok { OnOk result (TakesIn policy.now rows.old file (packet_of packet.entry ∷ []) rows.new) }
+    ensures err { IfErr result (IsRefused policy.now rows.old (packet_of packet.entry)) }
+    ensures unchanged { OnErr result (rows.new ≡ rows.old) }
+{
+    match service_datagram(policy, packet) {
+        Err(fault) => Err(fault),
+        Ok(None) => Ok(()),
+        Ok(Some(kept)) => {
+            if packet.iface >= INTERFACES_OF_FILE {
+                return Err(IntakeFaultKind::Limit);
+            }
+            let iface = INTERFACES_OF_FILE * file + packet.iface;
+            rows.push(iface, policy.skew, kept)
+        }
+    }
+}
+
+/// Takes in packets of a file, in order, up to the first that is refused.
+pub fn take_packets(
+    policy: &Policy,
+    rows: &mut Rows,
+    file: u32,
+    packets: &[Packet],
+) -> Result<(), IntakeFaultKind>
+    requires { file < 16 }
+    ensures ok { OnOk result (TakesIn policy.now rows.old file packets.now rows.new) }
+    ensures err { IfErr result (Stops policy.now rows.old file packets.now rows.new) }
+{
+    'packets: for packet in packets {
+        take_packet(policy, rows, file, packet.as_slice())?;
+    }
+    Ok(())
+}
