@@ -1,9 +1,5 @@
 -- Lemmas on keys that are added to a table one by one, and taken out again.
-<<<<<<< HEAD
-use Rattle.std.proofs.Common.{◌≡◌, Bool, true, false, cond, List, [], ◌∷◌, ◌++◌, Option, Some, None, sym, subst, refl, ap, ◌∙◌}
-=======
 use Rattle.std.proofs.Common.{◌≡◌, false, cond, List, [], ◌∷◌, ◌++◌, Option, Some, None, sym, refl, ap}
->>>>>>> leases
 use Rattle.std.proofs.lemmas.Option.{none-some}
 use Rattle.std.proofs.lemmas.Bool.{true≢false}
 use Rattle.std.specs.Prelude.{MatchOption, is_some}

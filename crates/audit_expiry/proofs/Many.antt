@@ -1,9 +1,5 @@
 -- Lemmas on several keys that get one value.
-<<<<<<< HEAD
-use Rattle.std.proofs.Common.{◌≡◌, Bool, true, false, ◌||◌, List, [], ◌∷◌, ◌++◌, Option, Some, None, sym, refl, ap, ◌∙◌, ◌⊎◌, inl, inr, arith}
-=======
 use Rattle.std.proofs.Common.{◌≡◌, Bool, true, false, ◌||◌, List, [], ◌∷◌, ◌++◌, Option, Some, None, sym, refl, ap, ◌∙◌, ◌⊎◌, inl, inr}
->>>>>>> leases
 use Rattle.std.proofs.lemmas.Bool.{true≢false}
 use Rattle.std.proofs.lemmas.List.Elements.{All-push, All-weaker}
 use Rattle.std.proofs.lemmas.List.Folds.{list_any-append}
@@ -11,11 +7,7 @@ use Rattle.std.specs.Prelude.{Result, Ok, Err, OnOk, OnErr, MatchOption, is_some
 use Rattle.std.specs.List.{list_any}
 use Rattle.std.specs.BTreeMap.{insert_entry}
 use Rattle.std.specs.declared.cmp.Ordering.{Ordering}
-<<<<<<< HEAD
-use Rattle.std.specs.declared.cmp.Ordering.TheVariants.{Less, Equal, Greater}
-=======
 use Rattle.std.specs.declared.cmp.Ordering.TheVariants.{Equal}
->>>>>>> leases
 use Rattle.audit_expiry.specs.Leases.{is_same, value_at, Puts, PutsAll}
 use Rattle.audit_expiry.specs.Growth.{Grew, Adds, HasEach, KeepsOthers}
 use Rattle.audit_expiry.proofs.Growth.{grew_more}
@@ -65,75 +57,44 @@ module _ {K V : Type 0} (order : K → K → Ordering) where
       → Adds order old new key value noted noted' → HasEach order old keys → HasEach order new (keys ++ key ∷ [])
   has_more old new keys key value noted noted' same adds has =
       elim (adds_cases old new key value noted noted' adds) [
-<<<<<<< HEAD
-        inl fresh ↦ All-push (λ k. IsSome (value_at order new k)) keys key (has_put old new keys key value fresh.1.1 has) (some_put old new key value same fresh.1.1)
-      | inr there ↦ rw there.1.0 (All-push (λ k. IsSome (value_at order old k)) keys key has there.0) ]
-=======
         | inl fresh ↦ All-push (λ k. IsSome (value_at order new k)) keys key (has_put old new keys key value fresh.1.1 has) (some_put old new key value same fresh.1.1)
         | inr there ↦ rw there.1.0 (All-push (λ k. IsSome (value_at order old k)) keys key has there.0)
       ]
->>>>>>> leases
 
   pub keeps_more : (before old new : List (K × V)) (keys : List K) (key : K) (value : V) (noted noted' : List K)
       → Adds order old new key value noted noted' → KeepsOthers order before old keys → KeepsOthers order before new (keys ++ key ∷ [])
   keeps_more before old new keys key value noted noted' adds keeps q h =
       let parts : (list_any (λ k. is_same order k q) keys ≡ false) × (is_same order key q ≡ false) = neither _ _ (sym (list_any-append _ keys (key ∷ [])) ∙ h) in
       elim (adds_cases old new key value noted noted' adds) [
-<<<<<<< HEAD
-        inl fresh ↦ rw (fresh.1.1 q, parts.1) (keeps q parts.0)
-      | inr there ↦ rw there.1.0 (keeps q parts.0) ]
-=======
         | inl fresh ↦ rw (fresh.1.1 q, parts.1) (keeps q parts.0)
         | inr there ↦ rw there.1.0 (keeps q parts.0)
       ]
->>>>>>> leases
 
   pub grew_adds : (before old new : List (K × V)) (key : K) (value : V) (noted noted' : List K)
       → Adds order old new key value noted noted' → Grew order value before noted old → Grew order value before noted' new
   grew_adds before old new key value noted noted' adds grew =
       elim (adds_cases old new key value noted noted' adds) [
-<<<<<<< HEAD
-        inl fresh ↦ rw (fresh.1.2, fresh.1.0) (grew_more order value before noted old key grew fresh.0)
-      | inr there ↦ rw (there.1.1, there.1.0) grew ]
-=======
         | inl fresh ↦ rw (fresh.1.2, fresh.1.0) (grew_more order value before noted old key grew fresh.0)
         | inr there ↦ rw (there.1.1, there.1.0) grew
       ]
->>>>>>> leases
 
   -- one more key got the value
   pub puts_more : (before old new : List (K × V)) (keys : List K) (key : K) (value : V) → PutsAll order before old keys value
       → Puts order old new key value → PutsAll order before new (keys ++ key ∷ []) value
   puts_more before old new keys key value all puts q =
       rw (list_any-append (λ k. is_same order k q) keys (key ∷ []), puts q, all q) (both_ways (list_any _ keys) (is_same order key q) _ _)
-<<<<<<< HEAD
-   where
-    both_ways : (a b : Bool) (x y : Option V) → (if b then x else (if a then x else y)) ≡ (if (a || (b || false)) then x else y)
-    both_ways true true x y = refl
-    both_ways true false x y = refl
-    both_ways false true x y = refl
-    both_ways false false x y = refl
-=======
     where
       both_ways : (a b : Bool) (x y : Option V) → (if b then x else (if a then x else y)) ≡ (if (a || (b || false)) then x else y)
       both_ways true true x y = refl
       both_ways true false x y = refl
       both_ways false true x y = refl
       both_ways false false x y = refl
->>>>>>> leases
 
   -- keys that have something get the value after what other keys have stayed
   pub puts_all : (before middle after : List (K × V)) (keys : List K) (value : V) → KeepsOthers order before middle keys
       → PutsAll order middle after keys value → PutsAll order before after keys value
   puts_all before middle after keys value keeps puts q = rw (puts q) (same_choice (list_any _ keys) _ _ _ (keeps q))
-<<<<<<< HEAD
-   where
-    same_choice : (a : Bool) (x y z : Option V) → (a ≡ false → y ≡ z) → (if a then x else y) ≡ (if a then x else z)
-    same_choice true x y z h = refl
-    same_choice false x y z h = h refl
-=======
     where
       same_choice : (a : Bool) (x y z : Option V) → (a ≡ false → y ≡ z) → (if a then x else y) ≡ (if a then x else z)
       same_choice true x y z h = refl
       same_choice false x y z h = h refl
->>>>>>> leases

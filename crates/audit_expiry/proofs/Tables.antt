@@ -1,9 +1,5 @@
 -- Lemmas on the entries of a table.
-<<<<<<< HEAD
-use Rattle.std.proofs.Common.{◌≡◌, Bool, true, false, cond, List, [], ◌∷◌, Option, Some, None, sym, subst, refl}
-=======
 use Rattle.std.proofs.Common.{◌≡◌, cond, List, [], ◌∷◌, Option, Some, sym, subst, refl}
->>>>>>> leases
 use Rattle.std.proofs.lemmas.Option.{none-some, same_Some}
 use Rattle.std.specs.List.{AllByRecursion}
 use Rattle.std.specs.declared.cmp.Ordering.{Ordering}

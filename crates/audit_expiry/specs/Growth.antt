@@ -1,9 +1,5 @@
 -- Keys added to a table one by one, so that they can be taken out again.
-<<<<<<< HEAD
-use Rattle.std.specs.Prelude.{List, [], ◌∷◌, ◌++◌, Option, None, false, ◌≡◌, MatchOption, IsSome, All}
-=======
 use Rattle.std.specs.Prelude.{List, [], ◌∷◌, ◌++◌, None, false, ◌≡◌, MatchOption, IsSome, All}
->>>>>>> leases
 use Rattle.std.specs.declared.cmp.Ordering.{Ordering}
 use Rattle.std.specs.List.{list_any}
 use Rattle.std.specs.BTreeMap.{insert_entry}

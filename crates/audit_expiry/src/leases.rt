@@ -140,13 +140,8 @@ impl<K: Ord + Copy, V: Copy> Leases<K, V> {
     fn take_out(&mut self, mut added: Vec<K>)
         ensures { (before : List (K × V)) → (value : V) → Grew K.cmp value before added.items self.old → self.new ≡ before }
     {
-<<<<<<< HEAD
-        while let Some(key) = added.pop() {
-            self.values.remove(&key);
-=======
         while let Some(last) = added.pop() {
             self.values.remove(&last);
->>>>>>> leases
         }
     }
 }

@@ -3,13 +3,10 @@
 
 mod lease;
 mod leases;
-<<<<<<< HEAD
-=======
 #[cfg(test)]
 mod tests;
 #[cfg(test)]
 mod usage;
->>>>>>> leases
 
 pub use lease::Lease;
 pub use leases::{ExactKey, Leases};

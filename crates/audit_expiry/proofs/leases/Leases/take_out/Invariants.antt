@@ -3,15 +3,6 @@ use Rattle.audit_expiry.specs.Growth.{Grew}
 use Rattle.audit_expiry.proofs.leases.Leases.take_out.Given as goal
 
 -- what grew by all that was added has grown by what is left of that
-<<<<<<< HEAD
-abbrev pub invariant-loop-key : goal.invariant-loop-key
-invariant-loop-key g l =
-    (before : List (g.row.K.Denot × g.row.V.Denot)) (value : g.row.V.Denot) → Grew g.K.Ord.cmp value before l.fn.added.items l.fn.self
-    → Grew g.K.Ord.cmp value before l.added.items l.self-inside.values.entries
-
-abbrev pub decreases-loop-key : goal.decreases-loop-key
-decreases-loop-key g l = goal.left-loop-key g l
-=======
 abbrev pub invariant-loop-last : goal.invariant-loop-last
 invariant-loop-last g l =
     (before : List (g.row.K.Denot × g.row.V.Denot)) (value : g.row.V.Denot) → Grew g.K.Ord.cmp value before l.fn.added.items l.fn.self
@@ -19,4 +10,3 @@ invariant-loop-last g l =
 
 abbrev pub decreases-loop-last : goal.decreases-loop-last
 decreases-loop-last g l = goal.left-loop-last g l
->>>>>>> leases
