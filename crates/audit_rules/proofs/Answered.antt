@@ -25,7 +25,7 @@ use Rattle.audit_rules.specs.Checks.{WithAllocation, SaysChannel, binding_checks
 use Rattle.audit_rules.specs.FirstRule.{made_it}
 use Rattle.audit_rules.proofs.Facts.{some_and, has_some, both_some, authentic, authentic_as}
 
-abbrev Served : Situation → Type 0
+abbrev pub Served : Situation → Type 0
 Served x = IsTrue (listens x.policy x.listen)
 
 pub binding_may : (x : Situation) → Served x → IsResponse x Success BINDING → AllHold (binding_checks x) → MayAnswer x Same
@@ -38,11 +38,11 @@ error_may x served response all =
     let s = some_and (code_of (answered x)) (Fits x) all.1.0 in
     (served, ErrorCase, (record { response = response; code = s.0; tells = s.1; fits = s.2 }, refl))
 
-made_is : (x : Situation) (found : Option Allocation) → made_it x found ≡ true → IsSomeAnd found (λ a. UsableNow x a.until × (a.id ≡ (asked x).tid))
+pub made_is : (x : Situation) (found : Option Allocation) → made_it x found ≡ true → IsSomeAnd found (λ a. UsableNow x a.until × (a.id ≡ (asked x).tid))
 made_is x None e = absurd cc
 made_is x (Some a) e = (grind (arith, nat_tests, bytes_eq-Decides, e), grind (arith, nat_tests, bytes_eq-Decides, e))
 
-not_made : (x : Situation) (found : Option Allocation) → made_it x found ≡ false → IsSomeAnd found (λ a. UsableNow x a.until × (a.id ≡ (asked x).tid)) → ⊥
+pub not_made : (x : Situation) (found : Option Allocation) → made_it x found ≡ false → IsSomeAnd found (λ a. UsableNow x a.until × (a.id ≡ (asked x).tid)) → ⊥
 not_made x None e h = absurd h
 not_made x (Some a) e h = grind (arith, nat_tests, bytes_eq-Decides, e, h)
 

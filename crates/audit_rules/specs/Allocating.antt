@@ -1,3 +1,4 @@
+-- docs/RULES.md, New allocation, Repeated allocation and Refresh.
 -- When an allocation may be made, told again, renewed or removed (RFC 8656, sections 6 to 8).
 use Rattle.std.specs.Prelude.{◌≡◌, ◌⊎◌, ◌↔◌, ℕ, ◌*◌, ◌%◌, ◌<◌, ◌==◌, if◌then◌else◌, List, Some, None, IsSome, IsTrue}
 use Rattle.audit_model.specs.declared.address.Addr.{Addr}

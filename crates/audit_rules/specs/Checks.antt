@@ -1,3 +1,4 @@
+-- docs/RULES.md, The answers.
 -- The checks of each of the eleven answers, in the order in which they are told.
 use Rattle.std.specs.Prelude.{◌≡◌, ◌≢◌, ◌⊎◌, ◌↔◌, ℕ, ◌<◌, ◌≤◌, List, [], ◌∷◌, Some, length, IsSome, IsSomeAnd}
 use Rattle.audit_model.specs.declared.address.Addr.{Addr}

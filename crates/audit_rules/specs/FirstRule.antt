@@ -1,3 +1,4 @@
+-- docs/RULES.md, Which answer.
 -- The first rule that an act breaks: which answer it is by its paths and its first bytes, and then that answer's checks.
 use Rattle.std.specs.Prelude.{◌≡◌, ◌⊎◌, ℕ, ◌/◌, Bool, true, false, ◌&&◌, ◌==◌, List, [], ◌∷◌, Option, Some, None, IsTrue}
 use Rattle.std.specs.Str.{bytes_eq}

@@ -1,3 +1,4 @@
+-- docs/RULES.md, CreatePermission and ChannelBind.
 -- When permissions may be granted and channels bound (RFC 8656, sections 9 to 12).
 use Rattle.std.specs.Prelude.{◌≡◌, ◌↔◌, ℕ, ◌<◌, ◌≤◌, List, Some, length}
 use Rattle.audit_model.specs.declared.address.Addr.{Addr}

@@ -1,3 +1,4 @@
+-- docs/RULES.md, Send, Channel data up, Data and Channel data down.
 -- When a datagram may be relayed (RFC 8656, sections 11 and 12). What is sent on is what arrived, be it of no bytes.
 use Rattle.std.specs.Prelude.{◌≡◌, ℕ, ◌≤◌, Some}
 use Rattle.audit_stun.specs.declared.class.Class.TheVariants.{Indication}

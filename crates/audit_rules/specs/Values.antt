@@ -1,5 +1,5 @@
 -- What the attributes of a message say (RFC 8656, section 18; RFC 8489, section 14).
-use Rattle.std.specs.Prelude.{◌≡◌, ℕ, List, [], ◌∷◌, Option, Some, None, option_map}
+use Rattle.std.specs.Prelude.{◌≡◌, ℕ, List, [], ◌∷◌, Option, Some, None, option_map, ◌<◌, slice_index_or}
 use Rattle.std.specs.Int.{w16, w32, from_be_bytes}
 use Rattle.std.specs.Option.{option_and_then}
 use Rattle.audit_model.specs.declared.address.Addr.{Addr}
@@ -8,6 +8,10 @@ use Rattle.audit_stun.specs.Message.{Parts}
 use Rattle.audit_stun.specs.Counted.{first_of, all_of}
 use Rattle.audit_stun.specs.XorAddress.{address_of}
 use Rattle.audit_stun.specs.ErrorCode.{error_code_of}
+
+-- each is a byte
+abbrev pub AreBytes : List ℕ → Type 0
+AreBytes bytes = (i : ℕ) → slice_index_or bytes i 0 < 256
 
 -- the first attribute of this type that counts has this value
 abbrev pub Has : ℕ → Parts → List ℕ → Type 0

@@ -1,4 +1,4 @@
-//! An Allocate request and its success (RFC 8656, sections 6 and 7).
+//! An Allocate request and its success (RFC 8656, sections 6 and 7). See docs/RULES.md, New allocation and Repeated allocation.
 
 ghost use Rattle.std.specs.Prelude.{◌≡◌, ◌↔◌, IsTrue, Some, None, MatchResult, MatchOption};
 ghost use Rattle.audit_stun.specs.declared.numbers.attribute.TheConstants.{XOR_RELAYED_ADDRESS};

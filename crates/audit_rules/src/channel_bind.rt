@@ -1,4 +1,4 @@
-//! A ChannelBind request and its success (RFC 8656, section 12).
+//! A ChannelBind request and its success (RFC 8656, section 12). See docs/RULES.md, ChannelBind.
 
 ghost use Rattle.std.specs.Prelude.{◌≡◌, ◌↔◌, Some, false, IsTrue, MatchResult};
 ghost use Rattle.audit_stun.specs.declared.numbers.attribute.TheConstants as attributes;

@@ -1,4 +1,4 @@
-//! A peer's datagram and the ChannelData that takes it to the client (RFC 8656, section 12.7).
+//! A peer's datagram and the ChannelData that takes it to the client (RFC 8656, section 12.7). See docs/RULES.md, Channel data down.
 
 ghost use Rattle.std.specs.Prelude.{◌≡◌, ℕ, List, Some, MatchResult};
 ghost use Rattle.audit_stun.specs.ChannelData.{channel_data_of};

@@ -1,4 +1,4 @@
-//! ChannelData of the client and the datagram that it sends to a peer (RFC 8656, section 12.6).
+//! ChannelData of the client and the datagram that it sends to a peer (RFC 8656, section 12.6). See docs/RULES.md, Channel data up.
 
 ghost use Rattle.std.specs.Prelude.{◌≡◌, ℕ, List, Some, MatchResult};
 ghost use Rattle.audit_stun.specs.ChannelData.{channel_data_of};

@@ -1,4 +1,4 @@
-//! A peer's datagram and the Data indication that takes it to the client (RFC 8656, section 11.3).
+//! A peer's datagram and the Data indication that takes it to the client (RFC 8656, section 11.3). See docs/RULES.md, Data.
 
 ghost use Rattle.std.specs.Prelude.{◌≡◌, MatchResult};
 ghost use Rattle.audit_rules.specs.Check.{AllHold, FirstFails};

@@ -1,4 +1,4 @@
-//! An error response (RFC 8489, section 6.3.4; RFC 8656, sections 5, 7.2 and 8.2).
+//! An error response (RFC 8489, section 6.3.4; RFC 8656, sections 5, 7.2 and 8.2). See docs/RULES.md, Error.
 
 ghost use Rattle.std.specs.Prelude.{◌≡◌, ◌↔◌, IsTrue, MatchResult};
 ghost use Rattle.audit_rules.specs.Situation.{asked};

@@ -15,6 +15,7 @@ pub mod effect;
 pub mod error;
 mod fault;
 pub mod judging;
+pub mod laws;
 mod path;
 pub mod permission;
 pub mod refresh;

@@ -1,4 +1,4 @@
-//! A CreatePermission request and its success (RFC 8656, section 10).
+//! A CreatePermission request and its success (RFC 8656, section 10). See docs/RULES.md, CreatePermission.
 
 ghost use Rattle.std.specs.Prelude.{◌≡◌, Some, IfOk, MatchResult, option_map};
 ghost use Rattle.audit_stun.specs.Parts.{parts_of};

@@ -1,4 +1,4 @@
-//! A Refresh request and its success (RFC 8656, section 8).
+//! A Refresh request and its success (RFC 8656, section 8). See docs/RULES.md, Refresh.
 
 ghost use Rattle.std.specs.Prelude.{◌≡◌, ◌↔◌, IsTrue, Some, MatchResult};
 ghost use Rattle.audit_rules.specs.Situation.{asked, answered};

@@ -1,4 +1,4 @@
-//! A Send indication and the datagram that it sends to a peer (RFC 8656, sections 11.1 and 11.2).
+//! A Send indication and the datagram that it sends to a peer (RFC 8656, sections 11.1 and 11.2). See docs/RULES.md, Send.
 
 ghost use Rattle.std.specs.Prelude.{◌≡◌, MatchResult};
 ghost use Rattle.audit_rules.specs.Check.{AllHold, FirstFails};
