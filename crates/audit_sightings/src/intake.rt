@@ -1,5 +1,7 @@
 //! What is taken in of the captures.
 
+ghost use Rattle.std.specs.Prelude.{◌≤◌, vec_len};
+
 use crate::fault::{IntakeFault, IntakeFaultKind};
 use crate::rows::Rows;
 use crate::taking::{take_packet, take_packets};
@@ -9,8 +11,6 @@ use std::alloc::Global;
 
 /// How many files there may be.
 pub const MAX_FILES: usize = 16;
-
-ghost use Rattle.std.specs.Prelude.{◌≤◌, vec_len};
 
 /// The sightings of the captures that it was fed, and the policy that says what the service is.
 #[derive(Drop)]
@@ -26,7 +26,6 @@ pub struct Intake {
 
 impl Intake {
     ghost use Rattle.std.specs.Prelude.{◌≡◌, ◌<◌, ◌+◌, ℕ, List, [], ◌∷◌, ◌++◌, length, vec_len, OnOk, OnErr, IfOk, IfErr, IfSome, IfNone, IsOkUnless, option_copied, Some, None, Err};
-    ghost use Rattle.audit_pcapng.specs.Captures.{Ends};
     ghost use Rattle.audit_sightings.specs.Rows.{Grows, IsNumbered, count_of};
     ghost use Rattle.audit_sightings.specs.Intake.{taken, sighting_at, interface_at};
     ghost use Rattle.audit_sightings.specs.Amid.{Amid};
