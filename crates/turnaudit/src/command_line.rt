@@ -45,8 +45,13 @@ fn check_command<'a>(alloc: Global) -> Result<Command<'a>, AllocError> {
         .num_args(1..)
         .action(ArgAction::Append);
     let policy = file_option(alloc, "policy", "P", "Which endpoints are the server's");
-    let credentials =
-        file_option(alloc, "creds", "C", "The server's users and their passwords").required(false);
+    let credentials = file_option(
+        alloc,
+        "creds",
+        "C",
+        "The server's users and their passwords",
+    )
+    .required(false);
     let certificate = file_option(alloc, "cert", "F", "Where each datagram is placed");
     Command::new(alloc, "check")
         .arg(policy)?
