@@ -1,4 +1,4 @@
-# turnaudit: `make demo` judges a stored capture, `make test` runs the gate.
+# turnaudit: `make demo` judges a stored capture, `make test` runs the gate and judges the captures of real servers.
 
 DATA = data
 
@@ -8,6 +8,8 @@ DATA = data
 demo:
 	@cd crates/turnaudit && rt run -- check --policy $(DATA)/policy --cert $(DATA)/certificate $(DATA)/binding.pcapng
 
-# Proves every crate from nothing, tries the must-fail edits, and runs the tests and the program.
+# Proves every crate from nothing, tries the must-fail edits, and runs the tests and the program; then, with the program that this
+# built, judges the captures in examples.
 test:
 	rt ci
+	tests/captures.sh crates/turnaudit/out/turnaudit

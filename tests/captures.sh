@@ -1,0 +1,52 @@
+#!/bin/bash
+# captures.sh PROGRAM: judges the captures of real servers in examples/ and compares with what is expected.
+#
+# Of each folder: status, and the answer but for the moment, which the certificate chooses; and the number of sightings of each interface,
+# seen by placing one more than the last (S3, no such sighting) and the last (another rule) at moment 0.
+program=$(realpath "$1") || exit 1
+cd "$(dirname "$0")/../examples" || exit 1
+scratch=$(mktemp -d)
+trap 'rm -rf "$scratch"' EXIT
+passed=0
+failed=0
+
+tell() { # NAME OK
+    if [ "$2" = yes ]; then
+        passed=$((passed + 1))
+    else
+        failed=$((failed + 1))
+        echo "failed: $1"
+    fi
+}
+
+without_moment() {
+    sed 's/ moment .*//' "$1"
+}
+
+names_of() {
+    if [ -f client.pcapng ]; then echo client.pcapng peer.pcapng; else echo cap.pcapng; fi
+}
+
+rule_of_drop() { # SIGHT
+    printf 'turnaudit-certificate 1\ndrop %s 0 0\nend\n' "$1" > "$scratch/drop"
+    "$program" check --policy policy --cert "$scratch/drop" $(names_of) 2>&1 | sed -n 's/^rule \(S[0-9]*\) .*/\1/p'
+}
+
+for folder in */; do
+    cd "$folder" || exit 1
+    "$program" check --policy policy --creds creds --cert certificate $(names_of) > "$scratch/answer" 2>&1
+    status=$?
+    same=no
+    if [ "$status" = "$(cat status)" ] && [ "$(without_moment "$scratch/answer")" = "$(without_moment expected)" ]; then same=yes; fi
+    tell "${folder%/}" "$same"
+    if [ -f sightings ]; then
+        while read -r interface count; do
+            same=no
+            if [ "$(rule_of_drop "$interface.$count")" = S3 ] && [ "$(rule_of_drop "$interface.$((count - 1))")" = S4 ]; then same=yes; fi
+            tell "${folder%/} interface $interface" "$same"
+        done < sightings
+    fi
+    cd ..
+done
+echo "$passed passed, $failed failed"
+[ "$failed" = 0 ]
