@@ -17,13 +17,10 @@ ghost use Rattle.audit_rules.specs.Seen.{situation};
 use crate::acts::Act;
 use crate::credentials::{authenticated, signed_back};
 use crate::table::Allocation;
-use crate::values::{address_in, family_in, lifetime_in, transport_in};
+use crate::values::{UDP, address_in, family_in, lifetime_in, transport_in};
 use audit_model::{Addr, Rule};
 use audit_stun::Message;
 use audit_stun::numbers::attribute::{EVEN_PORT, XOR_MAPPED_ADDRESS, XOR_RELAYED_ADDRESS};
-
-/// The protocol number of UDP.
-const UDP: u8 = 17;
 
 /// The family of IPv4 addresses (RFC 8656, section 18.6).
 const IPV4: u8 = 1;

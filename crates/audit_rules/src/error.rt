@@ -9,14 +9,11 @@ ghost use Rattle.audit_rules.specs.Seen.{situation};
 
 use crate::acts::Act;
 use crate::credentials::authenticated;
-use crate::values::{error_code_in, transport_in};
+use crate::values::{UDP, error_code_in, transport_in};
 use audit_model::Rule;
 use audit_stun::Message;
 use audit_stun::numbers::attribute::{NONCE, REALM, UNKNOWN_ATTRIBUTES};
 use audit_stun::numbers::method::ALLOCATE;
-
-/// The protocol number of UDP.
-const UDP: u8 = 17;
 
 /// Whether another transport than UDP is asked for.
 fn asks_other_transport(act: &Act<'_, '_>, request: &Message<'_>) -> bool

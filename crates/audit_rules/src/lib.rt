@@ -2,29 +2,30 @@
 #![tactic(auto)]
 
 mod acting;
-pub mod acts;
-pub mod allocate;
-pub mod binding;
+mod acts;
+mod allocate;
+mod binding;
 mod change;
-pub mod channel_bind;
-pub mod channel_down;
-pub mod channel_up;
+mod channel_bind;
+mod channel_down;
+mod channel_up;
 mod credentials;
-pub mod data;
-pub mod effect;
-pub mod error;
+mod data;
+mod effect;
+mod error;
 mod fault;
-pub mod judging;
+mod judging;
 pub mod laws;
 mod path;
-pub mod permission;
-pub mod refresh;
-pub mod responses;
-pub mod send;
+mod permission;
+mod refresh;
+mod responses;
+mod send;
 mod table;
 mod values;
 
 pub use acting::act;
+pub use acts::Act;
 pub use credentials::CredRow;
 pub use fault::ActFault;
 pub use table::LaneTable;

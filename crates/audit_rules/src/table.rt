@@ -32,11 +32,11 @@ pub struct Allocation {
 /// The table of one lane: what the server has for its client at its listen address.
 #[derive(Debug, Drop)]
 pub struct LaneTable {
-    pub allocation: Option<Allocation>,
-    pub client: Addr,
-    pub listen: Addr,
+    pub(crate) allocation: Option<Allocation>,
+    pub(crate) client: Addr,
+    pub(crate) listen: Addr,
     /// The lane's number.
-    pub lane: u32,
+    pub(crate) lane: u32,
 }
 
 impl LaneTable {
@@ -45,7 +45,7 @@ impl LaneTable {
 
     /// A table with no allocation. It takes no memory.
     pub fn new(lane: u32, client: Addr, listen: Addr) -> LaneTable
-        ensures { result ≡ record { allocation = None; client = client; listen = listen; lane = lane } }
+        ensures { standing result ≡ record { client = client; listen = listen; lane = lane; allocation = None; tenancy = None } }
     {
         LaneTable {
             allocation: None,
@@ -54,6 +54,7 @@ impl LaneTable {
             lane,
         }
     }
+
     /// The tenancy of the allocation that is there, from the act that made it. It takes no memory.
     pub fn running(&self) -> Option<Tenancy>
         ensures { result ≡ (standing self.now).tenancy }

@@ -10,6 +10,9 @@ use audit_stun::numbers::attribute::{
 };
 use audit_stun::{Message, address, error_code};
 
+/// The protocol number of UDP in REQUESTED-TRANSPORT (RFC 8656, section 18.8).
+pub const UDP: u8 = 17;
+
 /// The address in the first attribute of this type; None where there is none that can be read.
 pub fn address_in(message: &Message<'_>, kind: u16) -> Option<Addr>
     ensures { result ≡ address_named kind (parts_of message.now) }
