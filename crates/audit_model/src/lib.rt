@@ -4,6 +4,7 @@
 mod address;
 mod certificate;
 mod event;
+mod extension;
 mod listed;
 mod policy;
 mod policy_fault;
@@ -18,6 +19,7 @@ mod write_fault;
 pub use address::{Addr, read_ip, read_port};
 pub use certificate::{CertDrop, CertLane, Certificate, MAX_EVENTS, MAX_LANES};
 pub use event::{At, Event, Key};
+pub use extension::Extension;
 pub use listed::Listed;
 pub use policy::{Policy, PortRange};
 pub use policy_fault::{PolicyFault, PolicyFaultKind};

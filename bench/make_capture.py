@@ -1,0 +1,181 @@
+#!/usr/bin/env python3
+"""Makes captures of a TURN server that keeps to RFC 8656: CLIENTS clients that exchange DATAGRAMS datagrams in all.
+
+    python3 bench/make_capture.py FOLDER [--clients 24] [--datagrams 1000000] [--offset-us 0] [--loss 0]
+
+It writes FOLDER/client.pcapng and FOLDER/peer.pcapng, one interface each, with FOLDER/policy and FOLDER/creds. Each client
+allocates (challenged by a 401 first), asks for a permission or binds a channel, exchanges data with its peer, refreshes, and
+deletes its allocation. The clock of the peer side is OFFSET-US microseconds ahead of the other one's, LOSS of a thousand
+datagrams from a peer reach the server and go no further.
+"""
+
+import argparse
+import hashlib
+import hmac
+import pathlib
+import random
+import struct
+
+COOKIE = 0x2112A442
+SERVER = ("192.0.2.1", 3478)
+BINDING_TYPES = {"allocate": 0x003, "refresh": 0x004, "send": 0x016, "data": 0x017, "permission": 0x008, "channel": 0x009}
+SUCCESS = 0x100
+ERROR = 0x110
+USERNAME, INTEGRITY, ERROR_CODE, CHANNEL_NUMBER = 0x0006, 0x0008, 0x0009, 0x000C
+LIFETIME, PEER, DATA, REALM, NONCE = 0x000D, 0x0012, 0x0013, 0x0014, 0x0015
+RELAYED, TRANSPORT, MAPPED = 0x0016, 0x0019, 0x0020
+SECTION = struct.pack("<IIIHHqI", 0x0A0D0D0A, 28, 0x1A2B3C4D, 1, 0, -1, 28)
+INTERFACE = struct.pack("<IIHHII", 1, 20, 1, 0, 262144, 20)
+
+
+def ip_bytes(ip):
+    return bytes(int(part) for part in ip.split("."))
+
+
+def address(endpoint):
+    """The value of an attribute that holds an address, exclusive-or'd with the cookie."""
+    ip, port = endpoint
+    number = struct.unpack(">I", ip_bytes(ip))[0]
+    return struct.pack(">BBHI", 0, 1, port ^ (COOKIE >> 16), number ^ COOKIE)
+
+
+def message(kind, transaction, attributes, key=None):
+    """A STUN message, signed where there is a key."""
+    body = b"".join(struct.pack(">HH", number, len(value)) + value + bytes(-len(value) % 4) for number, value in attributes)
+    if key is not None:
+        head = struct.pack(">HHI", kind, len(body) + 24, COOKIE) + transaction
+        body += struct.pack(">HH", INTEGRITY, 20) + hmac.new(key, head + body, hashlib.sha1).digest()
+    return struct.pack(">HHI", kind, len(body), COOKIE) + transaction + body
+
+
+class Side:
+    """One interface's capture."""
+
+    def __init__(self, path, offset):
+        self.out = path.open("wb")
+        self.out.write(SECTION + INTERFACE)
+        self.offset = offset
+
+    def put(self, moment, source, target, payload):
+        """A datagram at a moment in microseconds."""
+        udp = struct.pack(">HHHH", source[1], target[1], 8 + len(payload), 0) + payload
+        ip = struct.pack(">BBHHHBBH", 0x45, 0, 20 + len(udp), 0, 0, 64, 17, 0) + ip_bytes(source[0]) + ip_bytes(target[0])
+        frame = bytes([2, 0, 0, 0, 0, 1, 2, 0, 0, 0, 0, 2, 8, 0]) + ip + udp
+        stamp = moment + self.offset
+        size = 32 + len(frame) + -len(frame) % 4
+        head = struct.pack("<IIIIIII", 6, size, 0, stamp >> 32, stamp & 0xFFFFFFFF, len(frame), len(frame))
+        self.out.write(head + frame + bytes(-len(frame) % 4) + struct.pack("<I", size))
+
+
+class Client:
+    """A client with an allocation and one peer."""
+
+    def __init__(self, number, sides):
+        self.sides = sides
+        self.endpoint = (f"198.51.{100 + number // 250}.{1 + number % 250}", 40000)
+        self.relayed = ("192.0.2.1", 49152 + number)
+        self.peer = (f"203.0.{113 + number // 250}.{1 + number % 250}", 7000)
+        self.name = f"user{number}"
+        self.key = hashlib.md5(f"{self.name}:example.org:secret".encode()).digest()
+        self.channel = 0x4000 + number % 0x1000 if number % 2 else None
+        self.count = 0
+        self.number = number
+
+    def transaction(self):
+        self.count += 1
+        return struct.pack(">II", self.number, self.count) + b"turn"
+
+    def request(self, moment, name, attributes, answer, challenged=False):
+        """A signed request and its success, or an Allocate and the error that asks for credentials."""
+        client, _ = self.sides
+        id = self.transaction()
+        kind = BINDING_TYPES[name]
+        if challenged:
+            client.put(moment, self.endpoint, SERVER, message(kind, id, attributes))
+            error = [(ERROR_CODE, bytes([0, 0, 4, 1]) + b"Unauthorized"), (REALM, b"example.org"), (NONCE, b"nonce")]
+            client.put(moment + 20, SERVER, self.endpoint, message(kind | ERROR, id, error))
+            return
+        named = [(USERNAME, self.name.encode()), (REALM, b"example.org"), (NONCE, b"nonce")]
+        client.put(moment, self.endpoint, SERVER, message(kind, id, attributes + named, self.key))
+        client.put(moment + 20, SERVER, self.endpoint, message(kind | SUCCESS, id, answer, self.key))
+
+    def open(self, moment):
+        asks = [(TRANSPORT, bytes([17, 0, 0, 0]))]
+        self.request(moment, "allocate", asks, [], challenged=True)
+        gives = [(RELAYED, address(self.relayed)), (LIFETIME, struct.pack(">I", 600)), (MAPPED, address(self.endpoint))]
+        self.request(moment + 100, "allocate", asks, gives)
+        self.renew(moment + 200)
+
+    def renew(self, moment):
+        if self.channel is None:
+            self.request(moment, "permission", [(PEER, address(self.peer))], [])
+        else:
+            number = struct.pack(">HH", self.channel, 0)
+            self.request(moment, "channel", [(CHANNEL_NUMBER, number), (PEER, address(self.peer))], [])
+
+    def refresh(self, moment, seconds):
+        lifetime = struct.pack(">I", seconds)
+        self.request(moment, "refresh", [(LIFETIME, lifetime)], [(LIFETIME, lifetime)])
+
+    def to_peer(self, moment, data):
+        client, peer = self.sides
+        if self.channel is None:
+            sent = message(BINDING_TYPES["send"], self.transaction(), [(PEER, address(self.peer)), (DATA, data)])
+        else:
+            sent = struct.pack(">HH", self.channel, len(data)) + data + bytes(-len(data) % 4)
+        client.put(moment, self.endpoint, SERVER, sent)
+        peer.put(moment + 10, self.relayed, self.peer, data)
+
+    def from_peer(self, moment, data, lost):
+        client, peer = self.sides
+        peer.put(moment, self.peer, self.relayed, data)
+        if lost:
+            return
+        if self.channel is None:
+            given = message(BINDING_TYPES["data"], self.transaction(), [(PEER, address(self.peer)), (DATA, data)])
+        else:
+            given = struct.pack(">HH", self.channel, len(data)) + data
+        client.put(moment + 10, SERVER, self.endpoint, given)
+
+
+def main():
+    words = argparse.ArgumentParser(description="Makes captures of a TURN server that keeps to its rules.")
+    words.add_argument("folder", type=pathlib.Path)
+    words.add_argument("--clients", type=int, default=24)
+    words.add_argument("--datagrams", type=int, default=1_000_000)
+    words.add_argument("--offset-us", type=int, default=0)
+    words.add_argument("--loss", type=int, default=0)
+    asked = words.parse_args()
+    chance = random.Random(1)
+    asked.folder.mkdir(parents=True, exist_ok=True)
+    (asked.folder / "policy").write_text("turnaudit-policy 1\nlisten 192.0.2.1:3478\nrelay 192.0.2.1:49152-65535\n")
+    users = (f"user{number}\texample.org\tsecret\n" for number in range(asked.clients))
+    (asked.folder / "creds").write_text("".join(users))
+    sides = (Side(asked.folder / "client.pcapng", 0), Side(asked.folder / "peer.pcapng", asked.offset_us))
+    clients = [Client(number, sides) for number in range(asked.clients)]
+    moment = 1_700_000_000_000_000
+    for client in clients:
+        client.open(moment)
+        moment += 1000
+    renewed = moment
+    for number in range(max(0, (asked.datagrams - 10 * asked.clients) // 2)):
+        if moment - renewed > 200_000_000:
+            for client in clients:
+                client.refresh(moment, 600)
+                client.renew(moment + 100)
+                moment += 1000
+            renewed = moment
+        client = clients[number % asked.clients]
+        data = struct.pack(">I", number if chance.random() < 0.9 else 0) + bytes(chance.randrange(20, 160))
+        if chance.random() < 0.5:
+            client.to_peer(moment, data)
+        else:
+            client.from_peer(moment, data, chance.randrange(1000) < asked.loss)
+        moment += 40
+    for client in clients:
+        client.refresh(moment, 0)
+        moment += 1000
+
+
+if __name__ == "__main__":
+    main()

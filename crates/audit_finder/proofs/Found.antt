@@ -1,0 +1,52 @@
+-- What a certificate keeps of what is found.
+use Rattle.std.proofs.Common.{◌≡◌, ◌≤◌, ◌+◌, ℕ, false, List, [], ◌∷◌, All, length, map, take, drop, sum_by, refl, ap, ◌∙◌, arith}
+use Rattle.std.specs.Cmp.{IsEquivalence}
+use Rattle.std.specs.List.{IsDistinct, AllByRecursion}
+use Rattle.std.proofs.lemmas.List.{length-drop, length-take}
+use Rattle.std.proofs.lemmas.Cmp.{nat_eq_equiv, on_equiv, and_equiv}
+use Rattle.std.proofs.lemmas.List.Sums.{sum_by-cons}
+use Rattle.std.proofs.lemmas.List.Elements.{All-nil, All-cons}
+use Rattle.indexmap.proofs.MapLemmas.{distinct-take, distinct-drop}
+use Rattle.audit_model.specs.declared.address.Addr.{Addr}
+use Rattle.audit_model.specs.declared.certificate.CertLane.{CertLane}
+use Rattle.audit_model.specs.EventCount.{event_count}
+use Rattle.audit_model.specs.Lanes.{same_addr, same_lane}
+use Rattle.audit_sightings.specs.Intake.{Taken, NamesWhatIsThere}
+use Rattle.audit_finder.specs.Clients.{Pair, same}
+use Rattle.audit_finder.specs.Found.{pair_of, empty_lane, AllNamed}
+
+same_addr_equiv : IsEquivalence same_addr
+same_addr_equiv = and_equiv (on_equiv (λ (a : Addr). a.ip) nat_eq_equiv) (on_equiv (λ (a : Addr). a.port) nat_eq_equiv)
+
+same_equiv : IsEquivalence same
+same_equiv = and_equiv (on_equiv (λ (p : Pair). p.0) same_addr_equiv) (on_equiv (λ (p : Pair). p.1) same_addr_equiv)
+
+-- some of the pairs are apart where all are
+pub kept_apart : (first count : ℕ) (pairs : List Pair) → IsDistinct same pairs → IsDistinct same (drop first (take count pairs))
+kept_apart first count pairs apart = distinct-drop same_equiv first (take count pairs) (distinct-take same_equiv count pairs apart)
+
+pub kept_few : (first count : ℕ) (pairs : List Pair) → length (drop first (take count pairs)) ≤ count
+kept_few first count pairs = omega (arith, length-drop first (take count pairs), length-take count pairs)
+
+other_lanes : (lane : CertLane) (lanes : List CertLane) → AllByRecursion (λ p. same (pair_of lane) p ≡ false) (map pair_of lanes)
+    → AllByRecursion (λ other. same_lane lane other ≡ false) lanes
+other_lanes lane [] others = tt
+other_lanes lane (x ∷ lanes) others = (others.0, other_lanes lane lanes others.1)
+
+-- lanes are apart where their pairs are
+pub lanes_apart : (lanes : List CertLane) → IsDistinct same (map pair_of lanes) → IsDistinct same_lane lanes
+unfolding IsDistinct
+lanes_apart [] apart = tt
+lanes_apart (x ∷ lanes) apart = (other_lanes x lanes apart.0, lanes_apart lanes apart.1)
+
+pub pairs_of_empty : (pairs : List Pair) → map pair_of (map empty_lane pairs) ≡ pairs
+pairs_of_empty [] = refl
+pairs_of_empty (p ∷ pairs) = ap (λ (ps : List Pair). p ∷ ps) (pairs_of_empty pairs)
+
+pub none_in_empty : (pairs : List Pair) → event_count (map empty_lane pairs) ≡ 0
+none_in_empty [] = refl
+none_in_empty (p ∷ pairs) = omega (arith, sum_by-cons (λ (l : CertLane). length l.events) (empty_lane p) (map empty_lane pairs), none_in_empty pairs)
+
+pub empty_named : (taken : Taken) (pairs : List Pair) → AllNamed taken (map empty_lane pairs)
+empty_named taken [] = All-nil (λ (l : CertLane). All (NamesWhatIsThere taken) l.events)
+empty_named taken (p ∷ pairs) = All-cons (λ (l : CertLane). All (NamesWhatIsThere taken) l.events) (empty_lane p) (map empty_lane pairs) (All-nil (NamesWhatIsThere taken)) (empty_named taken pairs)

@@ -1,0 +1,18 @@
+use Rattle.std.proofs.Common.{List, ◌∙◌, sym, ap, arith}
+use Rattle.audit_sightings.specs.Intake.{taken}
+use Rattle.audit_finder.specs.Clients.{Pair, joined, pairs_of, unseen}
+use Rattle.audit_model.specs.declared.policy.Policy.{Policy}
+use Rattle.audit_finder.proofs.Joining.{row_next, rows_done}
+use Rattle.audit_finder.proofs.clients.join_unseen.Goals as goal
+
+pub interfaces-preserved : goal.interfaces-preserved
+interfaces-preserved c =
+    let policy = c.args.intake.now.policy in
+    let looked = c.args.looked.now in
+    let rows = c.args.intake.now.rows in
+    let i = c.interfaces.iface in
+    rw (c.in_ok-join.ensures, c.policy.ensures)
+    (row_next policy looked rows i c.interfaces.pairs.keys c.behind.result.now (omega (arith, c.interfaces-test.true, c.interfaces-iface-end.ensures)) c.behind.ensures ∙ c.interfaces.invariant)
+
+pub returns : goal.returns
+returns c = sym (rows_done c.args.intake.now.policy c.args.looked.now c.args.intake.now.rows c.interfaces.iface c.interfaces.pairs.keys (omega (arith, c.interfaces-test.false, c.interfaces-iface-end.ensures))) ∙ c.interfaces.invariant

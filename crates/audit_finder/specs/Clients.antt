@@ -1,0 +1,51 @@
+-- The clients that captures show, in the order in which they are first seen.
+use Rattle.std.specs.Prelude.{ℕ, ◌+◌, Bool, false, ◌&&◌, List, [], ◌∷◌, ◌++◌, take, drop, length, map, filter, slice_index_or}
+use Rattle.indexmap.specs.IndexSet.{insert_all}
+use Rattle.audit_model.specs.declared.address.Addr.{Addr}
+use Rattle.audit_model.specs.declared.policy.Policy.{Policy}
+use Rattle.audit_model.specs.declared.sighting.Sighting.{Sighting}
+use Rattle.audit_model.specs.declared.sighting.Side.{Side}
+use Rattle.audit_model.specs.declared.sighting.Side.TheVariants.{Arrives, Leaves}
+use Rattle.audit_model.specs.declared.certificate.TheConstants.{MAX_LANES}
+use Rattle.audit_model.specs.Lanes.{same_pair}
+use Rattle.audit_model.specs.Policy.{listens}
+use Rattle.audit_sightings.specs.Intake.{Taken}
+
+-- a client and a listen address
+abbrev pub Pair : Type 0
+Pair = Addr × Addr
+
+abbrev pub same : Pair → Pair → Bool
+same p q = same_pair p.0 p.1 q.0 q.1
+
+-- the pairs that are known, and behind them each of the others once, in the order of its first
+abbrev pub joined : List Pair → List Pair → List Pair
+joined known pairs = insert_all same known pairs
+
+abbrev pub arrives : Side → Bool → Bool
+arrives Arrives here = here
+arrives Leaves here = false
+
+-- the datagram arrives at a listen address
+abbrev pub asks : Policy → Sighting → Bool
+asks policy sighting = arrives sighting.side (listens policy sighting.to)
+
+-- the ends of the datagrams that arrive at a listen address
+abbrev pub pairs_of : Policy → List Sighting → List Pair
+pairs_of policy row = map (λ sighting. (sighting.from, sighting.to)) (filter (asks policy) row)
+
+-- the sightings behind those that were looked at, interface by interface from one of them on
+abbrev pub unseen : List ℕ → ℕ → List (List Sighting) → List Sighting
+unseen looked iface [] = []
+unseen looked iface (row ∷ rows) = drop (slice_index_or looked iface 0) row ++ unseen looked (iface + 1) rows
+
+-- the pairs that are known, and those of the sightings that weren't looked at
+abbrev pub with_new : List ℕ → Taken → List Pair → List Pair
+with_new looked taken known = joined known (pairs_of taken.policy (unseen looked 0 taken.interfaces))
+
+abbrev pub row_lengths : Taken → List ℕ
+row_lengths taken = map (λ row. length row) taken.interfaces
+
+-- the clients of the lanes that are found: those of all sightings, in the order of interface and place, 65,536 at the most
+abbrev pub clients_of : Taken → List Pair
+clients_of taken = take MAX_LANES (with_new [] taken [])

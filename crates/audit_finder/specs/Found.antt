@@ -1,0 +1,23 @@
+-- Certificates that are found.
+use Rattle.std.specs.Prelude.{List, [], All}
+use Rattle.audit_model.specs.declared.address.Addr.{Addr}
+use Rattle.audit_model.specs.declared.certificate.CertDrop.{CertDrop}
+use Rattle.audit_model.specs.declared.certificate.CertLane.{CertLane}
+use Rattle.audit_model.specs.declared.sighting.Side.TheVariants.{Arrives}
+use Rattle.audit_sightings.specs.Intake.{Taken, IsThere, NamesWhatIsThere}
+
+-- a lane's client and listen address
+abbrev pub pair_of : CertLane → Addr × Addr
+pair_of lane = (lane.client, lane.listen)
+
+-- the lane of a pair, without events
+abbrev pub empty_lane : Addr × Addr → CertLane
+empty_lane pair = record { events = []; client = pair.0; listen = pair.1 }
+
+-- each event of each lane names what is there
+abbrev pub AllNamed : Taken → List CertLane → Type 0
+AllNamed taken lanes = All (λ lane. All (NamesWhatIsThere taken) lane.events) lanes
+
+-- each drop names an arrival that is there
+abbrev pub AreThere : Taken → List CertDrop → Type 0
+AreThere taken drops = All (λ dropped. IsThere taken Arrives dropped.sight) drops

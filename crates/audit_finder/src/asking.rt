@@ -1,0 +1,158 @@
+//! Arrivals, as they are placed.
+//!
+//! A request is acted on at its arrival, so that what it grants is there for the data behind it. A Refresh that deletes the allocation
+//! is acted on when its success leaves, and so is what may not be done any earlier.
+
+use crate::answers::Transaction;
+use crate::clock::Clock;
+use crate::judge::Judge;
+use crate::portion::Portion;
+use crate::said::{allocated, is_ending, is_request};
+use crate::search::Search;
+use audit_model::Sighting;
+use std::alloc::AllocError;
+
+impl Search {
+    /// Gives an arrival its key, and acts on it where that is best done at once.
+    pub(crate) fn place_arrival(
+        &mut self,
+        judge: &Judge<'_>,
+        number: u32,
+        sighting: &Sighting,
+        portion: &mut Portion,
+    ) -> Result<(), AllocError> {
+        let key = self.clock.tick();
+        // The next key is for an act at the arrival that is only found later.
+        let _spare = self.clock.tick();
+        let mut lane = None;
+        if let Some(arrival) = self.arrivals.get_mut(number) {
+            arrival.key = Some(key);
+            lane = arrival.lane;
+        }
+        self.undecided.push(number)?;
+        self.wake(number)?;
+        match lane {
+            Some(lane) => self.place_of_client(judge, lane, number, sighting, portion),
+            None => {
+                self.note_received(number, sighting);
+                Ok(())
+            }
+        }
+    }
+
+    /// Notes a peer's datagram with the lane that holds its relayed address.
+    fn note_received(&mut self, number: u32, sighting: &Sighting) {
+        self.last_data = Some(number);
+        if let Some(holder) = self.holders.get(&sighting.to) {
+            if let Some(lane) = self.lanes.get_mut(*holder as usize) {
+                lane.last.received = Some(number);
+            }
+        }
+    }
+
+    fn place_of_client(
+        &mut self,
+        judge: &Judge<'_>,
+        lane: u32,
+        number: u32,
+        sighting: &Sighting,
+        portion: &mut Portion,
+    ) -> Result<(), AllocError> {
+        let asks = is_request(sighting);
+        if let Some(lane) = self.lanes.get_mut(lane as usize) {
+            if asks {
+                lane.last.request = Some(number);
+            } else {
+                lane.last.sent = Some(number);
+            }
+        }
+        if asks {
+            return self.ask(judge, lane, number, sighting, portion);
+        }
+        self.last_data = Some(number);
+        Ok(())
+    }
+
+    /// Answers a request, if its answer is captured and may be given at once.
+    fn ask(
+        &mut self,
+        judge: &Judge<'_>,
+        lane: u32,
+        number: u32,
+        sighting: &Sighting,
+        portion: &mut Portion,
+    ) -> Result<(), AllocError> {
+        let Some(answer) = self.reserve(judge, lane, number, sighting) else {
+            return Ok(());
+        };
+        let Some(leaves) = self.departure(judge, answer) else {
+            return Ok(());
+        };
+        if is_ending(leaves) {
+            if let Some(lane) = self.lanes.get_mut(lane as usize) {
+                lane.ending = Some(answer);
+            }
+            return Ok(());
+        }
+        if let Some(relayed) = allocated(leaves) {
+            if self.other_holder(lane, relayed).is_some() {
+                return Ok(());
+            }
+        }
+        let key = self.clock.tick();
+        if self.may_answer(judge, lane, sighting, leaves, key)? {
+            self.commit_answer(judge, lane, number, answer, key, portion)?;
+        }
+        Ok(())
+    }
+
+    /// The departure of an answer.
+    pub(crate) fn departure<'a>(&self, judge: &Judge<'a>, answer: u32) -> Option<&'a Sighting> {
+        judge.intake.sighting(self.answers.get(answer)?.sight)
+    }
+
+    /// Finds the answer to a request: the first of its transaction that no request has yet, and that leaves in time.
+    fn reserve(
+        &mut self,
+        judge: &Judge<'_>,
+        lane: u32,
+        number: u32,
+        sighting: &Sighting,
+    ) -> Option<u32> {
+        let of = Transaction {
+            lane,
+            id: request_id(sighting)?,
+        };
+        let answer = self.first_behind(judge, &of)?;
+        let leaves = self.departure(judge, answer)?;
+        if leaves.lo > latest_answer(&self.clock, judge) {
+            return None;
+        }
+        self.answers.skip(&of);
+        self.answers.get_mut(answer)?.arrival = Some(number);
+        self.arrivals.get_mut(number)?.answer = Some(answer);
+        Some(answer)
+    }
+
+    /// The first answer of a transaction that can leave from now on.
+    fn first_behind(&mut self, judge: &Judge<'_>, of: &Transaction) -> Option<u32> {
+        for _ in 0..crate::leaving::CANDIDATES {
+            let answer = self.answers.first(of)?;
+            if self.departure(judge, answer)?.hi >= self.clock.moment() {
+                return Some(answer);
+            }
+            self.answers.skip(of);
+        }
+        None
+    }
+}
+
+/// The last moment at which a datagram that arrives now may be answered.
+fn latest_answer(clock: &Clock, judge: &Judge<'_>) -> u64 {
+    clock.moment().saturating_add(judge.intake.policy().hold)
+}
+
+/// The transaction id of a request.
+fn request_id(sighting: &Sighting) -> Option<[u8; 12]> {
+    Some(audit_stun::message(sighting.payload.as_slice())?.tid())
+}

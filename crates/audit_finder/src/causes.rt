@@ -1,0 +1,75 @@
+//! What a datagram that arrives asks for, by which the departure that answers it is found.
+
+use audit_model::{Addr, Sighting};
+use audit_stun::numbers::attribute::{DATA, XOR_PEER_ADDRESS};
+use audit_stun::numbers::method;
+use audit_stun::{Class, address, channel_data, message};
+use std::hash::{DefaultHasher, Hasher};
+
+/// What an arrival asks for. Data stands by its digest: two that have one are told apart when they are judged.
+#[derive(Clone, Copy, Debug, PartialEq, Eq, PartialOrd, Ord)]
+pub enum Cause {
+    /// A request of that transaction id.
+    Request {
+        lane: u32,
+        id: [u8; 12],
+    },
+    /// A Send indication (RFC 8656, section 11).
+    Send {
+        lane: u32,
+        peer: Addr,
+        digest: u64,
+    },
+    /// ChannelData to the server (RFC 8656, section 12).
+    Channel {
+        lane: u32,
+        number: u16,
+        digest: u64,
+    },
+    /// A peer's datagram to a relayed address.
+    Peer {
+        relayed: Addr,
+        peer: Addr,
+        digest: u64,
+    },
+}
+
+/// A digest of data, by which equal data is found.
+pub fn digest_of(data: &[u8]) -> u64 {
+    let mut hasher = DefaultHasher::new();
+    hasher.write(data);
+    hasher.finish()
+}
+
+/// What a client's datagram asks for, if anything is answered to it.
+pub fn cause_of_client(lane: u32, payload: &[u8]) -> Option<Cause> {
+    if let Some((number, data, _)) = channel_data(payload) {
+        return Some(Cause::Channel {
+            lane,
+            number,
+            digest: digest_of(data),
+        });
+    }
+    let message = message(payload)?;
+    match message.class() {
+        Class::Request => Some(Cause::Request {
+            lane,
+            id: message.tid(),
+        }),
+        Class::Indication if message.method() == method::SEND => Some(Cause::Send {
+            lane,
+            peer: address(message.first(XOR_PEER_ADDRESS)?)?,
+            digest: digest_of(message.first(DATA)?),
+        }),
+        _ => None,
+    }
+}
+
+/// What a peer's datagram asks for.
+pub fn cause_of_peer(arrival: &Sighting) -> Cause {
+    Cause::Peer {
+        relayed: arrival.to,
+        peer: arrival.from,
+        digest: digest_of(arrival.payload.as_slice()),
+    }
+}

@@ -1,0 +1,56 @@
+//! Arrivals that nothing answered.
+
+use crate::judge::Judge;
+use crate::portion::Portion;
+use crate::search::Search;
+use audit_model::Event;
+use audit_sightings::Intake;
+use std::alloc::AllocError;
+
+impl Search {
+    /// Gives the arrivals that nothing answered their events. At the end of all captures they are dropped; before it, a
+    /// client's stand in its lane, since they may still be answered.
+    pub(crate) fn decide(
+        &mut self,
+        judge: &Judge<'_>,
+        horizon: u64,
+        portion: &mut Portion,
+    ) -> Result<(), AllocError> {
+        let undecided = std::mem::replace(&mut self.undecided, Vec::new(self.alloc));
+        for number in undecided {
+            self.decide_arrival(judge.intake, horizon == u64::MAX, number, portion)?;
+        }
+        Ok(())
+    }
+
+    fn decide_arrival(
+        &mut self,
+        intake: &Intake,
+        is_last: bool,
+        number: u32,
+        portion: &mut Portion,
+    ) -> Result<(), AllocError> {
+        let Some(arrival) = self.arrivals.get_mut(number) else {
+            return Ok(());
+        };
+        let Some(key) = arrival.key else {
+            return Ok(());
+        };
+        if arrival.is_given {
+            return Ok(());
+        }
+        arrival.is_given = true;
+        let sight = arrival.sight;
+        let lane = match arrival.lane {
+            Some(lane) => Some(lane),
+            None => match intake.sighting(sight) {
+                Some(sighting) => self.holders.get(&sighting.to).copied(),
+                None => None,
+            },
+        };
+        match lane {
+            Some(lane) if !is_last => portion.push(lane, Event::In { sight, key }),
+            _ => portion.push_drop(sight, key),
+        }
+    }
+}

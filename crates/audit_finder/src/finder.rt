@@ -1,0 +1,72 @@
+//! The finder.
+
+ghost use Rattle.std.specs.Prelude.{◌≡◌, ◌≤◌, [], take, drop, length, All, IfOk, OnOk};
+ghost use Rattle.std.specs.List.{IsDistinct};
+ghost use Rattle.audit_sightings.specs.Intake.{taken, NamesWhatIsThere};
+ghost use Rattle.audit_model.specs.declared.certificate.TheConstants.{MAX_LANES};
+ghost use Rattle.audit_finder.specs.Clients.{same, with_new, row_lengths};
+ghost use Rattle.audit_finder.specs.Found.{AreThere};
+
+use crate::clients::Clients;
+use crate::finding::extension;
+use crate::judge::Judge;
+use crate::portion::Portion;
+use crate::search::Search;
+use audit_keys::Credentials;
+use audit_model::{Extension, Listed};
+use audit_sightings::Intake;
+use std::alloc::{AllocError, Global};
+
+/// What was found so far of captures that grow.
+#[derive(Drop)]
+pub struct Finder {
+    clients: Clients,
+    search: Search,
+    alloc: Global,
+}
+
+impl Finder {
+    /// Nothing was found yet. It takes no memory.
+    pub fn new(alloc: Global) -> Finder
+        ensures clients { result.clients.pairs.keys ≡ [] }
+        ensures looked { result.clients.looked.items ≡ [] }
+    {
+        Finder {
+            clients: Clients::new(alloc),
+            search: Search::new(alloc),
+            alloc,
+        }
+    }
+
+    /// Gives each sighting that has no event yet, and has a moment up to the horizon, its event.
+    ///
+    /// What the intake has gained since the last call is placed past the horizon of that call. The new lanes are the clients
+    /// whose first arrivals are among that, in the order of interface and place; there are 65,536 lanes at the most. Once it has
+    /// failed for want of memory a finder can't go on. It takes n log n in the sightings that are new.
+    pub fn extend(
+        &mut self,
+        intake: &Intake,
+        credentials: &Credentials,
+        horizon: u64,
+    ) -> Result<Extension, AllocError>
+        ensures lanes { IfOk result (λ found. found.lanes ≡ drop (length self.old.clients.pairs.keys)
+            (take MAX_LANES (with_new self.old.clients.looked.items (taken intake.now) self.old.clients.pairs.keys))) }
+        ensures apart { IfOk result (λ found. IsDistinct same found.lanes) }
+        ensures few { IfOk result (λ found. length found.lanes ≤ MAX_LANES) }
+        ensures events { IfOk result (λ found. All (λ e. NamesWhatIsThere (taken intake.now) e.1) found.events) }
+        ensures drops { IfOk result (λ found. AreThere (taken intake.now) found.drops) }
+        ensures clients { OnOk result (self.new.clients.pairs.keys ≡ with_new self.old.clients.looked.items (taken intake.now) self.old.clients.pairs.keys) }
+        ensures looked { OnOk result (self.new.clients.looked.items ≡ row_lengths (taken intake.now)) }
+    {
+        let known = self.clients.len();
+        self.clients.take_in(self.alloc, intake)?;
+        let judge = Judge {
+            alloc: self.alloc,
+            intake,
+            credentials,
+            clients: &self.clients,
+        };
+        let portion = self.search.go(&judge, horizon)?;
+        extension(self.alloc, intake, self.clients.lanes_from(known), portion)
+    }
+}

@@ -1,0 +1,171 @@
+//! Certificates, out of what is found.
+
+ghost use Rattle.std.specs.Prelude.{◌≡◌, ◌↔◌, ◌+◌, ◌<◌, ◌≤◌, IsTrue, All, map, length, IfOk};
+ghost use Rattle.std.specs.List.{IsDistinct};
+ghost use Rattle.audit_model.specs.EventCount.{event_count};
+ghost use Rattle.audit_model.specs.declared.certificate.TheConstants.{MAX_LANES, MAX_EVENTS};
+ghost use Rattle.audit_sightings.specs.Intake.{Taken, taken, IsThere, NamesWhatIsThere};
+ghost use Rattle.audit_finder.specs.Clients.{same, clients_of};
+ghost use Rattle.audit_finder.specs.Found.{pair_of, empty_lane, AllNamed, AreThere};
+
+use crate::finder::Finder;
+use crate::portion::Portion;
+use audit_keys::Credentials;
+use audit_model::{
+    Addr, CertDrop, CertLane, Certificate, Event, Extension, Listed, MAX_EVENTS, Side, SightId,
+};
+use audit_sightings::Intake;
+use std::alloc::{AllocError, Global};
+
+/// Whether a sighting of that name is there, and goes that way.
+fn is_there(intake: &Intake, side: Side, sight: SightId) -> bool
+    ensures { IsTrue result ↔ IsThere (taken intake.now) side sight }
+{
+    match intake.sighting(sight) {
+        Some(sighting) => sighting.side == side,
+        None => false,
+    }
+}
+
+fn names_what_is_there(intake: &Intake, event: Event) -> bool
+    ensures { IsTrue result ↔ NamesWhatIsThere (taken intake.now) event }
+{
+    match event {
+        Event::In { sight, .. } => is_there(intake, Side::Arrives, sight),
+        Event::Act { sight, gives, .. } => {
+            is_there(intake, Side::Arrives, sight) && is_there(intake, Side::Leaves, gives)
+        }
+        Event::Out { sight, .. } => is_there(intake, Side::Leaves, sight),
+    }
+}
+
+/// The lanes that are new, with the events and the drops of a portion that name what is there.
+pub(crate) fn extension(
+    alloc: Global,
+    intake: &Intake,
+    lanes: &[(Addr, Addr)],
+    portion: Portion,
+) -> Result<Extension, AllocError>
+    ensures lanes { IfOk result (λ found. found.lanes ≡ lanes.now) }
+    ensures events { IfOk result (λ found. All (λ e. NamesWhatIsThere (taken intake.now) e.1) found.events) }
+    ensures drops { IfOk result (λ found. AreThere (taken intake.now) found.drops) }
+{
+    Ok(Extension {
+        lanes: Listed::from(Vec::from_slice(alloc, lanes)?),
+        events: Listed::from(named(intake, portion.events)),
+        drops: Listed::from(there(intake, portion.drops)),
+    })
+}
+
+/// The events that name what is there.
+fn named(intake: &Intake, mut events: Vec<(u32, Event)>) -> Vec<(u32, Event)>
+    ensures { All (λ e. NamesWhatIsThere (taken intake.now) e.1) result.items }
+{
+    events.retain(|(_, event)| names_what_is_there(intake, *event));
+    events
+}
+
+/// The drops that name arrivals that are there.
+fn there(intake: &Intake, mut drops: Vec<CertDrop>) -> Vec<CertDrop>
+    ensures { AreThere (taken intake.now) result.items }
+{
+    drops.retain(|dropped| is_there(intake, Side::Arrives, dropped.sight));
+    drops
+}
+
+/// A lane without events for each pair.
+fn empty_lanes(alloc: Global, pairs: &[(Addr, Addr)]) -> Result<Vec<CertLane>, AllocError>
+    ensures { IfOk result (λ lanes. lanes.items ≡ map empty_lane pairs.now) }
+{
+    let mut lanes = Vec::with_capacity(alloc, pairs.len())?;
+    for (client, listen) in pairs {
+        lanes.push(CertLane {
+            events: Listed::new(alloc),
+            client: *client,
+            listen: *listen,
+        })?;
+    }
+    Ok(lanes)
+}
+
+/// Adds an event behind the others of its lane.
+#[tactic(auto, using(crate::proofs::LaneEvents::pairs_set, crate::proofs::LaneEvents::count_set, crate::proofs::LaneEvents::named_set, crate::proofs::LaneEvents::named_at))]
+fn add(lanes: &mut Vec<CertLane>, lane: u32, event: Event) -> Result<(), AllocError>
+    requires { lane < length lanes.old.items }
+    ensures pairs { map pair_of lanes.new.items ≡ map pair_of lanes.old.items }
+    ensures count { event_count lanes.new.items ≤ event_count lanes.old.items + 1 }
+    ensures named { (taken : Taken) → NamesWhatIsThere taken event → AllNamed taken lanes.old.items → AllNamed taken lanes.new.items }
+{
+    lanes[lane as usize].events.push(event)?;
+    Ok(())
+}
+
+/// Adds an event to its lane where there is one and room for it, and tells how many may still be added.
+fn add_within(
+    lanes: &mut Vec<CertLane>,
+    room: usize,
+    lane: u32,
+    event: Event,
+) -> Result<usize, AllocError>
+    ensures pairs { map pair_of lanes.new.items ≡ map pair_of lanes.old.items }
+    ensures room { IfOk result (λ left. event_count lanes.new.items + left ≤ event_count lanes.old.items + room) }
+    ensures named { (taken : Taken) → NamesWhatIsThere taken event → AllNamed taken lanes.old.items → AllNamed taken lanes.new.items }
+{
+    if room == 0 || lane as usize >= lanes.len() {
+        return Ok(room);
+    }
+    add(lanes, lane, event)?;
+    Ok(room - 1)
+}
+
+/// Adds each event to its lane, up to the limit of a certificate, and tells how many may still be added.
+fn distribute(lanes: &mut Vec<CertLane>, events: &[(u32, Event)]) -> Result<usize, AllocError>
+    requires { event_count lanes.old.items ≡ 0 }
+    ensures pairs { IfOk result (λ room. map pair_of lanes.new.items ≡ map pair_of lanes.old.items) }
+    ensures room { IfOk result (λ room. event_count lanes.new.items + room ≤ MAX_EVENTS) }
+    ensures named { (taken : Taken) → All (λ e. NamesWhatIsThere taken e.1) events.now → AllNamed taken lanes.old.items
+        → IfOk result (λ room. AllNamed taken lanes.new.items) }
+{
+    let mut room = MAX_EVENTS;
+    'events: for (lane, event) in events {
+        room = add_within(lanes, room, *lane, *event)?;
+    }
+    Ok(room)
+}
+
+/// The certificate that has what was found of all captures.
+fn certificate_of(alloc: Global, found: Extension) -> Result<Certificate, AllocError>
+    requires apart { IsDistinct same found.lanes }
+    requires few { length found.lanes ≤ MAX_LANES }
+    ensures lanes { IfOk result (λ certificate. map pair_of certificate.lanes ≡ found.lanes) }
+    ensures events { (taken : Taken) → All (λ e. NamesWhatIsThere taken e.1) found.events → IfOk result (λ certificate. AllNamed taken certificate.lanes) }
+    ensures drops { (taken : Taken) → AreThere taken found.drops → IfOk result (λ certificate. AreThere taken certificate.drops) }
+{
+    let mut lanes = empty_lanes(alloc, found.lanes.as_slice())?;
+    let room = distribute(&mut lanes, found.events.as_slice())?;
+    let mut drops = found.drops.into_vec();
+    drops.truncate(room);
+    Ok(Certificate {
+        lanes: Listed::from(lanes),
+        drops: Listed::from(drops),
+    })
+}
+
+/// Finds a certificate: an order in which the server kept to its rules, where it finds one; else one that shows where it did
+/// not.
+///
+/// Its lanes are the clients in the order of interface and place of their first arrivals, 65,536 of them at the most. It takes n log n
+/// in the sightings.
+pub fn find(
+    alloc: Global,
+    intake: &Intake,
+    credentials: &Credentials,
+) -> Result<Certificate, AllocError>
+    ensures lanes { IfOk result (λ certificate. map pair_of certificate.lanes ≡ clients_of (taken intake.now)) }
+    ensures events { IfOk result (λ certificate. AllNamed (taken intake.now) certificate.lanes) }
+    ensures drops { IfOk result (λ certificate. AreThere (taken intake.now) certificate.drops) }
+{
+    let mut finder = Finder::new(alloc);
+    let found = finder.extend(intake, credentials, u64::MAX)?;
+    certificate_of(alloc, found)
+}

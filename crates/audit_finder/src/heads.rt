@@ -1,0 +1,35 @@
+//! Which interface's next sighting comes next.
+
+use std::alloc::{AllocError, Global};
+use std::cmp::Reverse;
+use std::collections::BinaryHeap;
+
+/// Interfaces by the least moment of their next sighting, and then by their number.
+#[derive(Drop)]
+pub struct Heads {
+    heap: BinaryHeap<Reverse<(u64, u32)>>,
+}
+
+impl Heads {
+    pub fn new(alloc: Global) -> Heads {
+        Heads {
+            heap: BinaryHeap::new(alloc),
+        }
+    }
+
+    /// Adds an interface. It takes logarithmic time in their number.
+    pub fn push(&mut self, moment: u64, iface: u32) -> Result<(), AllocError> {
+        self.heap.push(Reverse((moment, iface)))?;
+        Ok(())
+    }
+
+    /// Takes out the first whose moment isn't past the horizon.
+    pub fn pop(&mut self, horizon: u64) -> Option<(u64, u32)> {
+        let Reverse((moment, _)) = self.heap.peek()?;
+        if *moment > horizon {
+            return None;
+        }
+        let Reverse(head) = self.heap.pop()?;
+        Some(head)
+    }
+}

@@ -1,0 +1,79 @@
+//! Whether the server may act so, by the rules.
+
+use crate::clients::Clients;
+use audit_keys::Credentials;
+use audit_model::{At, Key, Sighting};
+use audit_rules::{ActFault, CredRow, LaneTable, act};
+use audit_sightings::Intake;
+use audit_stun::message;
+use audit_stun::numbers::attribute::{REALM, USERNAME};
+use std::alloc::{AllocError, Global};
+
+/// What acts are judged by.
+#[derive(Clone, Copy)]
+pub struct Judge<'a> {
+    pub alloc: Global,
+    pub intake: &'a Intake,
+    pub credentials: &'a Credentials,
+    pub clients: &'a Clients,
+}
+
+impl<'a> Judge<'a> {
+    /// The row of the user that a request names.
+    fn user(&self, arrives: &'a Sighting) -> Option<CredRow<'a>> {
+        let request = message(arrives.payload.as_slice())?;
+        let user = request.first(USERNAME)?;
+        let realm = request.first(REALM)?;
+        let key = self.credentials.lookup(user, realm)?;
+        Some(CredRow { user, realm, key })
+    }
+
+    /// Answers a request, and tells whether the server may. Where it may not, the table stays.
+    pub fn answers(
+        &self,
+        lane: u32,
+        table: &mut LaneTable,
+        arrives: &'a Sighting,
+        leaves: &Sighting,
+        key: Key,
+    ) -> Result<bool, AllocError> {
+        match self.user(arrives) {
+            Some(row) => self.acts(lane, table, &[row], arrives, leaves, key),
+            None => self.acts(lane, table, &[], arrives, leaves, key),
+        }
+    }
+
+    /// Relays data, and tells whether the server may. The table stays.
+    pub fn relays(
+        &self,
+        lane: u32,
+        table: &mut LaneTable,
+        arrives: &Sighting,
+        leaves: &Sighting,
+        key: Key,
+    ) -> Result<bool, AllocError> {
+        self.acts(lane, table, &[], arrives, leaves, key)
+    }
+
+    fn acts(
+        &self,
+        lane: u32,
+        table: &mut LaneTable,
+        users: &[CredRow<'_>],
+        arrives: &Sighting,
+        leaves: &Sighting,
+        key: Key,
+    ) -> Result<bool, AllocError> {
+        let at = At {
+            key,
+            lane,
+            place: 0,
+        };
+        let policy = self.intake.policy();
+        match act(self.alloc, table, users, policy, arrives, leaves, at) {
+            Ok(_) => Ok(true),
+            Err(ActFault::Broken(_)) => Ok(false),
+            Err(ActFault::Memory) => Err(AllocError),
+        }
+    }
+}

@@ -1,0 +1,28 @@
+//! Finds a certificate: an order of what was captured in which the server kept to its rules.
+//!
+//! Nothing rests on it. Whatever it finds is checked.
+#![tactic(auto)]
+
+mod answers;
+mod arrivals;
+mod asking;
+mod causes;
+mod clients;
+mod clock;
+mod deciding;
+mod finder;
+mod finding;
+mod heads;
+mod judge;
+mod lanes;
+mod leaving;
+mod matching;
+mod noting;
+mod portion;
+mod queues;
+mod rows;
+mod said;
+mod search;
+
+pub use finder::Finder;
+pub use finding::find;

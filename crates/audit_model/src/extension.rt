@@ -1,0 +1,16 @@
+//! What is found of captures as they grow.
+
+use crate::address::Addr;
+use crate::certificate::CertDrop;
+use crate::event::Event;
+use crate::listed::Listed;
+
+/// What a certificate gains: lanes behind those that it has, events behind those of their lanes, and drops behind the others.
+#[derive(Debug, Drop)]
+pub struct Extension {
+    /// A client and a listen address for each new lane.
+    pub lanes: Listed<(Addr, Addr)>,
+    /// Events with the numbers of their lanes, from 0.
+    pub events: Listed<(u32, Event)>,
+    pub drops: Listed<CertDrop>,
+}
