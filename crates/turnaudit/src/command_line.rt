@@ -9,59 +9,110 @@ use std::convert::AsStr;
 #[derive(Drop)]
 pub enum Request<'a> {
     /// Judge captures by a certificate.
-    Check(Check<'a>),
+    Check {
+        inputs: Inputs<'a>,
+        certificate: &'a str,
+    },
+    /// Find a certificate, and judge captures by it.
+    Audit(Inputs<'a>),
+    /// Find a certificate, and write it.
+    Find(Inputs<'a>),
     /// Tell how to use the program, on standard output.
     Help(String),
     /// The words are no request; what clap says of it, for standard error.
     Usage(String),
 }
 
-/// The files of `check`.
+/// The files that every command reads.
 #[derive(Drop)]
-pub struct Check<'a> {
+pub struct Inputs<'a> {
     pub policy: &'a str,
     /// Without it there are no users.
     pub credentials: Option<&'a str>,
-    pub certificate: &'a str,
     pub captures: Vec<&'a str>,
 }
 
-/// A required option with the name of a file.
+const ABOUT: &str =
+    "Judges captures of a TURN server by RFC 8656: did it relay anything without an allocation and a permission?";
+
+const STATUSES: &str =
+    "Exit status:\n  0  conforming, or a certificate is written\n  1  not shown\n  2  an input is refused; its number is told on standard error\n  3  out of memory\n  4  a file can't be read, or the answer can't be written\n  5  wrong words";
+
+const ABOUT_AUDIT: &str =
+    "Finds an order in which the server kept to its rules, and judges the captures by it";
+
+const EXAMPLE_AUDIT: &str =
+    "Example:\n  turnaudit audit --policy policy --creds users client.pcapng peer.pcapng\n\nprints 'conforming', or 'not shown' with the first rule that is broken, its place and the datagram that shows it.";
+
+const ABOUT_FIND: &str =
+    "Finds an order in which the server kept to its rules, and writes it as a certificate";
+
+const EXAMPLE_FIND: &str =
+    "Example:\n  turnaudit find --policy policy --creds users client.pcapng peer.pcapng > certificate";
+
+const ABOUT_CHECK: &str = "Judges captures by a certificate, whoever wrote it";
+
+const EXAMPLE_CHECK: &str =
+    "Example:\n  turnaudit check --policy policy --creds users --cert certificate client.pcapng peer.pcapng";
+
+/// An option with the name of a file.
 fn file_option<'a>(alloc: Global, name: &'a str, value: &'a str, help: &'a str) -> Arg<'a> {
     Arg::new(alloc, name)
         .long(name)
         .value_name(value)
         .help(help)
-        .required(true)
         .action(ArgAction::Set)
 }
 
-/// `check --policy P [--creds C] --cert F CAPTURE..`
-fn check_command<'a>(alloc: Global) -> Result<Command<'a>, AllocError> {
+/// The command of that name, with the options that all commands have.
+fn command_of<'a>(
+    alloc: Global,
+    name: &'a str,
+    about: &'a str,
+    example: &'a str,
+) -> Result<Command<'a>, AllocError> {
     let captures = Arg::new(alloc, "captures")
         .value_name("CAPTURE")
-        .help("Captures of the server's interfaces, as dumpcap writes them")
+        .help(
+            "Captures of the server's interfaces, as dumpcap writes them; their order numbers them from 0",
+        )
         .required(true)
         .num_args(1..)
         .action(ArgAction::Append);
-    let policy = file_option(alloc, "policy", "P", "Which endpoints are the server's");
+    let policy = file_option(
+        alloc,
+        "policy",
+        "POLICY",
+        "Which endpoints are the server's",
+    );
     let credentials = file_option(
         alloc,
         "creds",
-        "C",
-        "The server's users and their passwords",
-    )
-    .required(false);
-    let certificate = file_option(alloc, "cert", "F", "Where each datagram is placed");
-    Command::new(alloc, "check")
-        .arg(policy)?
+        "CREDENTIALS",
+        "The server's users and their passwords; without it there are none",
+    );
+    Command::new(alloc, name)
+        .about(about)
+        .after_help(example)
+        .arg(policy.required(true))?
         .arg(credentials)?
-        .arg(certificate)?
         .arg(captures)
 }
 
 fn command<'a>(alloc: Global) -> Result<Command<'a>, AllocError> {
-    Command::new(alloc, "turnaudit").subcommand(check_command(alloc)?)
+    let certificate = file_option(
+        alloc,
+        "cert",
+        "CERTIFICATE",
+        "Where each datagram is placed",
+    );
+    let check = command_of(alloc, "check", ABOUT_CHECK, EXAMPLE_CHECK)?;
+    Command::new(alloc, "turnaudit")
+        .about(ABOUT)
+        .after_help(STATUSES)
+        .subcommand(command_of(alloc, "audit", ABOUT_AUDIT, EXAMPLE_AUDIT)?)?
+        .subcommand(command_of(alloc, "find", ABOUT_FIND, EXAMPLE_FIND)?)?
+        .subcommand(check.arg(certificate.required(true))?)
 }
 
 /// The request that an error of clap stands for.
@@ -77,24 +128,47 @@ fn refused<'a>(alloc: Global, error: Error) -> Result<Request<'a>, AllocError> {
     }
 }
 
-/// The files that the words of `check` name.
-fn check_of<'a>(alloc: Global, matches: &ArgMatches<'a>) -> Result<Option<Check<'a>>, AllocError> {
+/// The files that the words of a command name.
+fn inputs_of<'a>(
+    alloc: Global,
+    matches: &ArgMatches<'a>,
+) -> Result<Option<Inputs<'a>>, AllocError> {
     let Some(policy) = matches.get_str("policy") else {
-        return Ok(None);
-    };
-    let Some(certificate) = matches.get_str("cert") else {
         return Ok(None);
     };
     let Some(names) = matches.get_strs("captures") else {
         return Ok(None);
     };
-    let captures = Vec::from_slice(alloc, names)?;
-    Ok(Some(Check {
+    Ok(Some(Inputs {
         policy,
         credentials: matches.get_str("creds"),
-        certificate,
-        captures,
+        captures: Vec::from_slice(alloc, names)?,
     }))
+}
+
+/// The request that the words of a command are.
+fn request_of<'a>(
+    alloc: Global,
+    matches: &ArgMatches<'a>,
+) -> Result<Option<Request<'a>>, AllocError> {
+    if let Some(audit) = matches.subcommand_matches("audit") {
+        return Ok(inputs_of(alloc, audit)?.map(|inputs| Request::Audit(inputs)));
+    }
+    if let Some(find) = matches.subcommand_matches("find") {
+        return Ok(inputs_of(alloc, find)?.map(|inputs| Request::Find(inputs)));
+    }
+    if let Some(check) = matches.subcommand_matches("check") {
+        if let (Some(inputs), Some(certificate)) = (
+            inputs_of(alloc, check)?,
+            check.get_str("cert"),
+        ) {
+            return Ok(Some(Request::Check {
+                inputs,
+                certificate,
+            }));
+        }
+    }
+    Ok(None)
 }
 
 /// Reads the words, the first of which is the program's name.
@@ -103,11 +177,8 @@ pub fn read<'a, N: AsStr>(alloc: Global, words: &'a [N]) -> Result<Request<'a>, 
         Ok(matches) => matches,
         Err(error) => return refused(alloc, error),
     };
-    if let Some(matches) = matches.subcommand_matches("check") {
-        if let Some(check) = check_of(alloc, matches)? {
-            return Ok(Request::Check(check));
-        }
+    match request_of(alloc, &matches)? {
+        Some(request) => Ok(request),
+        None => Ok(Request::Usage(command(alloc)?.render_usage()?)),
     }
-    let usage = command(alloc)?.render_usage()?;
-    Ok(Request::Usage(usage))
 }

@@ -1,6 +1,7 @@
-//! turnaudit judges captures of a TURN server by a certificate.
+//! turnaudit judges captures of a TURN server.
 #![tactic(auto)]
 
+mod buffered;
 mod command_line;
 mod host;
 mod reading;

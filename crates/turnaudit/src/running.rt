@@ -1,13 +1,15 @@
 //! The whole program as a function.
 
-use crate::command_line::{Check, Request, read as read_words};
+use crate::buffered::Buffered;
+use crate::command_line::{Inputs, Request, read as read_words};
 use crate::reading::{feed_capture, read_whole};
 use crate::source::Source;
 use crate::stop::Stop;
 use crate::writing::{put_line, put_text};
+use audit_finder::find;
 use audit_glue::check;
 use audit_keys::Credentials;
-use audit_model::{Sink, Verdict, read_policy};
+use audit_model::{Certificate, Sink, Verdict, read_policy};
 use audit_report::report;
 use audit_sightings::Intake;
 use std::alloc::Global;
@@ -40,24 +42,80 @@ fn read_users<S: Source>(
     }
 }
 
-/// Judges the captures by the certificate, and writes the report. Files are read in the order policy, credentials, certificate, captures, and
-/// each is judged before the next is read.
-fn run_check<S: Source, O: Sink>(
+/// What every command reads but a certificate.
+#[derive(Drop)]
+struct Read {
+    intake: Intake,
+    users: Credentials,
+}
+
+/// Reads the policy and the users, and takes in the captures. Files are read in this order, and each is judged before the next is read.
+fn read_inputs<S: Source>(
     alloc: Global,
-    request: &Check<'_>,
+    inputs: &Inputs<'_>,
     source: &mut S,
+) -> Result<Read, Stop> {
+    let policy = read_policy(alloc, &read_whole(alloc, source, inputs.policy)?)?;
+    let users = read_users(alloc, source, inputs.credentials)?;
+    let intake = take_in(alloc, source, &inputs.captures, Intake::new(alloc, policy))?;
+    Ok(Read { intake, users })
+}
+
+/// Judges the captures by the certificate, and writes the report.
+fn judge<O: Sink>(
+    alloc: Global,
+    read: &Read,
+    certificate: &Certificate,
     out: &mut O,
 ) -> Result<u8, Stop> {
-    let policy = read_policy(alloc, &read_whole(alloc, source, request.policy)?)?;
-    let users = read_users(alloc, source, request.credentials)?;
-    let certificate = audit_cert::read(alloc, &read_whole(alloc, source, request.certificate)?)?;
-    let intake = take_in(alloc, source, &request.captures, Intake::new(alloc, policy))?;
-    let verdict = check(alloc, &intake, &users, &certificate)?;
-    report(alloc, &verdict, &intake, out)?;
+    let verdict = check(alloc, &read.intake, &read.users, certificate)?;
+    report(alloc, &verdict, &read.intake, out)?;
     match verdict {
         Verdict::Conforming { .. } => Ok(0),
         Verdict::NotShown(_) => Ok(1),
     }
+}
+
+/// Judges the captures by the certificate of a file, which is read before they are.
+fn run_check<S: Source, O: Sink>(
+    alloc: Global,
+    inputs: &Inputs<'_>,
+    certificate: &str,
+    source: &mut S,
+    out: &mut O,
+) -> Result<u8, Stop> {
+    let policy = read_policy(alloc, &read_whole(alloc, source, inputs.policy)?)?;
+    let users = read_users(alloc, source, inputs.credentials)?;
+    let certificate = audit_cert::read(alloc, &read_whole(alloc, source, certificate)?)?;
+    let intake = take_in(alloc, source, &inputs.captures, Intake::new(alloc, policy))?;
+    judge(alloc, &Read { intake, users }, &certificate, out)
+}
+
+/// Judges the captures by a certificate that is found.
+fn run_audit<S: Source, O: Sink>(
+    alloc: Global,
+    inputs: &Inputs<'_>,
+    source: &mut S,
+    out: &mut O,
+) -> Result<u8, Stop> {
+    let read = read_inputs(alloc, inputs, source)?;
+    let certificate = find(alloc, &read.intake, &read.users)?;
+    judge(alloc, &read, &certificate, out)
+}
+
+/// Finds a certificate, and writes it.
+fn run_find<S: Source, O: Sink>(
+    alloc: Global,
+    inputs: &Inputs<'_>,
+    source: &mut S,
+    out: &mut O,
+) -> Result<u8, Stop> {
+    let read = read_inputs(alloc, inputs, source)?;
+    let certificate = find(alloc, &read.intake, &read.users)?;
+    let mut buffered = Buffered::new(alloc, out)?;
+    audit_cert::write(alloc, &certificate, &mut buffered)?;
+    buffered.finish()?;
+    Ok(0)
 }
 
 /// Does what is asked for, and gives the exit status.
@@ -69,7 +127,12 @@ fn run_request<S: Source, O: Sink, E: Sink>(
     err: &mut E,
 ) -> Result<u8, Stop> {
     match request {
-        Request::Check(check) => run_check(alloc, check, source, out),
+        Request::Check {
+            inputs,
+            certificate,
+        } => run_check(alloc, inputs, certificate, source, out),
+        Request::Audit(inputs) => run_audit(alloc, inputs, source, out),
+        Request::Find(inputs) => run_find(alloc, inputs, source, out),
         Request::Help(text) => {
             put_text(out, text.as_str())?;
             Ok(0)
@@ -81,7 +144,7 @@ fn run_request<S: Source, O: Sink, E: Sink>(
     }
 }
 
-/// Runs the program on its words, the first of which is its name, and gives its exit status: 0 conforming, or help; 1 not shown; 2 input refused;
+/// Runs the program on its words, the first of which is its name, and gives its exit status: 0 conforming, a certificate, or help; 1 not shown; 2 input refused;
 /// 3 out of memory; 4 a file that can't be read or an answer that can't be written; 5 words that are no request.
 /// What ended it before its answer is one line on `err`.
 pub fn run<N: AsStr, S: Source, O: Sink, E: Sink>(
