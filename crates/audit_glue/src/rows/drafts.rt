@@ -1,0 +1,114 @@
+//! STUN messages and ChannelData as they stand on the wire.
+
+use crate::rows::build_fault::{BuildFault, two_bytes};
+use audit_keys::hmac_sha1;
+use audit_model::Addr;
+use audit_stun::Class;
+use audit_stun::numbers::attribute::{MESSAGE_INTEGRITY, NONCE, REALM, USERNAME};
+use audit_stun::numbers::{FAMILY_IPV4, MAGIC_COOKIE};
+use std::alloc::Global;
+
+/// Bytes of a MESSAGE-INTEGRITY with its type and its length.
+const INTEGRITY_LENGTH: usize = 24;
+
+/// The class and the method in fourteen bits (RFC 8489, section 5). Of the method the lowest twelve bits count.
+fn message_type(class: Class, method: u16) -> u16 {
+    let class = match class {
+        Class::Request => 0x0000,
+        Class::Indication => 0x0010,
+        Class::Success => 0x0100,
+        Class::Error => 0x0110,
+    };
+    (method & 0x0F80) << 2 | (method & 0x0070) << 1 | method & 0x000F | class
+}
+
+/// The value of an XOR-MAPPED-ADDRESS, XOR-PEER-ADDRESS or XOR-RELAYED-ADDRESS.
+fn xor_address(addr: Addr) -> [u8; 8] {
+    let [port_high, port_low] = (addr.port ^ (MAGIC_COOKIE >> 16) as u16).to_be_bytes();
+    let [a, b, c, d] = (addr.ip ^ MAGIC_COOKIE).to_be_bytes();
+    [0, FAMILY_IPV4, port_high, port_low, a, b, c, d]
+}
+
+/// Adds an attribute, its value padded with zeros to a multiple of four.
+fn push_attribute(out: &mut Vec<u8>, kind: u16, value: &[u8]) -> Result<(), BuildFault> {
+    let length = two_bytes(value.len())?;
+    out.extend_from_slice(&kind.to_be_bytes())?;
+    out.extend_from_slice(&length.to_be_bytes())?;
+    out.extend_from_slice(value)?;
+    let padding = (4 - value.len() % 4) % 4;
+    out.extend_from_slice(&[0; 3][..padding])?;
+    Ok(())
+}
+
+/// A STUN message in the making.
+#[derive(Drop)]
+pub struct Draft {
+    message_type: u16,
+    transaction: [u8; 12],
+    attributes: Vec<u8>,
+}
+
+impl Draft {
+    /// A message without attributes. It takes no memory.
+    pub fn new(alloc: Global, class: Class, method: u16, transaction: [u8; 12]) -> Draft {
+        Draft {
+            message_type: message_type(class, method),
+            transaction,
+            attributes: Vec::new(alloc),
+        }
+    }
+
+    /// With an attribute more, its value padded with zeros. TooLong for a value of over 65,535 bytes.
+    pub fn with(mut self, kind: u16, value: &[u8]) -> Result<Draft, BuildFault> {
+        push_attribute(&mut self.attributes, kind, value)?;
+        Ok(self)
+    }
+
+    /// With an attribute more that says an address: XOR-MAPPED-ADDRESS, XOR-PEER-ADDRESS or XOR-RELAYED-ADDRESS.
+    pub fn with_address(self, kind: u16, addr: Addr) -> Result<Draft, BuildFault> {
+        self.with(kind, &xor_address(addr))
+    }
+
+    /// With USERNAME, REALM and NONCE.
+    pub fn with_user(self, user: &[u8], realm: &[u8], nonce: &[u8]) -> Result<Draft, BuildFault> {
+        self.with(USERNAME, user)?
+            .with(REALM, realm)?
+            .with(NONCE, nonce)
+    }
+
+    /// With the MESSAGE-INTEGRITY under the key over all that is there (RFC 8489, section 14.5). TooLong for attributes of over 65,535 bytes.
+    pub fn signed(self, key: &[u8]) -> Result<Draft, BuildFault> {
+        let length = two_bytes(self.attributes.len().saturating_add(INTEGRITY_LENGTH))?;
+        let value = hmac_sha1(
+            key,
+            &[
+                self.message_type.to_be_bytes().as_slice(),
+                length.to_be_bytes().as_slice(),
+                MAGIC_COOKIE.to_be_bytes().as_slice(),
+                self.transaction.as_slice(),
+                self.attributes.as_slice(),
+            ],
+        );
+        self.with(MESSAGE_INTEGRITY, &value)
+    }
+
+    /// The bytes of the message. TooLong for attributes of over 65,535 bytes.
+    pub fn payload(&self, alloc: Global) -> Result<Vec<u8>, BuildFault> {
+        let length = two_bytes(self.attributes.len())?;
+        let mut out = Vec::from_slice(alloc, &self.message_type.to_be_bytes())?;
+        out.extend_from_slice(&length.to_be_bytes())?;
+        out.extend_from_slice(&MAGIC_COOKIE.to_be_bytes())?;
+        out.extend_from_slice(&self.transaction)?;
+        out.extend_from_slice(self.attributes.as_slice())?;
+        Ok(out)
+    }
+}
+
+/// The bytes of ChannelData without padding (RFC 8656, section 12.4). TooLong for over 65,535 bytes of data.
+pub fn channel_data(alloc: Global, number: u16, data: &[u8]) -> Result<Vec<u8>, BuildFault> {
+    let length = two_bytes(data.len())?;
+    let mut out = Vec::from_slice(alloc, &number.to_be_bytes())?;
+    out.extend_from_slice(&length.to_be_bytes())?;
+    out.extend_from_slice(data)?;
+    Ok(out)
+}
