@@ -4,6 +4,7 @@
 mod build_fault;
 mod captures;
 mod drafts;
+mod sizes;
 
 pub use audit_stun::Class;
 pub use audit_stun::numbers::{attribute, method};

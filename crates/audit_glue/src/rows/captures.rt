@@ -1,6 +1,12 @@
 //! A capture of one Ethernet interface, as pcapng in little-endian bytes.
 
-use crate::rows::build_fault::{BuildFault, two_bytes};
+ghost use Rattle.std.specs.Prelude.{◌≡◌, ◌≤◌, ◌<◌, ◌+◌, ◌++◌, length, IfOk, OnOk, OnErr, IfErr};
+ghost use Rattle.audit_glue.specs.declared.rows.build_fault.BuildFault.TheVariants.{Memory, TooLong};
+ghost use Rattle.audit_glue.specs.Rows.{block_bytes, ipv4_bytes, MAX_FRAME};
+ghost use Rattle.audit_glue.specs.Frames.{ethernet_bytes, frame_bytes};
+
+use crate::rows::build_fault::BuildFault;
+use crate::rows::sizes::{two_bytes, zeros_after};
 use audit_model::{Addr, Side};
 use std::alloc::{AllocError, Global};
 
@@ -12,11 +18,6 @@ const SECTION: [u8; 28] = [
 
 /// An Ethernet interface with stamps of microseconds, as every interface is that does not say otherwise.
 const INTERFACE: [u8; 20] = [1, 0, 0, 0, 20, 0, 0, 0, 1, 0, 0, 0, 0, 0, 4, 0, 20, 0, 0, 0];
-
-/// The Ethernet address of the server, and that of whoever it speaks with.
-const SERVER: [u8; 6] = [2, 0, 0, 0, 0, 1];
-
-const OTHER: [u8; 6] = [2, 0, 0, 0, 0, 2];
 
 /// Bytes of a UDP header, and of an IPv4 header with it.
 const UDP_LENGTH: usize = 8;
@@ -35,16 +36,21 @@ pub struct UdpDatagram<'a> {
     pub payload: &'a [u8],
 }
 
-/// The Ethernet addresses of the receiver and of the sender.
-fn ethernet_addresses(side: Side) -> [[u8; 6]; 2] {
+/// The Ethernet addresses of the receiver and of the sender. That of the server ends with 1, that of whoever it speaks with with 2.
+fn ethernet_addresses(side: Side) -> [u8; 12]
+    ensures { result ≡ ethernet_bytes side }
+{
     match side {
-        Side::Arrives => [SERVER, OTHER],
-        Side::Leaves => [OTHER, SERVER],
+        Side::Arrives => [2, 0, 0, 0, 0, 1, 2, 0, 0, 0, 0, 2],
+        Side::Leaves => [2, 0, 0, 0, 0, 2, 2, 0, 0, 0, 0, 1],
     }
 }
 
 /// Adds an IPv4 header of UDP without options or checksum.
-fn push_ipv4(out: &mut Vec<u8>, total_length: u16, from: u32, to: u32) -> Result<(), BuildFault> {
+fn push_ipv4(out: &mut Vec<u8>, total_length: u16, from: u32, to: u32) -> Result<(), BuildFault>
+    ensures ok { OnOk result (out.new.items ≡ out.old.items ++ ipv4_bytes total_length from to) }
+    ensures err { IfErr result (λ fault. fault ≡ Memory) }
+{
     out.extend_from_slice(&[0x45, 0])?;
     out.extend_from_slice(&total_length.to_be_bytes())?;
     out.extend_from_slice(&[0, 0, 0, 0, 0x40, 17, 0, 0])?;
@@ -54,13 +60,15 @@ fn push_ipv4(out: &mut Vec<u8>, total_length: u16, from: u32, to: u32) -> Result
 }
 
 /// The Ethernet frame of a datagram.
-fn frame(alloc: Global, datagram: &UdpDatagram<'_>) -> Result<Vec<u8>, BuildFault> {
+fn frame(alloc: Global, datagram: &UdpDatagram<'_>) -> Result<Vec<u8>, BuildFault>
+    ensures ok { IfOk result (λ frame. frame.items ≡ frame_bytes datagram.now) }
+    ensures size { IfOk result (λ frame. length frame.items ≤ MAX_FRAME) }
+    ensures err { IfErr result (λ fault. fault ≡ TooLong → 65507 < length datagram.now.payload.now) }
+{
     let size = datagram.payload.len();
     let total_length = two_bytes(size.saturating_add(IPV4_UDP_LENGTH))?;
     let udp_length = two_bytes(size.saturating_add(UDP_LENGTH))?;
-    let [receiver, sender] = ethernet_addresses(datagram.side);
-    let mut out = Vec::from_slice(alloc, &receiver)?;
-    out.extend_from_slice(&sender)?;
+    let mut out = Vec::from_slice(alloc, &ethernet_addresses(datagram.side))?;
     out.extend_from_slice(&[0x08, 0x00])?;
     push_ipv4(&mut out, total_length, datagram.from.ip, datagram.to.ip)?;
     out.extend_from_slice(&datagram.from.port.to_be_bytes())?;
@@ -72,9 +80,13 @@ fn frame(alloc: Global, datagram: &UdpDatagram<'_>) -> Result<Vec<u8>, BuildFaul
 }
 
 /// The packet block of a frame of interface 0, seen at this many microseconds since 1970.
-fn packet_block(alloc: Global, stamp: u64, frame: &[u8]) -> Result<Vec<u8>, BuildFault> {
-    let padding = (4 - frame.len() % 4) % 4;
-    let length = ((PACKET_LENGTH + frame.len() + padding) as u32).to_le_bytes();
+fn packet_block(alloc: Global, stamp: u64, frame: &[u8]) -> Result<Vec<u8>, BuildFault>
+    requires { length frame.now ≤ MAX_FRAME }
+    ensures ok { IfOk result (λ block. block.items ≡ block_bytes stamp frame.now) }
+    ensures err { IfErr result (λ fault. fault ≡ Memory) }
+{
+    let padding = zeros_after(frame.len());
+    let length = ((PACKET_LENGTH + frame.len() + padding.len()) as u32).to_le_bytes();
     let captured = (frame.len() as u32).to_le_bytes();
     let mut out = Vec::from_slice(alloc, &[6, 0, 0, 0])?;
     out.extend_from_slice(&length)?;
@@ -84,7 +96,7 @@ fn packet_block(alloc: Global, stamp: u64, frame: &[u8]) -> Result<Vec<u8>, Buil
     out.extend_from_slice(&captured)?;
     out.extend_from_slice(&captured)?;
     out.extend_from_slice(frame)?;
-    out.extend_from_slice(&[0; 3][..padding])?;
+    out.extend_from_slice(padding)?;
     out.extend_from_slice(&length)?;
     Ok(out)
 }
@@ -96,8 +108,13 @@ pub struct Capture {
 }
 
 impl Capture {
+    ghost use Rattle.audit_glue.specs.Rows.{heading};
+    ghost use Rattle.audit_glue.specs.Frames.{written};
+
     /// A capture without packets, 48 bytes.
-    pub fn new(alloc: Global) -> Result<Capture, AllocError> {
+    pub fn new(alloc: Global) -> Result<Capture, AllocError>
+        ensures { IfOk result (λ capture. written capture ≡ heading) }
+    {
         let mut bytes = Vec::from_slice(alloc, &SECTION)?;
         bytes.extend_from_slice(&INTERFACE)?;
         Ok(Capture { bytes })
@@ -109,7 +126,11 @@ impl Capture {
         alloc: Global,
         stamp: u64,
         datagram: &UdpDatagram<'_>,
-    ) -> Result<(), BuildFault> {
+    ) -> Result<(), BuildFault>
+        ensures ok { OnOk result (written self.new ≡ written self.old ++ block_bytes stamp (frame_bytes datagram.now)) }
+        ensures err { OnErr result (written self.new ≡ written self.old) }
+        ensures fault { IfErr result (λ fault. fault ≡ TooLong → 65507 < length datagram.now.payload.now) }
+    {
         let frame = frame(alloc, datagram)?;
         let block = packet_block(alloc, stamp, frame.as_slice())?;
         self.bytes.extend_from_slice(block.as_slice())?;
@@ -117,7 +138,9 @@ impl Capture {
     }
 
     /// The bytes of the capture.
-    pub fn bytes(&self) -> &[u8] {
+    pub fn bytes(&self) -> &[u8]
+        ensures { result.now ≡ written self.now }
+    {
         self.bytes.as_slice()
     }
 }

@@ -1,6 +1,12 @@
 //! STUN messages and ChannelData as they stand on the wire.
 
-use crate::rows::build_fault::{BuildFault, two_bytes};
+ghost use Rattle.std.specs.Prelude.{◌≡◌, ◌+◌, ◌<◌, ◌++◌, ◌⊎◌, [], length, IfOk, OnOk, IfErr};
+ghost use Rattle.std.specs.Int.{w16, to_be_bytes};
+ghost use Rattle.audit_glue.specs.declared.rows.build_fault.BuildFault.TheVariants.{Memory, TooLong};
+ghost use Rattle.audit_glue.specs.Rows.{type_of, xor_address_bytes, attribute_bytes};
+
+use crate::rows::build_fault::BuildFault;
+use crate::rows::sizes::{two_bytes, zeros_after};
 use audit_keys::hmac_sha1;
 use audit_model::Addr;
 use audit_stun::Class;
@@ -12,31 +18,37 @@ use std::alloc::Global;
 const INTEGRITY_LENGTH: usize = 24;
 
 /// The class and the method in fourteen bits (RFC 8489, section 5). Of the method the lowest twelve bits count.
-fn message_type(class: Class, method: u16) -> u16 {
-    let class = match class {
-        Class::Request => 0x0000,
-        Class::Indication => 0x0010,
-        Class::Success => 0x0100,
-        Class::Error => 0x0110,
-    };
-    (method & 0x0F80) << 2 | (method & 0x0070) << 1 | method & 0x000F | class
+fn message_type(class: Class, method: u16) -> u16
+    ensures { result ≡ type_of class method }
+{
+    let (high, middle, low) = (method / 128 % 32, method / 16 % 8, method % 16);
+    match class {
+        Class::Request => high * 512 + middle * 32 + low,
+        Class::Indication => high * 512 + middle * 32 + low + 0x0010,
+        Class::Success => high * 512 + middle * 32 + low + 0x0100,
+        Class::Error => high * 512 + middle * 32 + low + 0x0110,
+    }
 }
 
 /// The value of an XOR-MAPPED-ADDRESS, XOR-PEER-ADDRESS or XOR-RELAYED-ADDRESS.
-fn xor_address(addr: Addr) -> [u8; 8] {
+fn xor_address(addr: Addr) -> [u8; 8]
+    ensures { result ≡ xor_address_bytes addr }
+{
     let [port_high, port_low] = (addr.port ^ (MAGIC_COOKIE >> 16) as u16).to_be_bytes();
     let [a, b, c, d] = (addr.ip ^ MAGIC_COOKIE).to_be_bytes();
     [0, FAMILY_IPV4, port_high, port_low, a, b, c, d]
 }
 
 /// Adds an attribute, its value padded with zeros to a multiple of four.
-fn push_attribute(out: &mut Vec<u8>, kind: u16, value: &[u8]) -> Result<(), BuildFault> {
+fn push_attribute(out: &mut Vec<u8>, kind: u16, value: &[u8]) -> Result<(), BuildFault>
+    ensures ok { OnOk result (out.new.items ≡ out.old.items ++ attribute_bytes kind value.now) }
+    ensures err { IfErr result (λ fault. fault ≡ TooLong → 65535 < length value.now) }
+{
     let length = two_bytes(value.len())?;
     out.extend_from_slice(&kind.to_be_bytes())?;
     out.extend_from_slice(&length.to_be_bytes())?;
     out.extend_from_slice(value)?;
-    let padding = (4 - value.len() % 4) % 4;
-    out.extend_from_slice(&[0; 3][..padding])?;
+    out.extend_from_slice(zeros_after(value.len()))?;
     Ok(())
 }
 
@@ -49,8 +61,13 @@ pub struct Draft {
 }
 
 impl Draft {
+    ghost use Rattle.audit_glue.specs.Drafts.{message_bytes, size, IsDraft, IsExtended, integrity_bytes};
+    ghost use Rattle.audit_stun.specs.declared.numbers.attribute.TheConstants.{USERNAME, REALM, NONCE};
+
     /// A message without attributes. It takes no memory.
-    pub fn new(alloc: Global, class: Class, method: u16, transaction: [u8; 12]) -> Draft {
+    pub fn new(alloc: Global, class: Class, method: u16, transaction: [u8; 12]) -> Draft
+        ensures { IsDraft result (type_of class method) transaction [] }
+    {
         Draft {
             message_type: message_type(class, method),
             transaction,
@@ -59,25 +76,38 @@ impl Draft {
     }
 
     /// With an attribute more, its value padded with zeros. TooLong for a value of over 65,535 bytes.
-    pub fn with(mut self, kind: u16, value: &[u8]) -> Result<Draft, BuildFault> {
+    pub fn with(mut self, kind: u16, value: &[u8]) -> Result<Draft, BuildFault>
+        ensures ok { IfOk result (λ draft. IsExtended self (attribute_bytes kind value.now) draft) }
+        ensures err { IfErr result (λ fault. fault ≡ TooLong → 65535 < length value.now) }
+    {
         push_attribute(&mut self.attributes, kind, value)?;
         Ok(self)
     }
 
     /// With an attribute more that says an address: XOR-MAPPED-ADDRESS, XOR-PEER-ADDRESS or XOR-RELAYED-ADDRESS.
-    pub fn with_address(self, kind: u16, addr: Addr) -> Result<Draft, BuildFault> {
+    pub fn with_address(self, kind: u16, addr: Addr) -> Result<Draft, BuildFault>
+        ensures ok { IfOk result (λ draft. IsExtended self (attribute_bytes kind (xor_address_bytes addr)) draft) }
+        ensures err { IfErr result (λ fault. fault ≡ Memory) }
+    {
         self.with(kind, &xor_address(addr))
     }
 
-    /// With USERNAME, REALM and NONCE.
-    pub fn with_user(self, user: &[u8], realm: &[u8], nonce: &[u8]) -> Result<Draft, BuildFault> {
+    /// With USERNAME, REALM and NONCE. TooLong for a value of over 65,535 bytes.
+    pub fn with_user(self, user: &[u8], realm: &[u8], nonce: &[u8]) -> Result<Draft, BuildFault>
+        ensures ok { IfOk result (λ draft. IsExtended self
+            (attribute_bytes USERNAME user.now ++ attribute_bytes REALM realm.now ++ attribute_bytes NONCE nonce.now) draft) }
+        ensures err { IfErr result (λ fault. fault ≡ TooLong → (65535 < length user.now) ⊎ (65535 < length realm.now) ⊎ (65535 < length nonce.now)) }
+    {
         self.with(USERNAME, user)?
             .with(REALM, realm)?
             .with(NONCE, nonce)
     }
 
-    /// With the MESSAGE-INTEGRITY under the key over all that is there (RFC 8489, section 14.5). TooLong for attributes of over 65,535 bytes.
-    pub fn signed(self, key: &[u8]) -> Result<Draft, BuildFault> {
+    /// With the MESSAGE-INTEGRITY under the key over all that is there (RFC 8489, section 14.5). TooLong for attributes of over 65,511 bytes.
+    pub fn signed(self, key: &[u8]) -> Result<Draft, BuildFault>
+        ensures ok { IfOk result (λ draft. IsExtended self (integrity_bytes key.now self) draft) }
+        ensures err { IfErr result (λ fault. fault ≡ TooLong → 65511 < size self) }
+    {
         let length = two_bytes(self.attributes.len().saturating_add(INTEGRITY_LENGTH))?;
         let value = hmac_sha1(
             key,
@@ -93,7 +123,10 @@ impl Draft {
     }
 
     /// The bytes of the message. TooLong for attributes of over 65,535 bytes.
-    pub fn payload(&self, alloc: Global) -> Result<Vec<u8>, BuildFault> {
+    pub fn payload(&self, alloc: Global) -> Result<Vec<u8>, BuildFault>
+        ensures ok { IfOk result (λ payload. payload.items ≡ message_bytes self.now) }
+        ensures err { IfErr result (λ fault. fault ≡ TooLong → 65535 < size self.now) }
+    {
         let length = two_bytes(self.attributes.len())?;
         let mut out = Vec::from_slice(alloc, &self.message_type.to_be_bytes())?;
         out.extend_from_slice(&length.to_be_bytes())?;
@@ -105,10 +138,13 @@ impl Draft {
 }
 
 /// The bytes of ChannelData without padding (RFC 8656, section 12.4). TooLong for over 65,535 bytes of data.
-pub fn channel_data(alloc: Global, number: u16, data: &[u8]) -> Result<Vec<u8>, BuildFault> {
-    let length = two_bytes(data.len())?;
+pub fn channel_data(alloc: Global, number: u16, body: &[u8]) -> Result<Vec<u8>, BuildFault>
+    ensures ok { IfOk result (λ payload. payload.items ≡ to_be_bytes w16 number ++ to_be_bytes w16 (length body.now) ++ body.now) }
+    ensures err { IfErr result (λ fault. fault ≡ TooLong → 65535 < length body.now) }
+{
+    let length = two_bytes(body.len())?;
     let mut out = Vec::from_slice(alloc, &number.to_be_bytes())?;
     out.extend_from_slice(&length.to_be_bytes())?;
-    out.extend_from_slice(data)?;
+    out.extend_from_slice(body)?;
     Ok(out)
 }
