@@ -9,6 +9,7 @@ mod memory;
 mod messages;
 mod openings;
 mod permissions;
+mod relays;
 mod sessions;
 
 use captures::{SECTION, binding_capture, binding_parts};

@@ -17,7 +17,7 @@ fn bound(alloc: Global, lifetime: u32, number: u16) -> Result<Session, BuildFaul
 fn the_last_channel_number_is_bound(rt: HostRuntime) -> Result<(), Fail> {
     bound(rt.alloc(), 600, 0x4FFF)?.assert_conforming(
         &rt,
-        &["276518b5900241ba1a73eeb033978dafabdab610"],
+        "276518b5900241ba1a73eeb033978dafabdab610",
         4,
     )
 }
@@ -26,7 +26,7 @@ fn the_last_channel_number_is_bound(rt: HostRuntime) -> Result<(), Fail> {
 fn a_number_past_the_channels_is_r10(rt: HostRuntime) -> Result<(), Fail> {
     bound(rt.alloc(), 600, 0x5000)?.assert_breach(
         &rt,
-        &["838223dd6a7788d6364be54f80b38a9fb8d46044"],
+        "838223dd6a7788d6364be54f80b38a9fb8d46044",
         [
             "R10 channel number",
             "phase 2 lane 0 event 4 moment 1020500000 tie 0",
@@ -42,7 +42,7 @@ fn a_channel_carries_data_without_permission(rt: HostRuntime) -> Result<(), Fail
     let arrival = session.from_client(310_000_000, &channel_data(alloc, 0x4000, b"hi")?)?;
     let departure = session.to_peer(310_001_000, PEER, b"hi")?;
     session.answers(arrival, departure)?;
-    session.assert_conforming(&rt, &["3082f693964751586b0bb23800b7b9ea487ff55b"], 6)
+    session.assert_conforming(&rt, "3082f693964751586b0bb23800b7b9ea487ff55b", 6)
 }
 
 #[test]
@@ -54,7 +54,7 @@ fn a_peer_whose_permission_ended_is_r7_in_its_channel(rt: HostRuntime) -> Result
     session.answers(arrival, departure)?;
     session.assert_breach(
         &rt,
-        &["549e712fc15617443099683644bc4db218771a49"],
+        "549e712fc15617443099683644bc4db218771a49",
         [
             "R7 permission over",
             "phase 2 lane 0 event 7 moment 310000500000 tie 0",
@@ -76,14 +76,14 @@ fn carried_at(alloc: Global, moment: u64) -> Result<Session, BuildFault> {
 
 #[test]
 fn data_within_the_grace_of_its_channel_conforms(rt: HostRuntime) -> Result<(), Fail> {
-    carried_at(rt.alloc(), 602_020_500_000)?.assert_conforming(&rt, &[CARRIED_LATE], 6)
+    carried_at(rt.alloc(), 602_020_500_000)?.assert_conforming(&rt, CARRIED_LATE, 6)
 }
 
 #[test]
 fn data_after_its_channel_ended_is_r9(rt: HostRuntime) -> Result<(), Fail> {
     carried_at(rt.alloc(), 602_020_500_001)?.assert_breach(
         &rt,
-        &[CARRIED_LATE],
+        CARRIED_LATE,
         [
             "R9 channel over",
             "phase 2 lane 0 event 7 moment 602020500001 tie 0",
@@ -106,7 +106,7 @@ fn bound_anew_at(alloc: Global, moment: u64) -> Result<Session, BuildFault> {
 fn another_number_before_the_channel_is_gone_is_r11(rt: HostRuntime) -> Result<(), Fail> {
     bound_anew_at(rt.alloc(), 601_020_500_000)?.assert_breach(
         &rt,
-        &[BOUND_ANEW],
+        BOUND_ANEW,
         [
             "R11 channel conflict",
             "phase 2 lane 0 event 7 moment 601020500000 tie 0",
@@ -117,7 +117,7 @@ fn another_number_before_the_channel_is_gone_is_r11(rt: HostRuntime) -> Result<(
 
 #[test]
 fn another_number_once_the_channel_is_gone_conforms(rt: HostRuntime) -> Result<(), Fail> {
-    bound_anew_at(rt.alloc(), 601_020_500_001)?.assert_conforming(&rt, &[BOUND_ANEW], 6)
+    bound_anew_at(rt.alloc(), 601_020_500_001)?.assert_conforming(&rt, BOUND_ANEW, 6)
 }
 
 /// What the peer sends, given to the client as ChannelData with more bytes behind it.
@@ -135,7 +135,7 @@ fn followed_by(alloc: Global, more: &[u8]) -> Result<Session, BuildFault> {
 fn three_bytes_may_follow_channel_data(rt: HostRuntime) -> Result<(), Fail> {
     followed_by(rt.alloc(), &[0; 3])?.assert_conforming(
         &rt,
-        &["ad7cd52c02c7a4840736c57f6f21d0c490579d1f"],
+        "ad7cd52c02c7a4840736c57f6f21d0c490579d1f",
         6,
     )
 }
@@ -144,7 +144,7 @@ fn three_bytes_may_follow_channel_data(rt: HostRuntime) -> Result<(), Fail> {
 fn four_bytes_behind_channel_data_are_r21(rt: HostRuntime) -> Result<(), Fail> {
     followed_by(rt.alloc(), &[0; 4])?.assert_breach(
         &rt,
-        &["90b5456463a84675425996d0a6ec46253d8ec1af"],
+        "90b5456463a84675425996d0a6ec46253d8ec1af",
         [
             "R21 leaving datagram malformed",
             "phase 2 lane 0 event 7 moment 1030050000 tie 0",

@@ -18,7 +18,7 @@ const ALLOCATE: &str = "datagram 0.0 198.51.100.7:40000 to 192.0.2.1:3478 80 byt
 fn an_allocation_conforms(rt: HostRuntime) -> Result<(), Fail> {
     let mut session = Session::new(rt.alloc())?;
     session.allocate(600)?;
-    session.assert_conforming(&rt, &[ALLOCATED], 2)
+    session.assert_conforming(&rt, ALLOCATED, 2)
 }
 
 #[test]
@@ -26,11 +26,7 @@ fn an_allocate_under_another_password_is_r2(rt: HostRuntime) -> Result<(), Fail>
     let mut session = Session::new(rt.alloc())?;
     session.credentials = "user\trealm\tpasz\n";
     session.allocate(600)?;
-    session.assert_breach(
-        &rt,
-        &[ALLOCATED],
-        ["R2 credentials", ALLOCATE_ACT, ALLOCATE],
-    )
+    session.assert_breach(&rt, ALLOCATED, ["R2 credentials", ALLOCATE_ACT, ALLOCATE])
 }
 
 #[test]
@@ -39,7 +35,7 @@ fn an_allocation_for_no_time_is_r15(rt: HostRuntime) -> Result<(), Fail> {
     session.allocate(0)?;
     session.assert_breach(
         &rt,
-        &["190f5e5a731c11846cb414d802724fe933314930"],
+        "190f5e5a731c11846cb414d802724fe933314930",
         ["R15 lifetime", ALLOCATE_ACT, ALLOCATE],
     )
 }
@@ -53,7 +49,7 @@ fn a_success_without_integrity_is_r18(rt: HostRuntime) -> Result<(), Fail> {
     session.exchange((1_010_000, &allocate(alloc, id)?), (1_012_000, &given))?;
     session.assert_breach(
         &rt,
-        &["006b3e1d09f1ccc09514fd405b8922c4fe4a6a89"],
+        "006b3e1d09f1ccc09514fd405b8922c4fe4a6a89",
         ["R18 response integrity", ALLOCATE_ACT, ALLOCATE],
     )
 }
@@ -76,7 +72,7 @@ fn even_port_asked(alloc: Global, port: u16) -> Result<Session, BuildFault> {
 fn an_odd_port_where_an_even_one_was_asked_is_r14(rt: HostRuntime) -> Result<(), Fail> {
     even_port_asked(rt.alloc(), 50001)?.assert_breach(
         &rt,
-        &["76a28dd9911479b0e59b58471e72a84a11fa3987"],
+        "76a28dd9911479b0e59b58471e72a84a11fa3987",
         [
             "R14 relayed address",
             ALLOCATE_ACT,
@@ -89,7 +85,7 @@ fn an_odd_port_where_an_even_one_was_asked_is_r14(rt: HostRuntime) -> Result<(),
 fn an_even_port_where_one_was_asked_conforms(rt: HostRuntime) -> Result<(), Fail> {
     even_port_asked(rt.alloc(), 50000)?.assert_conforming(
         &rt,
-        &["35d118b8e157a8e7836b8425e4f34ce34d2b9ca5"],
+        "35d118b8e157a8e7836b8425e4f34ce34d2b9ca5",
         2,
     )
 }
@@ -109,7 +105,7 @@ fn repeated(alloc: Global, port: u16) -> Result<Session, BuildFault> {
 fn a_repeated_allocate_gets_the_same_address(rt: HostRuntime) -> Result<(), Fail> {
     repeated(rt.alloc(), 50000)?.assert_conforming(
         &rt,
-        &["e0f97dd1566765366a6f8d0d889740a6d5cb84ea"],
+        "e0f97dd1566765366a6f8d0d889740a6d5cb84ea",
         4,
     )
 }
@@ -118,7 +114,7 @@ fn a_repeated_allocate_gets_the_same_address(rt: HostRuntime) -> Result<(), Fail
 fn another_address_for_a_repeated_allocate_is_r14(rt: HostRuntime) -> Result<(), Fail> {
     repeated(rt.alloc(), 50002)?.assert_breach(
         &rt,
-        &["f99f795f909c2f53b88bb15a7f9bba193b6559ca"],
+        "f99f795f909c2f53b88bb15a7f9bba193b6559ca",
         [
             "R14 relayed address",
             "phase 2 lane 0 event 4 moment 1020500000 tie 0",
@@ -143,14 +139,14 @@ fn refreshed_at(alloc: Global, moment: u64) -> Result<Session, BuildFault> {
 
 #[test]
 fn a_refresh_within_the_grace_conforms(rt: HostRuntime) -> Result<(), Fail> {
-    refreshed_at(rt.alloc(), 602_011_000_000)?.assert_conforming(&rt, &[REFRESHED_LATE], 4)
+    refreshed_at(rt.alloc(), 602_011_000_000)?.assert_conforming(&rt, REFRESHED_LATE, 4)
 }
 
 #[test]
 fn a_refresh_after_the_grace_is_r5(rt: HostRuntime) -> Result<(), Fail> {
     refreshed_at(rt.alloc(), 602_011_000_001)?.assert_breach(
         &rt,
-        &[REFRESHED_LATE],
+        REFRESHED_LATE,
         [
             "R5 allocation over",
             "phase 2 lane 0 event 4 moment 602011000001 tie 0",
@@ -179,7 +175,7 @@ fn given_up_twice(alloc: Global, lifetime: u32) -> Result<Session, BuildFault> {
 fn an_allocation_may_be_given_up_twice(rt: HostRuntime) -> Result<(), Fail> {
     given_up_twice(rt.alloc(), 0)?.assert_conforming(
         &rt,
-        &["092919f00dd953505733dfe63dc69368fdf272a9"],
+        "092919f00dd953505733dfe63dc69368fdf272a9",
         6,
     )
 }
@@ -188,11 +184,37 @@ fn an_allocation_may_be_given_up_twice(rt: HostRuntime) -> Result<(), Fail> {
 fn time_for_an_allocation_that_was_given_up_is_r4(rt: HostRuntime) -> Result<(), Fail> {
     given_up_twice(rt.alloc(), 600)?.assert_breach(
         &rt,
-        &["5f8ddb291bff4b2d79b9d409c861e34ad7245a90"],
+        "5f8ddb291bff4b2d79b9d409c861e34ad7245a90",
         [
             "R4 no allocation",
             "phase 2 lane 0 event 7 moment 1022500000 tie 0",
             "datagram 0.4 198.51.100.7:40000 to 192.0.2.1:3478 80 bytes",
         ],
     )
+}
+
+#[test]
+fn credentials_are_refused_by_number_and_line(rt: HostRuntime) -> Result<(), Fail> {
+    let mut session = Session::new(rt.alloc())?;
+    for (credentials, refusal) in [
+        (
+            "user\trealm\tpass\r\n",
+            "turnaudit: refused K2 in credentials line 1\n",
+        ),
+        (
+            "user\trealm\tpass\nuser\trealm\tpass\n",
+            "turnaudit: refused K3 in credentials line 2\n",
+        ),
+        (
+            "user\trealm\n",
+            "turnaudit: refused K1 in credentials line 1\n",
+        ),
+    ] {
+        session.credentials = credentials;
+        let answer = session.answer()?;
+        assert_eq!(rt; answer.err.as_slice(), refusal.as_bytes());
+        assert_eq!(rt; answer.status, 2);
+        assert_eq!(rt; answer.out.len(), 0);
+    }
+    Ok(())
 }

@@ -33,7 +33,7 @@ fn relayed(alloc: Global, to: Addr, sent: &[u8], relayed: &[u8]) -> Result<Sessi
 fn what_is_sent_to_a_permitted_peer_conforms(rt: HostRuntime) -> Result<(), Fail> {
     relayed(rt.alloc(), PEER, b"hello", b"hello")?.assert_conforming(
         &rt,
-        &["8ff7f402bea85406ede308cd648b6e5ac3a337d6"],
+        "8ff7f402bea85406ede308cd648b6e5ac3a337d6",
         6,
     )
 }
@@ -42,7 +42,7 @@ fn what_is_sent_to_a_permitted_peer_conforms(rt: HostRuntime) -> Result<(), Fail
 fn other_data_than_was_sent_is_r13(rt: HostRuntime) -> Result<(), Fail> {
     relayed(rt.alloc(), PEER, b"hello", b"hellp")?.assert_breach(
         &rt,
-        &["9f89b6aeea0b13a8a7cf6a553da9ad2f97dc2f05"],
+        "9f89b6aeea0b13a8a7cf6a553da9ad2f97dc2f05",
         ["R13 data differs", SEND_ACT, SEND],
     )
 }
@@ -51,7 +51,7 @@ fn other_data_than_was_sent_is_r13(rt: HostRuntime) -> Result<(), Fail> {
 fn data_of_no_bytes_is_relayed(rt: HostRuntime) -> Result<(), Fail> {
     relayed(rt.alloc(), PEER, b"", b"")?.assert_conforming(
         &rt,
-        &["3423324342fd41528ef76bf19494e56b56f80916"],
+        "3423324342fd41528ef76bf19494e56b56f80916",
         6,
     )
 }
@@ -61,7 +61,7 @@ fn a_permission_is_for_every_port_of_the_peer(rt: HostRuntime) -> Result<(), Fai
     let other_port = Addr { port: 7001, ..PEER };
     relayed(rt.alloc(), other_port, b"hello", b"hello")?.assert_conforming(
         &rt,
-        &["1097961a68b23ee7e2b9260d3606088ae8186a05"],
+        "1097961a68b23ee7e2b9260d3606088ae8186a05",
         6,
     )
 }
@@ -74,7 +74,7 @@ fn what_is_sent_to_a_peer_without_permission_is_r6(rt: HostRuntime) -> Result<()
     };
     relayed(rt.alloc(), other_peer, b"hello", b"hello")?.assert_breach(
         &rt,
-        &["9f238cce84134cabf2bb30ac621c8339c2e96585"],
+        "9f238cce84134cabf2bb30ac621c8339c2e96585",
         ["R6 no permission", SEND_ACT, SEND],
     )
 }
@@ -93,14 +93,14 @@ fn relayed_at(alloc: Global, moment: u64) -> Result<Session, BuildFault> {
 
 #[test]
 fn relay_within_the_grace_of_the_permission_conforms(rt: HostRuntime) -> Result<(), Fail> {
-    relayed_at(rt.alloc(), 302_020_500_000)?.assert_conforming(&rt, &[RELAYED_LATE], 6)
+    relayed_at(rt.alloc(), 302_020_500_000)?.assert_conforming(&rt, RELAYED_LATE, 6)
 }
 
 #[test]
 fn relay_after_the_permission_ended_is_r7(rt: HostRuntime) -> Result<(), Fail> {
     relayed_at(rt.alloc(), 302_020_500_001)?.assert_breach(
         &rt,
-        &[RELAYED_LATE],
+        RELAYED_LATE,
         [
             "R7 permission over",
             "phase 2 lane 0 event 7 moment 302020500001 tie 0",
@@ -122,7 +122,7 @@ fn given_to_the_client(alloc: Global) -> Result<(Session, Seen), BuildFault> {
 #[test]
 fn what_a_permitted_peer_sends_is_given_to_the_client(rt: HostRuntime) -> Result<(), Fail> {
     let (session, _) = given_to_the_client(rt.alloc())?;
-    session.assert_conforming(&rt, &["ae8145316f1b796de5c3e55291418b5771eb9ffe"], 6)
+    session.assert_conforming(&rt, "ae8145316f1b796de5c3e55291418b5771eb9ffe", 6)
 }
 
 #[test]
@@ -135,7 +135,7 @@ fn a_datagram_given_to_the_client_twice_is_s10(rt: HostRuntime) -> Result<(), Fa
     session.goes_out(again, 1_031_000_000)?;
     session.assert_breach(
         &rt,
-        &["6b83d5e2dc8f1088aa9ca69c33fa8720cb4671bb"],
+        "6b83d5e2dc8f1088aa9ca69c33fa8720cb4671bb",
         [
             "S10 acted twice",
             "phase 2 lane 0 event 9 moment 1030600000 tie 0",

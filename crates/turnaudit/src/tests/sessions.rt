@@ -53,6 +53,7 @@ pub struct Seen {
 #[derive(Drop)]
 pub struct Session {
     pub alloc: Global,
+    pub policy: &'static str,
     pub credentials: &'static str,
     clients: Capture,
     client_count: u32,
@@ -67,6 +68,7 @@ impl Session {
     pub fn new(alloc: Global) -> Result<Session, BuildFault> {
         Ok(Session {
             alloc,
+            policy: POLICY,
             credentials: "user\trealm\tpass\n",
             clients: Capture::new(alloc)?,
             client_count: 0,
@@ -234,78 +236,95 @@ impl Session {
         Ok(())
     }
 
-    /// That the captures are those bytes of which these are the digests, and that `check` writes the report and nothing else.
+    /// The files of the session, with the certificate.
+    fn files<'a>(&'a self, certificate: &'a str) -> Files<'a> {
+        let second = match &self.peers {
+            Some(peers) => peers.bytes(),
+            None => &[],
+        };
+        Files {
+            policy: self.policy.as_bytes(),
+            credentials: self.credentials.as_bytes(),
+            certificate: certificate.as_bytes(),
+            capture: self.clients.bytes(),
+            second,
+            first: 65_536,
+            step: 65_536,
+            fails: None,
+        }
+    }
+
+    /// The digests of the captures, with a space between two.
+    fn digests(&self) -> Result<String, AllocError> {
+        let mut digests = String::new(self.alloc);
+        push_digest(&mut digests, self.clients.bytes())?;
+        if let Some(peers) = &self.peers {
+            digests.push(' ')?;
+            push_digest(&mut digests, peers.bytes())?;
+        }
+        Ok(digests)
+    }
+
+    /// What `check` answers to the session.
+    pub fn answer(&self) -> Result<Answer, AllocError> {
+        let certificate = format!(in self.alloc; "{}end\n", self.certificate)?;
+        let mut words = Vec::from_slice(self.alloc, &WORDS)?;
+        if self.peers.is_some() {
+            words.push("second")?;
+        }
+        let mut files = self.files(certificate.as_str());
+        ask(self.alloc, words.as_slice(), &mut files)
+    }
+
+    /// That the captures have these digests, and that `check` writes the report and nothing else.
     fn assert_report(
         &self,
         rt: &impl Abort,
-        digests: &[&str],
+        digests: &str,
         status: u8,
         report: &str,
     ) -> Result<(), Fail> {
-        let alloc = self.alloc;
-        let certificate = format!(in alloc; "{}end\n", self.certificate)?;
-        let mut files = Files::new(POLICY, certificate.as_str(), self.clients.bytes());
-        files.credentials = self.credentials.as_bytes();
-        assert_digest(rt, alloc, self.clients.bytes(), digests.first())?;
-        let mut words = Vec::from_slice(alloc, &WORDS)?;
-        if let Some(peers) = &self.peers {
-            assert_digest(rt, alloc, peers.bytes(), digests.get(1))?;
-            files.second = peers.bytes();
-            words.push("second")?;
-        }
-        let Answer {
-            status: found,
-            out,
-            err,
-        } = ask(alloc, words.as_slice(), &mut files)?;
-        assert_eq!(rt; out.as_slice(), report.as_bytes());
-        assert_eq!(rt; found, status);
-        assert_eq!(rt; err.len(), 0);
+        assert_eq!(rt; self.digests()?.as_str(), digests);
+        let answer = self.answer()?;
+        assert_eq!(rt; answer.out.as_slice(), report.as_bytes());
+        assert_eq!(rt; answer.err.len(), 0);
+        assert_eq!(rt; answer.status, status);
         Ok(())
     }
 
-    /// That the session conforms, with this many datagrams.
+    /// That the captures have these digests, and that the session conforms with this many datagrams.
     pub fn assert_conforming(
         &self,
         rt: &impl Abort,
-        digests: &[&str],
+        digests: &str,
         datagrams: u32,
     ) -> Result<(), Fail> {
-        let alloc = self.alloc;
-        let report = format!(in alloc;
+        let report = format!(in self.alloc;
             "turnaudit-report 1\nconforming {datagrams} datagrams 1 lanes\n"
         )?;
         self.assert_report(rt, digests, 0, report.as_str())
     }
 
-    /// That the session has this breach, three lines.
+    /// That the captures have these digests, and that the session has the breach of these three lines.
     pub fn assert_breach(
         &self,
         rt: &impl Abort,
-        digests: &[&str],
+        digests: &str,
         breach: [&str; 3],
     ) -> Result<(), Fail> {
-        let alloc = self.alloc;
         let [rule, event, datagram] = breach;
-        let report = format!(in alloc;
+        let report = format!(in self.alloc;
             "turnaudit-report 1\nnot shown\nrule {rule}\n{event}\n{datagram}\n"
         )?;
         self.assert_report(rt, digests, 1, report.as_str())
     }
 }
 
-/// That the HMAC-SHA1 of the capture under the key `capture` is this one, as `openssl dgst -sha1 -hmac capture` prints it.
-fn assert_digest(
-    rt: &impl Abort,
-    alloc: Global,
-    capture: &[u8],
-    expected: Option<&&str>,
-) -> Result<(), AllocError> {
-    let mut digest = String::new(alloc);
+/// Adds the HMAC-SHA1 of the capture under the key `capture`, as `openssl dgst -sha1 -hmac capture` prints it.
+fn push_digest(out: &mut String, capture: &[u8]) -> Result<(), AllocError> {
     for byte in hmac_sha1(b"capture", &[capture]) {
-        write!(digest, "{byte:02x}")?;
+        write!(out, "{byte:02x}")?;
     }
-    assert_eq!(rt; Some(&digest.as_str()), expected);
     Ok(())
 }
 
