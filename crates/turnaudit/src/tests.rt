@@ -7,6 +7,7 @@ mod errors;
 mod feeding;
 mod memory;
 mod messages;
+mod no_memory;
 mod openings;
 mod permissions;
 mod relays;

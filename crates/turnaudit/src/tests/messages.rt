@@ -6,16 +6,17 @@ use audit_keys::long_term_key;
 use audit_model::Addr;
 use std::alloc::Global;
 
-const USER: &[u8] = b"user";
+pub const USER: &[u8] = b"user";
 
-const REALM: &[u8] = b"realm";
+pub const REALM: &[u8] = b"realm";
 
 const NONCE: &[u8] = b"n1";
 
 /// REQUESTED-TRANSPORT of UDP.
 pub const UDP: [u8; 4] = [17, 0, 0, 0];
 
-fn user_key() -> [u8; 16] {
+/// The key of `user`.
+pub fn user_key() -> [u8; 16] {
     long_term_key(USER, REALM, b"pass")
 }
 

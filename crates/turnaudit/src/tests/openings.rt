@@ -5,6 +5,7 @@ use super::messages::{
 };
 use super::sessions::{PEER, RELAYED, Seen, Session};
 use audit_glue::rows::{BuildFault, attribute, method};
+use audit_model::Addr;
 
 impl Session {
     /// An Allocate without credentials, refused.
@@ -31,14 +32,14 @@ impl Session {
         self.exchange((1_010_000, &asked), (1_012_000, &given))
     }
 
-    /// A permission for the peer.
-    pub fn permit(&mut self) -> Result<(), BuildFault> {
+    /// Permissions for these peers, by one request.
+    pub fn permit(&mut self, peers: &[Addr]) -> Result<(), BuildFault> {
         let alloc = self.alloc;
         let id = self.transaction();
-        let draft = request(alloc, method::CREATE_PERMISSION, id).with_address(
-            attribute::XOR_PEER_ADDRESS,
-            PEER,
-        )?;
+        let mut draft = request(alloc, method::CREATE_PERMISSION, id);
+        for peer in peers {
+            draft = draft.with_address(attribute::XOR_PEER_ADDRESS, *peer)?;
+        }
         let asked = by_user(alloc, draft)?;
         let given = to_user(alloc, success(alloc, method::CREATE_PERMISSION, id))?;
         self.exchange((1_020_000, &asked), (1_021_000, &given))

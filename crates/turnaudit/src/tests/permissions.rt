@@ -15,7 +15,7 @@ const SEND_ACT: &str = "phase 2 lane 0 event 7 moment 1030050000 tie 0";
 fn permitted(alloc: Global) -> Result<Session, BuildFault> {
     let mut session = Session::new(alloc)?;
     session.allocate(600)?;
-    session.permit()?;
+    session.permit(&[PEER])?;
     Ok(session)
 }
 

@@ -15,7 +15,7 @@ fn permitted(alloc: Global) -> Result<Session, BuildFault> {
     let mut session = Session::of_two_captures(alloc)?;
     session.challenge()?;
     session.allocate(600)?;
-    session.permit()?;
+    session.permit(&[PEER])?;
     Ok(session)
 }
 

@@ -14,7 +14,7 @@ pub const CLIENT: Addr = Addr {
     port: 40000,
 };
 
-const LISTEN: Addr = Addr {
+pub const LISTEN: Addr = Addr {
     ip: 0xC000_0201,
     port: 3478,
 };
@@ -234,6 +234,11 @@ impl Session {
         let departure = self.to_client(answered, response)?;
         self.answers(arrival, departure)?;
         Ok(())
+    }
+
+    /// The capture of the client's datagrams, which has all of them where the peer's have none of their own.
+    pub fn captured(&self) -> &[u8] {
+        self.clients.bytes()
     }
 
     /// The files of the session, with the certificate.
