@@ -2,6 +2,7 @@
 #![tactic(auto)]
 
 mod lanes;
+pub mod rows;
 mod verdict;
 
 pub use lanes::job;

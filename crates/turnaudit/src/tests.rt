@@ -1,8 +1,17 @@
 //! Words in, status and both streams out, over files in memory.
 
 mod captures;
+mod channels;
+mod credentials;
+mod errors;
 mod feeding;
 mod memory;
+mod messages;
+mod no_memory;
+mod openings;
+mod permissions;
+mod relays;
+mod sessions;
 
 use captures::{SECTION, binding_capture, binding_parts};
 use memory::{Answer, Files, ask, ask_within};
@@ -27,17 +36,6 @@ const CERTIFICATE: &str =
 
 const CONFORMING: &str = "turnaudit-report 1\nconforming 2 datagrams 1 lanes\n";
 
-fn files<'a>(policy: &'a str, certificate: &'a str, capture: &'a [u8]) -> Files<'a> {
-    Files {
-        policy: policy.as_bytes(),
-        certificate: certificate.as_bytes(),
-        capture,
-        first: 65_536,
-        step: 65_536,
-        fails: None,
-    }
-}
-
 /// Cut in two at each place, and byte by byte: how many bytes are given at first, and at once after that.
 fn cuttings(alloc: Global, length: usize) -> Result<Vec<(usize, usize)>, AllocError> {
     let mut cuttings = Vec::new(alloc);
@@ -52,7 +50,7 @@ fn cuttings(alloc: Global, length: usize) -> Result<Vec<(usize, usize)>, AllocEr
 fn binding_and_its_success_conform(rt: HostRuntime) -> Result<(), Fail> {
     let alloc = rt.alloc();
     let capture = binding_capture(alloc, &binding_parts())?;
-    let mut files = files(POLICY, CERTIFICATE, &capture);
+    let mut files = Files::new(POLICY, CERTIFICATE, &capture);
     for (first, step) in cuttings(alloc, capture.len())? {
         files.first = first;
         files.step = step;
@@ -72,7 +70,11 @@ fn a_tagged_frame_conforms(rt: HostRuntime) -> Result<(), Fail> {
     parts.first_block = 0x64;
     parts.first_frame = 0x42;
     let capture = binding_capture(alloc, &parts)?;
-    let answer = ask(alloc, &WORDS, &mut files(POLICY, CERTIFICATE, &capture))?;
+    let answer = ask(
+        alloc,
+        &WORDS,
+        &mut Files::new(POLICY, CERTIFICATE, &capture),
+    )?;
     assert_eq!(rt; answer.status, 0);
     assert_eq!(rt; answer.out.as_slice(), CONFORMING.as_bytes());
     Ok(())
@@ -84,7 +86,11 @@ fn another_mapped_address_is_r17(rt: HostRuntime) -> Result<(), Fail> {
     let mut parts = binding_parts();
     parts.mapped_port = [0xbd, 0x53];
     let capture = binding_capture(alloc, &parts)?;
-    let answer = ask(alloc, &WORDS, &mut files(POLICY, CERTIFICATE, &capture))?;
+    let answer = ask(
+        alloc,
+        &WORDS,
+        &mut Files::new(POLICY, CERTIFICATE, &capture),
+    )?;
     assert_eq!(rt; answer.status, 1);
     assert_eq!(rt;
         answer.out.as_slice(),
@@ -98,7 +104,11 @@ fn another_mapped_address_is_r17(rt: HostRuntime) -> Result<(), Fail> {
 fn a_section_alone_conforms_to_an_empty_certificate(rt: HostRuntime) -> Result<(), Fail> {
     let alloc = rt.alloc();
     let certificate = "turnaudit-certificate 1\nend\n";
-    let answer = ask(alloc, &WORDS, &mut files(POLICY, certificate, &SECTION))?;
+    let answer = ask(
+        alloc,
+        &WORDS,
+        &mut Files::new(POLICY, certificate, &SECTION),
+    )?;
     assert_eq!(rt; answer.status, 0);
     let expected = "turnaudit-report 1\nconforming 0 datagrams 0 lanes\n";
     assert_eq!(rt; answer.out.as_slice(), expected.as_bytes());
@@ -111,7 +121,7 @@ fn a_capture_without_its_last_byte_is_torn(rt: HostRuntime) -> Result<(), Fail> 
     let whole = binding_capture(alloc, &binding_parts())?;
     let (_, torn) = whole.split_last().ok_or("the capture has bytes")?;
     assert_eq!(rt; torn.len(), 251);
-    let mut files = files(POLICY, CERTIFICATE, torn);
+    let mut files = Files::new(POLICY, CERTIFICATE, torn);
     for (first, step) in cuttings(alloc, 251)? {
         files.first = first;
         files.step = step;
@@ -129,7 +139,7 @@ fn a_capture_without_its_last_byte_is_torn(rt: HostRuntime) -> Result<(), Fail> 
 #[test]
 fn captures_are_refused_by_number(rt: HostRuntime) -> Result<(), Fail> {
     let alloc = rt.alloc();
-    let answer = ask(alloc, &WORDS, &mut files(POLICY, CERTIFICATE, &[]))?;
+    let answer = ask(alloc, &WORDS, &mut Files::new(POLICY, CERTIFICATE, &[]))?;
     assert_eq!(rt; answer.status, 2);
     assert_eq!(rt;
         answer.err.as_slice(),
@@ -139,7 +149,11 @@ fn captures_are_refused_by_number(rt: HostRuntime) -> Result<(), Fail> {
     let mut parts = binding_parts();
     parts.first_flags = [0x20, 0x00];
     let fragment = binding_capture(alloc, &parts)?;
-    let answer = ask(alloc, &WORDS, &mut files(POLICY, CERTIFICATE, &fragment))?;
+    let answer = ask(
+        alloc,
+        &WORDS,
+        &mut Files::new(POLICY, CERTIFICATE, &fragment),
+    )?;
     assert_eq!(rt; answer.status, 2);
     assert_eq!(rt;
         answer.err.as_slice(),
@@ -158,7 +172,7 @@ fn assert_refused(
     let answer = ask(
         rt.alloc(),
         &WORDS,
-        &mut files(policy, certificate, &SECTION),
+        &mut Files::new(policy, certificate, &SECTION),
     )?;
     assert_eq!(rt; answer.status, 2, "{expected}");
     assert_eq!(rt; answer.err.as_slice(), expected.as_bytes());
@@ -225,7 +239,7 @@ fn policies_are_refused_by_number_and_line(rt: HostRuntime) -> Result<(), Fail> 
 #[test]
 fn wrong_words_are_no_request(rt: HostRuntime) -> Result<(), Fail> {
     let alloc = rt.alloc();
-    let mut files = files(POLICY, CERTIFICATE, &SECTION);
+    let mut files = Files::new(POLICY, CERTIFICATE, &SECTION);
     let without_policy = ["turnaudit", "check", "--cert", "cert", "capture"];
     let answer = ask(alloc, &without_policy, &mut files)?;
     assert_eq!(rt; answer.status, 5);
@@ -252,14 +266,9 @@ fn wrong_words_are_no_request(rt: HostRuntime) -> Result<(), Fail> {
 fn a_file_that_cannot_be_read_is_said(rt: HostRuntime) -> Result<(), Fail> {
     let alloc = rt.alloc();
     for name in ["policy", "cert", "capture"] {
-        let mut files = Files {
-            policy: POLICY.as_bytes(),
-            certificate: CERTIFICATE.as_bytes(),
-            capture: &SECTION,
-            first: 10,
-            step: 65_536,
-            fails: Some(name),
-        };
+        let mut files = Files::new(POLICY, CERTIFICATE, &SECTION);
+        files.first = 10;
+        files.fails = Some(name);
         let answer = ask(alloc, &WORDS, &mut files)?;
         assert_eq!(rt; answer.status, 4, "{name}");
         assert_eq!(rt;
@@ -275,7 +284,7 @@ fn a_file_that_cannot_be_read_is_said(rt: HostRuntime) -> Result<(), Fail> {
 fn an_answer_that_cannot_be_written_is_said(rt: HostRuntime) -> Result<(), Fail> {
     let alloc = rt.alloc();
     let capture = binding_capture(alloc, &binding_parts())?;
-    let mut files = files(POLICY, CERTIFICATE, &capture);
+    let mut files = Files::new(POLICY, CERTIFICATE, &capture);
     let report = CONFORMING.as_bytes();
     for room in 0..report.len() {
         let answer = ask_within(alloc, &WORDS, &mut files, room)?;

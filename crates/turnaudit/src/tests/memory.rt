@@ -5,18 +5,37 @@ use crate::source::{ReadFailed, Source};
 use audit_model::{Sink, SinkFailed};
 use std::alloc::{AllocError, Global};
 
-/// The three files of a run.
+/// The files of a run.
 #[derive(Drop)]
 pub struct Files<'a> {
     pub policy: &'a [u8],
+    pub credentials: &'a [u8],
     pub certificate: &'a [u8],
     pub capture: &'a [u8],
+    /// Another capture.
+    pub second: &'a [u8],
     /// How many bytes of a file are given at first.
     pub first: usize,
     /// How many are given at once after that.
     pub step: usize,
     /// The file whose second piece can't be read.
     pub fails: Option<&'a str>,
+}
+
+impl<'a> Files<'a> {
+    /// Without credentials and a second capture. Each file is read at once, and can be.
+    pub fn new(policy: &'a str, certificate: &'a str, capture: &'a [u8]) -> Files<'a> {
+        Files {
+            policy: policy.as_bytes(),
+            credentials: &[],
+            certificate: certificate.as_bytes(),
+            capture,
+            second: &[],
+            first: 65_536,
+            step: 65_536,
+            fails: None,
+        }
+    }
 }
 
 impl Source for Files<'_> {
@@ -26,8 +45,10 @@ impl Source for Files<'_> {
         }
         let file = match name {
             "policy" => self.policy,
+            "creds" => self.credentials,
             "cert" => self.certificate,
             "capture" => self.capture,
+            "second" => self.second,
             _ => return Err(ReadFailed),
         };
         let at = (at as usize).min(file.len());
