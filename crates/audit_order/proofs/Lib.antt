@@ -1,0 +1,6 @@
+pub mod LeastOfTwo
+pub mod LeastOfChecks
+pub mod FirstPush
+pub mod Turns
+pub mod Neighbours
+pub mod Whole

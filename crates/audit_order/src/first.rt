@@ -1,56 +1,104 @@
 //! Where each sighting is placed first, by lane and place.
 
+ghost use Rattle.std.specs.Prelude.{◌≡◌, ◌++◌, ◌∷◌, [], All, List, Option, Some, None, IfOk, OnOk, is_some, if◌then◌else◌};
+ghost use Rattle.std.specs.Bool.{OnTrue, OnFalse};
+ghost use Rattle.audit_model.specs.declared.sighting.SightId.{SightId};
+ghost use Rattle.audit_order.specs.FirstPlace.{noted, table_at, same_sight, is_placed, Notes};
+ghost use Rattle.audit_order.specs.declared.entry.Entry.{Entry};
+
+use crate::entry::Entry;
 use audit_model::{At, Event, SightId};
 use audit_sightings::Intake;
 use std::alloc::{AllocError, Global};
-use std::collections::BTreeSet;
+use std::collections::BTreeMap;
 
 /// The first placements of an intake's sightings, by interface and index.
 #[derive(Drop)]
 pub struct FirstPlaces {
     places: Vec<Vec<Option<At>>>,
-    /// Names that were placed and that no sighting has.
-    strangers: BTreeSet<SightId>,
+    /// Those of names that no sighting has.
+    strangers: BTreeMap<SightId, At>,
 }
 
 impl FirstPlaces {
     /// No sighting is placed yet.
-    pub fn new(alloc: Global, intake: &Intake) -> Result<FirstPlaces, AllocError> {
-        let mut places = Vec::new(alloc);
-        for iface in 0..intake.interfaces() {
-            places.push(vec![in alloc; None; intake.interface(iface).len()]?)?;
-        }
+    pub fn new(alloc: Global, intake: &Intake) -> Result<FirstPlaces, AllocError>
+        ensures { IfOk result (λ first. (sight : SightId) → noted first sight ≡ None) }
+    {
         Ok(FirstPlaces {
-            places,
-            strangers: BTreeSet::new(alloc),
+            places: empty_table(alloc, intake)?,
+            strangers: BTreeMap::new(alloc),
         })
     }
 
     /// Where the sighting is placed first.
-    pub fn at(&self, iface: u32, index: usize) -> Option<At> {
-        let row = self.places.get(iface as usize)?;
-        *row.get(index)?
-    }
-
-    /// Notes that an event places the sighting, and tells whether an earlier one does.
-    pub fn place(&mut self, sight: SightId, at: At) -> Result<bool, AllocError> {
-        let row = sight.iface as usize;
-        let index = sight.index as usize;
-        if row < self.places.len() && index < self.places[row].len() {
-            if self.places[row][index].is_some() {
-                return Ok(true);
-            }
-            self.places[row][index] = Some(at);
-            return Ok(false);
+    pub fn at(&self, sight: SightId) -> Option<At>
+        ensures { result ≡ noted self.now sight }
+    {
+        match read(&self.places, sight) {
+            Some(place) => place,
+            None => self.strangers.get(&sight).copied(),
         }
-        Ok(!self.strangers.insert(sight)?)
     }
 
-    /// The same of an event, which is false of an act.
-    pub fn place_event(&mut self, event: Event, at: At) -> Result<bool, AllocError> {
-        match event {
-            Event::In { sight, .. } | Event::Out { sight, .. } => self.place(sight, at),
+    /// Notes that an entry places the sighting, and tells whether an earlier one does.
+    pub fn place(&mut self, sight: SightId, at: At) -> Result<bool, AllocError>
+        ensures found { IfOk result (λ placed. placed ≡ is_some (noted self.old sight)) }
+        ensures noted { IfOk result (λ placed. (other : SightId) → noted self.new other
+            ≡ (if placed then noted self.old other else if same_sight sight other then Some at else noted self.old other)) }
+    {
+        if self.at(sight).is_some() {
+            return Ok(true);
+        }
+        if !write(&mut self.places, sight, at) {
+            self.strangers.insert(sight, at)?;
+        }
+        Ok(false)
+    }
+
+    /// The same of an entry, which is false of an act.
+    pub fn place_entry(&mut self, entry: &Entry) -> Result<bool, AllocError>
+        ensures found { (earlier : List Entry) → Notes self.old earlier → IfOk result (λ placed. placed ≡ is_placed earlier entry.now.event) }
+        ensures notes { (earlier : List Entry) → Notes self.old earlier → OnOk result (Notes self.new (earlier ++ entry.now ∷ [])) }
+    {
+        match entry.event {
+            Event::In { sight, .. } | Event::Out { sight, .. } => self.place(sight, entry.at),
             Event::Act { .. } => Ok(false),
         }
     }
+}
+
+/// A table with a place for each sighting.
+fn empty_table(alloc: Global, intake: &Intake) -> Result<Vec<Vec<Option<At>>>, AllocError>
+    ensures { IfOk result (λ rows. All (λ row. All (λ place. place ≡ None) row.items) rows.items) }
+{
+    let mut rows = Vec::new(alloc);
+    for iface in 0..intake.interfaces() {
+        rows.push(vec![in alloc; None; intake.interface(iface).len()]?)?;
+    }
+    Ok(rows)
+}
+
+/// What the table has at the place of the name.
+fn read(rows: &[Vec<Option<At>>], sight: SightId) -> Option<Option<At>>
+    ensures { result ≡ table_at rows.now sight }
+{
+    let row = rows.get(sight.iface as usize)?;
+    row.get(sight.index as usize).copied()
+}
+
+/// Sets the place of the name, and tells whether the table has one for it.
+fn write(rows: &mut Vec<Vec<Option<At>>>, sight: SightId, at: At) -> bool
+    ensures there { result ≡ is_some (table_at rows.old.items sight) }
+    ensures set { OnTrue result ((other : SightId) → table_at rows.new.items other
+        ≡ (if same_sight sight other then Some (Some at) else table_at rows.old.items other)) }
+    ensures same { OnFalse result (rows.new.items ≡ rows.old.items) }
+{
+    let iface = sight.iface as usize;
+    let index = sight.index as usize;
+    if iface < rows.len() && index < rows[iface].len() {
+        rows[iface][index] = Some(at);
+        return true;
+    }
+    false
 }

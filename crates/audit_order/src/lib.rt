@@ -1,6 +1,7 @@
 //! Placement: whether a certificate places each sighting once, in its window and in order.
 #![tactic(auto)]
 
+mod entry;
 mod events;
 mod first;
 mod interfaces;

@@ -1,0 +1,47 @@
+-- Where a sighting is placed first, by lane and place.
+use Rattle.std.specs.Prelude.{◌≡◌, Bool, false, ◌&&◌, ◌==◌, List, [], ◌∷◌, Option, Some, None, is_some, slice_get, option_and_then, if◌then◌else◌}
+use Rattle.std.specs.BTreeMap.{get}
+use Rattle.std.specs.Global.{Vec}
+use Rattle.audit_model.specs.declared.event.At.{At}
+use Rattle.audit_model.specs.declared.event.Event.{Event}
+use Rattle.audit_model.specs.declared.event.Event.TheVariants.{In, Act, Out}
+use Rattle.audit_model.specs.declared.sighting.SightId.{SightId}
+use Rattle.audit_model.specs.Breach.{sight_cmp}
+use Rattle.audit_order.specs.declared.first.FirstPlaces.{FirstPlaces}
+use Rattle.audit_order.specs.declared.entry.Entry.{Entry}
+
+abbrev pub same_sight : SightId → SightId → Bool
+same_sight a b = (a.iface == b.iface) && (a.index == b.index)
+
+-- an arrival or a departure of the sighting; an act places nothing
+abbrev pub places : Event → SightId → Bool
+places (In placed key) sight = same_sight placed sight
+places (Act arrival departure key) sight = false
+places (Out placed key) sight = same_sight placed sight
+
+abbrev pub first_place : List Entry → SightId → Option At
+first_place [] sight = None
+first_place (entry ∷ entries) sight = if places entry.event sight then Some entry.at else first_place entries sight
+
+-- one of the entries places what the event places
+abbrev pub is_placed : List Entry → Event → Bool
+is_placed entries (In sight key) = is_some (first_place entries sight)
+is_placed entries (Act arrival departure key) = false
+is_placed entries (Out sight key) = is_some (first_place entries sight)
+
+-- what a table has at the place of that name
+abbrev pub table_at : List (Vec (Option At)) → SightId → Option (Option At)
+table_at rows sight = option_and_then (λ row. slice_get row.items sight.index) (slice_get rows sight.iface)
+
+-- the table's place where it has one for the name
+abbrev pub or_stranger : Option (Option At) → Option At → Option At
+or_stranger None stranger = stranger
+or_stranger (Some place) stranger = place
+
+-- where the sighting is placed first, by what is noted
+abbrev pub noted : FirstPlaces → SightId → Option At
+noted first sight = or_stranger (table_at first.places.items sight) (get sight_cmp first.strangers sight)
+
+-- what is noted is where the entries place each sighting first
+abbrev pub Notes : FirstPlaces → List Entry → Type 0
+Notes first entries = (sight : SightId) → noted first sight ≡ first_place entries sight
