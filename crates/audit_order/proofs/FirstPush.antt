@@ -2,6 +2,7 @@
 use Rattle.std.proofs.Common.{◌≡◌, ◌⊎◌, inl, inr, Bool, true, false, cond, List, [], ◌∷◌, ◌++◌, Option, Some, None, refl, sym, ap, ◌∙◌, ◌&&◌, ◌==◌, ℕ}
 use Rattle.std.specs.Prelude.{is_some, Result, Ok, Err, IfOk, OnOk}
 use Rattle.std.proofs.lemmas.Bool.{true≢false, eqb-true}
+use Rattle.audit_model.specs.declared.certificate.Certificate.{Certificate}
 use Rattle.audit_model.specs.declared.event.At.{At}
 use Rattle.audit_model.specs.declared.event.Event.{Event}
 use Rattle.audit_model.specs.declared.event.Event.TheVariants.{In, Out}
@@ -57,20 +58,22 @@ pub noted_push : (f : SightId → Option At) (sight other : SightId) (at : At) (
 noted_push f sight other at placed is = by_case f sight other at (same_sight sight other) refl placed is (f sight) refl
 
 -- an entry that places the sighting is noted, unless an earlier one is
-pub notes_push : (old new : FirstPlaces) (entry : Entry) (sight : SightId) → ((s : SightId) → places entry.event s ≡ same_sight sight s)
-    → (placed : Bool) → placed ≡ is_some (noted old sight)
-    → ((s : SightId) → noted new s ≡ cond placed (noted old s) (cond (same_sight sight s) (Some entry.at) (noted old s)))
-    → (earlier : List Entry) → Notes old earlier → Notes new (earlier ++ entry ∷ [])
-notes_push old new entry sight same placed is set earlier notes = λ s.
-    set s ∙ noted_push (noted old) sight s entry.at placed is
+pub notes_push : (certificate : Certificate) (old new : FirstPlaces) (entry : Entry) (spot : Option At) (sight : SightId) → spot ≡ Some entry.at
+    → ((s : SightId) → places entry.event s ≡ same_sight sight s)
+    → (placed : Bool) → placed ≡ is_some (noted certificate old sight)
+    → ((s : SightId) → noted certificate new s ≡ cond placed (noted certificate old s) (cond (same_sight sight s) spot (noted certificate old s)))
+    → (earlier : List Entry) → Notes certificate old earlier → Notes certificate new (earlier ++ entry ∷ [])
+notes_push certificate old new entry spot sight there same placed is set earlier notes = λ s.
+    set s ∙ ap (λ (o : Option At). cond placed (noted certificate old s) (cond (same_sight sight s) o (noted certificate old s))) there
+    ∙ noted_push (noted certificate old) sight s entry.at placed is
     ∙ ap (λ (o : Option At). or_new o (cond (same_sight sight s) (Some entry.at) None)) (notes s)
     ∙ ap (λ (b : Bool). or_new (first_place earlier s) (cond b (Some entry.at) None)) (sym (same s))
     ∙ sym (first_place_push earlier entry s)
 
 -- an act places nothing
-pub notes_same : (first : FirstPlaces) (entry : Entry) → ((s : SightId) → places entry.event s ≡ false)
-    → (earlier : List Entry) → Notes first earlier → Notes first (earlier ++ entry ∷ [])
-notes_same first entry nothing earlier notes = λ s.
+pub notes_same : (certificate : Certificate) (first : FirstPlaces) (entry : Entry) → ((s : SightId) → places entry.event s ≡ false)
+    → (earlier : List Entry) → Notes certificate first earlier → Notes certificate first (earlier ++ entry ∷ [])
+notes_same certificate first entry nothing earlier notes = λ s.
     notes s ∙ sym (or_none (first_place earlier s))
     ∙ ap (λ (b : Bool). or_new (first_place earlier s) (cond b (Some entry.at) None)) (sym (nothing s))
     ∙ sym (first_place_push earlier entry s)

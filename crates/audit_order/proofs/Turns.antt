@@ -2,6 +2,7 @@
 use Rattle.std.proofs.Common.{◌≡◌, ℕ, ◌+◌, List, [], ◌∷◌, ◌++◌, length, Option, Some, None, refl, sym, ap, ◌∙◌, subst, ◌⊎◌, inl, inr, append_assoc, append-nil, arith, ◌<◌, get_or, take, length-take}
 use Rattle.std.proofs.lemmas.List.{take_more}
 use Rattle.audit_model.specs.declared.certificate.CertLane.{CertLane}
+use Rattle.audit_model.specs.declared.certificate.Certificate.{Certificate}
 use Rattle.audit_model.specs.declared.event.Event.{Event}
 use Rattle.audit_model.specs.declared.event.Key.{Key}
 use Rattle.audit_model.specs.declared.verdict.Breach.{Breach}
@@ -71,25 +72,25 @@ entries_push pair lane place last (e ∷ events) event =
     ∙ ap (λ (n : ℕ). entries_from pair lane (place + 1) (Some (key_of e)) events ++ entry_of pair lane n (last_of (Some (key_of e)) events) event ∷ []) s)
 
 -- events in turn from the start of their lane: the least breach that they show, the last key, and their first placements noted
-pub record InTurn (taken : Taken) (old new : FirstPlaces) (pair : Option Pair) (lane : ℕ) (events : List Event) (least : Option Breach) (last : Option Key) : Type 0 where
+pub record InTurn (taken : Taken) (certificate : Certificate) (old new : FirstPlaces) (pair : Option Pair) (lane : ℕ) (events : List Event) (least : Option Breach) (last : Option Key) : Type 0 where
   pub last_key : last ≡ last_of None events
-  pub shown : (earlier : List Entry) → Notes old earlier → IsLeast (ShowsFrom taken earlier (entries_from pair lane 0 None events)) least
-  pub notes : (earlier : List Entry) → Notes old earlier → Notes new (earlier ++ entries_from pair lane 0 None events)
+  pub shown : (earlier : List Entry) → Notes certificate old earlier → IsLeast (ShowsFrom taken earlier (entries_from pair lane 0 None events)) least
+  pub notes : (earlier : List Entry) → Notes certificate old earlier → Notes certificate new (earlier ++ entries_from pair lane 0 None events)
 
-pub none_yet : (taken : Taken) (first : FirstPlaces) (pair : Option Pair) (lane : ℕ) → InTurn taken first first pair lane [] None None
-none_yet taken first pair lane = record {
+pub none_yet : (taken : Taken) (certificate : Certificate) (first : FirstPlaces) (pair : Option Pair) (lane : ℕ) → InTurn taken certificate first first pair lane [] None None
+none_yet taken certificate first pair lane = record {
   last_key = refl;
   shown = λ earlier notes b shown. shown;
   notes = λ earlier notes. rw (append-nil earlier) notes;
 }
 
 -- one event more
-pub one_more : (taken : Taken) (old mid new : FirstPlaces) (pair : Option Pair) (lane : ℕ) (events : List Event) (least found : Option Breach) (last : Option Key) (event : Event) (place : ℕ)
-    → InTurn taken old mid pair lane events least last → place ≡ length events
-    → ((earlier : List Entry) → Notes mid earlier → IsLeast (ShowsAt taken earlier (entry_of pair lane place last event)) found)
-    → ((earlier : List Entry) → Notes mid earlier → Notes new (earlier ++ entry_of pair lane place last event ∷ []))
-    → InTurn taken old new pair lane (events ++ event ∷ []) (lesser least found) (Some (key_of event))
-one_more taken old mid new pair lane events least found last event place turn at shown notes =
+pub one_more : (taken : Taken) (certificate : Certificate) (old mid new : FirstPlaces) (pair : Option Pair) (lane : ℕ) (events : List Event) (least found : Option Breach) (last : Option Key) (event : Event) (place : ℕ)
+    → InTurn taken certificate old mid pair lane events least last → place ≡ length events
+    → ((earlier : List Entry) → Notes certificate mid earlier → IsLeast (ShowsAt taken earlier (entry_of pair lane place last event)) found)
+    → ((earlier : List Entry) → Notes certificate mid earlier → Notes certificate new (earlier ++ entry_of pair lane place last event ∷ []))
+    → InTurn taken certificate old new pair lane (events ++ event ∷ []) (lesser least found) (Some (key_of event))
+one_more taken certificate old mid new pair lane events least found last event place turn at shown notes =
     let so_far = entries_from pair lane 0 None events in
     let new_entry = entry_of pair lane place last event in
     let from_zero : 0 + length events ≡ place = omega (arith, at) in
@@ -105,19 +106,19 @@ one_more taken old mid new pair lane events least found last event place turn at
     }
 
 -- the same of an event whose key was read
-pub turn_more : (taken : Taken) (old mid new : FirstPlaces) (pair : Option Pair) (lane : ℕ) (events more : List Event) (least found least' : Option Breach) (last : Option Key) (event : Event) (key : Key) (place : ℕ)
-    → InTurn taken old mid pair lane events least last → place ≡ length events → more ≡ events ++ event ∷ [] → key ≡ key_of event → least' ≡ lesser least found
-    → ((earlier : List Entry) → Notes mid earlier → IsLeast (ShowsAt taken earlier (record { at = record { key = key; lane = lane; place = place }; event = event; pair = pair; last = last })) found)
-    → ((earlier : List Entry) → Notes mid earlier → Notes new (earlier ++ record { at = record { key = key; lane = lane; place = place }; event = event; pair = pair; last = last } ∷ []))
-    → InTurn taken old new pair lane more least' (Some key)
-turn_more taken old mid new pair lane events more least found least' last event key place turn at is same lesser_is =
+pub turn_more : (taken : Taken) (certificate : Certificate) (old mid new : FirstPlaces) (pair : Option Pair) (lane : ℕ) (events more : List Event) (least found least' : Option Breach) (last : Option Key) (event : Event) (key : Key) (place : ℕ)
+    → InTurn taken certificate old mid pair lane events least last → place ≡ length events → more ≡ events ++ event ∷ [] → key ≡ key_of event → least' ≡ lesser least found
+    → ((earlier : List Entry) → Notes certificate mid earlier → IsLeast (ShowsAt taken earlier (record { at = record { key = key; lane = lane; place = place }; event = event; pair = pair; last = last })) found)
+    → ((earlier : List Entry) → Notes certificate mid earlier → Notes certificate new (earlier ++ record { at = record { key = key; lane = lane; place = place }; event = event; pair = pair; last = last } ∷ []))
+    → InTurn taken certificate old new pair lane more least' (Some key)
+turn_more taken certificate old mid new pair lane events more least found least' last event key place turn at is same lesser_is =
     rw (is, lesser_is)
     (subst (λ (k : Key).
-    ((earlier : List Entry) → Notes mid earlier → IsLeast (ShowsAt taken earlier (record { at = record { key = k; lane = lane; place = place }; event = event; pair = pair; last = last })) found)
-    → ((earlier : List Entry) → Notes mid earlier → Notes new (earlier ++ record { at = record { key = k; lane = lane; place = place }; event = event; pair = pair; last = last } ∷ []))
-    → InTurn taken old new pair lane (events ++ event ∷ []) (lesser least found) (Some k))
+    ((earlier : List Entry) → Notes certificate mid earlier → IsLeast (ShowsAt taken earlier (record { at = record { key = k; lane = lane; place = place }; event = event; pair = pair; last = last })) found)
+    → ((earlier : List Entry) → Notes certificate mid earlier → Notes certificate new (earlier ++ record { at = record { key = k; lane = lane; place = place }; event = event; pair = pair; last = last } ∷ []))
+    → InTurn taken certificate old new pair lane (events ++ event ∷ []) (lesser least found) (Some k))
     (sym same)
-    (λ shown notes. one_more taken old mid new pair lane events least found last event place turn at shown notes))
+    (λ shown notes. one_more taken certificate old mid new pair lane events least found last event place turn at shown notes))
 
 lanes_push : (number : ℕ) (lanes : List CertLane) (lane : CertLane)
     → lanes_entries number (lanes ++ lane ∷ []) ≡ lanes_entries number lanes ++ lane_entries (number + length lanes) lane

@@ -1,14 +1,17 @@
 -- What stands in a certificate, by lane and place: the events of each lane in turn, and then the drops, which count as the lane after the last.
-use Rattle.std.specs.Prelude.{ℕ, ◌+◌, List, [], ◌∷◌, ◌++◌, length, map, Option, Some, None}
+use Rattle.std.specs.Prelude.{ℕ, ◌+◌, List, [], ◌∷◌, ◌++◌, length, map, Option, Some, None, option_map, option_and_then, slice_get}
 use Rattle.audit_model.specs.declared.certificate.Certificate.{Certificate}
 use Rattle.audit_model.specs.declared.certificate.CertLane.{CertLane}
 use Rattle.audit_model.specs.declared.certificate.CertDrop.{CertDrop}
+use Rattle.audit_model.specs.declared.event.At.{At}
 use Rattle.audit_model.specs.declared.event.Event.{Event}
 use Rattle.audit_model.specs.declared.event.Event.TheVariants.{In}
 use Rattle.audit_model.specs.declared.event.Key.{Key}
 use Rattle.audit_model.specs.Event.{key_of}
 use Rattle.audit_order.specs.declared.entry.Entry.{Entry}
 use Rattle.audit_order.specs.declared.entry.Pair.{Pair}
+use Rattle.audit_order.specs.declared.entry.Spot.{Spot}
+use Rattle.audit_order.specs.declared.entry.Spot.TheVariants.{InLane, Dropped}
 
 abbrev pub entry_of : Option Pair → ℕ → ℕ → Option Key → Event → Entry
 entry_of pair lane place last event = record { at = record { key = key_of event; lane = lane; place = place }; event = event; pair = pair; last = last }
@@ -36,3 +39,11 @@ drop_entries lanes drops = entries_from None lanes 0 None (map arrival_of drops)
 
 abbrev pub entries : Certificate → List Entry
 entries certificate = lanes_entries 0 certificate.lanes ++ drop_entries (length certificate.lanes) certificate.drops
+
+-- where the event or the drop at that spot stands, if there is one
+abbrev pub at_of : Certificate → Spot → Option At
+at_of certificate (InLane lane place) =
+    option_map (λ event. record { key = key_of event; lane = lane; place = place })
+    (option_and_then (λ in_lane. slice_get in_lane.events place) (slice_get certificate.lanes lane))
+at_of certificate (Dropped place) =
+    option_map (λ dropped. record { key = dropped.key; lane = length certificate.lanes; place = place }) (slice_get certificate.drops place)

@@ -2,6 +2,7 @@
 use Rattle.std.specs.Prelude.{◌≡◌, Bool, false, ◌&&◌, ◌==◌, List, [], ◌∷◌, Option, Some, None, is_some, slice_get, option_and_then, if◌then◌else◌}
 use Rattle.std.specs.BTreeMap.{get}
 use Rattle.std.specs.Global.{Vec}
+use Rattle.audit_model.specs.declared.certificate.Certificate.{Certificate}
 use Rattle.audit_model.specs.declared.event.At.{At}
 use Rattle.audit_model.specs.declared.event.Event.{Event}
 use Rattle.audit_model.specs.declared.event.Event.TheVariants.{In, Act, Out}
@@ -9,6 +10,8 @@ use Rattle.audit_model.specs.declared.sighting.SightId.{SightId}
 use Rattle.audit_model.specs.Breach.{sight_cmp}
 use Rattle.audit_order.specs.declared.first.FirstPlaces.{FirstPlaces}
 use Rattle.audit_order.specs.declared.entry.Entry.{Entry}
+use Rattle.audit_order.specs.declared.entry.Spot.{Spot}
+use Rattle.audit_order.specs.Entries.{at_of}
 
 abbrev pub same_sight : SightId → SightId → Bool
 same_sight a b = (a.iface == b.iface) && (a.index == b.index)
@@ -30,18 +33,21 @@ is_placed entries (Act arrival departure key) = false
 is_placed entries (Out sight key) = is_some (first_place entries sight)
 
 -- what a table has at the place of that name
-abbrev pub table_at : List (Vec (Option At)) → SightId → Option (Option At)
+abbrev pub table_at : List (Vec (Option Spot)) → SightId → Option (Option Spot)
 table_at rows sight = option_and_then (λ row. slice_get row.items sight.index) (slice_get rows sight.iface)
 
 -- the table's place where it has one for the name
-abbrev pub or_stranger : Option (Option At) → Option At → Option At
+abbrev pub or_stranger : Option (Option Spot) → Option Spot → Option Spot
 or_stranger None stranger = stranger
 or_stranger (Some place) stranger = place
 
--- where the sighting is placed first, by what is noted
-abbrev pub noted : FirstPlaces → SightId → Option At
-noted first sight = or_stranger (table_at first.places.items sight) (get sight_cmp first.strangers sight)
+abbrev pub spot_of : FirstPlaces → SightId → Option Spot
+spot_of first sight = or_stranger (table_at first.places.items sight) (get sight_cmp first.strangers sight)
+
+-- where in the certificate the sighting is placed first, by what is noted
+abbrev pub noted : Certificate → FirstPlaces → SightId → Option At
+noted certificate first sight = option_and_then (at_of certificate) (spot_of first sight)
 
 -- what is noted is where the entries place each sighting first
-abbrev pub Notes : FirstPlaces → List Entry → Type 0
-Notes first entries = (sight : SightId) → noted first sight ≡ first_place entries sight
+abbrev pub Notes : Certificate → FirstPlaces → List Entry → Type 0
+Notes certificate first entries = (sight : SightId) → noted certificate first sight ≡ first_place entries sight

@@ -1,6 +1,9 @@
 //! What stands in a certificate: the events of its lanes, and the drops.
 
-use audit_model::{Addr, At, Event, Key};
+ghost use Rattle.std.specs.Prelude.{◌≡◌};
+ghost use Rattle.audit_order.specs.Entries.{at_of};
+
+use audit_model::{Addr, At, Certificate, Event, Key};
 
 /// The client and the listen address of a lane.
 #[derive(Clone, Copy, Debug)]
@@ -19,4 +22,36 @@ pub struct Entry {
     pub pair: Option<Pair>,
     /// The key of the one before it, in its lane or in the drops.
     pub last: Option<Key>,
+}
+
+/// Which event of which lane of a certificate, or which of its drops.
+#[derive(Clone, Copy, Debug)]
+pub enum Spot {
+    InLane { lane: u32, place: u32 },
+    Dropped { place: u32 },
+}
+
+/// Where the certificate's event or drop at the spot stands, with its key.
+pub fn at_spot(certificate: &Certificate, spot: Spot) -> Option<At>
+    ensures { result ≡ at_of certificate.now spot }
+{
+    match spot {
+        Spot::InLane { lane, place } => {
+            let in_lane = certificate.lanes.as_slice().get(lane as usize)?;
+            let event = in_lane.events.as_slice().get(place as usize)?;
+            Some(At {
+                key: event.key(),
+                lane,
+                place,
+            })
+        }
+        Spot::Dropped { place } => {
+            let dropped = certificate.drops.as_slice().get(place as usize)?;
+            Some(At {
+                key: dropped.key,
+                lane: certificate.lanes.len() as u32,
+                place,
+            })
+        }
+    }
 }

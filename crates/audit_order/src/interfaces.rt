@@ -1,6 +1,6 @@
 //! What each interface shows of placement.
 
-ghost use Rattle.std.specs.Prelude.{◌≡◌, ℕ, List};
+ghost use Rattle.std.specs.Prelude.{◌≡◌, ℕ, List, length};
 ghost use Rattle.audit_model.specs.Least.{IsLeast};
 ghost use Rattle.audit_sightings.specs.Intake.{taken};
 ghost use Rattle.audit_sightings.specs.Rows.{IsNumbered};
@@ -10,7 +10,7 @@ ghost use Rattle.audit_order.specs.Neighbours.{unplaced_breach, order_breach, ne
 ghost use Rattle.audit_order.specs.Shows.{ShowsOn, ShowsOnSome};
 
 use crate::first::FirstPlaces;
-use audit_model::{At, Breach, Key, Rule, Sighting};
+use audit_model::{At, Breach, Certificate, Key, Rule, Sighting};
 use audit_sightings::Intake;
 
 /// A sighting that is placed nowhere, told behind the last drop.
@@ -65,18 +65,19 @@ fn sighting_breach(
 
 /// The least breach that one interface shows.
 fn interface_breach(
+    certificate: &Certificate,
     sightings: &[Sighting],
     first: &FirstPlaces,
-    lanes: u32,
-    drops: u32,
 ) -> Option<Breach>
-    ensures { (iface : ℕ) (entries : List Entry) → IsNumbered iface sightings.now → Notes first.now entries →
-        IsLeast (ShowsOn entries lanes drops iface sightings.now) result }
+    ensures { (iface : ℕ) (entries : List Entry) → IsNumbered iface sightings.now → Notes certificate.now first.now entries →
+        IsLeast (ShowsOn entries (length certificate.now.lanes) (length certificate.now.drops) iface sightings.now) result }
 {
+    let lanes = certificate.lanes.len() as u32;
+    let drops = certificate.drops.len() as u32;
     let mut least = None;
     let mut before = None;
     'sightings: for sighting in sightings {
-        let place = first.at(sighting.id);
+        let place = first.at(certificate, sighting.id);
         least = Breach::least(
             least,
             sighting_breach(sighting, place, before, lanes, drops),
@@ -89,16 +90,15 @@ fn interface_breach(
 /// The least breach that the interfaces show: a sighting that is placed nowhere, or not behind its neighbour.
 pub fn interfaces_breach(
     intake: &Intake,
+    certificate: &Certificate,
     first: &FirstPlaces,
-    lanes: u32,
-    drops: u32,
 ) -> Option<Breach>
-    ensures { (entries : List Entry) → Notes first.now entries →
-        IsLeast (ShowsOnSome (taken intake.now) entries lanes drops) result }
+    ensures { (entries : List Entry) → Notes certificate.now first.now entries →
+        IsLeast (ShowsOnSome (taken intake.now) entries (length certificate.now.lanes) (length certificate.now.drops)) result }
 {
     let mut least = None;
     'interfaces: for iface in 0..intake.interfaces() {
-        let found = interface_breach(intake.interface(iface), first, lanes, drops);
+        let found = interface_breach(certificate, intake.interface(iface), first);
         least = Breach::least(least, found);
     }
     least

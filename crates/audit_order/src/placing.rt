@@ -37,13 +37,13 @@ fn lanes_breach(
     first: &mut FirstPlaces,
     certificate: &Certificate,
 ) -> Result<Option<Breach>, AllocError>
-    ensures shown { Notes first.old [] → IfOk result (IsLeast (ShowsFrom (taken intake.now) [] (lanes_entries 0 certificate.now.lanes))) }
-    ensures notes { Notes first.old [] → OnOk result (Notes first.new (lanes_entries 0 certificate.now.lanes)) }
+    ensures shown { Notes certificate.now first.old [] → IfOk result (IsLeast (ShowsFrom (taken intake.now) [] (lanes_entries 0 certificate.now.lanes))) }
+    ensures notes { Notes certificate.now first.old [] → OnOk result (Notes certificate.now first.new (lanes_entries 0 certificate.now.lanes)) }
     ensures named { IfOk result (λ least. IfNone least (AllNamed (taken intake.now) certificate.now)) }
 {
     let mut least = None;
     'lanes: for (number, lane) in certificate.lanes.as_slice().iter().enumerate() {
-        let found = lane_breach(intake, first, number as u32, lane)?;
+        let found = lane_breach(intake, certificate, first, number as u32, lane)?;
         least = Breach::least(least, found);
     }
     Ok(least)
@@ -59,12 +59,10 @@ fn least_breach(
     ensures named { IfOk result (λ least. IfNone least (AllNamed (taken intake.now) certificate.now)) }
 {
     let mut first = FirstPlaces::new(alloc, intake)?;
-    let lanes = certificate.lanes.len() as u32;
-    let drops = certificate.drops.len() as u32;
     let of_lanes = lanes_breach(intake, &mut first, certificate)?;
-    let of_drops = drops_breach(intake, &mut first, lanes, certificate.drops.as_slice())?;
+    let of_drops = drops_breach(intake, certificate, &mut first)?;
     let of_entries = Breach::least(of_lanes, of_drops);
-    let of_interfaces = interfaces_breach(intake, &first, lanes, drops);
+    let of_interfaces = interfaces_breach(intake, certificate, &first);
     Ok(Breach::least(of_entries, of_interfaces))
 }
 

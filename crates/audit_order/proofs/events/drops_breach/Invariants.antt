@@ -6,4 +6,4 @@ use Rattle.audit_order.proofs.events.drops_breach.Given as goal
 
 -- what the drops so far show
 abbrev pub invariant-drops : goal.invariant-drops
-invariant-drops l = InTurn (taken l.intake) l.fn.first l.first None l.number (map arrival_of (take l.place l.drops)) l.least l.last
+invariant-drops l = InTurn (taken l.intake) l.certificate l.fn.first l.first None l.lane (map arrival_of (take l.place l.drops)) l.least l.last

@@ -14,7 +14,7 @@ events-preserved c =
     let found = c.in_ok-found in
     let within : place < length items = omega arith in
     record {
-      turn = turn_more _ _ _ _ _ _ (take place items) _ _ _ _ _ _ _ place c.events.invariant.turn (omega (arith, length-take place items)) (take_more items place _ within)
+      turn = turn_more _ _ _ _ _ _ _ (take place items) _ _ _ _ _ _ _ place c.events.invariant.turn (omega (arith, length-take place items)) (take_more items place _ within)
           c.key-key.ensures c.least-least.ensures found.ensures.shown found.ensures.notes;
       named = none_more _ _ _ _ _ _ c.least-least.ensures c.events.invariant.named found.ensures.named
           (λ all one. All-more names items place _ within all one);

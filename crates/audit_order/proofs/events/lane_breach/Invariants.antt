@@ -7,6 +7,6 @@ use Rattle.audit_order.proofs.events.lane_breach.Given as goal
 -- what the events so far show; with no breach they name what is there
 abbrev pub invariant-events : goal.invariant-events
 invariant-events l = record {
-  turn : InTurn (taken l.intake) l.fn.first l.first (Some l.pair) l.number (take l.place l.event-items) l.least l.last;
+  turn : InTurn (taken l.intake) l.certificate l.fn.first l.first (Some l.pair) l.number (take l.place l.event-items) l.least l.last;
   named : IfNone l.least (All (NamesWhatIsThere (taken l.intake)) (take l.place l.event-items));
 }

@@ -9,5 +9,5 @@ use Rattle.audit_order.proofs.interfaces.interface_breach.Given as goal
 
 -- what the sightings so far show, and where the last of them is placed
 abbrev pub invariant-sightings : goal.invariant-sightings
-invariant-sightings l = (iface : ℕ) (entries : List Entry) → IsNumbered iface l.sightings → Notes l.first entries →
+invariant-sightings l = (iface : ℕ) (entries : List Entry) → IsNumbered iface l.sightings → Notes l.certificate l.first entries →
     IsLeast (ShowsOn entries l.lanes l.drops iface (take l.sighting-index l.sightings)) l.least × IsBefore entries iface l.sighting-index l.before

@@ -24,7 +24,7 @@ lanes-preserved c =
       shown = λ empty. rw (grown, c.least-least.ensures)
           (least_append (taken c.args.intake.now) [] so_far (lane_entries number lane) c.lanes.least c.in_ok-found.found
           (c.lanes.invariant.shown empty) (c.in_ok-found.ensures.shown so_far (c.lanes.invariant.notes empty)));
-      notes = λ empty. subst (λ (es : List Entry). Notes c.lane_breach.new.first es) (sym grown) (c.in_ok-found.ensures.notes so_far (c.lanes.invariant.notes empty));
+      notes = λ empty. subst (λ (es : List Entry). Notes c.args.certificate.now c.lane_breach.new.first es) (sym grown) (c.in_ok-found.ensures.notes so_far (c.lanes.invariant.notes empty));
       named = none_more _ _ _ _ _ _ c.least-least.ensures c.lanes.invariant.named c.in_ok-found.ensures.named
           (λ all one. All-more named items number lane (omega arith) all (subst named c.lane-item.is one));
     }

@@ -10,7 +10,7 @@ use Rattle.audit_order.proofs.placing.lanes_breach.Given as goal
 -- what the lanes so far show; with no breach their events name what is there
 abbrev pub invariant-lanes : goal.invariant-lanes
 invariant-lanes l = record {
-  shown : Notes l.fn.first [] → IsLeast (ShowsFrom (taken l.intake) [] (lanes_entries 0 (take l.number l.lane-items))) l.least;
-  notes : Notes l.fn.first [] → Notes l.first (lanes_entries 0 (take l.number l.lane-items));
+  shown : Notes l.certificate l.fn.first [] → IsLeast (ShowsFrom (taken l.intake) [] (lanes_entries 0 (take l.number l.lane-items))) l.least;
+  notes : Notes l.certificate l.fn.first [] → Notes l.certificate l.first (lanes_entries 0 (take l.number l.lane-items));
   named : IfNone l.least (All (λ lane. All (NamesWhatIsThere (taken l.intake)) lane.events) (take l.number l.lane-items));
 }

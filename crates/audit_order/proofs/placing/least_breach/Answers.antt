@@ -1,16 +1,19 @@
-use Rattle.std.proofs.Common.{sym}
+use Rattle.std.proofs.Common.{ap, []}
+use Rattle.std.specs.Prelude.{option_and_then}
 use Rattle.audit_sightings.specs.Intake.{taken}
-use Rattle.audit_order.specs.Entries.{lanes_entries}
+use Rattle.audit_order.specs.Entries.{lanes_entries, at_of}
+use Rattle.audit_order.specs.FirstPlace.{Notes}
 use Rattle.audit_order.proofs.Whole.{least_whole, none_of_first}
 use Rattle.audit_order.proofs.placing.least_breach.Goals as goal
 
 pub returns-clause-shown : goal.returns-clause-shown
 returns-clause-shown c =
-    let of_lanes = lanes_entries 0 c.args.certificate.now.lanes in
-    let noted = c.in_ok-of_lanes.ensures.notes c.in_ok-first.ensures in
-    least_whole (taken c.args.intake.now) c.args.certificate.now.lanes c.args.certificate.now.drops c.as_slice.result.now c.len-lanes.result c.len-drops.result _ _ _ _ _
-    (sym c.as_slice.ensures) (sym c.len-lanes.ensures) (sym c.len-drops.ensures)
-    (c.in_ok-of_lanes.ensures.shown c.in_ok-first.ensures)
+    let certificate = c.args.certificate.now in
+    let of_lanes = lanes_entries 0 certificate.lanes in
+    let empty : Notes certificate c.in_ok-first.first [] = λ sight. ap (option_and_then (at_of certificate)) (c.in_ok-first.ensures sight) in
+    let noted = c.in_ok-of_lanes.ensures.notes empty in
+    least_whole (taken c.args.intake.now) certificate _ _ _ _ _
+    (c.in_ok-of_lanes.ensures.shown empty)
     (c.in_ok-of_drops.ensures.shown of_lanes noted)
     c.least-of_entries.ensures
     (c.interfaces_breach-of_interfaces.ensures _ (c.in_ok-of_drops.ensures.notes of_lanes noted))
