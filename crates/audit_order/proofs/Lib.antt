@@ -4,3 +4,4 @@ pub mod FirstPush
 pub mod Turns
 pub mod Neighbours
 pub mod Whole
+pub mod Tables

@@ -11,7 +11,7 @@ use Rattle.audit_model.specs.Event.{key_of}
 use Rattle.audit_order.specs.declared.entry.Entry.{Entry}
 use Rattle.audit_order.specs.declared.entry.Pair.{Pair}
 use Rattle.audit_order.specs.declared.entry.Spot.{Spot}
-use Rattle.audit_order.specs.declared.entry.Spot.TheVariants.{InLane, Dropped}
+use Rattle.audit_order.specs.declared.entry.Spot.TheVariants.{Nowhere, InLane, Dropped}
 
 abbrev pub entry_of : Option Pair → ℕ → ℕ → Option Key → Event → Entry
 entry_of pair lane place last event = record { at = record { key = key_of event; lane = lane; place = place }; event = event; pair = pair; last = last }
@@ -42,6 +42,7 @@ entries certificate = lanes_entries 0 certificate.lanes ++ drop_entries (length 
 
 -- where the event or the drop at that spot stands, if there is one
 abbrev pub at_of : Certificate → Spot → Option At
+at_of certificate Nowhere = None
 at_of certificate (InLane lane place) =
     option_map (λ event. record { key = key_of event; lane = lane; place = place })
     (option_and_then (λ in_lane. slice_get in_lane.events place) (slice_get certificate.lanes lane))

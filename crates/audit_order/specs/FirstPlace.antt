@@ -11,6 +11,7 @@ use Rattle.audit_model.specs.Breach.{sight_cmp}
 use Rattle.audit_order.specs.declared.first.FirstPlaces.{FirstPlaces}
 use Rattle.audit_order.specs.declared.entry.Entry.{Entry}
 use Rattle.audit_order.specs.declared.entry.Spot.{Spot}
+use Rattle.audit_order.specs.declared.entry.Spot.TheVariants.{Nowhere}
 use Rattle.audit_order.specs.Entries.{at_of}
 
 abbrev pub same_sight : SightId → SightId → Bool
@@ -33,20 +34,21 @@ is_placed entries (Act arrival departure key) = false
 is_placed entries (Out sight key) = is_some (first_place entries sight)
 
 -- what a table has at the place of that name
-abbrev pub table_at : List (Vec (Option Spot)) → SightId → Option (Option Spot)
+abbrev pub table_at : List (Vec Spot) → SightId → Option Spot
 table_at rows sight = option_and_then (λ row. slice_get row.items sight.index) (slice_get rows sight.iface)
 
--- the table's place where it has one for the name
-abbrev pub or_stranger : Option (Option Spot) → Option Spot → Option Spot
-or_stranger None stranger = stranger
-or_stranger (Some place) stranger = place
+-- the first of the two that is there
+abbrev pub either : Option Spot → Option Spot → Spot
+either (Some spot) stranger = spot
+either None (Some stranger) = stranger
+either None None = Nowhere
 
-abbrev pub spot_of : FirstPlaces → SightId → Option Spot
-spot_of first sight = or_stranger (table_at first.places.items sight) (get sight_cmp first.strangers sight)
+abbrev pub spot_of : FirstPlaces → SightId → Spot
+spot_of first sight = either (table_at first.places.items sight) (get sight_cmp first.strangers sight)
 
 -- where in the certificate the sighting is placed first, by what is noted
 abbrev pub noted : Certificate → FirstPlaces → SightId → Option At
-noted certificate first sight = option_and_then (at_of certificate) (spot_of first sight)
+noted certificate first sight = at_of certificate (spot_of first sight)
 
 -- what is noted is where the entries place each sighting first
 abbrev pub Notes : Certificate → FirstPlaces → List Entry → Type 0

@@ -24,9 +24,10 @@ pub struct Entry {
     pub last: Option<Key>,
 }
 
-/// Which event of which lane of a certificate, or which of its drops.
+/// Which event of which lane of a certificate, or which of its drops, in 12 bytes.
 #[derive(Clone, Copy, Debug)]
 pub enum Spot {
+    Nowhere,
     InLane { lane: u32, place: u32 },
     Dropped { place: u32 },
 }
@@ -36,6 +37,7 @@ pub fn at_spot(certificate: &Certificate, spot: Spot) -> Option<At>
     ensures { result ≡ at_of certificate.now spot }
 {
     match spot {
+        Spot::Nowhere => None,
         Spot::InLane { lane, place } => {
             let in_lane = certificate.lanes.as_slice().get(lane as usize)?;
             let event = in_lane.events.as_slice().get(place as usize)?;

@@ -16,7 +16,7 @@ use std::collections::BTreeMap;
 /// The first placements of an intake's sightings, by interface and index: 12 bytes a sighting.
 #[derive(Drop)]
 pub struct FirstPlaces {
-    places: Vec<Vec<Option<Spot>>>,
+    places: Vec<Vec<Spot>>,
     /// Those of names that no sighting has.
     strangers: BTreeMap<SightId, Spot>,
 }
@@ -24,7 +24,7 @@ pub struct FirstPlaces {
 impl FirstPlaces {
     /// No sighting is placed yet.
     pub fn new(alloc: Global, intake: &Intake) -> Result<FirstPlaces, AllocError>
-        ensures { IfOk result (λ first. (sight : SightId) → spot_of first sight ≡ None) }
+        ensures { IfOk result (λ first. (sight : SightId) → spot_of first sight ≡ Spot.Nowhere) }
     {
         Ok(FirstPlaces {
             places: empty_table(alloc, intake)?,
@@ -32,12 +32,15 @@ impl FirstPlaces {
         })
     }
 
-    fn spot(&self, sight: SightId) -> Option<Spot>
+    fn spot(&self, sight: SightId) -> Spot
         ensures { result ≡ spot_of self.now sight }
     {
         match read(&self.places, sight) {
-            Some(place) => place,
-            None => self.strangers.get(&sight).copied(),
+            Some(spot) => spot,
+            None => match self.strangers.get(&sight) {
+                Some(spot) => *spot,
+                None => Spot::Nowhere,
+            },
         }
     }
 
@@ -45,7 +48,7 @@ impl FirstPlaces {
     pub fn at(&self, certificate: &Certificate, sight: SightId) -> Option<At>
         ensures { result ≡ noted certificate.now self.now sight }
     {
-        at_spot(certificate, self.spot(sight)?)
+        at_spot(certificate, self.spot(sight))
     }
 
     /// Notes that the certificate's entry at the spot places the sighting, and tells whether an earlier one does.
@@ -92,18 +95,18 @@ impl FirstPlaces {
 }
 
 /// A table with a place for each sighting.
-fn empty_table(alloc: Global, intake: &Intake) -> Result<Vec<Vec<Option<Spot>>>, AllocError>
-    ensures { IfOk result (λ rows. All (λ row. All (λ place. place ≡ None) row.items) rows.items) }
+fn empty_table(alloc: Global, intake: &Intake) -> Result<Vec<Vec<Spot>>, AllocError>
+    ensures { IfOk result (λ rows. All (λ row. All (λ spot. spot ≡ Spot.Nowhere) row.items) rows.items) }
 {
     let mut rows = Vec::new(alloc);
     for iface in 0..intake.interfaces() {
-        rows.push(vec![in alloc; None; intake.interface(iface).len()]?)?;
+        rows.push(vec![in alloc; Spot::Nowhere; intake.interface(iface).len()]?)?;
     }
     Ok(rows)
 }
 
 /// What the table has at the place of the name.
-fn read(rows: &[Vec<Option<Spot>>], sight: SightId) -> Option<Option<Spot>>
+fn read(rows: &[Vec<Spot>], sight: SightId) -> Option<Spot>
     ensures { result ≡ table_at rows.now sight }
 {
     let row = rows.get(sight.iface as usize)?;
@@ -111,16 +114,16 @@ fn read(rows: &[Vec<Option<Spot>>], sight: SightId) -> Option<Option<Spot>>
 }
 
 /// Sets the place of the name, and tells whether the table has one for it.
-fn write(rows: &mut Vec<Vec<Option<Spot>>>, sight: SightId, spot: Spot) -> bool
+fn write(rows: &mut Vec<Vec<Spot>>, sight: SightId, spot: Spot) -> bool
     ensures there { result ≡ is_some (table_at rows.old.items sight) }
     ensures set { OnTrue result ((other : SightId) → table_at rows.new.items other
-        ≡ (if same_sight sight other then Some (Some spot) else table_at rows.old.items other)) }
+        ≡ (if same_sight sight other then Some spot else table_at rows.old.items other)) }
     ensures same { OnFalse result (rows.new.items ≡ rows.old.items) }
 {
     let iface = sight.iface as usize;
     let index = sight.index as usize;
     if iface < rows.len() && index < rows[iface].len() {
-        rows[iface][index] = Some(spot);
+        rows[iface][index] = spot;
         return true;
     }
     false

@@ -7,5 +7,7 @@ mod first;
 mod interfaces;
 mod placing;
 mod single;
+#[cfg(test)]
+mod tests;
 
 pub use placing::{Placement, placed};

@@ -1,5 +1,4 @@
 use Rattle.std.proofs.Common.{ap, []}
-use Rattle.std.specs.Prelude.{option_and_then}
 use Rattle.audit_sightings.specs.Intake.{taken}
 use Rattle.audit_order.specs.Entries.{lanes_entries, at_of}
 use Rattle.audit_order.specs.FirstPlace.{Notes}
@@ -10,7 +9,7 @@ pub returns-clause-shown : goal.returns-clause-shown
 returns-clause-shown c =
     let certificate = c.args.certificate.now in
     let of_lanes = lanes_entries 0 certificate.lanes in
-    let empty : Notes certificate c.in_ok-first.first [] = λ sight. ap (option_and_then (at_of certificate)) (c.in_ok-first.ensures sight) in
+    let empty : Notes certificate c.in_ok-first.first [] = λ sight. ap (at_of certificate) (c.in_ok-first.ensures sight) in
     let noted = c.in_ok-of_lanes.ensures.notes empty in
     least_whole (taken c.args.intake.now) certificate _ _ _ _ _
     (c.in_ok-of_lanes.ensures.shown empty)
