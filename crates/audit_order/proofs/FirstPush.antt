@@ -35,7 +35,7 @@ both_true : (a b : Bool) → (a && b) ≡ true → (a ≡ true) × (b ≡ true)
 both_true true b h = (refl, h)
 both_true false b h = absurd (true≢false (sym h))
 
-same_is : (one other : SightId) → same_sight one other ≡ true → one ≡ other
+pub same_is : (one other : SightId) → same_sight one other ≡ true → one ≡ other
 same_is one other h =
     let both = both_true (one.iface == other.iface) (one.index == other.index) h in
     let iface : one.iface ≡ other.iface = eqb-true _ _ both.0 in

@@ -5,3 +5,5 @@ pub mod Turns
 pub mod Neighbours
 pub mod Whole
 pub mod Tables
+pub mod InOrder
+pub mod AmongSteps

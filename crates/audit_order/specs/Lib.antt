@@ -4,3 +4,4 @@ pub mod FirstPlace
 pub mod Checks
 pub mod Shows
 pub mod Neighbours
+pub mod Among

@@ -5,9 +5,11 @@ mod entry;
 mod events;
 mod first;
 mod interfaces;
+mod laws;
 mod placing;
 mod single;
 #[cfg(test)]
 mod tests;
 
+pub use laws::by_lane_and_place;
 pub use placing::{Placement, placed};
