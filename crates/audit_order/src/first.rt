@@ -1,56 +1,130 @@
 //! Where each sighting is placed first, by lane and place.
 
-use audit_model::{At, Event, SightId};
+ghost use Rattle.std.specs.Prelude.{◌≡◌, ◌++◌, ◌∷◌, [], All, List, Option, Some, None, IfOk, OnOk, is_some, if◌then◌else◌};
+ghost use Rattle.std.specs.Bool.{OnTrue, OnFalse};
+ghost use Rattle.audit_model.specs.declared.sighting.SightId.{SightId};
+ghost use Rattle.audit_order.specs.FirstPlace.{noted, spot_of, table_at, same_sight, is_placed, Notes};
+ghost use Rattle.audit_order.specs.Entries.{at_of};
+ghost use Rattle.audit_order.specs.declared.entry.Entry.{Entry};
+
+use crate::entry::{Entry, Spot, at_spot};
+use audit_model::{At, Certificate, Event, SightId};
 use audit_sightings::Intake;
 use std::alloc::{AllocError, Global};
-use std::collections::BTreeSet;
+use std::collections::BTreeMap;
 
-/// The first placements of an intake's sightings, by interface and index.
+/// The first placements of an intake's sightings, by interface and index: 12 bytes a sighting.
 #[derive(Drop)]
 pub struct FirstPlaces {
-    places: Vec<Vec<Option<At>>>,
-    /// Names that were placed and that no sighting has.
-    strangers: BTreeSet<SightId>,
+    places: Vec<Vec<Spot>>,
+    /// Those of names that no sighting has.
+    strangers: BTreeMap<SightId, Spot>,
 }
 
 impl FirstPlaces {
     /// No sighting is placed yet.
-    pub fn new(alloc: Global, intake: &Intake) -> Result<FirstPlaces, AllocError> {
-        let mut places = Vec::new(alloc);
-        for iface in 0..intake.interfaces() {
-            places.push(vec![in alloc; None; intake.interface(iface).len()]?)?;
-        }
+    pub fn new(alloc: Global, intake: &Intake) -> Result<FirstPlaces, AllocError>
+        ensures { IfOk result (λ first. (sight : SightId) → spot_of first sight ≡ Spot.Nowhere) }
+    {
         Ok(FirstPlaces {
-            places,
-            strangers: BTreeSet::new(alloc),
+            places: empty_table(alloc, intake)?,
+            strangers: BTreeMap::new(alloc),
         })
     }
 
-    /// Where the sighting is placed first.
-    pub fn at(&self, iface: u32, index: usize) -> Option<At> {
-        let row = self.places.get(iface as usize)?;
-        *row.get(index)?
-    }
-
-    /// Notes that an event places the sighting, and tells whether an earlier one does.
-    pub fn place(&mut self, sight: SightId, at: At) -> Result<bool, AllocError> {
-        let row = sight.iface as usize;
-        let index = sight.index as usize;
-        if row < self.places.len() && index < self.places[row].len() {
-            if self.places[row][index].is_some() {
-                return Ok(true);
-            }
-            self.places[row][index] = Some(at);
-            return Ok(false);
+    fn spot(&self, sight: SightId) -> Spot
+        ensures { result ≡ spot_of self.now sight }
+    {
+        match read(&self.places, sight) {
+            Some(spot) => spot,
+            None => match self.strangers.get(&sight) {
+                Some(spot) => *spot,
+                None => Spot::Nowhere,
+            },
         }
-        Ok(!self.strangers.insert(sight)?)
     }
 
-    /// The same of an event, which is false of an act.
-    pub fn place_event(&mut self, event: Event, at: At) -> Result<bool, AllocError> {
-        match event {
-            Event::In { sight, .. } | Event::Out { sight, .. } => self.place(sight, at),
+    /// Where in the certificate the sighting is placed first.
+    pub fn at(&self, certificate: &Certificate, sight: SightId) -> Option<At>
+        ensures { result ≡ noted certificate.now self.now sight }
+    {
+        at_spot(certificate, self.spot(sight))
+    }
+
+    /// Notes that the certificate's entry at the spot places the sighting, and tells whether an earlier one does.
+    fn place(
+        &mut self,
+        certificate: &Certificate,
+        sight: SightId,
+        spot: Spot,
+    ) -> Result<bool, AllocError>
+        ensures found { IfOk result (λ placed. placed ≡ is_some (noted certificate.now self.old sight)) }
+        ensures noted { IfOk result (λ placed. (other : SightId) → noted certificate.now self.new other
+            ≡ (if placed then noted certificate.now self.old other
+            else if same_sight sight other then at_of certificate.now spot else noted certificate.now self.old other)) }
+    {
+        if self.at(certificate, sight).is_some() {
+            return Ok(true);
+        }
+        if !write(&mut self.places, sight, spot) {
+            self.strangers.insert(sight, spot)?;
+        }
+        Ok(false)
+    }
+
+    /// The same of an entry, which is false of an act.
+    pub fn place_entry(
+        &mut self,
+        certificate: &Certificate,
+        entry: &Entry,
+        spot: Spot,
+    ) -> Result<bool, AllocError>
+        requires { at_of certificate.now spot ≡ Some entry.now.at }
+        ensures found { (earlier : List Entry) → Notes certificate.now self.old earlier → IfOk result (λ placed. placed ≡ is_placed earlier entry.now.event) }
+        ensures notes { (earlier : List Entry) → Notes certificate.now self.old earlier → OnOk result (Notes certificate.now self.new (earlier ++ entry.now ∷ [])) }
+    {
+        match entry.event {
+            Event::In { sight, .. } | Event::Out { sight, .. } => self.place(
+                certificate,
+                sight,
+                spot,
+            ),
             Event::Act { .. } => Ok(false),
         }
     }
+}
+
+/// A table with a place for each sighting.
+fn empty_table(alloc: Global, intake: &Intake) -> Result<Vec<Vec<Spot>>, AllocError>
+    ensures { IfOk result (λ rows. All (λ row. All (λ spot. spot ≡ Spot.Nowhere) row.items) rows.items) }
+{
+    let mut rows = Vec::new(alloc);
+    for iface in 0..intake.interfaces() {
+        rows.push(vec![in alloc; Spot::Nowhere; intake.interface(iface).len()]?)?;
+    }
+    Ok(rows)
+}
+
+/// What the table has at the place of the name.
+fn read(rows: &[Vec<Spot>], sight: SightId) -> Option<Spot>
+    ensures { result ≡ table_at rows.now sight }
+{
+    let row = rows.get(sight.iface as usize)?;
+    row.get(sight.index as usize).copied()
+}
+
+/// Sets the place of the name, and tells whether the table has one for it.
+fn write(rows: &mut Vec<Vec<Spot>>, sight: SightId, spot: Spot) -> bool
+    ensures there { result ≡ is_some (table_at rows.old.items sight) }
+    ensures set { OnTrue result ((other : SightId) → table_at rows.new.items other
+        ≡ (if same_sight sight other then Some spot else table_at rows.old.items other)) }
+    ensures same { OnFalse result (rows.new.items ≡ rows.old.items) }
+{
+    let iface = sight.iface as usize;
+    let index = sight.index as usize;
+    if iface < rows.len() && index < rows[iface].len() {
+        rows[iface][index] = spot;
+        return true;
+    }
+    false
 }

@@ -1,11 +1,22 @@
 //! What each interface shows of placement.
 
+ghost use Rattle.std.specs.Prelude.{◌≡◌, ℕ, List, length};
+ghost use Rattle.audit_model.specs.Least.{IsLeast};
+ghost use Rattle.audit_sightings.specs.Intake.{taken};
+ghost use Rattle.audit_sightings.specs.Rows.{IsNumbered};
+ghost use Rattle.audit_order.specs.declared.entry.Entry.{Entry};
+ghost use Rattle.audit_order.specs.FirstPlace.{Notes};
+ghost use Rattle.audit_order.specs.Neighbours.{unplaced_breach, order_breach, neighbour_breach};
+ghost use Rattle.audit_order.specs.Shows.{ShowsOn, ShowsOnSome};
+
 use crate::first::FirstPlaces;
-use audit_model::{At, Breach, Key, Rule, Sighting};
+use audit_model::{At, Breach, Certificate, Key, Rule, Sighting};
 use audit_sightings::Intake;
 
-/// A sighting that is placed nowhere, told after the last event of the last drop.
-fn unplaced(sighting: &Sighting, lanes: u32, drops: u32) -> Breach {
+/// A sighting that is placed nowhere, told behind the last drop.
+fn unplaced(sighting: &Sighting, lanes: u32, drops: u32) -> Breach
+    ensures { result ≡ unplaced_breach lanes drops sighting.now }
+{
     Breach {
         at: At {
             key: Key {
@@ -22,50 +33,72 @@ fn unplaced(sighting: &Sighting, lanes: u32, drops: u32) -> Breach {
 }
 
 /// What a sighting shows that is placed there, behind its neighbour on the interface.
-fn out_of_order(sighting: &Sighting, at: At, before: Option<At>) -> Option<Breach> {
-    match before {
-        Some(before) if at.key <= before.key => Some(Breach {
-            at,
-            sight: sighting.id,
-            rule: Rule::InterfaceOrder,
-            phase: 1,
-        }),
-        _ => None,
+fn out_of_order(sighting: &Sighting, at: At, before: Option<At>) -> Option<Breach>
+    ensures { result ≡ order_breach before at sighting.now }
+{
+    let before = before?;
+    if at.key > before.key {
+        return None;
+    }
+    Some(Breach {
+        at,
+        sight: sighting.id,
+        rule: Rule::InterfaceOrder,
+        phase: 1,
+    })
+}
+
+fn sighting_breach(
+    sighting: &Sighting,
+    place: Option<At>,
+    before: Option<At>,
+    lanes: u32,
+    drops: u32,
+) -> Option<Breach>
+    ensures { result ≡ neighbour_breach lanes drops before place sighting.now }
+{
+    match place {
+        None => Some(unplaced(sighting, lanes, drops)),
+        Some(at) => out_of_order(sighting, at, before),
     }
 }
 
 /// The least breach that one interface shows.
 fn interface_breach(
+    certificate: &Certificate,
     sightings: &[Sighting],
-    iface: u32,
     first: &FirstPlaces,
-    lanes: u32,
-    drops: u32,
-) -> Option<Breach> {
+) -> Option<Breach>
+    ensures { (iface : ℕ) (entries : List Entry) → IsNumbered iface sightings.now → Notes certificate.now first.now entries →
+        IsLeast (ShowsOn entries (length certificate.now.lanes) (length certificate.now.drops) iface sightings.now) result }
+{
+    let lanes = certificate.lanes.len() as u32;
+    let drops = certificate.drops.len() as u32;
     let mut least = None;
     let mut before = None;
-    for (index, sighting) in sightings.iter().enumerate() {
-        let place = first.at(iface, index);
-        let found = match place {
-            None => Some(unplaced(sighting, lanes, drops)),
-            Some(at) => out_of_order(sighting, at, before),
-        };
-        least = Breach::least(least, found);
+    'sightings: for sighting in sightings {
+        let place = first.at(certificate, sighting.id);
+        least = Breach::least(
+            least,
+            sighting_breach(sighting, place, before, lanes, drops),
+        );
         before = place;
     }
     least
 }
 
-/// The least breach that the interfaces show: a sighting that is placed nowhere, or before its neighbour.
+/// The least breach that the interfaces show: a sighting that is placed nowhere, or not behind its neighbour.
 pub fn interfaces_breach(
     intake: &Intake,
+    certificate: &Certificate,
     first: &FirstPlaces,
-    lanes: u32,
-    drops: u32,
-) -> Option<Breach> {
+) -> Option<Breach>
+    ensures { (entries : List Entry) → Notes certificate.now first.now entries →
+        IsLeast (ShowsOnSome (taken intake.now) entries (length certificate.now.lanes) (length certificate.now.drops)) result }
+{
     let mut least = None;
-    for iface in 0..intake.interfaces() {
-        let found = interface_breach(intake.interface(iface), iface, first, lanes, drops);
+    'interfaces: for iface in 0..intake.interfaces() {
+        let found = interface_breach(certificate, intake.interface(iface), first);
         least = Breach::least(least, found);
     }
     least

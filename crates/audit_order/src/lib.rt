@@ -1,10 +1,15 @@
 //! Placement: whether a certificate places each sighting once, in its window and in order.
 #![tactic(auto)]
 
+mod entry;
 mod events;
 mod first;
 mod interfaces;
+mod laws;
 mod placing;
 mod single;
+#[cfg(test)]
+mod tests;
 
+pub use laws::by_lane_and_place;
 pub use placing::{Placement, placed};

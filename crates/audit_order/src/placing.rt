@@ -1,8 +1,13 @@
 //! Whether all is placed.
 
-ghost use Rattle.std.specs.Prelude.{IfOk, IfNone, OnOk};
-ghost use Rattle.audit_order.specs.Named.{AllNamed};
+ghost use Rattle.std.specs.Prelude.{◌≡◌, [], IfOk, IfErr, IfNone, OnOk, Some, None};
+ghost use Rattle.audit_model.specs.Least.{IsLeast};
 ghost use Rattle.audit_sightings.specs.Intake.{taken};
+ghost use Rattle.audit_sightings.specs.Rows.{count_of};
+ghost use Rattle.audit_order.specs.Entries.{lanes_entries};
+ghost use Rattle.audit_order.specs.FirstPlace.{Notes};
+ghost use Rattle.audit_order.specs.Named.{AllNamed};
+ghost use Rattle.audit_order.specs.Shows.{Shows, ShowsFrom};
 
 use crate::events::{drops_breach, lane_breach};
 use crate::first::FirstPlaces;
@@ -19,7 +24,9 @@ pub struct Placement {
 
 impl Placement {
     /// How many sightings are placed.
-    pub fn datagrams(&self) -> u32 {
+    pub fn datagrams(&self) -> u32
+        ensures { result ≡ self.now.datagrams }
+    {
         self.datagrams
     }
 }
@@ -30,14 +37,33 @@ fn lanes_breach(
     first: &mut FirstPlaces,
     certificate: &Certificate,
 ) -> Result<Option<Breach>, AllocError>
-    ensures { IfOk result (λ least. IfNone least (AllNamed (taken intake.now) certificate.now)) }
+    ensures shown { Notes certificate.now first.old [] → IfOk result (IsLeast (ShowsFrom (taken intake.now) [] (lanes_entries 0 certificate.now.lanes))) }
+    ensures notes { Notes certificate.now first.old [] → OnOk result (Notes certificate.now first.new (lanes_entries 0 certificate.now.lanes)) }
+    ensures named { IfOk result (λ least. IfNone least (AllNamed (taken intake.now) certificate.now)) }
 {
     let mut least = None;
     'lanes: for (number, lane) in certificate.lanes.as_slice().iter().enumerate() {
-        let found = lane_breach(intake, first, number as u32, lane)?;
+        let found = lane_breach(intake, certificate, first, number as u32, lane)?;
         least = Breach::least(least, found);
     }
     Ok(least)
+}
+
+/// The least breach of placement, or none exactly where none is shown. Where there is none, the events name what is there.
+fn least_breach(
+    alloc: Global,
+    intake: &Intake,
+    certificate: &Certificate,
+) -> Result<Option<Breach>, AllocError>
+    ensures shown { IfOk result (IsLeast (Shows (taken intake.now) certificate.now)) }
+    ensures named { IfOk result (λ least. IfNone least (AllNamed (taken intake.now) certificate.now)) }
+{
+    let mut first = FirstPlaces::new(alloc, intake)?;
+    let of_lanes = lanes_breach(intake, &mut first, certificate)?;
+    let of_drops = drops_breach(intake, certificate, &mut first)?;
+    let of_entries = Breach::least(of_lanes, of_drops);
+    let of_interfaces = interfaces_breach(intake, certificate, &first);
+    Ok(Breach::least(of_entries, of_interfaces))
 }
 
 /// Whether the certificate places each sighting of the intake once, in its window and in order, or else the least breach.
@@ -47,16 +73,14 @@ pub fn placed(
     intake: &Intake,
     certificate: &Certificate,
 ) -> Result<Result<Placement, Breach>, AllocError>
-    ensures { IfOk result (λ found. OnOk found (AllNamed (taken intake.now) certificate.now)) }
+    // It passes exactly where no breach is shown,
+    ensures passes { IfOk result (λ found. OnOk found (IsLeast (Shows (taken intake.now) certificate.now) None)) }
+    // and else the least one is told.
+    ensures breach { IfOk result (λ found. IfErr found (λ least. IsLeast (Shows (taken intake.now) certificate.now) (Some least))) }
+    ensures datagrams { IfOk result (λ found. IfOk found (λ placement. placement.datagrams ≡ count_of (taken intake.now).interfaces)) }
+    ensures named { IfOk result (λ found. OnOk found (AllNamed (taken intake.now) certificate.now)) }
 {
-    let mut first = FirstPlaces::new(alloc, intake)?;
-    let lanes = certificate.lanes.len() as u32;
-    let drops = certificate.drops.len() as u32;
-    let of_lanes = lanes_breach(intake, &mut first, certificate)?;
-    let of_drops = drops_breach(intake, &mut first, lanes, certificate.drops.as_slice())?;
-    let of_interfaces = interfaces_breach(intake, &first, lanes, drops);
-    let least = Breach::least(of_lanes, Breach::least(of_drops, of_interfaces));
-    match least {
+    match least_breach(alloc, intake, certificate)? {
         Some(breach) => Ok(Err(breach)),
         None => {
             let (_, datagrams) = intake.counts();

@@ -1,22 +1,18 @@
-//! What one event shows of placement.
+//! What one entry shows of placement.
 
-ghost use Rattle.std.specs.Prelude.{IfNone};
+ghost use Rattle.std.specs.Prelude.{◌≡◌, IfNone};
+ghost use Rattle.audit_model.specs.Lanes.{same_pair};
 ghost use Rattle.audit_sightings.specs.Intake.{IsThere, NamesWhatIsThere, taken};
+ghost use Rattle.audit_order.specs.Checks.{is_late, is_of_another, placing_checks, act_checks, event_checks, first_broken};
 
-use audit_model::{CertLane, Event, Key, Policy, Rule, Side, SightId, Sighting};
+use crate::entry::{Entry, Pair};
+use audit_model::{Addr, Event, Key, Policy, Rule, Side, SightId, Sighting};
 use audit_sightings::Intake;
 
-/// What stands before an event.
-#[derive(Clone, Copy, Debug)]
-pub struct Before {
-    /// The key of the event before it, in its lane or in the drops.
-    pub last: Option<Key>,
-    /// Whether an earlier event places the same sighting.
-    pub placed: bool,
-}
-
 /// Whether the key isn't greater than that of the event before it.
-fn is_late(last: Option<Key>, key: Key) -> bool {
+fn is_behind(last: Option<Key>, key: Key) -> bool
+    ensures { result ≡ is_late last key }
+{
     match last {
         None => false,
         Some(last) => key <= last,
@@ -24,57 +20,72 @@ fn is_late(last: Option<Key>, key: Key) -> bool {
 }
 
 /// Whether the datagram is one of a listen address, but not between the lane's client and its listen address.
-fn is_of_other_endpoint(policy: &Policy, lane: &CertLane, side: Side, sighting: &Sighting) -> bool {
-    let (server, client) = match side {
-        Side::Arrives => (sighting.to, sighting.from),
-        Side::Leaves => (sighting.from, sighting.to),
+fn is_of_other(policy: &Policy, pair: Option<Pair>, side: Side, sighting: &Sighting) -> bool
+    ensures { result ≡ is_of_another policy.now pair side sighting.now }
+{
+    let Some(pair) = pair else {
+        return false;
     };
-    policy.listens(server) && (server != lane.listen || client != lane.client)
+    match side {
+        Side::Arrives => {
+            policy.listens(sighting.to) && !is_pair(pair, sighting.from, sighting.to)
+        }
+        Side::Leaves => {
+            policy.listens(sighting.from) && !is_pair(pair, sighting.to, sighting.from)
+        }
+    }
 }
 
-/// The first rule that an arrival or a departure breaks where it is placed. A dropped arrival has no lane.
-pub fn placing_rule(
+fn is_pair(pair: Pair, client: Addr, listen: Addr) -> bool
+    ensures { result ≡ same_pair pair.client pair.listen client listen }
+{
+    pair.client == client && pair.listen == listen
+}
+
+/// The first rule that an arrival or a departure breaks where it is placed.
+/// `placed` tells whether an earlier entry places the same sighting.
+fn placing_rule(
     intake: &Intake,
-    lane: Option<&CertLane>,
+    entry: &Entry,
+    placed: bool,
     side: Side,
     sight: SightId,
     key: Key,
-    before: Before,
-) -> Option<Rule>
-    ensures { IfNone result (IsThere (taken intake.now) side sight) }
+) -> Option<(Rule, SightId)>
+    ensures exact { result ≡ first_broken (placing_checks (taken intake.now) placed entry.now.pair entry.now.last side sight key) }
+    ensures named { IfNone result (IsThere (taken intake.now) side sight) }
 {
-    if before.placed {
-        return Some(Rule::PlacedTwice);
+    if placed {
+        return Some((Rule::PlacedTwice, sight));
     }
     let Some(sighting) = intake.sighting(sight) else {
-        return Some(Rule::Stranger);
+        return Some((Rule::Stranger, sight));
     };
     if key.moment < sighting.lo || key.moment > sighting.hi {
-        return Some(Rule::OutOfWindow);
+        return Some((Rule::OutOfWindow, sight));
     }
-    if is_late(before.last, key) {
-        return Some(Rule::LaneOrder);
+    if is_behind(entry.last, key) {
+        return Some((Rule::LaneOrder, sight));
     }
     if sighting.side != side {
-        return Some(Rule::WrongSide);
+        return Some((Rule::WrongSide, sight));
     }
-    if let Some(lane) = lane {
-        if is_of_other_endpoint(intake.policy(), lane, side, sighting) {
-            return Some(Rule::OtherEndpoint);
-        }
+    if is_of_other(intake.policy(), entry.pair, side, sighting) {
+        return Some((Rule::OtherEndpoint, sight));
     }
     None
 }
 
-/// The first rule of placement that an act breaks, and the sighting that shows it.
+/// The first rule of placement that an act breaks, and the sighting that tells it.
 fn act_rule(
     intake: &Intake,
+    last: Option<Key>,
     sight: SightId,
     gives: SightId,
     key: Key,
-    before: Before,
 ) -> Option<(Rule, SightId)>
-    ensures { IfNone result (NamesWhatIsThere (taken intake.now) (Event.Act sight gives key)) }
+    ensures exact { result ≡ first_broken (act_checks (taken intake.now) last sight gives key) }
+    ensures named { IfNone result (NamesWhatIsThere (taken intake.now) (Event.Act sight gives key)) }
 {
     let Some(arrival) = intake.sighting(sight) else {
         return Some((Rule::Stranger, sight));
@@ -82,7 +93,7 @@ fn act_rule(
     let Some(departure) = intake.sighting(gives) else {
         return Some((Rule::Stranger, gives));
     };
-    if is_late(before.last, key) {
+    if is_behind(last, key) {
         return Some((Rule::LaneOrder, sight));
     }
     if arrival.side != Side::Arrives || departure.side != Side::Leaves {
@@ -91,24 +102,18 @@ fn act_rule(
     None
 }
 
-/// The first rule of placement that an event of a lane breaks, and the sighting that shows it.
-pub fn event_rule(
-    intake: &Intake,
-    lane: &CertLane,
-    event: Event,
-    before: Before,
-) -> Option<(Rule, SightId)>
-    ensures { IfNone result (NamesWhatIsThere (taken intake.now) event) }
+/// The first rule of placement that an entry breaks, and the sighting that tells it.
+pub fn entry_rule(intake: &Intake, entry: &Entry, placed: bool) -> Option<(Rule, SightId)>
+    ensures exact { result ≡ first_broken (event_checks (taken intake.now) placed entry.now.pair entry.now.last entry.now.event) }
+    ensures named { IfNone result (NamesWhatIsThere (taken intake.now) entry.now.event) }
 {
-    match event {
+    match entry.event {
         Event::In { sight, key } => {
-            let rule = placing_rule(intake, Some(lane), Side::Arrives, sight, key, before)?;
-            Some((rule, sight))
+            placing_rule(intake, entry, placed, Side::Arrives, sight, key)
         }
         Event::Out { sight, key } => {
-            let rule = placing_rule(intake, Some(lane), Side::Leaves, sight, key, before)?;
-            Some((rule, sight))
+            placing_rule(intake, entry, placed, Side::Leaves, sight, key)
         }
-        Event::Act { sight, gives, key } => act_rule(intake, sight, gives, key, before),
+        Event::Act { sight, gives, key } => act_rule(intake, entry.last, sight, gives, key),
     }
 }

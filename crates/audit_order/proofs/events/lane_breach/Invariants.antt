@@ -1,8 +1,12 @@
-use Rattle.std.proofs.Common.{take}
-use Rattle.std.specs.Prelude.{All, IfNone}
+use Rattle.std.proofs.Common.{take, All, Some}
+use Rattle.std.specs.Prelude.{IfNone}
 use Rattle.audit_sightings.specs.Intake.{NamesWhatIsThere, taken}
+use Rattle.audit_order.proofs.Turns.{InTurn}
 use Rattle.audit_order.proofs.events.lane_breach.Given as goal
 
--- with no breach so far, the events so far name what is there
+-- what the events so far show; with no breach they name what is there
 abbrev pub invariant-events : goal.invariant-events
-invariant-events l = IfNone l.least (All (NamesWhatIsThere (taken l.intake)) (take l.place l.event-items))
+invariant-events l = record {
+  turn : InTurn (taken l.intake) l.certificate l.fn.first l.first (Some l.pair) l.number (take l.place l.event-items) l.least l.last;
+  named : IfNone l.least (All (NamesWhatIsThere (taken l.intake)) (take l.place l.event-items));
+}

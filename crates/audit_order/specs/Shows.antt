@@ -1,0 +1,54 @@
+-- The breaches of placement that a certificate shows: of each entry, of neighbours on an interface, and of what is placed nowhere.
+use Rattle.std.specs.Prelude.{◌≡◌, ◌⊎◌, ℕ, ◌+◌, ◌<◌, false, List, [], ◌∷◌, ◌++◌, length, Contains, Some, None}
+use Rattle.std.specs.Ordering.{is_gt}
+use Rattle.audit_model.specs.declared.certificate.Certificate.{Certificate}
+use Rattle.audit_model.specs.declared.event.At.{At}
+use Rattle.audit_model.specs.declared.rule.Rule.TheVariants.{Unplaced, InterfaceOrder}
+use Rattle.audit_model.specs.declared.sighting.Sighting.{Sighting}
+use Rattle.audit_model.specs.declared.verdict.Breach.{Breach}
+use Rattle.audit_model.specs.Breach.{key_cmp}
+use Rattle.audit_sightings.specs.Intake.{Taken, interface_at}
+use Rattle.audit_order.specs.declared.entry.Entry.{Entry}
+use Rattle.audit_order.specs.Checks.{IsOneOf, breach_at, checks}
+use Rattle.audit_order.specs.Entries.{entries}
+use Rattle.audit_order.specs.FirstPlace.{first_place}
+
+-- a rule that the entry breaks behind the earlier ones
+abbrev pub ShowsAt : Taken → List Entry → Entry → Breach → Type 0
+ShowsAt taken earlier entry = IsOneOf (checks taken earlier entry) entry.at
+
+-- entries in turn, behind the earlier ones
+abbrev pub ShowsFrom : Taken → List Entry → List Entry → Breach → Type 0
+ShowsFrom taken earlier [] breach = ⊥
+ShowsFrom taken earlier (entry ∷ later) breach = ShowsAt taken earlier entry breach ⊎ ShowsFrom taken (earlier ++ entry ∷ []) later breach
+
+-- Two neighbours on an interface are placed, and the key of the second is not greater. It is told where the second is placed first.
+pub record ShowsInterfaceOrder (entries : List Entry) (iface count : ℕ) (breach : Breach) : Type 0 where
+  pub index : ℕ
+  pub before : At
+  pub at : At
+  pub there : index + 1 < count
+  pub first : first_place entries (record { iface = iface; index = index }) ≡ Some before
+  pub second : first_place entries (record { iface = iface; index = index + 1 }) ≡ Some at
+  pub not_greater : is_gt (key_cmp at.key before.key) ≡ false
+  pub told : breach ≡ breach_at at InterfaceOrder (record { iface = iface; index = index + 1 })
+
+-- A sighting is placed nowhere. It is told by its stamp, behind the last drop.
+pub record ShowsUnplaced (entries : List Entry) (lanes drops : ℕ) (row : List Sighting) (breach : Breach) : Type 0 where
+  pub sighting : Sighting
+  pub there : Contains row sighting
+  pub nowhere : first_place entries sighting.id ≡ None
+  pub told : breach ≡ breach_at (record { key = record { moment = sighting.stamp; tie = 0 }; lane = lanes; place = drops }) Unplaced sighting.id
+
+-- what the sightings of one interface show
+abbrev pub ShowsOn : List Entry → ℕ → ℕ → ℕ → List Sighting → Breach → Type 0
+ShowsOn entries lanes drops iface row breach = ShowsInterfaceOrder entries iface (length row) breach ⊎ ShowsUnplaced entries lanes drops row breach
+
+-- those of some interface
+abbrev pub ShowsOnSome : Taken → List Entry → ℕ → ℕ → Breach → Type 0
+ShowsOnSome taken entries lanes drops breach = (iface : ℕ) × ShowsOn entries lanes drops iface (interface_at taken iface) breach
+
+abbrev pub Shows : Taken → Certificate → Breach → Type 0
+Shows taken certificate breach =
+    ShowsFrom taken [] (entries certificate) breach
+    ⊎ ShowsOnSome taken (entries certificate) (length certificate.lanes) (length certificate.drops) breach

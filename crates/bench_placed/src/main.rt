@@ -1,0 +1,57 @@
+//! How long `placed` takes on a certificate of so many events over four interfaces. Without a number it prints
+//! nothing: `rt run -- 1000000`.
+#![tactic(auto)]
+
+mod made;
+#[cfg(test)]
+mod tests;
+
+use audit_cert::read;
+use audit_model::{Certificate, read_policy};
+use audit_order::placed;
+use audit_sightings::Intake;
+use std::alloc::Global;
+use std::time::{Duration, Instant};
+use std::{env, io};
+
+/// The intake and the certificate of so many datagrams, unless memory runs out.
+fn inputs(alloc: Global, datagrams: u32) -> Option<(Intake, Certificate)> {
+    let policy = read_policy(alloc, made::POLICY).ok()?;
+    let mut intake = Intake::new(alloc, policy);
+    let file = intake.add_file().ok()?;
+    let capture = made::capture(alloc, datagrams).ok()?;
+    intake.feed(file, &capture).ok()?;
+    let text = made::certificate(alloc, datagrams).ok()?;
+    Some((intake, read(alloc, &text).ok()?))
+}
+
+/// How many nanoseconds each of so many took.
+fn nanoseconds_each(took: Duration, count: u32) -> u64 {
+    let seconds = took.as_secs().saturating_mul(1_000_000_000);
+    seconds.saturating_add(u64::from(took.subsec_nanos())) / u64::from(count).max(1)
+}
+
+fn main(rt: HostRuntime) -> io::Result<()> {
+    let Some(word) = env::args(&rt)?.nth(1) else {
+        return Ok(());
+    };
+    let Ok(datagrams) = word.as_str().parse::<u32>() else {
+        return Ok(());
+    };
+    let Some((intake, certificate)) = inputs(rt.alloc(), datagrams) else {
+        return Ok(());
+    };
+    let start = Instant::now(&rt)?;
+    let found = placed(rt.alloc(), &intake, &certificate)?;
+    let each = nanoseconds_each(start.elapsed(&rt)?, datagrams);
+    match found {
+        Ok(placement) => {
+            let count = placement.datagrams();
+            println!(rt; "{count} datagrams placed, {each} ns each")
+        }
+        Err(breach) => {
+            let at = breach.at;
+            println!(rt; "a breach of placement at {at:?}, {each} ns each")
+        }
+    }
+}
