@@ -1,8 +1,9 @@
 #!/bin/bash
 # captures.sh PROGRAM: judges the captures of real servers in examples/ and compares with what is expected.
 #
-# Of each folder: status, and the answer but for the moment, which the certificate chooses; and the number of sightings of each interface,
-# seen by placing one more than the last (S3, no such sighting) and the last (another rule) at moment 0.
+# Of each folder: status and answer, but for the moment, which the certificate chooses, by `audit`, by `check` with the stored certificate, and by
+# `check` with the certificate that `find` writes; and the number of sightings of each interface, seen by placing one more than the last
+# (S3, no such sighting) and the last (another rule) at moment 0.
 program=$(realpath "$1") || exit 1
 cd "$(dirname "$0")/../examples" || exit 1
 scratch=$(mktemp -d)
@@ -27,6 +28,16 @@ names_of() {
     if [ -f client.pcapng ]; then echo client.pcapng peer.pcapng; else echo cap.pcapng; fi
 }
 
+judge() { # NAME WORDS.. : the answer to the words, with the folder's policy, users and captures, is as expected
+    name=$1
+    shift
+    "$program" "$@" --policy policy --creds creds $(names_of) > "$scratch/answer" 2>&1
+    status=$?
+    same=no
+    if [ "$status" = "$(cat status)" ] && [ "$(without_moment "$scratch/answer")" = "$(without_moment expected)" ]; then same=yes; fi
+    tell "$name" "$same"
+}
+
 rule_of_drop() { # SIGHT
     printf 'turnaudit-certificate 1\ndrop %s 0 0\nend\n' "$1" > "$scratch/drop"
     "$program" check --policy policy --cert "$scratch/drop" $(names_of) 2>&1 | sed -n 's/^rule \(S[0-9]*\) .*/\1/p'
@@ -34,11 +45,15 @@ rule_of_drop() { # SIGHT
 
 for folder in */; do
     cd "$folder" || exit 1
-    "$program" check --policy policy --creds creds --cert certificate $(names_of) > "$scratch/answer" 2>&1
-    status=$?
-    same=no
-    if [ "$status" = "$(cat status)" ] && [ "$(without_moment "$scratch/answer")" = "$(without_moment expected)" ]; then same=yes; fi
-    tell "${folder%/}" "$same"
+    judge "${folder%/} by audit" audit
+    if [ -f certificate ]; then judge "${folder%/} by check" check --cert certificate; fi
+    if "$program" find --policy policy --creds creds $(names_of) > "$scratch/found" 2> "$scratch/refusal"; then
+        judge "${folder%/} by find and check" check --cert "$scratch/found"
+    else
+        same=no
+        if [ "$(cat "$scratch/refusal")" = "$(cat expected)" ]; then same=yes; fi
+        tell "${folder%/} by find" "$same"
+    fi
     if [ -f sightings ]; then
         while read -r interface count; do
             same=no

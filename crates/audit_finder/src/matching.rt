@@ -1,5 +1,6 @@
 //! Data that leaves, and the data that arrived for it.
 
+use crate::arrivals::Stream;
 use crate::causes::{Cause, digest_of};
 use crate::clock::after;
 use crate::judge::Judge;
@@ -60,12 +61,18 @@ impl Search {
         match self.choose(judge, causes, leaves)? {
             Choice::Acts(number, key) => self.write_act(lane, number, leaves.id, key, portion)?,
             Choice::Waits(number) if may_wait => return Ok(Some(number)),
-            _ => {
-                if let Some(number) = self.likely(judge, causes, leaves) {
+            _ => match self.likely(judge, causes, leaves) {
+                Some(number) => {
                     let key = self.clock.tick();
                     self.write_act(lane, number, leaves.id, key, portion)?;
                 }
-            }
+                None if may_wait => {
+                    if let Some(number) = self.coming(judge, causes, leaves) {
+                        return Ok(Some(number));
+                    }
+                }
+                None => {}
+            },
         }
         let key = self.clock.tick();
         let sight = leaves.id;
@@ -213,6 +220,21 @@ impl Search {
             return None;
         }
         arrival.key
+    }
+
+    /// The next data of the lane that may come before the departure.
+    fn coming(&mut self, judge: &Judge<'_>, causes: Causes, leaves: &Sighting) -> Option<u32> {
+        let stream = if judge.intake.policy().listens(leaves.from) {
+            Stream::Received(self.lanes.get(causes.lane as usize)?.relayed?)
+        } else {
+            Stream::Sent(causes.lane)
+        };
+        let number = self.arrivals.coming(&stream)?;
+        if self.may_come(judge, number, leaves) {
+            Some(number)
+        } else {
+            None
+        }
     }
 
     /// The arrival that a departure most likely answers although the server may not: one that asks for it, or asked for it before,

@@ -5,6 +5,7 @@ mod channels;
 mod credentials;
 mod errors;
 mod feeding;
+mod finding;
 mod memory;
 mod messages;
 mod no_memory;

@@ -11,7 +11,7 @@ const SENT: &str =
     "2d2d7207552ba149a78916e496393f2c18c1456f 8f4e8ba358e0fcd8fa9f14f364132ea7d836006d";
 
 /// A session with a challenge, an allocation and a permission.
-fn permitted(alloc: Global) -> Result<Session, BuildFault> {
+pub fn permitted(alloc: Global) -> Result<Session, BuildFault> {
     let mut session = Session::of_two_captures(alloc)?;
     session.challenge()?;
     session.allocate(600)?;
@@ -20,7 +20,7 @@ fn permitted(alloc: Global) -> Result<Session, BuildFault> {
 }
 
 /// A Send with this data, and the other data relayed.
-fn relayed(alloc: Global, sent: &[u8], relayed: &[u8]) -> Result<Session, BuildFault> {
+pub fn relayed(alloc: Global, sent: &[u8], relayed: &[u8]) -> Result<Session, BuildFault> {
     let mut session = permitted(alloc)?;
     let indication = send(alloc, session.transaction(), PEER, sent)?;
     let arrival = session.from_client(1_030_000, &indication)?;
@@ -93,7 +93,7 @@ const RELAYED_LATE: &str =
     "187989f349e7dbcbbd926577364bd673874292e9 14e93a4047356a9c9f81efaa9880307f0543c848";
 
 /// A Send that is acted on at this moment, 301 seconds after the permission.
-fn relayed_at(alloc: Global, moment: u64) -> Result<Session, BuildFault> {
+pub fn relayed_at(alloc: Global, moment: u64) -> Result<Session, BuildFault> {
     let mut session = permitted(alloc)?;
     let indication = send(alloc, session.transaction(), PEER, b"hello")?;
     let arrival = session.from_client(302_020_000, &indication)?;
@@ -124,7 +124,7 @@ const OVERTAKEN: &str =
     "e717835046768df63e589e1b434f135af3fbc87b 8fcfc65f72119d184e90077cfae066f036b3fabc";
 
 /// A CreatePermission whose success leaves after a datagram of the peer was given to the client. It is acted on before that datagram or after it.
-fn overtaken(alloc: Global, is_first: bool) -> Result<Session, BuildFault> {
+pub fn overtaken(alloc: Global, is_first: bool) -> Result<Session, BuildFault> {
     let mut session = Session::of_two_captures(alloc)?;
     session.challenge()?;
     session.allocate(600)?;
@@ -172,7 +172,7 @@ fn a_permission_does_not_count_before_the_act(rt: HostRuntime) -> Result<(), Fai
 }
 
 /// Binds a channel of this number after a challenge and an allocation.
-fn bind(mut session: Session, number: u16) -> Result<Session, BuildFault> {
+pub fn bind(mut session: Session, number: u16) -> Result<Session, BuildFault> {
     session.challenge()?;
     session.allocate(600)?;
     session.bind(number)?;

@@ -273,12 +273,34 @@ impl Session {
     /// What `check` answers to the session.
     pub fn answer(&self) -> Result<Answer, AllocError> {
         let certificate = format!(in self.alloc; "{}end\n", self.certificate)?;
+        self.answer_by(certificate.as_str())
+    }
+
+    /// What a command answers to the session's captures, without its certificate.
+    pub fn answer_to(&self, command: &str) -> Result<Answer, AllocError> {
+        let words = [
+            "turnaudit",
+            command,
+            "--policy",
+            "policy",
+            "--creds",
+            "creds",
+            "capture",
+        ];
+        let mut words = Vec::from_slice(self.alloc, &words)?;
+        if self.peers.is_some() {
+            words.push("second")?;
+        }
+        ask(self.alloc, words.as_slice(), &mut self.files(""))
+    }
+
+    /// What `check` answers to the session with another certificate.
+    pub fn answer_by(&self, certificate: &str) -> Result<Answer, AllocError> {
         let mut words = Vec::from_slice(self.alloc, &WORDS)?;
         if self.peers.is_some() {
             words.push("second")?;
         }
-        let mut files = self.files(certificate.as_str());
-        ask(self.alloc, words.as_slice(), &mut files)
+        ask(self.alloc, words.as_slice(), &mut self.files(certificate))
     }
 
     /// That the captures have these digests, and that `check` writes the report and nothing else.
