@@ -1,7 +1,4 @@
-use Rattle.std.proofs.Common.{List, ◌∙◌, sym, ap, arith}
-use Rattle.audit_sightings.specs.Intake.{taken}
-use Rattle.audit_finder.specs.Clients.{Pair, joined, pairs_of, unseen}
-use Rattle.audit_model.specs.declared.policy.Policy.{Policy}
+use Rattle.std.proofs.Common.{◌∙◌, sym, arith}
 use Rattle.audit_finder.proofs.Joining.{row_next, rows_done}
 use Rattle.audit_finder.proofs.clients.join_unseen.Goals as goal
 

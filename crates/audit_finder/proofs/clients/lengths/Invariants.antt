@@ -1,4 +1,4 @@
-use Rattle.std.proofs.Common.{◌≡◌, ◌≤◌, length, take, map}
+use Rattle.std.proofs.Common.{◌≡◌, length, take, map}
 use Rattle.audit_sightings.specs.Intake.{taken}
 use Rattle.audit_finder.proofs.clients.lengths.Given as goal
 

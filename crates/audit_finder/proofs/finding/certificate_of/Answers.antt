@@ -1,7 +1,6 @@
 use Rattle.std.proofs.Common.{◌≡◌, List, All, ◌∙◌, arith, sym, ap, map, length, subst, length-take}
 use Rattle.std.proofs.lemmas.List.{length-map}
 use Rattle.std.specs.List.{IsDistinct}
-use Rattle.audit_model.specs.declared.address.Addr.{Addr}
 use Rattle.audit_model.specs.EventCount.{event_count}
 use Rattle.audit_sightings.specs.Intake.{NamesWhatIsThere}
 use Rattle.audit_finder.specs.Clients.{Pair, same}
