@@ -100,9 +100,13 @@ impl Arrivals {
         None
     }
 
-    /// The last that asked for this and was acted on, or came too long ago.
-    pub fn past(&self, cause: &Cause) -> Option<u32> {
-        self.queues.past(cause)
+    /// The last that asked for this and was acted on, unless it came too long ago.
+    pub fn past(&self, cause: &Cause, earliest: u64) -> Option<u32> {
+        let past = self.queues.past(cause)?;
+        if self.get(past)?.key?.moment < earliest {
+            return None;
+        }
+        Some(past)
     }
 
     /// The next that asks for the same.

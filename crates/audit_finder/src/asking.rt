@@ -1,7 +1,7 @@
 //! Arrivals, as they are placed.
 //!
 //! A request is acted on at its arrival, so that what it grants is there for the data behind it. A Refresh that deletes the allocation
-//! is acted on when its success leaves, and so is what may not be done any earlier.
+//! is acted on when its success leaves, and so is what may not be done any earlier, or is answered behind such a request.
 
 use crate::answers::Transaction;
 use crate::clock::Clock;
@@ -42,7 +42,6 @@ impl Search {
 
     /// Notes a peer's datagram with the lane that holds its relayed address.
     fn note_received(&mut self, number: u32, sighting: &Sighting) {
-        self.last_data = Some(number);
         if let Some(holder) = self.holders.get(&sighting.to) {
             if let Some(lane) = self.lanes.get_mut(*holder as usize) {
                 lane.last.received = Some(number);
@@ -69,7 +68,7 @@ impl Search {
         if asks {
             return self.ask(judge, lane, number, sighting, portion);
         }
-        self.last_data = Some(number);
+        self.last_sent = Some(number);
         Ok(())
     }
 
@@ -88,20 +87,46 @@ impl Search {
         let Some(leaves) = self.departure(judge, answer) else {
             return Ok(());
         };
-        if is_ending(leaves) {
-            if let Some(lane) = self.lanes.get_mut(lane as usize) {
-                lane.ending = Some(answer);
-            }
-            return Ok(());
-        }
         if let Some(relayed) = allocated(leaves) {
-            if self.other_holder(lane, relayed).is_some() {
-                return Ok(());
+            // A deletion that has come in goes before an allocation of its address.
+            if let Some(holder) = self.other_holder(lane, relayed) {
+                self.end_now(judge, holder, None, portion)?;
             }
         }
-        let key = self.clock.tick();
-        if self.may_answer(judge, lane, sighting, leaves, key)? {
-            self.commit_answer(judge, lane, number, answer, key, portion)?;
+        if !self.is_kept_back(lane, leaves) {
+            let key = self.clock.tick();
+            if self.may_answer(judge, lane, sighting, leaves, key)? {
+                return self.commit_answer(judge, lane, number, answer, key, portion);
+            }
+        }
+        self.keep_back(lane, answer, leaves)
+    }
+
+    /// Whether an answer is best given as it leaves: it deletes an allocation, makes one whose address another client still
+    /// holds, or leaves behind another that is kept back.
+    fn is_kept_back(&self, lane: u32, leaves: &Sighting) -> bool {
+        let Some(of) = self.lanes.get(lane as usize) else {
+            return false;
+        };
+        if of.has_pending_before(leaves.id) {
+            return true;
+        }
+        if is_ending(leaves) {
+            return of.table.running().is_some();
+        }
+        match allocated(leaves) {
+            Some(relayed) => self.other_holder(lane, relayed).is_some(),
+            None => false,
+        }
+    }
+
+    /// Notes an answer that is given as it leaves.
+    fn keep_back(&mut self, lane: u32, answer: u32, leaves: &Sighting) -> Result<(), AllocError> {
+        if let Some(of) = self.lanes.get_mut(lane as usize) {
+            of.pending.insert(leaves.id)?;
+            if is_ending(leaves) {
+                of.ending = Some(answer);
+            }
         }
         Ok(())
     }

@@ -1,9 +1,9 @@
 //! What the finder keeps of one client at one listen address.
 
-use audit_model::{Addr, Key};
+use audit_model::{Addr, Key, SightId};
 use audit_rules::LaneTable;
 use std::alloc::{AllocError, Global};
-use std::collections::BTreeMap;
+use std::collections::{BTreeMap, BTreeSet};
 
 /// One lane, as it stands.
 #[derive(Drop)]
@@ -21,6 +21,8 @@ pub struct Lane {
     pub ending: Option<u32>,
     /// When the last one was deleted.
     pub ended: Option<Key>,
+    /// The answers that were not given when their requests arrived, and haven't left yet.
+    pub pending: BTreeSet<SightId>,
 }
 
 /// The last arrival of each kind.
@@ -45,6 +47,7 @@ impl Lane {
             },
             ending: None,
             ended: None,
+            pending: BTreeSet::new(alloc),
         }
     }
 
@@ -63,6 +66,14 @@ impl Lane {
         self.peers.insert(number, peer)?;
         self.numbers.insert(peer, number)?;
         Ok(())
+    }
+
+    /// Whether an answer leaves before this one that isn't given yet.
+    pub fn has_pending_before(&self, answer: SightId) -> bool {
+        match self.pending.first() {
+            Some(first) => *first < answer,
+            None => false,
+        }
     }
 
     /// Whether it holds that relayed address at the moment.

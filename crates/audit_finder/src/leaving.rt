@@ -8,7 +8,7 @@ use crate::search::Search;
 use audit_model::{Addr, Event, Key, SightId, Sighting};
 use std::alloc::AllocError;
 
-/// How many arrivals are tried for one departure.
+/// How many arrivals are tried for one departure, and how often it waits for one.
 pub(crate) const CANDIDATES: u32 = 64;
 
 impl Search {
@@ -50,7 +50,7 @@ impl Search {
         match self.arrivals.get(number) {
             Some(arrival) if arrival.key.is_none() => {
                 match judge.intake.sighting(arrival.sight) {
-                    Some(sighting) => sighting.lo <= leaves.hi,
+                    Some(sighting) => sighting.lo <= latest(judge, leaves),
                     None => false,
                 }
             }
@@ -69,7 +69,7 @@ impl Search {
         };
         self.arrivals
             .first(&cause, earliest)
-            .or(self.arrivals.past(&cause))
+            .or(self.arrivals.past(&cause, earliest))
             .or(last)
     }
 
@@ -138,7 +138,7 @@ impl Search {
 
     /// Deletes the allocation of a lane whose Refresh says so, if its success hasn't left yet and is another than this one;
     /// tells whether it did.
-    fn end_now(
+    pub(crate) fn end_now(
         &mut self,
         judge: &Judge<'_>,
         lane: u32,
@@ -214,6 +214,7 @@ impl Search {
             if let Some((channel, peer)) = bound(arrives, leaves) {
                 of.bind(channel, peer)?;
             }
+            of.pending.remove(&leaves.id);
             if of.ending == Some(answer) {
                 of.ending = None;
             }
@@ -243,5 +244,18 @@ impl Search {
             portion.push(lane, Event::In { sight, key: came })?;
         }
         portion.push(lane, Event::Act { sight, gives, key })
+    }
+}
+
+/// The latest moment of a departure: that of its window, or of the window of the next sighting of its interface.
+fn latest(judge: &Judge<'_>, leaves: &Sighting) -> u64 {
+    let SightId { iface, index } = leaves.id;
+    let next = SightId {
+        iface,
+        index: index.saturating_add(1),
+    };
+    match judge.intake.sighting(next) {
+        Some(next) => leaves.hi.min(next.hi),
+        None => leaves.hi,
     }
 }

@@ -61,18 +61,17 @@ impl Search {
         match self.choose(judge, causes, leaves)? {
             Choice::Acts(number, key) => self.write_act(lane, number, leaves.id, key, portion)?,
             Choice::Waits(number) if may_wait => return Ok(Some(number)),
-            _ => match self.likely(judge, causes, leaves) {
-                Some(number) => {
-                    let key = self.clock.tick();
-                    self.write_act(lane, number, leaves.id, key, portion)?;
-                }
-                None if may_wait => {
+            _ => {
+                if may_wait {
                     if let Some(number) = self.coming(judge, causes, leaves) {
                         return Ok(Some(number));
                     }
                 }
-                None => {}
-            },
+                if let Some(number) = self.likely(judge, causes, leaves) {
+                    let key = self.clock.tick();
+                    self.write_act(lane, number, leaves.id, key, portion)?;
+                }
+            }
         }
         let key = self.clock.tick();
         let sight = leaves.id;
@@ -127,7 +126,7 @@ impl Search {
 
     /// The lane of the last data of a client, or else the first one.
     fn lane_of_last(&self) -> Option<u32> {
-        let last = match self.last_data {
+        let last = match self.last_sent {
             Some(number) => self.arrivals.get(number),
             None => None,
         };
@@ -248,16 +247,20 @@ impl Search {
                         return Some(number);
                     }
                 }
-                if let Some(number) = self.arrivals.past(&cause) {
+                if let Some(number) = self.arrivals.past(&cause, earliest) {
                     return Some(number);
                 }
             }
         }
-        let to_client = judge.intake.policy().listens(leaves.from);
         let last = self.lanes.get(causes.lane as usize)?.last;
-        let data = if to_client { last.received } else { last.sent };
-        let data = data.or(self.last_data)?;
-        self.waiting_since(data)?;
-        Some(data)
+        let number = if judge.intake.policy().listens(leaves.from) {
+            last.received?
+        } else {
+            last.sent?
+        };
+        if self.waiting_since(number)?.moment < earliest {
+            return None;
+        }
+        Some(number)
     }
 }

@@ -21,8 +21,8 @@ pub struct Row {
     roles: Vec<Role>,
     /// How many of its sightings have a key.
     placed: usize,
-    /// The next one has waited for its cause.
-    pub waited: bool,
+    /// How often the next one has waited for its cause.
+    pub waits: u32,
     /// It stands among the heads, or waits.
     pub is_queued: bool,
 }
@@ -32,7 +32,7 @@ impl Row {
         Row {
             roles: Vec::new(alloc),
             placed: 0,
-            waited: false,
+            waits: 0,
             is_queued: false,
         }
     }
@@ -58,6 +58,6 @@ impl Row {
     /// Goes on behind the next sighting.
     pub fn advance(&mut self) {
         self.placed = self.placed.saturating_add(1);
-        self.waited = false;
+        self.waits = 0;
     }
 }

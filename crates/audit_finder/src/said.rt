@@ -1,6 +1,6 @@
 //! What messages say that the finder goes by.
 
-use audit_model::{Addr, Policy, Sighting};
+use audit_model::{Addr, Sighting};
 use audit_stun::numbers::attribute::{
     CHANNEL_NUMBER, LIFETIME, XOR_PEER_ADDRESS, XOR_RELAYED_ADDRESS,
 };
@@ -75,9 +75,4 @@ pub fn data_given(payload: &[u8]) -> Option<Given<'_>> {
     let message = message(payload)?;
     let peer = address(message.first(XOR_PEER_ADDRESS)?)?;
     Some(Given::Peer(peer, message.first(audit_stun::numbers::attribute::DATA)?))
-}
-
-/// Whether a departure goes to a client.
-pub fn goes_to_client(policy: &Policy, leaves: &Sighting) -> bool {
-    policy.listens(leaves.from)
 }

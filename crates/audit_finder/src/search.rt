@@ -6,6 +6,7 @@ use crate::clock::Clock;
 use crate::heads::Heads;
 use crate::judge::Judge;
 use crate::lanes::Lane;
+use crate::leaving::CANDIDATES;
 use crate::portion::Portion;
 use crate::rows::{Role, Row};
 use audit_model::Addr;
@@ -27,8 +28,8 @@ pub(crate) struct Search {
     pub(crate) holders: BTreeMap<Addr, u32>,
     /// Arrivals that have a key, and no event yet.
     pub(crate) undecided: Vec<u32>,
-    /// The last data that arrived, of all lanes.
-    pub(crate) last_data: Option<u32>,
+    /// The last data of a client that arrived, of all lanes.
+    pub(crate) last_sent: Option<u32>,
     pub(crate) clock: Clock,
     /// Events are given past this moment.
     pub(crate) given_to: Option<u64>,
@@ -47,7 +48,7 @@ impl Search {
             waiting: BTreeMap::new(alloc),
             holders: BTreeMap::new(alloc),
             undecided: Vec::new(alloc),
-            last_data: None,
+            last_sent: None,
             clock: Clock::new(),
             given_to: None,
             alloc,
@@ -103,8 +104,8 @@ impl Search {
         portion: &mut Portion,
     ) -> Result<(), AllocError> {
         let (_, sightings) = judge.intake.counts();
-        // Each is tried twice at the most: once before it waits, and once after that.
-        for _ in 0..2 * sightings as u64 + 1 {
+        // Each is tried once more than it waits.
+        for _ in 0..(CANDIDATES as u64 + 1) * sightings as u64 + 1 {
             match self.heads.pop(horizon) {
                 Some((moment, iface)) => {
                     self.clock.reach(moment);
@@ -131,7 +132,7 @@ impl Search {
             return Ok(());
         };
         row.is_queued = false;
-        let may_wait = !row.waited;
+        let may_wait = row.waits < CANDIDATES;
         let Some((sight, role)) = row.next(iface) else {
             return Ok(());
         };
@@ -162,7 +163,7 @@ impl Search {
     /// Lets the next departure of an interface wait for an arrival. Where another one waits for that, it is tried again at once.
     fn wait(&mut self, iface: u32, number: u32) -> Result<(), AllocError> {
         if let Some(row) = self.rows.get_mut(iface as usize) {
-            row.waited = true;
+            row.waits = row.waits.saturating_add(1);
             row.is_queued = true;
         }
         if self.waiting.contains_key(&number) {
