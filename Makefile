@@ -1,15 +1,21 @@
 # turnaudit: `make demo` audits a capture of a real server, `make test` runs the gate and judges the captures of real servers.
 
-DEMO = ../../examples/coturn-channels-two-files
+PROGRAM = crates/turnaudit/out/turnaudit
+SOURCES = $(wildcard crates/*/src/*.rt crates/*/src/*/*.rt)
+DEMO = examples/coturn-channels-two-files
 
 .PHONY: demo test
 
-# Builds the program and prints its verdict on a call's captures.
-demo:
-	@cd crates/turnaudit && rt run -- audit --policy $(DEMO)/policy --creds $(DEMO)/creds $(DEMO)/client.pcapng $(DEMO)/peer.pcapng
+# Prints the verdict on the captures of a call over coturn.
+demo: $(PROGRAM)
+	@$(PROGRAM) audit --policy $(DEMO)/policy --creds $(DEMO)/creds $(DEMO)/client.pcapng $(DEMO)/peer.pcapng
+
+# Proves and builds the program.
+$(PROGRAM): $(SOURCES)
+	cd crates/turnaudit && rt run -- --help > /dev/null
 
 # Proves every crate from nothing, tries the must-fail edits, and runs the tests and the program; then, with the program that this
 # built, judges the captures in examples.
 test:
 	rt ci
-	tests/captures.sh crates/turnaudit/out/turnaudit
+	tests/captures.sh $(PROGRAM)
