@@ -15,7 +15,8 @@ use Rattle.audit_order.specs.declared.entry.Entry.{Entry}
 use Rattle.audit_order.specs.Among.{ComesBefore, IsPlacedBefore, ShowsAmong, IsFirst}
 use Rattle.audit_order.specs.Checks.{IsOneOf, event_checks}
 use Rattle.audit_order.specs.Entries.{entries}
-use Rattle.audit_order.specs.FirstPlace.{same_sight, places, first_place, is_placed}
+use Rattle.audit_order.specs.FirstPlace.{places, first_place, is_placed}
+use Rattle.audit_order.specs.Table.{same_sight}
 use Rattle.audit_order.specs.Shows.{ShowsFrom}
 use Rattle.audit_order.proofs.FirstPush.{same_is}
 use Rattle.audit_order.proofs.InOrder.{AreInOrder, in_front, behind, contains_none, front_or_behind, order_right, order_across, not_before_itself, not_both_ways, entries_in_order}

@@ -2,8 +2,11 @@ pub mod LeastOfTwo
 pub mod LeastOfChecks
 pub mod FirstPush
 pub mod Turns
-pub mod Neighbours
+pub mod NeighbourSteps
+pub mod UnplacedSteps
+pub mod Interfaces
 pub mod Whole
 pub mod Tables
+pub mod TableGrowth
 pub mod InOrder
 pub mod AmongSteps

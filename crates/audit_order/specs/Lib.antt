@@ -1,5 +1,8 @@
 pub mod Named
 pub mod Entries
+pub mod Table
+pub mod Keys
+pub mod Places
 pub mod FirstPlace
 pub mod Checks
 pub mod Shows

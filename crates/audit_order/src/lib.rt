@@ -4,10 +4,14 @@
 mod entry;
 mod events;
 mod first;
-mod interfaces;
+mod keys;
 mod laws;
+mod neighbours;
+mod places;
 mod placing;
 mod single;
+mod table;
+mod unplaced;
 #[cfg(test)]
 mod tests;
 

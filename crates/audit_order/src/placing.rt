@@ -4,14 +4,16 @@ ghost use Rattle.std.specs.Prelude.{◌≡◌, [], IfOk, IfErr, IfNone, OnOk, So
 ghost use Rattle.audit_model.specs.Least.{IsLeast};
 ghost use Rattle.audit_sightings.specs.Intake.{taken};
 ghost use Rattle.audit_sightings.specs.Rows.{count_of};
-ghost use Rattle.audit_order.specs.Entries.{lanes_entries};
+ghost use Rattle.audit_order.specs.Entries.{lanes_entries, entries};
 ghost use Rattle.audit_order.specs.FirstPlace.{Notes};
 ghost use Rattle.audit_order.specs.Named.{AllNamed};
-ghost use Rattle.audit_order.specs.Shows.{Shows, ShowsFrom};
+ghost use Rattle.audit_order.specs.Shows.{Shows, ShowsFrom, ShowsPlaced};
 
 use crate::events::{drops_breach, lane_breach};
 use crate::first::FirstPlaces;
-use crate::interfaces::interfaces_breach;
+use crate::neighbours::neighbours_breach;
+use crate::places::Places;
+use crate::unplaced::unplaced_breach;
 use audit_model::{Breach, Certificate};
 use audit_sightings::Intake;
 use std::alloc::{AllocError, Global};
@@ -49,6 +51,25 @@ fn lanes_breach(
     Ok(least)
 }
 
+/// The least breach of what is placed, or none exactly where none is shown, and where each sighting is placed first.
+/// Where there is none, the events name what is there.
+fn placed_breach(
+    alloc: Global,
+    intake: &Intake,
+    certificate: &Certificate,
+) -> Result<(Option<Breach>, FirstPlaces), AllocError>
+    ensures shown { IfOk result (λ found. IsLeast (ShowsPlaced (taken intake.now) certificate.now) found.0) }
+    ensures notes { IfOk result (λ found. Notes certificate.now found.1 (entries certificate.now)) }
+    ensures named { IfOk result (λ found. IfNone found.0 (AllNamed (taken intake.now) certificate.now)) }
+{
+    let mut first = FirstPlaces::new(alloc, intake)?;
+    let of_lanes = lanes_breach(intake, &mut first, certificate)?;
+    let of_drops = drops_breach(intake, certificate, &mut first)?;
+    let of_entries = Breach::least(of_lanes, of_drops);
+    let of_neighbours = neighbours_breach(intake, certificate, &first);
+    Ok((Breach::least(of_entries, of_neighbours), first))
+}
+
 /// The least breach of placement, or none exactly where none is shown. Where there is none, the events name what is there.
 fn least_breach(
     alloc: Global,
@@ -58,12 +79,9 @@ fn least_breach(
     ensures shown { IfOk result (IsLeast (Shows (taken intake.now) certificate.now)) }
     ensures named { IfOk result (λ least. IfNone least (AllNamed (taken intake.now) certificate.now)) }
 {
-    let mut first = FirstPlaces::new(alloc, intake)?;
-    let of_lanes = lanes_breach(intake, &mut first, certificate)?;
-    let of_drops = drops_breach(intake, certificate, &mut first)?;
-    let of_entries = Breach::least(of_lanes, of_drops);
-    let of_interfaces = interfaces_breach(intake, certificate, &first);
-    Ok(Breach::least(of_entries, of_interfaces))
+    let (of_placed, first) = placed_breach(alloc, intake, certificate)?;
+    let of_unplaced = unplaced_breach(intake, certificate, &Places::First(first));
+    Ok(Breach::least(of_placed, of_unplaced))
 }
 
 /// Whether the certificate places each sighting of the intake once, in its window and in order, or else the least breach.

@@ -1,22 +1,16 @@
-use Rattle.std.proofs.Common.{ap, []}
+use Rattle.std.proofs.Common.{ap}
+use Rattle.std.specs.Prelude.{is_some}
 use Rattle.audit_sightings.specs.Intake.{taken}
-use Rattle.audit_order.specs.Entries.{lanes_entries, at_of}
-use Rattle.audit_order.specs.FirstPlace.{Notes}
+use Rattle.audit_order.specs.Entries.{entries}
 use Rattle.audit_order.proofs.Whole.{least_whole, none_of_first}
 use Rattle.audit_order.proofs.placing.least_breach.Goals as goal
 
 pub returns-clause-shown : goal.returns-clause-shown
 returns-clause-shown c =
     let certificate = c.args.certificate.now in
-    let of_lanes = lanes_entries 0 certificate.lanes in
-    let empty : Notes certificate c.in_ok-first.first [] = λ sight. ap (at_of certificate) (c.in_ok-first.ensures sight) in
-    let noted = c.in_ok-of_lanes.ensures.notes empty in
-    least_whole (taken c.args.intake.now) certificate _ _ _ _ _
-    (c.in_ok-of_lanes.ensures.shown empty)
-    (c.in_ok-of_drops.ensures.shown of_lanes noted)
-    c.least-of_entries.ensures
-    (c.interfaces_breach-of_interfaces.ensures _ (c.in_ok-of_drops.ensures.notes of_lanes noted))
+    least_whole (taken c.args.intake.now) certificate _ _ _ c.in_ok-of_placed.ensures.shown
+    (c.unplaced_breach-of_unplaced.ensures (entries certificate) (λ sight. ap is_some (c.in_ok-of_placed.ensures.notes sight)))
     c.least.ensures
 
 pub returns-clause-named : goal.returns-clause-named
-returns-clause-named c = none_of_first _ _ _ _ _ _ c.least-of_entries.ensures c.least.ensures c.in_ok-of_lanes.ensures.named
+returns-clause-named c = none_of_first _ _ _ _ c.least.ensures c.in_ok-of_placed.ensures.named
