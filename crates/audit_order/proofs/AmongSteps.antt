@@ -102,7 +102,7 @@ placed_in : (sight : SightId) (es : List Entry) (other : Entry) → Contains es 
 placed_in sight [] other there placed = absurd (contains_none other there)
 placed_in sight (e ∷ es) other there placed = placed_by sight e es other there placed (λ later. placed_in sight es other later placed) (places e.event sight) refl
 
-same_itself : (sight : SightId) → same_sight sight sight ≡ true
+pub same_itself : (sight : SightId) → same_sight sight sight ≡ true
 same_itself sight = rw (eq-eqb sight.iface sight.iface refl, eq-eqb sight.index sight.index refl) refl
 
 -- some of them places what the event places

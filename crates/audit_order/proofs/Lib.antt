@@ -10,3 +10,5 @@ pub mod Tables
 pub mod TableGrowth
 pub mod InOrder
 pub mod AmongSteps
+pub mod CleanSteps
+pub mod CleanMore

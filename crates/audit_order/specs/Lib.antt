@@ -3,6 +3,7 @@ pub mod Entries
 pub mod Table
 pub mod Keys
 pub mod Places
+pub mod Clean
 pub mod FirstPlace
 pub mod Checks
 pub mod Shows

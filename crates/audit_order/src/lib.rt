@@ -11,6 +11,7 @@ mod places;
 mod placing;
 mod single;
 mod table;
+mod taking;
 mod unplaced;
 #[cfg(test)]
 mod tests;
