@@ -12,3 +12,4 @@ pub mod InOrder
 pub mod AmongSteps
 pub mod CleanSteps
 pub mod CleanMore
+pub mod GrowingSteps

@@ -4,6 +4,8 @@ pub mod Table
 pub mod Keys
 pub mod Places
 pub mod Clean
+pub mod Grown
+pub mod Growing
 pub mod FirstPlace
 pub mod Checks
 pub mod Shows
