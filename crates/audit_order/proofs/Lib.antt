@@ -13,3 +13,4 @@ pub mod AmongSteps
 pub mod CleanSteps
 pub mod CleanMore
 pub mod GrowingSteps
+pub mod PortionSteps

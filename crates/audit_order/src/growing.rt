@@ -150,4 +150,42 @@ impl Growing {
         self.drops.push(dropped)?;
         Ok(())
     }
+
+    /// Adds lanes without events behind the others.
+    fn add_lanes(&mut self, alloc: Global, pairs: &[(Addr, Addr)]) -> Result<(), AllocError>
+        ensures lanes { OnOk result (self.new.lanes.items ≡ self.old.lanes.items ++ map empty_lane pairs.now) }
+        ensures drops { OnOk result (self.new.drops ≡ self.old.drops) }
+        ensures sound { (taken : Taken) → IsSound taken self.old → OnOk result (IsSound taken self.new) }
+    {
+        'pairs: for pair in pairs {
+            self.add_lane(alloc, *pair)?;
+        }
+        Ok(())
+    }
+
+    /// Adds events, each behind the others of its lane.
+    fn add_events(&mut self, intake: &Intake, events: &[(u32, Event)]) -> Result<(), AllocError>
+        requires { All (λ event. event.0 < length self.old.lanes.items) events.now }
+        ensures lanes { OnOk result (self.new.lanes.items ≡ with_events 0 self.old.lanes.items events.now) }
+        ensures drops { OnOk result (self.new.drops ≡ self.old.drops) }
+        ensures count { OnOk result (event_count self.new.lanes.items ≡ event_count self.old.lanes.items + length events.now) }
+        ensures sound { IsSound (taken intake.now) self.old → OnOk result (IsSound (taken intake.now) self.new) }
+    {
+        'events: for (number, event) in events {
+            self.add_event(intake, *number, *event)?;
+        }
+        Ok(())
+    }
+
+    /// Adds drops behind the others.
+    fn add_drops(&mut self, intake: &Intake, drops: &[CertDrop]) -> Result<(), AllocError>
+        ensures lanes { OnOk result (self.new.lanes.items ≡ self.old.lanes.items) }
+        ensures drops { OnOk result (self.new.drops ≡ self.old.drops ++ drops.now) }
+        ensures sound { IsSound (taken intake.now) self.old → OnOk result (IsSound (taken intake.now) self.new) }
+    {
+        'drops: for dropped in drops {
+            self.add_drop(intake, *dropped)?;
+        }
+        Ok(())
+    }
 }
