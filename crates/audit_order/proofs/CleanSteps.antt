@@ -53,7 +53,7 @@ times_found : (es : List Entry) (s : SightId) → is_some (first_place es s) ≡
 times_found [] s found = absurd (true≢false (sym found))
 times_found (e ∷ es) s found = omega (arith, times_cons e es s, times_by e es s (places e.event s) refl (times_found es s) found)
 
-one_at_most : (b : Bool) → one_if b ≤ 1
+pub one_at_most : (b : Bool) → one_if b ≤ 1
 one_at_most true = omega arith
 one_at_most false = omega arith
 

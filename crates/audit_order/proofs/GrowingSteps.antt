@@ -86,10 +86,10 @@ gains_event n (first ∷ lanes) (suc number) lane event there =
     let rest = gains_event (n + 1) lanes number lane event there in
     (rest.0, gains_behind (lanes_entries (n + 1) lanes) (lanes_entries (n + 1) (with_event number event lanes)) (lane_entries n first) _ rest.1)
 
-placing_cons : (e : Entry) (es : List Entry) → placing_count (e ∷ es) ≡ one_if (places_one e.event) + placing_count es
+pub placing_cons : (e : Entry) (es : List Entry) → placing_count (e ∷ es) ≡ one_if (places_one e.event) + placing_count es
 placing_cons e es = sum_by-cons (λ (x : Entry). one_if (places_one x.event)) e es
 
-placing_append : (xs ys : List Entry) → placing_count (xs ++ ys) ≡ placing_count xs + placing_count ys
+pub placing_append : (xs ys : List Entry) → placing_count (xs ++ ys) ≡ placing_count xs + placing_count ys
 placing_append xs ys = sum_by-append (λ (x : Entry). one_if (places_one x.event)) xs ys
 
 placing_more : (old new : List Entry) (e : Entry) → Gains old new e → placing_count new ≡ placing_count old + one_if (places_one e.event)

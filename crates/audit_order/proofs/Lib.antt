@@ -5,7 +5,7 @@ pub mod Turns
 pub mod NeighbourSteps
 pub mod UnplacedSteps
 pub mod Interfaces
-pub mod Whole
+pub mod LeastOfWhole
 pub mod Tables
 pub mod TableGrowth
 pub mod InOrder
@@ -14,3 +14,5 @@ pub mod CleanSteps
 pub mod CleanMore
 pub mod GrowingSteps
 pub mod PortionSteps
+pub mod StaySteps
+pub mod KeptSteps

@@ -6,6 +6,7 @@ pub mod Places
 pub mod Clean
 pub mod Grown
 pub mod Growing
+pub mod Kept
 pub mod FirstPlace
 pub mod Checks
 pub mod Shows

@@ -8,12 +8,13 @@ ghost use Rattle.audit_sightings.specs.Intake.{Taken, taken};
 ghost use Rattle.audit_order.specs.Clean.{Takes, one_if};
 ghost use Rattle.audit_order.specs.Grown.{empty_lane, with_events};
 ghost use Rattle.audit_order.specs.Growing.{IsSound, last_key, places_one, with_event};
+ghost use Rattle.audit_order.specs.Kept.{Stays};
 ghost use Rattle.audit_order.specs.Keys.{key_at};
 
 use crate::entry::{LaneEnd, Pair};
 use crate::keys::PlacedKeys;
 use crate::taking::takes;
-use audit_model::{Addr, CertDrop, CertLane, Event, Key, Listed};
+use audit_model::{Addr, CertDrop, CertLane, Event, Extension, Key, Listed};
 use audit_sightings::Intake;
 use std::alloc::{AllocError, Global};
 
@@ -186,6 +187,28 @@ impl Growing {
         'drops: for dropped in drops {
             self.add_drop(intake, *dropped)?;
         }
+        Ok(())
+    }
+
+    /// Adds what an extension has, to a certificate of an intake that has grown. It takes time in proportion to the extension
+    /// and the sightings that came since.
+    pub fn extend(
+        &mut self,
+        alloc: Global,
+        intake: &Intake,
+        extension: &Extension,
+    ) -> Result<(), AllocError>
+        requires { All (λ event. event.0 < length self.old.lanes.items + length extension.now.lanes) extension.now.events }
+        ensures lanes { OnOk result (self.new.lanes.items
+            ≡ with_events 0 (self.old.lanes.items ++ map empty_lane extension.now.lanes) extension.now.events) }
+        ensures drops { OnOk result (self.new.drops ≡ self.old.drops ++ extension.now.drops) }
+        ensures count { OnOk result (event_count self.new.lanes.items ≡ event_count self.old.lanes.items + length extension.now.events) }
+        ensures sound { (before : Taken) → Stays before (taken intake.now) → IsSound before self.old → OnOk result (IsSound (taken intake.now) self.new) }
+    {
+        self.keys.grow(alloc, intake)?;
+        self.add_lanes(alloc, extension.lanes.as_slice())?;
+        self.add_events(intake, extension.events.as_slice())?;
+        self.add_drops(intake, extension.drops.as_slice())?;
         Ok(())
     }
 }

@@ -9,13 +9,15 @@ mod keys;
 mod laws;
 mod neighbours;
 mod places;
-mod placing;
+mod portions;
 mod single;
 mod table;
 mod taking;
 mod unplaced;
+mod whole;
 #[cfg(test)]
 mod tests;
 
 pub use laws::by_lane_and_place;
-pub use placing::{Placement, placed};
+pub use portions::Placing;
+pub use whole::{Placement, placed};

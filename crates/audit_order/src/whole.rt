@@ -53,7 +53,7 @@ fn lanes_breach(
 
 /// The least breach of what is placed, or none exactly where none is shown, and where each sighting is placed first.
 /// Where there is none, the events name what is there.
-fn placed_breach(
+pub fn placed_breach(
     alloc: Global,
     intake: &Intake,
     certificate: &Certificate,

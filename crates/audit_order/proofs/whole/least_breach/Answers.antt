@@ -2,8 +2,8 @@ use Rattle.std.proofs.Common.{ap}
 use Rattle.std.specs.Prelude.{is_some}
 use Rattle.audit_sightings.specs.Intake.{taken}
 use Rattle.audit_order.specs.Entries.{entries}
-use Rattle.audit_order.proofs.Whole.{least_whole, none_of_first}
-use Rattle.audit_order.proofs.placing.least_breach.Goals as goal
+use Rattle.audit_order.proofs.LeastOfWhole.{least_whole, none_of_first}
+use Rattle.audit_order.proofs.whole.least_breach.Goals as goal
 
 pub returns-clause-shown : goal.returns-clause-shown
 returns-clause-shown c =

@@ -2,8 +2,8 @@ use Rattle.std.proofs.Common.{ap, []}
 use Rattle.audit_sightings.specs.Intake.{taken}
 use Rattle.audit_order.specs.Entries.{lanes_entries, at_of}
 use Rattle.audit_order.specs.FirstPlace.{Notes}
-use Rattle.audit_order.proofs.Whole.{least_placed, none_of_first}
-use Rattle.audit_order.proofs.placing.placed_breach.Goals as goal
+use Rattle.audit_order.proofs.LeastOfWhole.{least_placed, none_of_first}
+use Rattle.audit_order.proofs.whole.placed_breach.Goals as goal
 
 pub returns-clause-shown : goal.returns-clause-shown
 returns-clause-shown c =

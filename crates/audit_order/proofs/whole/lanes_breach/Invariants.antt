@@ -5,7 +5,7 @@ use Rattle.audit_sightings.specs.Intake.{NamesWhatIsThere, taken}
 use Rattle.audit_order.specs.Entries.{lanes_entries}
 use Rattle.audit_order.specs.FirstPlace.{Notes}
 use Rattle.audit_order.specs.Shows.{ShowsFrom}
-use Rattle.audit_order.proofs.placing.lanes_breach.Given as goal
+use Rattle.audit_order.proofs.whole.lanes_breach.Given as goal
 
 -- what the lanes so far show; with no breach their events name what is there
 abbrev pub invariant-lanes : goal.invariant-lanes

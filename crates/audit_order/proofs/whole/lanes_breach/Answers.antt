@@ -10,7 +10,7 @@ use Rattle.audit_order.specs.Entries.{lane_entries, lanes_entries}
 use Rattle.audit_order.specs.FirstPlace.{Notes}
 use Rattle.audit_order.specs.Shows.{ShowsFrom}
 use Rattle.audit_order.proofs.Turns.{least_append, lanes_more}
-use Rattle.audit_order.proofs.placing.lanes_breach.Goals as goal
+use Rattle.audit_order.proofs.whole.lanes_breach.Goals as goal
 
 pub lanes-preserved : goal.lanes-preserved
 lanes-preserved c =
