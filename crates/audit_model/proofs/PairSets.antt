@@ -5,7 +5,7 @@ use Rattle.std.specs.Ordering.{is_eq, nat_cmp}
 use Rattle.std.specs.Cmp.{tied_then, unsigned_tied}
 use Rattle.audit_model.specs.declared.address.Addr.{Addr}
 use Rattle.audit_model.specs.Lanes.{same_addr, same_pair}
-use Rattle.audit_cert.specs.Pairs.{addr_cmp, pair_cmp}
+use Rattle.audit_model.specs.LanePairs.{addr_cmp, pair_cmp}
 
 same_number : (x y : ℕ) → is_eq (nat_cmp x y) ≡ eqb x y
 same_number x y = unsigned_tied x y

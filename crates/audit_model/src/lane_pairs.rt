@@ -3,27 +3,29 @@
 ghost use Rattle.std.specs.Prelude.{◌≡◌, ◌||◌, false, OnOk, OnErr};
 ghost use Rattle.audit_model.specs.declared.address.Addr.{Addr as Address};
 ghost use Rattle.audit_model.specs.Lanes.{same_pair};
-ghost use Rattle.audit_cert.specs.Pairs.{has};
+ghost use Rattle.audit_model.specs.LanePairs.{has};
 
-use audit_model::Addr;
+use crate::address::Addr;
 use std::alloc::{AllocFailed, Global};
 use std::collections::BTreeSet;
 
-/// A set of pairs of addresses.
+/// A set of pairs of addresses: a client and a listen address each.
 #[derive(Drop)]
-pub struct Pairs {
+pub struct LanePairs {
     set: BTreeSet<(Addr, Addr)>,
 }
 
-impl Pairs {
-    pub fn new(alloc: Global) -> Pairs
+impl LanePairs {
+    /// No pair. It takes no memory.
+    pub fn new(alloc: Global) -> LanePairs
         ensures { (client listen : Address) → has result client listen ≡ false }
     {
-        Pairs {
+        LanePairs {
             set: BTreeSet::new(alloc),
         }
     }
 
+    /// Whether this client is there at this listen address. The cost is the logarithm of the number of pairs.
     pub fn contains(&self, client: Addr, listen: Addr) -> bool
         ensures { result ≡ has self.now client listen }
     {
