@@ -28,9 +28,13 @@ pub record Extends (old : Certificate) (extension : Extension) (new : Certificat
   pub lanes : new.lanes ≡ with_events 0 (old.lanes ++ map empty_lane extension.lanes) extension.events
   pub drops : new.drops ≡ old.drops ++ extension.drops
 
--- The certificate with the extension is one: the events' lanes are there, no two lanes are of one pair, and the limits are kept.
-pub record Fits (certificate : Certificate) (extension : Extension) : Type 0 where
-  pub numbers : All (λ event. event.0 < length certificate.lanes + length extension.lanes) extension.events
-  pub apart : IsDistinct same_lane (certificate.lanes ++ map empty_lane extension.lanes)
+-- the limits are kept, and the events' lanes are there
+pub record HasRoom (certificate : Certificate) (extension : Extension) : Type 0 where
   pub few_lanes : length certificate.lanes + length extension.lanes ≤ MAX_LANES
   pub few_events : event_count certificate.lanes + length certificate.drops + length extension.events + length extension.drops ≤ MAX_EVENTS
+  pub numbers : All (λ event. event.0 < length certificate.lanes + length extension.lanes) extension.events
+
+-- and no two lanes are of one pair: the certificate with the extension is one
+pub record Fits (certificate : Certificate) (extension : Extension) : Type 0 where
+  pub room : HasRoom certificate extension
+  pub apart : IsDistinct same_lane (certificate.lanes ++ map empty_lane extension.lanes)

@@ -4,6 +4,7 @@
 mod entry;
 mod events;
 mod first;
+mod fitting;
 mod growing;
 mod keys;
 mod laws;

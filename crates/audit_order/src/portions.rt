@@ -1,6 +1,6 @@
 //! Placement of a certificate that grows in portions.
 
-ghost use Rattle.std.specs.Prelude.{◌≡◌, ◌≤◌, ◌+◌, [], length, IfOk, IfErr, IfNone, OnOk, Some, None, true};
+ghost use Rattle.std.specs.Prelude.{◌≡◌, ◌↔◌, ◌≤◌, ◌+◌, [], length, IsTrue, IfOk, IfErr, IfNone, OnOk, Some, None, true};
 ghost use Rattle.std.specs.List.{IsDistinct};
 ghost use Rattle.audit_model.specs.Least.{IsLeast};
 ghost use Rattle.audit_model.specs.EventCount.{event_count};
@@ -9,7 +9,7 @@ ghost use Rattle.audit_model.specs.declared.certificate.Certificate.{Certificate
 ghost use Rattle.audit_model.specs.declared.certificate.TheConstants.{MAX_LANES, MAX_EVENTS};
 ghost use Rattle.audit_sightings.specs.Intake.{Taken, taken};
 ghost use Rattle.audit_order.specs.Entries.{entries};
-ghost use Rattle.audit_order.specs.Grown.{Extends, Fits};
+ghost use Rattle.audit_order.specs.Grown.{Extends, Fits, HasRoom};
 ghost use Rattle.audit_order.specs.Growing.{IsSound, placing_count};
 ghost use Rattle.audit_order.specs.Clean.{IsClean};
 ghost use Rattle.audit_order.specs.Keys.{key_at};
@@ -17,12 +17,15 @@ ghost use Rattle.audit_order.specs.Kept.{AreOf, Keeps, Stays};
 ghost use Rattle.audit_order.specs.Named.{AllNamed};
 ghost use Rattle.audit_order.specs.Shows.{ShowsPlaced, ShowsAnUnplaced};
 
+use crate::fitting::{add_pairs, are_apart, are_of_lanes};
 use crate::growing::Growing;
 use crate::keys::PlacedKeys;
 use crate::places::Places;
 use crate::unplaced::unplaced_breach;
 use crate::whole::placed_breach;
-use audit_model::{Breach, Certificate, Extension, Listed};
+use audit_model::{
+    Breach, Certificate, Extension, LanePairs, Listed, MAX_EVENTS, MAX_LANES,
+};
 use audit_sightings::Intake;
 use std::alloc::{AllocError, Global};
 use std::mem::replace;
@@ -32,6 +35,10 @@ use std::mem::replace;
 pub struct Placing {
     certificate: Certificate,
     places: Places,
+    /// The client and the listen address of each lane.
+    pairs: LanePairs,
+    /// How many events and drops the certificate has.
+    events: usize,
     /// How many arrivals and departures the certificate has, drops among them.
     count: u32,
     alloc: Global,
@@ -79,34 +86,36 @@ fn keys_of(alloc: Global, places: Places) -> (PlacedKeys, bool)
     }
 }
 
-/// A certificate with what it has gained, and the least breach that it shows of what it places.
-fn settled(
-    alloc: Global,
-    intake: &Intake,
-    growing: Growing,
-) -> Result<(Placing, Option<Breach>), AllocError>
+/// A certificate with what it has gained, where it places sightings, and the least breach that it shows of what it places.
+#[derive(Drop)]
+struct Settled {
+    certificate: Certificate,
+    places: Places,
+    breach: Option<Breach>,
+}
+
+fn settle(alloc: Global, intake: &Intake, growing: Growing) -> Result<Settled, AllocError>
     requires apart { IsDistinct same_lane growing.lanes.items }
     requires few_lanes { length growing.lanes.items ≤ MAX_LANES }
     requires few_events { event_count growing.lanes.items + length growing.drops ≤ MAX_EVENTS }
-    ensures lanes { IfOk result (λ settled. settled.0.certificate.lanes ≡ growing.lanes.items) }
-    ensures drops { IfOk result (λ settled. settled.0.certificate.drops ≡ growing.drops) }
-    ensures keeps { IsSound (taken intake.now) growing → IfOk result (λ settled. Keeps (taken intake.now) settled.0) }
-    ensures least { IsSound (taken intake.now) growing → IfOk result (λ settled. IsLeast (ShowsPlaced (taken intake.now) settled.0.certificate) settled.1) }
-    ensures named { IsSound (taken intake.now) growing → IfOk result (λ settled. IfNone settled.1 (AllNamed (taken intake.now) settled.0.certificate)) }
+    ensures lanes { IfOk result (λ settled. settled.certificate.lanes ≡ growing.lanes.items) }
+    ensures drops { IfOk result (λ settled. settled.certificate.drops ≡ growing.drops) }
+    ensures places { IsSound (taken intake.now) growing → IfOk result (λ settled. AreOf (taken intake.now) settled.certificate settled.places) }
+    ensures count { IsSound (taken intake.now) growing → IfOk result (λ settled. growing.count ≡ placing_count (entries settled.certificate)) }
+    ensures least { IsSound (taken intake.now) growing → IfOk result (λ settled. IsLeast (ShowsPlaced (taken intake.now) settled.certificate) settled.breach) }
+    ensures named { IsSound (taken intake.now) growing → IfOk result (λ settled. IfNone settled.breach (AllNamed (taken intake.now) settled.certificate)) }
 {
-    let Growing { lanes, drops, keys, count, clean } = growing;
+    let Growing { lanes, drops, keys, clean, .. } = growing;
     let certificate = Certificate {
         lanes: Listed::from(lanes),
         drops,
     };
     let (places, breach) = judged(alloc, intake, &certificate, keys, clean)?;
-    let placing = Placing {
+    Ok(Settled {
         certificate,
         places,
-        count,
-        alloc,
-    };
-    Ok((placing, breach))
+        breach,
+    })
 }
 
 impl Placing {
@@ -119,6 +128,8 @@ impl Placing {
         Placing {
             certificate: no_certificate(alloc),
             places: Places::Once(PlacedKeys::new(alloc)),
+            pairs: LanePairs::new(alloc),
+            events: 0,
             count: 0,
             alloc,
         }
@@ -145,6 +156,28 @@ impl Placing {
         unplaced_breach(intake, &self.certificate, &self.places)
     }
 
+    /// Whether the certificate with the extension is one: the events' lanes are there, no two lanes are of one client at one
+    /// listen address, and the limits are kept. The cost is n log n in the extension.
+    pub fn fits(&self, extension: &Extension) -> Result<bool, AllocError>
+        ensures { (taken : Taken) → Keeps taken self.now → IfOk result (λ fits. IsTrue fits ↔ Fits self.now.certificate extension.now) }
+    {
+        if !self.has_room(extension) {
+            return Ok(false);
+        }
+        are_apart(self.alloc, &self.pairs, extension.lanes.as_slice())
+    }
+
+    /// Whether the limits are kept, and the events' lanes are there.
+    fn has_room(&self, extension: &Extension) -> bool
+        ensures { (taken : Taken) → Keeps taken self.now → IsTrue result ↔ HasRoom self.now.certificate extension.now }
+    {
+        let lanes = self.certificate.lanes.len();
+        let events = self.events.saturating_add(extension.events.len());
+        extension.lanes.len() <= MAX_LANES - lanes
+            && events.saturating_add(extension.drops.len()) <= MAX_EVENTS
+            && are_of_lanes(extension.events.as_slice(), lanes + extension.lanes.len())
+    }
+
     /// Adds what an extension has, and tells the least breach of all that was added so far, but for those of sightings that
     /// are placed nowhere. The intake is the one of the call before, and may have grown.
     ///
@@ -169,9 +202,13 @@ impl Placing {
     {
         let mut growing = self.growing();
         growing.extend(self.alloc, intake, extension)?;
-        let (placing, breach) = settled(self.alloc, intake, growing)?;
-        *self = placing;
-        match breach {
+        add_pairs(&mut self.pairs, extension.lanes.as_slice())?;
+        self.count = growing.count;
+        let settled = settle(self.alloc, intake, growing)?;
+        self.certificate = settled.certificate;
+        self.places = settled.places;
+        self.events = self.events.saturating_add(extension.events.len()).saturating_add(extension.drops.len());
+        match settled.breach {
             Some(breach) => Ok(Err(breach)),
             None => Ok(Ok(())),
         }
@@ -182,6 +219,8 @@ impl Placing {
         ensures lanes { result.lanes.items ≡ self.old.certificate.lanes }
         ensures drops { result.drops ≡ self.old.certificate.drops }
         ensures sound { (taken : Taken) → Keeps taken self.old → IsSound taken result }
+        ensures pairs { self.new.pairs ≡ self.old.pairs }
+        ensures events { self.new.events ≡ self.old.events }
     {
         let certificate = replace(&mut self.certificate, no_certificate(self.alloc));
         let places = replace(&mut self.places, Places::Once(PlacedKeys::new(self.alloc)));
