@@ -10,7 +10,7 @@ use Rattle.audit_model.specs.declared.event.Event.{Event}
 use Rattle.audit_model.specs.declared.certificate.CertLane.{CertLane}
 use Rattle.audit_model.specs.EventCount.{event_count}
 use Rattle.audit_model.proofs.Apart.{same_lane_equiv}
-use Rattle.audit_model.specs.Lanes.{same_addr, same_pair, same_lane, has_pair}
+use Rattle.audit_model.specs.Lanes.{same_pair, same_lane, has_pair}
 use Rattle.audit_cert.specs.CertLines.{with_event}
 
 abbrev pub longer : Event → CertLane → CertLane

@@ -8,7 +8,8 @@ ghost use Rattle.audit_cert.specs.CertLines.{with_event};
 use crate::event_line::{read_event, read_placed};
 use crate::fault::CertFaultKind;
 use audit_model::{
-    Addr, CertDrop, CertLane, Certificate, Event, LanePairs, Listed, MAX_EVENTS, MAX_LANES, both, halves,
+    Addr, CertDrop, CertLane, Certificate, Event, LanePairs, Listed, MAX_EVENTS, MAX_LANES, both,
+    halves,
 };
 use std::alloc::{AllocFailed, Global};
 use std::marker::Model;

@@ -1,8 +1,8 @@
 -- Clean entries stay clean as one more comes that is taken, and as sightings come.
-use Rattle.std.proofs.Common.{◌≡◌, ◌<◌, ℕ, ◌+◌, Bool, true, false, cond, ◌&&◌, ◌==◌, List, [], ◌∷◌, ◌++◌, All, Option, Some, None, ◌⊎◌, inl, inr, refl, sym, ap, ◌∙◌, subst, arith}
+use Rattle.std.proofs.Common.{◌≡◌, ℕ, ◌+◌, Bool, true, false, cond, List, ◌∷◌, ◌++◌, All, Option, Some, ◌⊎◌, inl, inr, refl, sym, ap, ◌∙◌, subst, arith}
 use Rattle.std.specs.Prelude.{is_some}
 use Rattle.std.specs.Ordering.{is_gt}
-use Rattle.std.proofs.lemmas.Bool.{true≢false, eqb-true}
+use Rattle.std.proofs.lemmas.Bool.{true≢false}
 use Rattle.std.proofs.lemmas.List.Elements.{All-cons, All-append, All-weaker}
 use Rattle.std.proofs.lemmas.Option.{none-some, same_Some}
 use Rattle.audit_model.specs.declared.event.Event.{Event}
@@ -17,7 +17,6 @@ use Rattle.audit_order.specs.Clean.{IsFine, IsClean, PlacesAt, PlacesEvent, Take
 use Rattle.audit_order.specs.FirstPlace.{places}
 use Rattle.audit_order.specs.Table.{same_sight}
 use Rattle.audit_order.proofs.FirstPush.{same_is}
-use Rattle.audit_order.proofs.AmongSteps.{same_itself}
 use Rattle.audit_order.proofs.CleanSteps.{all_left, all_right, times_cons, times_append}
 
 -- no sighting, or one

@@ -1,9 +1,8 @@
 -- Clean entries show nothing, and stay clean as one more comes.
-use Rattle.std.proofs.Common.{◌≡◌, ◌≢◌, ◌<◌, ◌≤◌, ℕ, ◌+◌, Bool, true, false, cond, ◌&&◌, ◌==◌, List, [], ◌∷◌, ◌++◌, All, length, Option, Some, None, ◌⊎◌, inl, inr, refl, sym, ap, ◌∙◌, subst, append_assoc, append-nil, arith}
-use Rattle.std.specs.Prelude.{is_some, sum_by}
-use Rattle.std.specs.Ordering.{is_gt}
-use Rattle.std.proofs.lemmas.Bool.{true≢false, eq-eqb, ne_eqb}
-use Rattle.std.proofs.lemmas.List.Elements.{All-nil, All-cons, All-head, All-tail, All-append, All-weaker}
+use Rattle.std.proofs.Common.{◌≡◌, ◌<◌, ◌≤◌, ◌+◌, Bool, true, false, cond, List, [], ◌∷◌, ◌++◌, All, Option, Some, None, inl, inr, refl, sym, ap, ◌∙◌, subst, append_assoc, arith}
+use Rattle.std.specs.Prelude.{is_some}
+use Rattle.std.proofs.lemmas.Bool.{true≢false}
+use Rattle.std.proofs.lemmas.List.Elements.{All-nil, All-cons, All-head, All-tail}
 use Rattle.std.proofs.lemmas.List.Sums.{sum_by-cons, sum_by-append}
 use Rattle.std.proofs.lemmas.Option.{none-some, same_Some}
 use Rattle.audit_model.specs.declared.certificate.Certificate.{Certificate}
@@ -13,18 +12,14 @@ use Rattle.audit_model.specs.declared.event.Event.TheVariants.{In, Act, Out}
 use Rattle.audit_model.specs.declared.event.Key.{Key}
 use Rattle.audit_model.specs.declared.sighting.SightId.{SightId}
 use Rattle.audit_model.specs.declared.verdict.Breach.{Breach}
-use Rattle.audit_model.specs.Breach.{key_cmp}
-use Rattle.audit_model.specs.Event.{key_of}
 use Rattle.audit_model.specs.Least.{IsLeast}
 use Rattle.audit_sightings.specs.Intake.{Taken}
 use Rattle.audit_order.specs.declared.entry.Entry.{Entry}
-use Rattle.audit_order.specs.Checks.{Check, IsOneOf, event_checks, first_broken, told, checks}
-use Rattle.audit_order.specs.Clean.{IsFine, IsClean, PlacesAt, PlacesEvent, Takes, times_placed, one_if}
+use Rattle.audit_order.specs.Checks.{IsOneOf, event_checks, told}
+use Rattle.audit_order.specs.Clean.{IsFine, IsClean, times_placed, one_if}
 use Rattle.audit_order.specs.Entries.{entries}
 use Rattle.audit_order.specs.FirstPlace.{places, first_place, is_placed}
 use Rattle.audit_order.specs.Shows.{ShowsFrom, ShowsPlaced}
-use Rattle.audit_order.specs.Table.{same_sight}
-use Rattle.audit_order.proofs.FirstPush.{same_is}
 use Rattle.audit_order.proofs.AmongSteps.{same_itself}
 use Rattle.audit_order.proofs.LeastOfChecks.{first_least, ascending}
 

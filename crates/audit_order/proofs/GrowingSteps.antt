@@ -1,10 +1,10 @@
 -- What is kept of a certificate that grows, as it gains a lane, an event or a drop.
-use Rattle.std.proofs.Common.{◌≡◌, ◌<◌, ◌≤◌, ℕ, zero, suc, ◌+◌, ◌-◌, Bool, true, List, [], ◌∷◌, ◌++◌, All, length, map, min, Option, Some, None, get_or, set, refl, sym, ap, ◌∙◌, subst, append_assoc, append-nil, arith}
+use Rattle.std.proofs.Common.{◌≡◌, ◌<◌, ℕ, zero, suc, ◌+◌, ◌-◌, true, List, [], ◌∷◌, ◌++◌, All, length, map, min, Option, Some, None, get_or, set, refl, sym, ap, ◌∙◌, subst, append_assoc, append-nil, arith}
 use Rattle.std.specs.Prelude.{option_map, slice_get, sum_by}
 use Rattle.std.proofs.lemmas.List.{map-append, length-map}
 use Rattle.std.proofs.lemmas.List.Elements.{All-nil, All-cons, All-head, All-tail, All-append}
 use Rattle.std.proofs.lemmas.List.Sums.{sum_by-cons, sum_by-append}
-use Rattle.std.proofs.lemmas.Option.{none-some, same_Some, slice_get-get_or, slice_get-map}
+use Rattle.std.proofs.lemmas.Option.{none-some, same_Some, slice_get-map}
 use Rattle.audit_model.specs.declared.address.Addr.{Addr}
 use Rattle.audit_model.specs.declared.certificate.CertDrop.{CertDrop}
 use Rattle.audit_model.specs.declared.certificate.CertLane.{CertLane}
@@ -12,13 +12,12 @@ use Rattle.audit_model.specs.declared.event.Event.{Event}
 use Rattle.audit_model.specs.declared.event.Key.{Key}
 use Rattle.audit_model.specs.declared.sighting.SightId.{SightId}
 use Rattle.audit_model.specs.Event.{key_of}
-use Rattle.audit_model.specs.EventCount.{event_count}
 use Rattle.audit_sightings.specs.Intake.{Taken}
 use Rattle.audit_order.specs.declared.entry.Entry.{Entry}
 use Rattle.audit_order.specs.declared.entry.LaneEnd.{LaneEnd}
 use Rattle.audit_order.specs.declared.entry.Pair.{Pair}
 use Rattle.audit_order.specs.declared.growing.Growing.{Growing}
-use Rattle.audit_order.specs.Clean.{IsFine, IsClean, Takes, times_placed, one_if}
+use Rattle.audit_order.specs.Clean.{IsFine, IsClean, Takes, one_if}
 use Rattle.audit_order.specs.Entries.{entry_of, entries_from, lane_entries, lanes_entries, drop_entries, arrival_of}
 use Rattle.audit_order.specs.FirstPlace.{places}
 use Rattle.audit_order.specs.Grown.{empty_lane}
@@ -194,8 +193,13 @@ clean_at : (taken : Taken) (noted : SightId → Option Key) (es : List Entry) (n
 clean_at taken noted es n m drops clean = record {
   fine = All-append (IsFine taken noted) es (drop_entries m drops) (all_left (IsFine taken noted) es (drop_entries n drops) clean.fine)
       (fine_at taken noted n m 0 None (map arrival_of drops) (all_right (IsFine taken noted) es (drop_entries n drops) clean.fine));
-  once = λ s. omega (arith, clean.once s, times_append es (drop_entries n drops) s, times_append es (drop_entries m drops) s,
-      sum_at (λ (event : Event). one_if (places event s)) n m 0 None (map arrival_of drops));
+  once = λ s. omega (
+    arith,
+    clean.once s,
+    times_append es (drop_entries n drops) s,
+    times_append es (drop_entries m drops) s,
+    sum_at (λ (event : Event). one_if (places event s)) n m 0 None (map arrival_of drops),
+  );
   order = clean.order;
 }
 
@@ -243,9 +247,11 @@ sound_taken taken old mid new number end event within at takes count lanes drops
     sound_event taken old new number found.0 event found.1
     (lanes_now ∙ ap (λ ls. with_event number event ls.items) lanes) (drops_now ∙ drops)
     (λ is.
-      let taking = takes (sym clean_now ∙ is) in
-      (taking.0, subst (λ ks. Takes taken (key_at old.keys) (Some (record { client = found.0.client; listen = found.0.listen })) (last_key found.0.events) event (key_at ks)) (sym keys_now)
-          (subst (λ (e : LaneEnd). Takes taken (key_at old.keys) e.pair e.last event (key_at mid.keys)) (at found.0 found.1) taking.1)))
+    let taking = takes (sym clean_now ∙ is) in (
+      taking.0,
+      subst (λ ks. Takes taken (key_at old.keys) (Some (record { client = found.0.client; listen = found.0.listen })) (last_key found.0.events) event (key_at ks)) (sym keys_now)
+          (subst (λ (e : LaneEnd). Takes taken (key_at old.keys) e.pair e.last event (key_at mid.keys)) (at found.0 found.1) taking.1),
+    ))
     (count_now ∙ count) sound
 
 -- the same of a drop
@@ -259,7 +265,9 @@ sound_dropped taken old mid new end dropped at takes count lanes drops lanes_now
     sound_drop taken old new dropped
     (ap (λ ls. ls.items) (lanes_now ∙ lanes)) (drops_now ∙ ap (λ ds. ds ++ dropped ∷ []) drops)
     (λ is.
-      let taking = takes (sym clean_now ∙ is) in
-      (taking.0, subst (λ ks. Takes taken (key_at old.keys) None (option_map (λ (d : CertDrop). d.key) (slice_get old.drops (length old.drops - 1))) (arrival_of dropped) (key_at ks)) (sym keys_now)
-          (subst (λ (e : LaneEnd). Takes taken (key_at old.keys) e.pair e.last (arrival_of dropped) (key_at mid.keys)) at taking.1)))
+    let taking = takes (sym clean_now ∙ is) in (
+      taking.0,
+      subst (λ ks. Takes taken (key_at old.keys) None (option_map (λ (d : CertDrop). d.key) (slice_get old.drops (length old.drops - 1))) (arrival_of dropped) (key_at ks)) (sym keys_now)
+          (subst (λ (e : LaneEnd). Takes taken (key_at old.keys) e.pair e.last (arrival_of dropped) (key_at mid.keys)) at taking.1),
+    ))
     (count_now ∙ count) sound

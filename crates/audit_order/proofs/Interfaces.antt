@@ -1,5 +1,5 @@
 -- What the interfaces show, each by itself.
-use Rattle.std.proofs.Common.{◌≡◌, ◌<◌, ◌+◌, ◌≤◌, ℕ, List, length, Option, ◌⊎◌, inl, inr, arith, subst}
+use Rattle.std.proofs.Common.{◌≡◌, ◌<◌, ◌+◌, ◌≤◌, ℕ, Option, ◌⊎◌, inl, inr, arith, subst}
 use Rattle.std.proofs.lemmas.Bool.{cases_lt}
 use Rattle.audit_model.specs.declared.verdict.Breach.{Breach}
 use Rattle.audit_model.specs.Breach.{lesser}

@@ -1,10 +1,9 @@
 -- What is kept of a certificate that grows in portions, from one portion to the next.
-use Rattle.std.proofs.Common.{◌≡◌, ◌<◌, ◌≤◌, ℕ, zero, suc, ◌+◌, Bool, true, false, List, [], ◌∷◌, ◌++◌, All, length, map, min, Option, Some, None, refl, sym, ap, ◌∙◌, subst, arith}
-use Rattle.std.specs.Prelude.{is_some, sum_by}
-use Rattle.std.proofs.lemmas.Bool.{true≢false}
+use Rattle.std.proofs.Common.{◌≡◌, ◌≤◌, ℕ, ◌+◌, true, List, [], ◌∷◌, length, map, min, Option, Some, None, refl, sym, ap, ◌∙◌, subst, arith}
+use Rattle.std.specs.Prelude.{is_some}
 use Rattle.std.proofs.lemmas.List.{length-map}
 use Rattle.std.proofs.lemmas.List.Elements.{All-nil}
-use Rattle.std.proofs.lemmas.List.Sums.{sum_by-cons, sum_by-append}
+use Rattle.std.proofs.lemmas.List.Sums.{sum_by-cons}
 use Rattle.std.proofs.lemmas.Option.{none-some}
 use Rattle.audit_model.specs.declared.certificate.Certificate.{Certificate}
 use Rattle.audit_model.specs.declared.certificate.CertDrop.{CertDrop}
@@ -21,11 +20,11 @@ use Rattle.audit_order.specs.declared.growing.Growing.{Growing}
 use Rattle.audit_order.specs.declared.places.Places.{Places}
 use Rattle.audit_order.specs.declared.places.Places.TheVariants.{Once, First}
 use Rattle.audit_order.specs.Clean.{IsFine, IsClean, one_if}
-use Rattle.audit_order.specs.Entries.{entry_of, entries_from, lane_entries, lanes_entries, drop_entries, arrival_of, entries}
+use Rattle.audit_order.specs.Entries.{entries_from, lane_entries, lanes_entries, drop_entries, arrival_of, entries}
 use Rattle.audit_order.specs.Growing.{listed, places_one, placing_count, IsSound}
 use Rattle.audit_order.specs.Keys.{key_at}
 use Rattle.audit_order.specs.Kept.{AreOf, Stays}
-use Rattle.audit_order.specs.Places.{has_place, Knows}
+use Rattle.audit_order.specs.Places.{Knows}
 use Rattle.audit_order.proofs.CleanMore.{clean_same}
 use Rattle.audit_order.proofs.CleanSteps.{clean_tells, one_at_most}
 use Rattle.audit_order.proofs.GrowingSteps.{placing_cons, placing_append}

@@ -18,7 +18,7 @@ use Rattle.audit_order.specs.declared.entry.Entry.{Entry}
 use Rattle.audit_order.specs.Checks.{breach_at}
 use Rattle.audit_order.specs.FirstPlace.{first_place}
 use Rattle.audit_order.specs.Neighbours.{order_breach}
-use Rattle.audit_order.specs.Shows.{ShowsInterfaceOrder, ShowsOutOfOrder}
+use Rattle.audit_order.specs.Shows.{ShowsInterfaceOrder}
 use Rattle.audit_order.proofs.LeastOfTwo.{least_both, least_found}
 
 -- where the sighting before that index is placed first

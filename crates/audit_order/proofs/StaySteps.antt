@@ -1,15 +1,14 @@
 -- Clean entries stay clean as the intake grows, and name what it has.
-use Rattle.std.proofs.Common.{◌≡◌, ◌<◌, ◌≤◌, ℕ, zero, suc, ◌+◌, Bool, true, false, cond, List, [], ◌∷◌, ◌++◌, All, length, Option, Some, None, refl, sym, ap, ◌∙◌, subst, arith}
+use Rattle.std.proofs.Common.{◌≡◌, ℕ, zero, suc, ◌+◌, Bool, true, false, cond, List, [], ◌∷◌, ◌++◌, All, Option, Some, None, refl, sym, ap, ◌∙◌}
 use Rattle.std.specs.Prelude.{IsSomeAnd, is_some, not, ◌||◌, slice_get, slice_index_or, option_and_then}
 use Rattle.std.proofs.lemmas.Bool.{true≢false}
 use Rattle.std.proofs.lemmas.List.Elements.{All-nil, All-cons, All-head, All-tail, All-weaker}
-use Rattle.std.proofs.lemmas.Option.{none-some, same_Some}
+use Rattle.std.proofs.lemmas.Option.{none-some}
 use Rattle.audit_model.specs.declared.certificate.Certificate.{Certificate}
 use Rattle.audit_model.specs.declared.certificate.CertLane.{CertLane}
 use Rattle.audit_model.specs.declared.event.Event.{Event}
 use Rattle.audit_model.specs.declared.event.Event.TheVariants.{In, Act, Out}
 use Rattle.audit_model.specs.declared.event.Key.{Key}
-use Rattle.audit_model.specs.declared.policy.Policy.{Policy}
 use Rattle.audit_model.specs.declared.sighting.Side.{Side}
 use Rattle.audit_model.specs.declared.sighting.Side.TheVariants.{Arrives, Leaves}
 use Rattle.audit_model.specs.declared.sighting.SightId.{SightId}

@@ -1,12 +1,12 @@
 -- A table of rows, as it gets more places with the blank.
-use Rattle.std.proofs.Common.{◌≡◌, ◌<◌, ℕ, zero, suc, Bool, true, false, cond, eqb, List, [], ◌∷◌, ◌++◌, length, Option, Some, None, get_or, refl, sym, ap, ◌∙◌, ◌+◌, append_assoc}
+use Rattle.std.proofs.Common.{◌≡◌, ◌<◌, ℕ, zero, suc, Bool, true, false, cond, eqb, List, [], ◌∷◌, ◌++◌, length, Option, Some, get_or, refl, sym, ap, ◌∙◌, ◌+◌, append_assoc}
 use Rattle.std.specs.Prelude.{slice_get, slice_set, option_and_then, replicate}
 use Rattle.std.specs.Global.{Vec}
 use Rattle.std.proofs.lemmas.Bool.{eqb-true}
 use Rattle.std.proofs.lemmas.List.{replicate_more}
 use Rattle.std.proofs.lemmas.Option.{slice_get-get_or}
 use Rattle.audit_model.specs.declared.sighting.SightId.{SightId}
-use Rattle.audit_order.specs.Table.{or_blank, table_at, table_or}
+use Rattle.audit_order.specs.Table.{or_blank, table_or}
 use Rattle.audit_order.proofs.Tables.{get_set}
 
 module _ {X : Type 0} (blank : X) where

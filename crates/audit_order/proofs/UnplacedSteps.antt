@@ -15,7 +15,7 @@ use Rattle.audit_sightings.specs.Intake.{Taken, interface_at}
 use Rattle.audit_order.specs.declared.entry.Entry.{Entry}
 use Rattle.audit_order.specs.FirstPlace.{first_place}
 use Rattle.audit_order.specs.Neighbours.{unplaced_breach}
-use Rattle.audit_order.specs.Shows.{ShowsUnplaced, ShowsNowhere}
+use Rattle.audit_order.specs.Shows.{ShowsUnplaced}
 use Rattle.audit_order.proofs.LeastOfTwo.{least_both, least_found}
 
 module _ (entries : List Entry) (lanes drops : ℕ) (row : List Sighting) (new : Sighting) where

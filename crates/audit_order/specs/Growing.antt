@@ -1,5 +1,5 @@
 -- A certificate while it grows, and what is kept of it.
-use Rattle.std.specs.Prelude.{◌≡◌, ℕ, zero, suc, ◌+◌, ◌-◌, Bool, true, false, List, [], ◌∷◌, ◌++◌, Option, length, min, sum_by, option_map, slice_get}
+use Rattle.std.specs.Prelude.{◌≡◌, ℕ, zero, suc, ◌-◌, Bool, true, false, List, [], ◌∷◌, ◌++◌, Option, length, min, sum_by, option_map, slice_get}
 use Rattle.audit_model.specs.declared.certificate.CertLane.{CertLane}
 use Rattle.audit_model.specs.declared.certificate.CertDrop.{CertDrop}
 use Rattle.audit_model.specs.declared.event.Event.{Event}

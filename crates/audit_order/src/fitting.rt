@@ -25,11 +25,7 @@ fn is_known(pairs: &LanePairs, seen: &LanePairs, client: Addr, listen: Addr) -> 
 }
 
 /// Whether the pairs are new, and each another.
-pub fn are_apart(
-    alloc: Global,
-    pairs: &LanePairs,
-    new: &[(Addr, Addr)],
-) -> Result<bool, AllocError>
+pub fn are_apart(alloc: Global, pairs: &LanePairs, new: &[(Addr, Addr)]) -> Result<bool, AllocError>
     ensures { (lanes : List Lane) → AreOfLanes pairs.now lanes → IsDistinct same_lane lanes →
         IfOk result (λ apart. IsTrue apart ↔ IsDistinct same_lane (lanes ++ map empty_lane new.now)) }
 {

@@ -119,12 +119,7 @@ impl Growing {
     }
 
     /// Adds an event behind the others of its lane, and notes what it places.
-    fn add_event(
-        &mut self,
-        intake: &Intake,
-        number: u32,
-        event: Event,
-    ) -> Result<(), AllocError>
+    fn add_event(&mut self, intake: &Intake, number: u32, event: Event) -> Result<(), AllocError>
         requires { number < length self.old.lanes.items }
         ensures lanes { OnOk result (self.new.lanes.items ≡ with_event number event self.old.lanes.items) }
         ensures drops { OnOk result (self.new.drops ≡ self.old.drops) }

@@ -14,10 +14,10 @@ mod portions;
 mod single;
 mod table;
 mod taking;
-mod unplaced;
-mod whole;
 #[cfg(test)]
 mod tests;
+mod unplaced;
+mod whole;
 
 pub use laws::by_lane_and_place;
 pub use portions::Placing;

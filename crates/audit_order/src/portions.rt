@@ -23,9 +23,7 @@ use crate::keys::PlacedKeys;
 use crate::places::Places;
 use crate::unplaced::unplaced_breach;
 use crate::whole::placed_breach;
-use audit_model::{
-    Breach, Certificate, Extension, LanePairs, Listed, MAX_EVENTS, MAX_LANES,
-};
+use audit_model::{Breach, Certificate, Extension, LanePairs, Listed, MAX_EVENTS, MAX_LANES};
 use audit_sightings::Intake;
 use std::alloc::{AllocError, Global};
 use std::mem::replace;
@@ -105,7 +103,13 @@ fn settle(alloc: Global, intake: &Intake, growing: Growing) -> Result<Settled, A
     ensures least { IsSound (taken intake.now) growing → IfOk result (λ settled. IsLeast (ShowsPlaced (taken intake.now) settled.certificate) settled.breach) }
     ensures named { IsSound (taken intake.now) growing → IfOk result (λ settled. IfNone settled.breach (AllNamed (taken intake.now) settled.certificate)) }
 {
-    let Growing { lanes, drops, keys, clean, .. } = growing;
+    let Growing {
+        lanes,
+        drops,
+        keys,
+        clean,
+        ..
+    } = growing;
     let certificate = Certificate {
         lanes: Listed::from(lanes),
         drops,
@@ -133,13 +137,6 @@ impl Placing {
             count: 0,
             alloc,
         }
-    }
-
-    /// What was added so far.
-    pub fn certificate(&self) -> &Certificate
-        ensures { result.now ≡ self.now.certificate }
-    {
-        &self.certificate
     }
 
     /// How many arrivals and departures were added, drops among them: where no breach is shown, how many sightings are placed.
@@ -207,7 +204,10 @@ impl Placing {
         let settled = settle(self.alloc, intake, growing)?;
         self.certificate = settled.certificate;
         self.places = settled.places;
-        self.events = self.events.saturating_add(extension.events.len()).saturating_add(extension.drops.len());
+        self.events = self
+            .events
+            .saturating_add(extension.events.len())
+            .saturating_add(extension.drops.len());
         match settled.breach {
             Some(breach) => Ok(Err(breach)),
             None => Ok(Ok(())),

@@ -3,7 +3,6 @@ use Rattle.audit_model.specs.declared.sighting.Sighting.{Sighting}
 use Rattle.audit_model.specs.declared.verdict.Breach.{Breach}
 use Rattle.audit_model.specs.Least.{IsLeast}
 use Rattle.audit_sightings.specs.Intake.{taken, interface_at}
-use Rattle.audit_order.specs.declared.entry.Entry.{Entry}
 use Rattle.audit_order.specs.Shows.{ShowsInterfaceOrder}
 use Rattle.audit_order.proofs.Interfaces.{Below, least_interface, least_of_all}
 use Rattle.audit_order.proofs.NeighbourSteps.{none_past}

@@ -1,6 +1,5 @@
-use Rattle.std.proofs.Common.{sym, subst, List, []}
+use Rattle.std.proofs.Common.{sym, subst, []}
 use Rattle.std.specs.List.{IsDistinct}
-use Rattle.audit_model.specs.declared.certificate.CertLane.{CertLane}
 use Rattle.audit_model.specs.Lanes.{same_lane}
 use Rattle.audit_order.proofs.portions.no_certificate.Goals as goal
 

@@ -1,4 +1,4 @@
-use Rattle.std.proofs.Common.{◌+◌, ◌++◌, [], ◌∷◌, ◌∙◌, ap}
+use Rattle.std.proofs.Common.{◌+◌, ◌∙◌}
 use Rattle.audit_order.proofs.TableGrowth.{one_blank}
 use Rattle.audit_order.proofs.table.fill.Goals as goal
 

@@ -1,4 +1,4 @@
-use Rattle.std.proofs.Common.{length, ◌≤◌, ◌<◌, ◌∙◌, arith, sym, length-set}
+use Rattle.std.proofs.Common.{◌∙◌, arith, length-set}
 use Rattle.audit_order.proofs.TableGrowth.{longer_row}
 use Rattle.audit_order.proofs.table.grow_rows.Goals as goal
 

@@ -1,4 +1,4 @@
-use Rattle.std.proofs.Common.{List, length, take}
+use Rattle.std.proofs.Common.{List, take}
 use Rattle.audit_model.specs.Least.{IsLeast}
 use Rattle.audit_order.specs.declared.entry.Entry.{Entry}
 use Rattle.audit_order.specs.Places.{Knows}

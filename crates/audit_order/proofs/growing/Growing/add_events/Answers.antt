@@ -1,6 +1,5 @@
-use Rattle.std.proofs.Common.{◌≡◌, ◌<◌, ◌∙◌, ap, arith, refl, sym, length, take, get_or}
+use Rattle.std.proofs.Common.{◌≡◌, ◌∙◌, ap, arith, refl, sym, length, take}
 use Rattle.audit_model.specs.EventCount.{event_count}
-use Rattle.audit_order.specs.Grown.{with_events}
 use Rattle.audit_order.proofs.PortionSteps.{with_none, with_length, events_more, count_with}
 use Rattle.audit_order.proofs.growing.Growing.add_events.Goals as goal
 

@@ -1,4 +1,4 @@
-use Rattle.std.proofs.Common.{◌≡◌, ap, refl, ◌∙◌, ◌++◌, ◌+◌, sym, map, length, arith}
+use Rattle.std.proofs.Common.{◌≡◌, ap, refl, ◌∙◌, ◌++◌, map, length, arith}
 use Rattle.audit_model.specs.EventCount.{event_count}
 use Rattle.audit_sightings.specs.Intake.{taken}
 use Rattle.audit_order.specs.Grown.{empty_lane}

@@ -1,4 +1,4 @@
-use Rattle.std.proofs.Common.{◌≡◌, List, set, ap, ◌∙◌}
+use Rattle.std.proofs.Common.{List, set, ap, ◌∙◌}
 use Rattle.audit_model.specs.declared.certificate.CertLane.{CertLane}
 use Rattle.audit_model.specs.declared.event.Event.{Event}
 use Rattle.audit_order.proofs.GrowingSteps.{set_event}

@@ -1,9 +1,9 @@
-use Rattle.std.proofs.Common.{◌≡◌, true, false, sym, ap, ◌∙◌, subst, ◌++◌, map}
+use Rattle.std.proofs.Common.{sym, ◌∙◌, subst, ◌++◌, map}
 use Rattle.std.specs.Prelude.{IfOk, IsTrue, ◌↔◌}
 use Rattle.std.specs.List.{IsDistinct}
 use Rattle.std.proofs.lemmas.Bool.{true≢false}
 use Rattle.audit_model.specs.Lanes.{same_lane}
-use Rattle.audit_order.specs.Grown.{Fits, HasRoom, empty_lane}
+use Rattle.audit_order.specs.Grown.{empty_lane}
 use Rattle.audit_order.proofs.FittingSteps.{fits_ok}
 use Rattle.audit_order.proofs.portions.Placing.fits.Goals as goal
 

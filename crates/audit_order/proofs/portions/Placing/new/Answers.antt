@@ -1,4 +1,4 @@
-use Rattle.std.proofs.Common.{◌≡◌, ◌+◌, List, [], length, ap, sym, ◌∙◌, arith}
+use Rattle.std.proofs.Common.{◌≡◌, length, ap, sym, ◌∙◌, arith}
 use Rattle.audit_model.specs.EventCount.{event_count}
 use Rattle.audit_model.specs.Lanes.{has_pair}
 use Rattle.audit_order.proofs.KeptSteps.{nothing_kept, none_counted}
