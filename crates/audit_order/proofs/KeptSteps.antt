@@ -1,5 +1,5 @@
 -- What is kept of a certificate that grows in portions, from one portion to the next.
-use Rattle.std.proofs.Common.{◌≡◌, ◌≤◌, ℕ, ◌+◌, true, List, [], ◌∷◌, length, map, min, Option, Some, None, refl, sym, ap, ◌∙◌, subst, arith}
+use Rattle.std.proofs.Common.{◌≡◌, ◌≤◌, ℕ, ◌+◌, true, List, [], ◌∷◌, length, map, min, Option, Some, None, refl, sym, ap, ◌∙◌, subst, arith, append-nil}
 use Rattle.std.specs.Prelude.{is_some}
 use Rattle.std.proofs.lemmas.List.{length-map}
 use Rattle.std.proofs.lemmas.List.Elements.{All-nil}
@@ -14,16 +14,18 @@ use Rattle.audit_model.specs.declared.sighting.SightId.{SightId}
 use Rattle.audit_model.specs.Event.{key_of}
 use Rattle.audit_model.specs.EventCount.{event_count}
 use Rattle.audit_sightings.specs.Intake.{Taken}
+use Rattle.audit_sightings.specs.Rows.{row_at}
 use Rattle.audit_order.specs.declared.entry.Entry.{Entry}
 use Rattle.audit_order.specs.declared.entry.Pair.{Pair}
 use Rattle.audit_order.specs.declared.growing.Growing.{Growing}
 use Rattle.audit_order.specs.declared.places.Places.{Places}
+use Rattle.audit_order.specs.declared.portions.Placing.{Placing}
 use Rattle.audit_order.specs.declared.places.Places.TheVariants.{Once, First}
 use Rattle.audit_order.specs.Clean.{IsFine, IsClean, one_if}
 use Rattle.audit_order.specs.Entries.{entries_from, lane_entries, lanes_entries, drop_entries, arrival_of, entries}
 use Rattle.audit_order.specs.Growing.{listed, places_one, placing_count, IsSound}
 use Rattle.audit_order.specs.Keys.{key_at}
-use Rattle.audit_order.specs.Kept.{AreOf, Stays}
+use Rattle.audit_order.specs.Kept.{AreOf, Keeps, Stays}
 use Rattle.audit_order.specs.Places.{Knows}
 use Rattle.audit_order.proofs.CleanMore.{clean_same}
 use Rattle.audit_order.proofs.CleanSteps.{clean_tells, one_at_most}
@@ -125,3 +127,20 @@ pub clean_settled : (taken : Taken) (growing : Growing) (lanes : List CertLane) 
     → growing.clean ≡ true → IsClean taken (key_at growing.keys) (listed lanes drops)
 clean_settled taken growing lanes drops of_lanes of_drops sound is =
     subst (IsClean taken (key_at growing.keys)) (sym (same_listed growing lanes drops of_lanes of_drops)) (sound.clean is)
+
+-- what is kept of an intake is kept of it as it grows
+pub kept_still : (before now : Taken) (placing : Placing) → Stays before now → Keeps before placing → Keeps now placing
+kept_still before now placing stays kept = record {
+  places = still placing.places kept.places;
+  count = kept.count;
+  events = kept.events;
+  pairs = kept.pairs;
+}
+  where
+    still : (places : Places) → AreOf before placing.certificate places → AreOf now placing.certificate places
+    still (Once keys) are = clean_still before now stays (key_at keys) (entries placing.certificate) are
+    still (First first) are = are
+
+-- an intake that didn't grow
+pub stays_same : (taken : Taken) → Stays taken taken
+stays_same taken = record { policy = refl; rows = λ iface. ([], sym (append-nil (row_at taken.interfaces iface))) }
