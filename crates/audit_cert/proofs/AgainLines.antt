@@ -12,13 +12,14 @@ use Rattle.audit_model.specs.declared.certificate.CertLane.{CertLane}
 use Rattle.audit_model.specs.declared.certificate.CertDrop.{CertDrop}
 use Rattle.audit_model.specs.Token.{◌>>=◌, halves_of, both_of}
 use Rattle.audit_model.specs.Addr.{addr_of, addr_text}
+use Rattle.audit_model.specs.Lanes.{has_pair}
 use Rattle.audit_cert.specs.declared.draft.Line.TheVariants as step
 use Rattle.audit_cert.specs.declared.fault.CertFaultKind.{CertFaultKind}
 use Rattle.audit_cert.specs.declared.fault.CertFaultKind.TheVariants.{Line, LaneDouble, Limit}
 use Rattle.audit_cert.specs.CertFault.{of_word}
 use Rattle.audit_cert.specs.DraftView.{Drafted}
 use Rattle.audit_cert.specs.EventLine.{sight_id_of, placed_of, act_of, event_of}
-use Rattle.audit_cert.specs.CertLines.{has_pair, with_event, said_count, after_lane, after_event, after_drop, after_line}
+use Rattle.audit_cert.specs.CertLines.{with_event, said_count, after_lane, after_event, after_drop, after_line}
 use Rattle.audit_cert.specs.CertText.{line_of, next_of}
 use Rattle.audit_cert.specs.Spelling.{sight_text, event_line, lane_line, drop_line}
 use Rattle.audit_cert.specs.Fits.{AddrFits, SightFits, KeyFits, EventFits, DropFits}

@@ -9,8 +9,8 @@ use Rattle.audit_model.specs.declared.certificate.CertLane.{CertLane}
 use Rattle.audit_model.specs.declared.certificate.CertDrop.{CertDrop}
 use Rattle.audit_model.specs.EventCount.{event_count}
 use Rattle.audit_cert.specs.DraftView.{Drafted, nothing_said}
-use Rattle.audit_model.specs.Lanes.{same_lane}
-use Rattle.audit_cert.specs.CertLines.{has_pair, with_event, said_count}
+use Rattle.audit_model.specs.Lanes.{same_lane, has_pair}
+use Rattle.audit_cert.specs.CertLines.{with_event, said_count}
 use Rattle.audit_cert.specs.CertText.{cert_of}
 use Rattle.audit_cert.specs.Spelling.{event_line, lane_line, lane_lines, drop_line, spelling}
 use Rattle.audit_cert.specs.Fits.{EventFits, LaneFits, DropFits, IsCertificate}

@@ -1,19 +1,17 @@
 -- The lanes with one event more in the last of them.
 use Rattle.std.proofs.Common.{◌≡◌, ℕ, zero, suc, ◌+◌, ◌<◌, Bool, false, ◌||◌, List, [], ◌∷◌, ◌++◌, length, get_or, Result, Ok, Err, refl, subst, sym, ap, ◌∙◌, arith}
 use Rattle.std.specs.Prelude.{OnOk, OnErr}
-use Rattle.std.specs.Cmp.{IsEquivalence}
 use Rattle.std.specs.List.{IsDistinct, AllByRecursion}
 use Rattle.std.proofs.Math.ListN.{set}
-use Rattle.std.proofs.lemmas.Cmp.{nat_eq_equiv, on_equiv, and_equiv}
-use Rattle.std.proofs.lemmas.Map.Keys.{IsDistinct-push}
 use Rattle.std.proofs.lemmas.List.{set-get_or, length-append}
 use Rattle.std.proofs.lemmas.List.Sums.{sum_by-cons}
 use Rattle.audit_model.specs.declared.address.Addr.{Addr}
 use Rattle.audit_model.specs.declared.event.Event.{Event}
 use Rattle.audit_model.specs.declared.certificate.CertLane.{CertLane}
 use Rattle.audit_model.specs.EventCount.{event_count}
-use Rattle.audit_model.specs.Lanes.{same_addr, same_pair, same_lane}
-use Rattle.audit_cert.specs.CertLines.{with_event, has_pair}
+use Rattle.audit_model.proofs.Apart.{same_lane_equiv}
+use Rattle.audit_model.specs.Lanes.{same_pair, same_lane, has_pair}
+use Rattle.audit_cert.specs.CertLines.{with_event}
 
 abbrev pub longer : Event → CertLane → CertLane
 longer event lane = record lane { events = lane.events ++ event ∷ [] }
@@ -57,21 +55,12 @@ count_with_event event (x ∷ y ∷ more) some =
 
 -- ---- no two lanes have one pair
 
-same_addr_equiv : IsEquivalence same_addr
-same_addr_equiv = and_equiv (on_equiv (λ (a : Addr). a.ip) nat_eq_equiv) (on_equiv (λ (a : Addr). a.port) nat_eq_equiv)
-
-same_lane_equiv : IsEquivalence same_lane
-same_lane_equiv = and_equiv (on_equiv (λ (l : CertLane). l.client) same_addr_equiv) (on_equiv (λ (l : CertLane). l.listen) same_addr_equiv)
-
 pub same_lane_symm : (a b : CertLane) → same_lane a b ≡ same_lane b a
 same_lane_symm a b = same_lane_equiv.symm a b
 
 pub none_apart : (lanes : List CertLane) → lanes ≡ [] → IsDistinct same_lane lanes
 unfolding IsDistinct
 none_apart lanes e = subst (IsDistinct same_lane) (sym e) tt
-
-pub apart_push : (lanes : List CertLane) (lane : CertLane) → IsDistinct same_lane lanes → has_pair lane.client lane.listen lanes ≡ false → IsDistinct same_lane (lanes ++ lane ∷ [])
-apart_push lanes lane apart new = IsDistinct-push same_lane_equiv lanes lane apart new
 
 apart_from : (event : Event) (lane : CertLane) (lanes : List CertLane) → AllByRecursion (λ other. same_lane lane other ≡ false) lanes → AllByRecursion (λ other. same_lane lane other ≡ false) (with_event event lanes)
 apart_from event lane [] apart = tt

@@ -16,14 +16,15 @@ use Rattle.audit_model.specs.declared.certificate.CertLane.{CertLane}
 use Rattle.audit_model.specs.declared.certificate.CertDrop.{CertDrop}
 use Rattle.audit_model.specs.Token.{◌>>=◌, halves_of, both_of}
 use Rattle.audit_model.specs.Addr.{addr_text}
+use Rattle.audit_model.proofs.Apart.{apart_push}
 use Rattle.audit_cert.specs.DraftView.{Drafted}
 use Rattle.audit_cert.specs.EventLine.{sight_id_of, placed_of, act_of, event_of}
-use Rattle.audit_model.specs.Lanes.{same_lane}
-use Rattle.audit_cert.specs.CertLines.{has_pair, with_event}
+use Rattle.audit_model.specs.Lanes.{same_lane, has_pair}
+use Rattle.audit_cert.specs.CertLines.{with_event}
 use Rattle.audit_cert.specs.Spelling.{sight_text, event_line, lane_line, lane_lines, drop_line}
 use Rattle.audit_cert.proofs.Steps.{bind_ok, both_ok, guard_true, chosen, ok_is}
 use Rattle.audit_cert.proofs.Words.{joins, sight_found, placed_word, placed_found}
-use Rattle.audit_cert.proofs.Drafts.{apart_push, apart_with_event}
+use Rattle.audit_cert.proofs.Drafts.{apart_with_event}
 
 -- ---- events, without the line's end
 

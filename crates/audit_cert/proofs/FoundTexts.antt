@@ -18,8 +18,8 @@ use Rattle.audit_cert.specs.declared.fault.CertFaultKind.TheVariants.{Heading, L
 use Rattle.audit_cert.specs.CertFault.{of_word}
 use Rattle.audit_cert.specs.DraftView.{Drafted, nothing_said}
 use Rattle.audit_cert.specs.EventLine.{placed_of, event_of}
-use Rattle.audit_model.specs.Lanes.{same_lane}
-use Rattle.audit_cert.specs.CertLines.{has_pair, with_event, said_count, after_lane, after_event, after_drop, after_line}
+use Rattle.audit_model.specs.Lanes.{same_lane, has_pair}
+use Rattle.audit_cert.specs.CertLines.{with_event, said_count, after_lane, after_event, after_drop, after_line}
 use Rattle.audit_cert.specs.CertText.{fault_at, at_line, ended, read_lines, read_heading, cert_of}
 use Rattle.audit_cert.specs.Spelling.{lane_lines, drop_line, spelling}
 use Rattle.audit_cert.proofs.Steps.{bind_ok, both_ok, word_ok, guard_false, guard_true, chosen, ok_is}

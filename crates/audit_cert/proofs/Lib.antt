@@ -1,4 +1,3 @@
-pub mod PairSets
 pub mod Drafts
 pub mod Texts
 pub mod Writings

@@ -1,12 +1,10 @@
 -- What one line of a certificate says (after the heading): a word, a space and more words.
-use Rattle.std.specs.Prelude.{ℕ, ◌+◌, Bool, ◌&&◌, ◌==◌, if◌then◌else◌, List, [], ◌∷◌, ◌++◌, length, nat_lt, nat_le, Result, Ok, Err, codes}
+use Rattle.std.specs.Prelude.{ℕ, ◌+◌, ◌&&◌, ◌==◌, if◌then◌else◌, List, [], ◌∷◌, ◌++◌, length, nat_lt, nat_le, Result, Ok, Err, codes}
 use Rattle.std.specs.Str.{bytes_eq}
-use Rattle.std.specs.List.{list_any}
 use Rattle.audit_model.specs.Token.{◌>>=◌, halves_of, both_of}
 use Rattle.audit_model.specs.Addr.{addr_of}
 use Rattle.audit_model.specs.EventCount.{event_count}
-use Rattle.audit_model.specs.Lanes.{same_pair}
-use Rattle.audit_model.specs.declared.address.Addr.{Addr}
+use Rattle.audit_model.specs.Lanes.{has_pair}
 use Rattle.audit_model.specs.declared.event.Event.{Event}
 use Rattle.audit_model.specs.declared.certificate.CertLane.{CertLane}
 use Rattle.audit_cert.specs.declared.fault.CertFaultKind.{CertFaultKind}
@@ -14,10 +12,6 @@ use Rattle.audit_cert.specs.declared.fault.CertFaultKind.TheVariants.{Line, Lane
 use Rattle.audit_cert.specs.CertFault.{of_word}
 use Rattle.audit_cert.specs.DraftView.{Drafted}
 use Rattle.audit_cert.specs.EventLine.{placed_of, event_of}
-
--- whether a lane has this client at this listen address
-abbrev pub has_pair : Addr → Addr → List CertLane → Bool
-has_pair client listen lanes = list_any (λ lane. same_pair client listen lane.client lane.listen) lanes
 
 -- the lanes with one event more in the last of them
 abbrev pub with_event : Event → List CertLane → List CertLane

@@ -2,11 +2,10 @@
 use Rattle.std.specs.Prelude.{◌≡◌, ◌≤◌, ◌+◌, length}
 use Rattle.std.specs.List.{IsDistinct}
 use Rattle.audit_model.specs.EventCount.{event_count}
-use Rattle.audit_model.specs.Lanes.{same_lane}
+use Rattle.audit_model.specs.Lanes.{same_lane, has_pair}
 use Rattle.audit_model.specs.declared.certificate.TheConstants.{MAX_LANES, MAX_EVENTS}
 use Rattle.audit_model.specs.declared.address.Addr.{Addr}
-use Rattle.audit_cert.specs.Pairs.{has}
-use Rattle.audit_cert.specs.CertLines.{has_pair}
+use Rattle.audit_model.specs.LanePairs.{has}
 use Rattle.audit_cert.specs.DraftView.{Drafted}
 use Rattle.audit_cert.specs.declared.draft.Draft.TheInside.{Inside}
 

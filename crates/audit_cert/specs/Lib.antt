@@ -1,4 +1,3 @@
-pub mod Pairs
 pub mod CertFault
 pub mod EventLine
 pub mod DraftView

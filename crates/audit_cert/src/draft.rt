@@ -2,14 +2,14 @@
 
 ghost use Rattle.std.specs.Prelude.{◌≡◌, ◌<◌, false, [], ◌∷◌, ◌++◌, length, vec_len, vec_capacity, OnOk, OnErr};
 ghost use Rattle.std.specs.List.{IsDistinct};
-ghost use Rattle.audit_model.specs.Lanes.{same_lane};
-ghost use Rattle.audit_cert.specs.CertLines.{has_pair, with_event};
+ghost use Rattle.audit_model.specs.Lanes.{same_lane, has_pair};
+ghost use Rattle.audit_cert.specs.CertLines.{with_event};
 
 use crate::event_line::{read_event, read_placed};
 use crate::fault::CertFaultKind;
-use crate::pairs::Pairs;
 use audit_model::{
-    Addr, CertDrop, CertLane, Certificate, Event, Listed, MAX_EVENTS, MAX_LANES, both, halves,
+    Addr, CertDrop, CertLane, Certificate, Event, LanePairs, Listed, MAX_EVENTS, MAX_LANES, both,
+    halves,
 };
 use std::alloc::{AllocFailed, Global};
 use std::marker::Model;
@@ -21,7 +21,7 @@ pub struct Draft {
     lanes: Vec<CertLane>,
     drops: Listed<CertDrop>,
     /// The client and the listen address of each lane.
-    pairs: Pairs,
+    pairs: LanePairs,
     /// How many events and drops there are.
     events: usize,
 }
@@ -56,7 +56,7 @@ fn push_last(lanes: &mut Vec<CertLane>, event: Event) -> Result<(), AllocFailed<
 }
 
 /// Adds a lane of another client or another listen address than those before it.
-#[tactic(auto, using(crate::proofs::Drafts::apart_push))]
+#[tactic(auto, using(audit_model::proofs::Apart::apart_push))]
 fn push_lane(lanes: &mut Vec<CertLane>, lane: CertLane)
     requires room { vec_len lanes.old < vec_capacity lanes.old }
     requires other { has_pair lane.client lane.listen lanes.old.items ≡ false }
@@ -82,7 +82,7 @@ impl Draft {
             alloc,
             lanes: Vec::new(alloc),
             drops: Listed::new(alloc),
-            pairs: Pairs::new(alloc),
+            pairs: LanePairs::new(alloc),
             events: 0,
         }
     }

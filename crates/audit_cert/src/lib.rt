@@ -4,7 +4,6 @@
 mod draft;
 mod event_line;
 mod fault;
-mod pairs;
 mod reading;
 mod spelling;
 mod writing;

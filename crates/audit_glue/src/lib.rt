@@ -3,6 +3,8 @@
 
 mod lanes;
 pub mod rows;
+#[cfg(test)]
+mod tests;
 mod verdict;
 
 pub use lanes::job;

@@ -5,3 +5,5 @@ pub mod Sinks
 pub mod PolicyTexts
 pub mod Orders
 pub mod LeastBreach
+pub mod PairSets
+pub mod Apart

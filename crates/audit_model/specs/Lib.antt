@@ -5,6 +5,7 @@ pub mod Window
 pub mod Event
 pub mod EventCount
 pub mod Lanes
+pub mod LanePairs
 pub mod Rule
 pub mod Breach
 pub mod Sink

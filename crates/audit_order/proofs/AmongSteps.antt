@@ -15,7 +15,8 @@ use Rattle.audit_order.specs.declared.entry.Entry.{Entry}
 use Rattle.audit_order.specs.Among.{ComesBefore, IsPlacedBefore, ShowsAmong, IsFirst}
 use Rattle.audit_order.specs.Checks.{IsOneOf, event_checks}
 use Rattle.audit_order.specs.Entries.{entries}
-use Rattle.audit_order.specs.FirstPlace.{same_sight, places, first_place, is_placed}
+use Rattle.audit_order.specs.FirstPlace.{places, first_place, is_placed}
+use Rattle.audit_order.specs.Table.{same_sight}
 use Rattle.audit_order.specs.Shows.{ShowsFrom}
 use Rattle.audit_order.proofs.FirstPush.{same_is}
 use Rattle.audit_order.proofs.InOrder.{AreInOrder, in_front, behind, contains_none, front_or_behind, order_right, order_across, not_before_itself, not_both_ways, entries_in_order}
@@ -101,7 +102,7 @@ placed_in : (sight : SightId) (es : List Entry) (other : Entry) → Contains es 
 placed_in sight [] other there placed = absurd (contains_none other there)
 placed_in sight (e ∷ es) other there placed = placed_by sight e es other there placed (λ later. placed_in sight es other later placed) (places e.event sight) refl
 
-same_itself : (sight : SightId) → same_sight sight sight ≡ true
+pub same_itself : (sight : SightId) → same_sight sight sight ≡ true
 same_itself sight = rw (eq-eqb sight.iface sight.iface refl, eq-eqb sight.index sight.index refl) refl
 
 -- some of them places what the event places

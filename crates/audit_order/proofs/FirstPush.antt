@@ -10,7 +10,8 @@ use Rattle.audit_model.specs.declared.sighting.SightId.{SightId}
 use Rattle.audit_model.specs.declared.event.Key.{Key}
 use Rattle.audit_order.specs.declared.entry.Entry.{Entry}
 use Rattle.audit_order.specs.declared.first.FirstPlaces.{FirstPlaces}
-use Rattle.audit_order.specs.FirstPlace.{same_sight, places, first_place, noted, Notes}
+use Rattle.audit_order.specs.FirstPlace.{places, first_place, noted, Notes}
+use Rattle.audit_order.specs.Table.{same_sight}
 
 -- the old place where there is one
 abbrev pub or_new : Option At → Option At → Option At

@@ -9,7 +9,7 @@ use Rattle.std.proofs.lemmas.Grind.{get_or-set_at}
 use Rattle.std.proofs.lemmas.List.{get_or-set_other, get_or_default}
 use Rattle.std.proofs.lemmas.Option.{slice_get-get_or, slice_get_past}
 
-get_set : {X : Type 0} (xs : List X) (i j : ℕ) (y : X) → i < length xs → slice_get (slice_set xs i y) j ≡ cond (eqb i j) (Some y) (slice_get xs j)
+pub get_set : {X : Type 0} (xs : List X) (i j : ℕ) (y : X) → i < length xs → slice_get (slice_set xs i y) j ≡ cond (eqb i j) (Some y) (slice_get xs j)
 get_set xs i j y within = elim (eqb_tells i j) [
   | inl is ↦
       let inside : j < length (slice_set xs i y) = omega (arith, within, is.1, length-set xs i y) in

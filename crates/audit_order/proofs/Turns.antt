@@ -60,7 +60,7 @@ last_push : (last : Option Key) (events : List Event) (event : Event) → last_o
 last_push last [] event = refl
 last_push last (e ∷ events) event = last_push (Some (key_of e)) events event
 
-entries_push : (pair : Option Pair) (lane place : ℕ) (last : Option Key) (events : List Event) (event : Event)
+pub entries_push : (pair : Option Pair) (lane place : ℕ) (last : Option Key) (events : List Event) (event : Event)
     → entries_from pair lane place last (events ++ event ∷ [])
     ≡ entries_from pair lane place last events ++ entry_of pair lane (place + length events) (last_of last events) event ∷ []
 entries_push pair lane place last [] event =
@@ -120,7 +120,7 @@ turn_more taken certificate old mid new pair lane events more least found least'
     (sym same)
     (λ shown notes. one_more taken certificate old mid new pair lane events least found last event place turn at shown notes))
 
-lanes_push : (number : ℕ) (lanes : List CertLane) (lane : CertLane)
+pub lanes_push : (number : ℕ) (lanes : List CertLane) (lane : CertLane)
     → lanes_entries number (lanes ++ lane ∷ []) ≡ lanes_entries number lanes ++ lane_entries (number + length lanes) lane
 lanes_push number [] lane =
     let e : number + 0 ≡ number = omega arith in rw e (append-nil (lane_entries number lane))

@@ -1,7 +1,6 @@
 -- Where a sighting is placed first, by lane and place.
-use Rattle.std.specs.Prelude.{◌≡◌, Bool, false, ◌&&◌, ◌==◌, List, [], ◌∷◌, Option, Some, None, is_some, slice_get, option_and_then, if◌then◌else◌}
+use Rattle.std.specs.Prelude.{◌≡◌, Bool, false, List, [], ◌∷◌, Option, Some, None, is_some, if◌then◌else◌}
 use Rattle.std.specs.BTreeMap.{get}
-use Rattle.std.specs.Global.{Vec}
 use Rattle.audit_model.specs.declared.certificate.Certificate.{Certificate}
 use Rattle.audit_model.specs.declared.event.At.{At}
 use Rattle.audit_model.specs.declared.event.Event.{Event}
@@ -13,9 +12,7 @@ use Rattle.audit_order.specs.declared.entry.Entry.{Entry}
 use Rattle.audit_order.specs.declared.entry.Spot.{Spot}
 use Rattle.audit_order.specs.declared.entry.Spot.TheVariants.{Nowhere}
 use Rattle.audit_order.specs.Entries.{at_of}
-
-abbrev pub same_sight : SightId → SightId → Bool
-same_sight a b = (a.iface == b.iface) && (a.index == b.index)
+use Rattle.audit_order.specs.Table.{same_sight, table_at}
 
 -- an arrival or a departure of the sighting; an act places nothing
 abbrev pub places : Event → SightId → Bool
@@ -33,10 +30,6 @@ is_placed entries (In sight key) = is_some (first_place entries sight)
 is_placed entries (Act arrival departure key) = false
 is_placed entries (Out sight key) = is_some (first_place entries sight)
 
--- what a table has at the place of that name
-abbrev pub table_at : List (Vec Spot) → SightId → Option Spot
-table_at rows sight = option_and_then (λ row. slice_get row.items sight.index) (slice_get rows sight.iface)
-
 -- the first of the two that is there
 abbrev pub either : Option Spot → Option Spot → Spot
 either (Some spot) stranger = spot
@@ -44,7 +37,7 @@ either None (Some stranger) = stranger
 either None None = Nowhere
 
 abbrev pub spot_of : FirstPlaces → SightId → Spot
-spot_of first sight = either (table_at first.places.items sight) (get sight_cmp first.strangers sight)
+spot_of first sight = either (table_at first.places.rows.items sight) (get sight_cmp first.strangers sight)
 
 -- where in the certificate the sighting is placed first, by what is noted
 abbrev pub noted : Certificate → FirstPlaces → SightId → Option At

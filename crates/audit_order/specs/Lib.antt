@@ -1,5 +1,12 @@
 pub mod Named
 pub mod Entries
+pub mod Table
+pub mod Keys
+pub mod Places
+pub mod Clean
+pub mod Grown
+pub mod Growing
+pub mod Kept
 pub mod FirstPlace
 pub mod Checks
 pub mod Shows

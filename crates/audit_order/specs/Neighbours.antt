@@ -12,10 +12,7 @@ abbrev pub unplaced_breach : ℕ → ℕ → Sighting → Breach
 unplaced_breach lanes drops sighting =
     breach_at (record { key = record { moment = sighting.stamp; tie = 0 }; lane = lanes; place = drops }) Unplaced sighting.id
 
-abbrev pub order_breach : Option At → At → Sighting → Option Breach
-order_breach None at sighting = None
-order_breach (Some before) at sighting = if is_gt (key_cmp at.key before.key) then None else Some (breach_at at InterfaceOrder sighting.id)
-
-abbrev pub neighbour_breach : ℕ → ℕ → Option At → Option At → Sighting → Option Breach
-neighbour_breach lanes drops before None sighting = Some (unplaced_breach lanes drops sighting)
-neighbour_breach lanes drops before (Some at) sighting = order_breach before at sighting
+abbrev pub order_breach : Option At → Option At → Sighting → Option Breach
+order_breach None place sighting = None
+order_breach (Some before) None sighting = None
+order_breach (Some before) (Some at) sighting = if is_gt (key_cmp at.key before.key) then None else Some (breach_at at InterfaceOrder sighting.id)

@@ -40,15 +40,20 @@ pub record ShowsUnplaced (entries : List Entry) (lanes drops : ℕ) (row : List 
   pub nowhere : first_place entries sighting.id ≡ None
   pub told : breach ≡ breach_at (record { key = record { moment = sighting.stamp; tie = 0 }; lane = lanes; place = drops }) Unplaced sighting.id
 
--- what the sightings of one interface show
-abbrev pub ShowsOn : List Entry → ℕ → ℕ → ℕ → List Sighting → Breach → Type 0
-ShowsOn entries lanes drops iface row breach = ShowsInterfaceOrder entries iface (length row) breach ⊎ ShowsUnplaced entries lanes drops row breach
+-- neighbours of some interface
+abbrev pub ShowsOutOfOrder : Taken → List Entry → Breach → Type 0
+ShowsOutOfOrder taken entries breach = (iface : ℕ) × ShowsInterfaceOrder entries iface (length (interface_at taken iface)) breach
 
--- those of some interface
-abbrev pub ShowsOnSome : Taken → List Entry → ℕ → ℕ → Breach → Type 0
-ShowsOnSome taken entries lanes drops breach = (iface : ℕ) × ShowsOn entries lanes drops iface (interface_at taken iface) breach
+-- a sighting of some interface
+abbrev pub ShowsNowhere : Taken → List Entry → ℕ → ℕ → Breach → Type 0
+ShowsNowhere taken entries lanes drops breach = (iface : ℕ) × ShowsUnplaced entries lanes drops (interface_at taken iface) breach
+
+-- what is placed, whatever else is not
+abbrev pub ShowsPlaced : Taken → Certificate → Breach → Type 0
+ShowsPlaced taken certificate breach = ShowsFrom taken [] (entries certificate) breach ⊎ ShowsOutOfOrder taken (entries certificate) breach
+
+abbrev pub ShowsAnUnplaced : Taken → Certificate → Breach → Type 0
+ShowsAnUnplaced taken certificate breach = ShowsNowhere taken (entries certificate) (length certificate.lanes) (length certificate.drops) breach
 
 abbrev pub Shows : Taken → Certificate → Breach → Type 0
-Shows taken certificate breach =
-    ShowsFrom taken [] (entries certificate) breach
-    ⊎ ShowsOnSome taken (entries certificate) (length certificate.lanes) (length certificate.drops) breach
+Shows taken certificate breach = ShowsPlaced taken certificate breach ⊎ ShowsAnUnplaced taken certificate breach

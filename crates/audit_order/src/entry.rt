@@ -12,6 +12,15 @@ pub struct Pair {
     pub listen: Addr,
 }
 
+/// The end of a lane, or of the drops, behind which an event stands.
+#[derive(Clone, Copy, Debug)]
+pub struct LaneEnd {
+    /// The lane's, and none of the drops.
+    pub pair: Option<Pair>,
+    /// The key of the last event.
+    pub last: Option<Key>,
+}
+
 /// An event of a lane, or a dropped arrival.
 #[derive(Clone, Copy, Debug)]
 pub struct Entry {

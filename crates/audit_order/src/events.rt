@@ -9,9 +9,9 @@ ghost use Rattle.audit_order.specs.Entries.{lane_entries, drop_entries, at_of};
 ghost use Rattle.audit_order.specs.FirstPlace.{Notes};
 ghost use Rattle.audit_order.specs.Shows.{ShowsAt, ShowsFrom};
 
-use crate::entry::{Entry, Pair, Spot};
+use crate::entry::{Entry, LaneEnd, Pair, Spot};
 use crate::first::FirstPlaces;
-use crate::single::entry_rule;
+use crate::single::event_rule;
 use audit_model::{At, Breach, CertLane, Certificate, Event, Key};
 use audit_sightings::Intake;
 use std::alloc::AllocError;
@@ -21,7 +21,11 @@ fn breach_of(intake: &Intake, entry: &Entry, placed: bool) -> Option<Breach>
     ensures exact { result ≡ told entry.now.at (first_broken (event_checks (taken intake.now) placed entry.now.pair entry.now.last entry.now.event)) }
     ensures named { IfNone result (NamesWhatIsThere (taken intake.now) entry.now.event) }
 {
-    let (rule, sight) = entry_rule(intake, entry, placed)?;
+    let end = LaneEnd {
+        pair: entry.pair,
+        last: entry.last,
+    };
+    let (rule, sight) = event_rule(intake, end, entry.event, placed)?;
     Some(Breach {
         at: entry.at,
         sight,

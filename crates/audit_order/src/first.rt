@@ -1,13 +1,14 @@
 //! Where each sighting is placed first, by lane and place.
 
-ghost use Rattle.std.specs.Prelude.{◌≡◌, ◌++◌, ◌∷◌, [], All, List, Option, Some, None, IfOk, OnOk, is_some, if◌then◌else◌};
-ghost use Rattle.std.specs.Bool.{OnTrue, OnFalse};
+ghost use Rattle.std.specs.Prelude.{◌≡◌, ◌++◌, ◌∷◌, [], List, IfOk, OnOk, is_some, if◌then◌else◌};
 ghost use Rattle.audit_model.specs.declared.sighting.SightId.{SightId};
-ghost use Rattle.audit_order.specs.FirstPlace.{noted, spot_of, table_at, same_sight, is_placed, Notes};
+ghost use Rattle.audit_order.specs.FirstPlace.{noted, spot_of, is_placed, Notes};
+ghost use Rattle.audit_order.specs.Table.{same_sight};
 ghost use Rattle.audit_order.specs.Entries.{at_of};
 ghost use Rattle.audit_order.specs.declared.entry.Entry.{Entry};
 
 use crate::entry::{Entry, Spot, at_spot};
+use crate::table::Table;
 use audit_model::{At, Certificate, Event, SightId};
 use audit_sightings::Intake;
 use std::alloc::{AllocError, Global};
@@ -16,7 +17,7 @@ use std::collections::BTreeMap;
 /// The first placements of an intake's sightings, by interface and index: 12 bytes a sighting.
 #[derive(Drop)]
 pub struct FirstPlaces {
-    places: Vec<Vec<Spot>>,
+    places: Table<Spot>,
     /// Those of names that no sighting has.
     strangers: BTreeMap<SightId, Spot>,
 }
@@ -26,8 +27,10 @@ impl FirstPlaces {
     pub fn new(alloc: Global, intake: &Intake) -> Result<FirstPlaces, AllocError>
         ensures { IfOk result (λ first. (sight : SightId) → spot_of first sight ≡ Spot.Nowhere) }
     {
+        let mut places = Table::new(alloc);
+        places.grow(alloc, intake, Spot::Nowhere)?;
         Ok(FirstPlaces {
-            places: empty_table(alloc, intake)?,
+            places,
             strangers: BTreeMap::new(alloc),
         })
     }
@@ -35,7 +38,7 @@ impl FirstPlaces {
     fn spot(&self, sight: SightId) -> Spot
         ensures { result ≡ spot_of self.now sight }
     {
-        match read(&self.places, sight) {
+        match self.places.read(sight) {
             Some(spot) => spot,
             None => match self.strangers.get(&sight) {
                 Some(spot) => *spot,
@@ -66,7 +69,7 @@ impl FirstPlaces {
         if self.at(certificate, sight).is_some() {
             return Ok(true);
         }
-        if !write(&mut self.places, sight, spot) {
+        if !self.places.write(sight, spot) {
             self.strangers.insert(sight, spot)?;
         }
         Ok(false)
@@ -92,39 +95,4 @@ impl FirstPlaces {
             Event::Act { .. } => Ok(false),
         }
     }
-}
-
-/// A table with a place for each sighting.
-fn empty_table(alloc: Global, intake: &Intake) -> Result<Vec<Vec<Spot>>, AllocError>
-    ensures { IfOk result (λ rows. All (λ row. All (λ spot. spot ≡ Spot.Nowhere) row.items) rows.items) }
-{
-    let mut rows = Vec::new(alloc);
-    for iface in 0..intake.interfaces() {
-        rows.push(vec![in alloc; Spot::Nowhere; intake.interface(iface).len()]?)?;
-    }
-    Ok(rows)
-}
-
-/// What the table has at the place of the name.
-fn read(rows: &[Vec<Spot>], sight: SightId) -> Option<Spot>
-    ensures { result ≡ table_at rows.now sight }
-{
-    let row = rows.get(sight.iface as usize)?;
-    row.get(sight.index as usize).copied()
-}
-
-/// Sets the place of the name, and tells whether the table has one for it.
-fn write(rows: &mut Vec<Vec<Spot>>, sight: SightId, spot: Spot) -> bool
-    ensures there { result ≡ is_some (table_at rows.old.items sight) }
-    ensures set { OnTrue result ((other : SightId) → table_at rows.new.items other
-        ≡ (if same_sight sight other then Some spot else table_at rows.old.items other)) }
-    ensures same { OnFalse result (rows.new.items ≡ rows.old.items) }
-{
-    let iface = sight.iface as usize;
-    let index = sight.index as usize;
-    if iface < rows.len() && index < rows[iface].len() {
-        rows[iface][index] = spot;
-        return true;
-    }
-    false
 }

@@ -4,12 +4,21 @@
 mod entry;
 mod events;
 mod first;
-mod interfaces;
+mod fitting;
+mod growing;
+mod keys;
 mod laws;
-mod placing;
+mod neighbours;
+mod places;
+mod portions;
 mod single;
+mod table;
+mod taking;
 #[cfg(test)]
 mod tests;
+mod unplaced;
+mod whole;
 
 pub use laws::by_lane_and_place;
-pub use placing::{Placement, placed};
+pub use portions::Placing;
+pub use whole::{Placement, placed};

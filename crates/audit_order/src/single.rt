@@ -1,11 +1,11 @@
-//! What one entry shows of placement.
+//! What one event shows of placement.
 
 ghost use Rattle.std.specs.Prelude.{◌≡◌, IfNone};
 ghost use Rattle.audit_model.specs.Lanes.{same_pair};
 ghost use Rattle.audit_sightings.specs.Intake.{IsThere, NamesWhatIsThere, taken};
 ghost use Rattle.audit_order.specs.Checks.{is_late, is_of_another, placing_checks, act_checks, event_checks, first_broken};
 
-use crate::entry::{Entry, Pair};
+use crate::entry::{LaneEnd, Pair};
 use audit_model::{Addr, Event, Key, Policy, Rule, Side, SightId, Sighting};
 use audit_sightings::Intake;
 
@@ -46,13 +46,13 @@ fn is_pair(pair: Pair, client: Addr, listen: Addr) -> bool
 /// `placed` tells whether an earlier entry places the same sighting.
 fn placing_rule(
     intake: &Intake,
-    entry: &Entry,
+    end: LaneEnd,
     placed: bool,
     side: Side,
     sight: SightId,
     key: Key,
 ) -> Option<(Rule, SightId)>
-    ensures exact { result ≡ first_broken (placing_checks (taken intake.now) placed entry.now.pair entry.now.last side sight key) }
+    ensures exact { result ≡ first_broken (placing_checks (taken intake.now) placed end.pair end.last side sight key) }
     ensures named { IfNone result (IsThere (taken intake.now) side sight) }
 {
     if placed {
@@ -64,13 +64,13 @@ fn placing_rule(
     if key.moment < sighting.lo || key.moment > sighting.hi {
         return Some((Rule::OutOfWindow, sight));
     }
-    if is_behind(entry.last, key) {
+    if is_behind(end.last, key) {
         return Some((Rule::LaneOrder, sight));
     }
     if sighting.side != side {
         return Some((Rule::WrongSide, sight));
     }
-    if is_of_other(intake.policy(), entry.pair, side, sighting) {
+    if is_of_other(intake.policy(), end.pair, side, sighting) {
         return Some((Rule::OtherEndpoint, sight));
     }
     None
@@ -102,18 +102,20 @@ fn act_rule(
     None
 }
 
-/// The first rule of placement that an entry breaks, and the sighting that tells it.
-pub fn entry_rule(intake: &Intake, entry: &Entry, placed: bool) -> Option<(Rule, SightId)>
-    ensures exact { result ≡ first_broken (event_checks (taken intake.now) placed entry.now.pair entry.now.last entry.now.event) }
-    ensures named { IfNone result (NamesWhatIsThere (taken intake.now) entry.now.event) }
+/// The first rule of placement that an event breaks behind the end of its lane, and the sighting that tells it.
+/// `placed` tells whether an earlier entry places the same sighting.
+pub fn event_rule(
+    intake: &Intake,
+    end: LaneEnd,
+    event: Event,
+    placed: bool,
+) -> Option<(Rule, SightId)>
+    ensures exact { result ≡ first_broken (event_checks (taken intake.now) placed end.pair end.last event) }
+    ensures named { IfNone result (NamesWhatIsThere (taken intake.now) event) }
 {
-    match entry.event {
-        Event::In { sight, key } => {
-            placing_rule(intake, entry, placed, Side::Arrives, sight, key)
-        }
-        Event::Out { sight, key } => {
-            placing_rule(intake, entry, placed, Side::Leaves, sight, key)
-        }
-        Event::Act { sight, gives, key } => act_rule(intake, entry.last, sight, gives, key),
+    match event {
+        Event::In { sight, key } => placing_rule(intake, end, placed, Side::Arrives, sight, key),
+        Event::Out { sight, key } => placing_rule(intake, end, placed, Side::Leaves, sight, key),
+        Event::Act { sight, gives, key } => act_rule(intake, end.last, sight, gives, key),
     }
 }

@@ -2,8 +2,7 @@ use Rattle.std.proofs.Common.{◌<◌, length, ap, sym, subst, ◌∙◌, arith}
 use Rattle.std.specs.List.{IsDistinct}
 use Rattle.std.proofs.lemmas.Bool.Decides.{nat_tests}
 use Rattle.audit_model.specs.EventCount.{event_count}
-use Rattle.audit_model.specs.Lanes.{same_lane}
-use Rattle.audit_cert.specs.CertLines.{has_pair}
+use Rattle.audit_model.specs.Lanes.{same_lane, has_pair}
 use Rattle.audit_cert.proofs.Drafts.{length_with_event, pairs_with_event, count_with_event, apart_with_event}
 use Rattle.audit_cert.proofs.draft.Draft.add_event.Goals as goal
 

@@ -1,4 +1,4 @@
-use Rattle.std.proofs.Common.{◌≡◌, ℕ, List, ap}
+use Rattle.std.proofs.Common.{ℕ, List, ap}
 use Rattle.std.proofs.Output.{has_written_of_eq}
 use Rattle.audit_model.specs.Addr.{octets_text}
 use Rattle.audit_model.proofs.address.AddrDisplay.fmt.Goals as goal
