@@ -11,6 +11,7 @@ use audit_glue::rows::{BuildFault, Capture, UdpDatagram};
 use audit_model::Side;
 use std::alloc::Global;
 
+/// What each datagram carries.
 static PAYLOAD: [u8; 2] = [1, 2];
 
 /// A datagram between its client and the server.

@@ -1,6 +1,6 @@
 //! The datagrams of the benchmark, by their numbers: of each lane in turn four arrive, one at each interface, and then four leave.
 
-ghost use Rattle.std.specs.Prelude.{◌≡◌, ◌+◌, ◌*◌, ◌<◌};
+ghost use Rattle.std.specs.Prelude.{◌≡◌, ◌<◌};
 ghost use Rattle.bench_placed.specs.Datagrams.{stamp_of, side_of, lane_number, client_of, sight_of};
 
 use audit_model::{Addr, Side, SightId};
