@@ -1,3 +1,4 @@
 mod Joining
 mod LaneEvents
 mod Found
+mod Places

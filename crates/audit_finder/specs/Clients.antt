@@ -1,5 +1,5 @@
 -- The clients that captures show, in the order in which they are first seen.
-use Rattle.std.specs.Prelude.{ℕ, ◌+◌, Bool, false, List, [], ◌∷◌, ◌++◌, take, drop, length, map, filter, slice_index_or}
+use Rattle.std.specs.Prelude.{ℕ, ◌+◌, Bool, false, List, [], ◌∷◌, ◌++◌, take, drop, length, map, filter, position, Option, slice_index_or}
 use Rattle.indexmap.specs.IndexSet.{insert_all}
 use Rattle.audit_model.specs.declared.address.Addr.{Addr}
 use Rattle.audit_model.specs.declared.policy.Policy.{Policy}
@@ -45,6 +45,10 @@ with_new looked taken known = joined known (pairs_of taken.policy (unseen looked
 
 abbrev pub row_lengths : Taken → List ℕ
 row_lengths taken = map (λ row. length row) taken.interfaces
+
+-- the number of a pair's lane: its place among the pairs, of which the first 65,536 have lanes
+abbrev pub lane_in : List Pair → Pair → Option ℕ
+lane_in pairs pair = position (same pair) (take MAX_LANES pairs)
 
 -- the clients of the lanes that are found: those of all sightings, in the order of interface and place, 65,536 at the most
 abbrev pub clients_of : Taken → List Pair

@@ -3,7 +3,7 @@
 ghost use Rattle.std.specs.Prelude.{◌≡◌, ◌<◌, ◌≤◌, [], drop, take, length, slice_index_or, IfOk, IfSome, OnOk};
 ghost use Rattle.std.specs.List.{IsDistinct};
 ghost use Rattle.audit_model.specs.declared.certificate.TheConstants.{MAX_LANES};
-ghost use Rattle.audit_finder.specs.Clients.{same, asks, joined, pairs_of, unseen, with_new, row_lengths};
+ghost use Rattle.audit_finder.specs.Clients.{same, asks, joined, pairs_of, unseen, with_new, row_lengths, lane_in};
 ghost use Rattle.audit_sightings.specs.Intake.{taken, interface_at};
 
 use audit_model::{Addr, MAX_LANES, Policy, Side, Sighting};
@@ -117,7 +117,8 @@ impl Clients {
 
     /// The number of the lane of a client at a listen address, if it has one.
     pub fn lane_of(&self, client: Addr, listen: Addr) -> Option<u32>
-        ensures { IfSome result (λ lane. lane < MAX_LANES) }
+        ensures which { result ≡ lane_in self.now.pairs.keys (client, listen) }
+        ensures few { IfSome result (λ lane. lane < MAX_LANES) }
     {
         let index = self.pairs.get_index_of(&(client, listen))?;
         if index >= MAX_LANES {

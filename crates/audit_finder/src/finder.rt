@@ -30,6 +30,7 @@ impl Finder {
     pub fn new(alloc: Global) -> Finder
         ensures clients { result.clients.pairs.keys ≡ [] }
         ensures looked { result.clients.looked.items ≡ [] }
+        ensures horizon { result.search.given_to ≡ None }
     {
         Finder {
             clients: Clients::new(alloc),
@@ -57,6 +58,8 @@ impl Finder {
         ensures drops { IfOk result (λ found. AreThere (taken intake.now) found.drops) }
         ensures clients { OnOk result (self.new.clients.pairs.keys ≡ with_new self.old.clients.looked.items (taken intake.now) self.old.clients.pairs.keys) }
         ensures looked { OnOk result (self.new.clients.looked.items ≡ row_lengths (taken intake.now)) }
+        // The next call gives events past this horizon.
+        ensures horizon { OnOk result (self.new.search.given_to ≡ Some horizon) }
     {
         let known = self.clients.len();
         self.clients.take_in(self.alloc, intake)?;

@@ -5,8 +5,6 @@ use audit_keys::Credentials;
 use audit_model::{At, Key, Sighting};
 use audit_rules::{ActFault, CredRow, LaneTable, act};
 use audit_sightings::Intake;
-use audit_stun::message;
-use audit_stun::numbers::attribute::{REALM, USERNAME};
 use std::alloc::{AllocError, Global};
 
 /// What acts are judged by.
@@ -19,15 +17,6 @@ pub struct Judge<'a> {
 }
 
 impl<'a> Judge<'a> {
-    /// The row of the user that a request names.
-    fn user(&self, arrives: &'a Sighting) -> Option<CredRow<'a>> {
-        let request = message(arrives.payload.as_slice())?;
-        let user = request.first(USERNAME)?;
-        let realm = request.first(REALM)?;
-        let key = self.credentials.lookup(user, realm)?;
-        Some(CredRow { user, realm, key })
-    }
-
     /// Answers a request, and tells whether the server may. Where it may not, the table stays.
     pub fn answers(
         &self,
@@ -37,7 +26,7 @@ impl<'a> Judge<'a> {
         leaves: &Sighting,
         key: Key,
     ) -> Result<bool, AllocError> {
-        match self.user(arrives) {
+        match CredRow::of(self.credentials, arrives.payload.as_slice()) {
             Some(row) => self.acts(lane, table, &[row], arrives, leaves, key),
             None => self.acts(lane, table, &[], arrives, leaves, key),
         }

@@ -1,5 +1,7 @@
 //! The way through the sightings: the least moment first, interface by interface.
 
+ghost use Rattle.std.specs.Prelude.{◌≡◌, OnOk};
+
 use crate::answers::Answers;
 use crate::arrivals::Arrivals;
 use crate::clock::Clock;
@@ -38,7 +40,9 @@ pub(crate) struct Search {
 
 impl Search {
     /// Nothing was found yet. It takes no memory.
-    pub(crate) fn new(alloc: Global) -> Search {
+    pub(crate) fn new(alloc: Global) -> Search
+        ensures { result.given_to ≡ None }
+    {
         Search {
             lanes: Vec::new(alloc),
             rows: Vec::new(alloc),
@@ -56,7 +60,9 @@ impl Search {
     }
 
     /// Places the sightings that are new, and those that were left, up to the horizon.
-    pub(crate) fn go(&mut self, judge: &Judge<'_>, horizon: u64) -> Result<Portion, AllocError> {
+    pub(crate) fn go(&mut self, judge: &Judge<'_>, horizon: u64) -> Result<Portion, AllocError>
+        ensures { OnOk result (self.new.given_to ≡ Some horizon) }
+    {
         self.note_new(judge)?;
         if let Some(given_to) = self.given_to {
             self.clock.reach(given_to.saturating_add(1));

@@ -4,3 +4,4 @@ pub mod Tables
 pub mod Held
 pub mod Chosen
 pub mod OneAnswer
+pub mod Named

@@ -11,6 +11,7 @@ pub mod Check
 pub mod Checks
 pub mod FirstRule
 pub mod Seen
+pub mod Named
 pub mod Fault
 pub mod Effect
 pub mod Tenancies

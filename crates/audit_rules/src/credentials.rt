@@ -9,9 +9,9 @@ ghost use Rattle.audit_rules.specs.Standing.{key_named, IsByUser, IsSignedBack};
 ghost use Rattle.audit_rules.specs.Seen.{key_in, situation};
 
 use crate::acts::Act;
-use audit_keys::signed;
-use audit_stun::Message;
+use audit_keys::{Credentials, signed};
 use audit_stun::numbers::attribute::{NONCE, REALM, USERNAME};
+use audit_stun::{Message, message};
 
 /// The long-term key of a user of a realm (RFC 8489, section 9.2.2).
 #[derive(Clone, Copy, Debug)]
@@ -19,6 +19,24 @@ pub struct CredRow<'a> {
     pub user: &'a [u8],
     pub realm: &'a [u8],
     pub key: [u8; 16],
+}
+
+impl<'a> CredRow<'a> {
+    ghost use Rattle.audit_keys.specs.Kept.{key_for};
+    ghost use Rattle.audit_rules.specs.Named.{Names, NamesNobody};
+
+    /// The row of the user and the realm that a message names in USERNAME and REALM, with their long-term key (RFC 8489, section 9.2). None where the
+    /// payload is no message, has no such attributes, or the credentials have no key for both. It takes no memory.
+    pub fn of(credentials: &Credentials, payload: &'a [u8]) -> Option<CredRow<'a>>
+        ensures { MatchOption result (NamesNobody (key_for credentials.now) payload.now)
+            (λ row. Names (key_for credentials.now) payload.now row.user.now row.realm.now row.key) }
+    {
+        let request = message(payload)?;
+        let user = request.first(USERNAME)?;
+        let realm = request.first(REALM)?;
+        let key = credentials.lookup(user, realm)?;
+        Some(CredRow { user, realm, key })
+    }
 }
 
 /// Who signed a request.

@@ -1,0 +1,3 @@
+pub mod Datagrams
+pub mod Captures
+pub mod Certificates

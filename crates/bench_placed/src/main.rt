@@ -2,27 +2,37 @@
 //! nothing: `rt run -- 1000000`.
 #![tactic(auto)]
 
-mod made;
+mod captures;
+mod certificates;
+mod datagrams;
 #[cfg(test)]
 mod tests;
 
-use audit_cert::read;
-use audit_model::{Certificate, read_policy};
+use audit_model::{Certificate, MAX_EVENTS, read_policy};
 use audit_order::placed;
 use audit_sightings::Intake;
+use captures::capture;
+use certificates::certificate;
+use datagrams::INTERFACES;
 use std::alloc::Global;
 use std::time::{Duration, Instant};
 use std::{env, io};
 
-/// The intake and the certificate of so many datagrams, unless memory runs out.
+const POLICY: &[u8] = b"turnaudit-policy 1\nlisten 192.0.2.1:3478\n";
+
+/// The intake and the certificate of so many datagrams, unless they are too many or memory runs out.
 fn inputs(alloc: Global, datagrams: u32) -> Option<(Intake, Certificate)> {
-    let policy = read_policy(alloc, made::POLICY).ok()?;
+    if datagrams as usize > MAX_EVENTS {
+        return None;
+    }
+    let policy = read_policy(alloc, POLICY).ok()?;
     let mut intake = Intake::new(alloc, policy);
-    let file = intake.add_file().ok()?;
-    let capture = made::capture(alloc, datagrams).ok()?;
-    intake.feed(file, &capture).ok()?;
-    let text = made::certificate(alloc, datagrams).ok()?;
-    Some((intake, read(alloc, &text).ok()?))
+    for interface in 0..INTERFACES {
+        let capture = capture(alloc, datagrams, interface).ok()?;
+        let file = intake.add_file().ok()?;
+        intake.feed(file, capture.bytes()).ok()?;
+    }
+    Some((intake, certificate(alloc, datagrams).ok()?))
 }
 
 /// How many nanoseconds each of so many took.
