@@ -81,20 +81,34 @@ impl Answers {
     }
 
     /// Whether one of the last answers to the same client before it wasn't given yet.
-    fn is_behind_another(&self, number: u32) -> bool {
+    pub fn is_behind_another(&self, number: u32) -> bool {
+        self.is_behind(number, false)
+    }
+
+    /// Whether one of the last answers to the same client before it wasn't given yet, and makes or deletes an allocation.
+    pub fn is_behind_change(&self, number: u32) -> bool {
+        self.is_behind(number, true)
+    }
+
+    fn is_behind(&self, number: u32, only_changes: bool) -> bool {
         let mut before = self.before(number);
         for _ in 0..NEIGHBOURS {
-            match before {
-                Some(one) if self.is_acted(one) => before = self.before(one),
-                Some(_) => return true,
-                None => return false,
+            let Some(one) = before else {
+                return false;
+            };
+            let Some(answer) = self.get(one) else {
+                return false;
+            };
+            if !answer.is_acted && (answer.says.is_change() || !only_changes) {
+                return true;
             }
+            before = answer.before;
         }
         false
     }
 
     /// Whether one of the next answers to the same client behind it says that there is no allocation, with no deletion between.
-    fn is_before_refusal(&self, number: u32) -> bool {
+    pub fn is_before_refusal(&self, number: u32) -> bool {
         let mut behind = self.behind(number);
         for _ in 0..NEIGHBOURS {
             let Some(one) = behind else {
@@ -109,21 +123,12 @@ impl Answers {
         false
     }
 
-    /// Whether answers to the same client that are near it make it doubtful that it is given as soon as its request arrives.
-    pub fn is_amid_others(&self, number: u32) -> bool {
-        self.is_behind_another(number) || self.is_before_refusal(number)
-    }
-
     fn before(&self, number: u32) -> Option<u32> {
         self.get(number)?.before
     }
 
     fn behind(&self, number: u32) -> Option<u32> {
         self.get(number)?.behind
-    }
-
-    fn is_acted(&self, number: u32) -> bool {
-        self.get(number).is_some_and(|answer| answer.is_acted)
     }
 
     /// What an answer says.

@@ -95,9 +95,9 @@ impl Search {
         self.keep_back(lane, answer, known.sight, known.says)
     }
 
-    /// Whether an answer is best given as it leaves: it deletes an allocation, or leaves behind another that is kept back; or it
-    /// makes one, and another client has or is to have its address, or other answers near it speak against it. That there is no
-    /// allocation is best said at once.
+    /// Whether an answer is best given as it leaves: it leaves behind another that is kept back, or that changes what allocation there
+    /// is and isn't given yet; or it deletes one; or it makes one, and another client has or is to have its address, or another
+    /// answer near it speaks against it. That there is no allocation is best said at once.
     fn is_kept_back(&self, judge: &Judge<'_>, lane: u32, answer: u32) -> bool {
         let (Some(of), Some(known)) = (self.lanes.get(lane as usize), self.answers.get(answer))
         else {
@@ -106,13 +106,16 @@ impl Search {
         if known.says == Says::NoAllocation {
             return false;
         }
-        if of.has_pending_before(known.sight) {
+        if of.has_pending_before(known.sight) || self.answers.is_behind_change(answer) {
             return true;
         }
         match known.says {
-            Says::Deleted => of.current.table.running().is_some(),
+            Says::Deleted => {
+                of.current.table.running().is_some() || self.answers.is_behind_another(answer)
+            }
             Says::Allocated(relayed) => {
-                self.answers.is_amid_others(answer)
+                self.answers.is_behind_another(answer)
+                    || self.answers.is_before_refusal(answer)
                     || self.other_holder(lane, relayed).is_some()
                     || self.has_to_follow(judge, known, relayed)
             }

@@ -238,7 +238,11 @@ impl Search {
         let of = self.lanes.get(lane as usize)?;
         for (_, answer) in of.pending.iter().take(GIVEN_BEFORE) {
             if *answer != but {
-                if let Some(Says::Allocated(_) | Says::Deleted) = self.answers.says(*answer) {
+                if self
+                    .answers
+                    .says(*answer)
+                    .is_some_and(|says| says.is_change())
+                {
                     return Some(*answer);
                 }
             }

@@ -25,6 +25,13 @@ pub enum Says {
     Other,
 }
 
+impl Says {
+    /// Whether an allocation is made or deleted.
+    pub fn is_change(&self) -> bool {
+        matches!(self, Says::Allocated(_) | Says::Deleted)
+    }
+}
+
 /// The transaction id of a success or an error, and what it says.
 pub fn answer_of(payload: &[u8]) -> Option<([u8; 12], Says)> {
     let message = message(payload)?;
