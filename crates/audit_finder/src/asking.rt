@@ -81,13 +81,19 @@ impl Search {
         sighting: &Sighting,
         portion: &mut Portion,
     ) -> Result<(), AllocError> {
-        let Some(answer) = self.reserve(judge, lane, number, sighting) else {
+        let noted = self.noted_answer(number);
+        let answer = match noted {
+            Some(_) => noted,
+            None => self.reserve(judge, lane, number, sighting),
+        };
+        let Some(answer) = answer else {
             return Ok(());
         };
         let Some(known) = self.answers.get(answer).copied() else {
             return Ok(());
         };
-        if !self.is_kept_back(judge, lane, answer) {
+        let is_amid_changes = noted.is_none() && self.answers.is_behind_change(answer);
+        if !is_amid_changes && !self.is_kept_back(judge, lane, answer) {
             if self.act_on(judge, lane, number, answer, portion)? {
                 return Ok(());
             }
@@ -95,9 +101,9 @@ impl Search {
         self.keep_back(lane, answer, known.sight, known.says)
     }
 
-    /// Whether an answer is best given as it leaves: it leaves behind another that is kept back, or that changes what allocation there
-    /// is and isn't given yet; or it deletes one; or it makes one, and another client has or is to have its address, or another
-    /// answer near it speaks against it. That there is no allocation is best said at once.
+    /// Whether an answer is best given as it leaves: it leaves behind another that is kept back; or it deletes an allocation; or it
+    /// makes one, and another client has or is to have its address, or another answer near it speaks against it. That there is no
+    /// allocation is best said at once.
     fn is_kept_back(&self, judge: &Judge<'_>, lane: u32, answer: u32) -> bool {
         let (Some(of), Some(known)) = (self.lanes.get(lane as usize), self.answers.get(answer))
         else {
@@ -106,7 +112,7 @@ impl Search {
         if known.says == Says::NoAllocation {
             return false;
         }
-        if of.has_pending_before(known.sight) || self.answers.is_behind_change(answer) {
+        if of.has_pending_before(known.sight) {
             return true;
         }
         match known.says {
@@ -145,8 +151,13 @@ impl Search {
         judge.intake.sighting(self.answers.get(answer)?.sight)
     }
 
-    /// Finds the answer to a request: the one that was noted with it, or else the first of its transaction that no request has
-    /// yet, and that leaves in time.
+    /// The answer that was noted with a request.
+    fn noted_answer(&self, number: u32) -> Option<u32> {
+        self.arrivals.get(number)?.answer
+    }
+
+    /// Finds the answer to a request that none was noted with: the first of its transaction that no request has yet, and that leaves
+    /// in time.
     fn reserve(
         &mut self,
         judge: &Judge<'_>,
@@ -154,9 +165,6 @@ impl Search {
         number: u32,
         sighting: &Sighting,
     ) -> Option<u32> {
-        if let Some(answer) = self.arrivals.get(number)?.answer {
-            return Some(answer);
-        }
         let of = Transaction {
             lane,
             id: request_id(sighting)?,
