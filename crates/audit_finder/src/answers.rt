@@ -1,15 +1,26 @@
 //! The successes and errors that leave.
 
 use crate::queues::Queues;
+use crate::said::Says;
 use audit_model::SightId;
 use std::alloc::{AllocError, Global};
+
+/// How many answers to the same client are looked at before one, and behind it.
+const NEIGHBOURS: u32 = 8;
 
 /// A success or an error.
 #[derive(Clone, Copy, Debug)]
 pub struct Answer {
     pub sight: SightId,
+    pub says: Says,
     /// The request that it answers, once that is known.
     pub arrival: Option<u32>,
+    pub lane: u32,
+    /// The answers to the same client before and behind it.
+    pub before: Option<u32>,
+    pub behind: Option<u32>,
+    /// Of a new allocation, the least moment at which the answer leaves that says that it is deleted.
+    pub deleted_from: Option<u64>,
     pub is_acted: bool,
 }
 
@@ -35,18 +46,94 @@ impl Answers {
         }
     }
 
-    /// Adds an answer, and gives its number.
-    pub fn add(&mut self, sight: SightId, of: Transaction) -> Result<u32, AllocError> {
+    /// Adds the answer to a request, or one to a request of that transaction that isn't known yet, and gives its number.
+    pub fn add(
+        &mut self,
+        sight: SightId,
+        says: Says,
+        arrival: Option<u32>,
+        before: Option<u32>,
+        of: Transaction,
+    ) -> Result<u32, AllocError> {
         self.list.push(Answer {
             sight,
-            arrival: None,
+            says,
+            arrival,
+            lane: of.lane,
+            before,
+            behind: None,
+            deleted_from: None,
             is_acted: false,
         })?;
-        self.queues.add(Some(of))
+        let number = self
+            .queues
+            .add(if arrival.is_none() { Some(of) } else { None })?;
+        if let Some(before) = before {
+            if let Some(before) = self.get_mut(before) {
+                before.behind = Some(number);
+            }
+        }
+        Ok(number)
     }
 
     pub fn get(&self, number: u32) -> Option<&Answer> {
         self.list.get(number as usize)
+    }
+
+    /// Whether one of the last answers to the same client before it wasn't given yet.
+    pub fn is_behind_another(&self, number: u32) -> bool {
+        self.is_behind(number, false)
+    }
+
+    /// Whether one of the last answers to the same client before it wasn't given yet, and makes or deletes an allocation.
+    pub fn is_behind_change(&self, number: u32) -> bool {
+        self.is_behind(number, true)
+    }
+
+    fn is_behind(&self, number: u32, only_changes: bool) -> bool {
+        let mut before = self.before(number);
+        for _ in 0..NEIGHBOURS {
+            let Some(one) = before else {
+                return false;
+            };
+            let Some(answer) = self.get(one) else {
+                return false;
+            };
+            if !answer.is_acted && (answer.says.is_change() || !only_changes) {
+                return true;
+            }
+            before = answer.before;
+        }
+        false
+    }
+
+    /// Whether one of the next answers to the same client behind it says that there is no allocation, with no deletion between.
+    pub fn is_before_refusal(&self, number: u32) -> bool {
+        let mut behind = self.behind(number);
+        for _ in 0..NEIGHBOURS {
+            let Some(one) = behind else {
+                return false;
+            };
+            match self.says(one) {
+                Some(Says::NoAllocation) => return true,
+                Some(Says::Deleted) => return false,
+                _ => behind = self.behind(one),
+            }
+        }
+        false
+    }
+
+    fn before(&self, number: u32) -> Option<u32> {
+        self.get(number)?.before
+    }
+
+    fn behind(&self, number: u32) -> Option<u32> {
+        self.get(number)?.behind
+    }
+
+    /// What an answer says.
+    pub fn says(&self, number: u32) -> Option<Says> {
+        Some(self.get(number)?.says)
     }
 
     pub fn get_mut(&mut self, number: u32) -> Option<&mut Answer> {

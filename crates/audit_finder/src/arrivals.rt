@@ -2,7 +2,7 @@
 
 use crate::causes::Cause;
 use crate::queues::Queues;
-use audit_model::{Addr, Key, SightId};
+use audit_model::{Key, SightId};
 use std::alloc::{AllocError, Global};
 
 /// A datagram that arrives.
@@ -20,21 +20,11 @@ pub struct Arrival {
     pub is_given: bool,
 }
 
-/// Data that arrives, by where it goes.
-#[derive(Clone, Copy, Debug, PartialEq, Eq, PartialOrd, Ord)]
-pub enum Stream {
-    /// What a client sends, by its lane.
-    Sent(u32),
-    /// What peers send to a relayed address.
-    Received(Addr),
-}
-
-/// All that arrive, by number, by what they ask for, and by the streams of their data.
+/// All that arrive, by number and by what they ask for.
 #[derive(Drop)]
 pub struct Arrivals {
     list: Vec<Arrival>,
     queues: Queues<Cause>,
-    streams: Queues<Stream>,
 }
 
 impl Arrivals {
@@ -42,7 +32,6 @@ impl Arrivals {
         Arrivals {
             list: Vec::new(alloc),
             queues: Queues::new(alloc),
-            streams: Queues::new(alloc),
         }
     }
 
@@ -61,23 +50,7 @@ impl Arrivals {
             is_acted: false,
             is_given: false,
         })?;
-        self.streams.add(match &cause {
-            Some(cause) => stream_of(cause),
-            None => None,
-        })?;
         self.queues.add(cause)
-    }
-
-    /// The next of a stream that has no key yet.
-    pub fn coming(&mut self, stream: &Stream) -> Option<u32> {
-        for _ in 0..self.list.len() {
-            let first = self.streams.first(stream)?;
-            match self.get(first) {
-                Some(arrival) if arrival.key.is_some() => self.streams.skip(stream),
-                _ => return Some(first),
-            }
-        }
-        None
     }
 
     pub fn get(&self, number: u32) -> Option<&Arrival> {
@@ -109,18 +82,14 @@ impl Arrivals {
         Some(past)
     }
 
+    /// The last that asks for this, of all that were added.
+    pub fn last(&self, cause: &Cause) -> Option<u32> {
+        self.queues.last(cause)
+    }
+
     /// The next that asks for the same.
     pub fn next(&self, number: u32) -> Option<u32> {
         self.queues.behind(number)
-    }
-}
-
-/// The stream of data that asks for this.
-fn stream_of(cause: &Cause) -> Option<Stream> {
-    match cause {
-        Cause::Request { .. } => None,
-        Cause::Send { lane, .. } | Cause::Channel { lane, .. } => Some(Stream::Sent(*lane)),
-        Cause::Peer { relayed, .. } => Some(Stream::Received(*relayed)),
     }
 }
 

@@ -7,9 +7,9 @@ use crate::answers::Transaction;
 use crate::clock::Clock;
 use crate::judge::Judge;
 use crate::portion::Portion;
-use crate::said::{allocated, is_ending, is_request};
+use crate::said::{Says, is_request};
 use crate::search::Search;
-use audit_model::Sighting;
+use audit_model::{SightId, Sighting};
 use std::alloc::AllocError;
 
 impl Search {
@@ -43,7 +43,7 @@ impl Search {
     /// Notes a peer's datagram with the lane that holds its relayed address.
     fn note_received(&mut self, number: u32, sighting: &Sighting) {
         if let Some(holder) = self.holders.get(&sighting.to) {
-            if let Some(lane) = self.lanes.get_mut(*holder as usize) {
+            if let Some(lane) = self.lanes.get_mut(holder.last as usize) {
                 lane.last.received = Some(number);
             }
         }
@@ -81,50 +81,65 @@ impl Search {
         sighting: &Sighting,
         portion: &mut Portion,
     ) -> Result<(), AllocError> {
-        let Some(answer) = self.reserve(judge, lane, number, sighting) else {
+        let noted = self.noted_answer(number);
+        let answer = match noted {
+            Some(_) => noted,
+            None => self.reserve(judge, lane, number, sighting),
+        };
+        let Some(answer) = answer else {
             return Ok(());
         };
-        let Some(leaves) = self.departure(judge, answer) else {
+        let Some(known) = self.answers.get(answer).copied() else {
             return Ok(());
         };
-        if let Some(relayed) = allocated(leaves) {
-            // A deletion that has come in goes before an allocation of its address.
-            if let Some(holder) = self.other_holder(lane, relayed) {
-                self.end_now(judge, holder, None, portion)?;
+        let is_amid_changes = noted.is_none() && self.answers.is_behind_change(answer);
+        if !is_amid_changes && !self.is_kept_back(judge, lane, answer) {
+            if self.act_on(judge, lane, number, answer, portion)? {
+                return Ok(());
             }
         }
-        if !self.is_kept_back(lane, leaves) {
-            let key = self.clock.tick();
-            if self.may_answer(judge, lane, sighting, leaves, key)? {
-                return self.commit_answer(judge, lane, number, answer, key, portion);
-            }
-        }
-        self.keep_back(lane, answer, leaves)
+        self.keep_back(lane, answer, known.sight, known.says)
     }
 
-    /// Whether an answer is best given as it leaves: it deletes an allocation, makes one whose address another client still
-    /// holds, or leaves behind another that is kept back.
-    fn is_kept_back(&self, lane: u32, leaves: &Sighting) -> bool {
-        let Some(of) = self.lanes.get(lane as usize) else {
+    /// Whether an answer is best given as it leaves: it leaves behind another that is kept back; or it deletes an allocation; or it
+    /// makes one, and another client has or is to have its address, or another answer near it speaks against it. That there is no
+    /// allocation is best said at once.
+    fn is_kept_back(&self, judge: &Judge<'_>, lane: u32, answer: u32) -> bool {
+        let (Some(of), Some(known)) = (self.lanes.get(lane as usize), self.answers.get(answer))
+        else {
             return false;
         };
-        if of.has_pending_before(leaves.id) {
+        if known.says == Says::NoAllocation {
+            return false;
+        }
+        if of.has_pending_before(known.sight) {
             return true;
         }
-        if is_ending(leaves) {
-            return of.table.running().is_some();
-        }
-        match allocated(leaves) {
-            Some(relayed) => self.other_holder(lane, relayed).is_some(),
-            None => false,
+        match known.says {
+            Says::Deleted => {
+                of.current.table.running().is_some() || self.answers.is_behind_another(answer)
+            }
+            Says::Allocated(relayed) => {
+                self.answers.is_behind_another(answer)
+                    || self.answers.is_before_refusal(answer)
+                    || self.other_holder(lane, relayed).is_some()
+                    || self.has_to_follow(judge, known, relayed)
+            }
+            _ => false,
         }
     }
 
     /// Notes an answer that is given as it leaves.
-    fn keep_back(&mut self, lane: u32, answer: u32, leaves: &Sighting) -> Result<(), AllocError> {
+    fn keep_back(
+        &mut self,
+        lane: u32,
+        answer: u32,
+        sight: SightId,
+        says: Says,
+    ) -> Result<(), AllocError> {
         if let Some(of) = self.lanes.get_mut(lane as usize) {
-            of.pending.insert(leaves.id)?;
-            if is_ending(leaves) {
+            of.pending.insert(sight, answer)?;
+            if says == Says::Deleted {
                 of.ending = Some(answer);
             }
         }
@@ -136,7 +151,13 @@ impl Search {
         judge.intake.sighting(self.answers.get(answer)?.sight)
     }
 
-    /// Finds the answer to a request: the first of its transaction that no request has yet, and that leaves in time.
+    /// The answer that was noted with a request.
+    fn noted_answer(&self, number: u32) -> Option<u32> {
+        self.arrivals.get(number)?.answer
+    }
+
+    /// Finds the answer to a request that none was noted with: the first of its transaction that no request has yet, and that leaves
+    /// in time.
     fn reserve(
         &mut self,
         judge: &Judge<'_>,

@@ -37,6 +37,13 @@ impl Clock {
         self.tie = self.tie.saturating_add(1);
         key
     }
+
+    /// The next key at this moment, with so many behind it that are kept free.
+    pub fn reserve(&mut self, count: u32) -> Key {
+        let key = self.tick();
+        self.tie = self.tie.saturating_add(count);
+        key
+    }
 }
 
 /// The key after this one, at the same moment.

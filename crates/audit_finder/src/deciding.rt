@@ -44,7 +44,7 @@ impl Search {
         let lane = match arrival.lane {
             Some(lane) => Some(lane),
             None => match intake.sighting(sight) {
-                Some(sighting) => self.holders.get(&sighting.to).copied(),
+                Some(sighting) => self.holders.get(&sighting.to).map(|holders| holders.last),
                 None => None,
             },
         };

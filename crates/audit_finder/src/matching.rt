@@ -1,11 +1,12 @@
 //! Data that leaves, and the data that arrived for it.
 
-use crate::arrivals::Stream;
 use crate::causes::{Cause, digest_of};
 use crate::clock::after;
 use crate::judge::Judge;
+use crate::lanes::{Holding, Lane};
 use crate::leaving::CANDIDATES;
 use crate::portion::Portion;
+use crate::rows::Wait;
 use crate::said::{Given, data_given};
 use crate::search::Search;
 use audit_model::{Event, Key, Sighting};
@@ -14,114 +15,168 @@ use std::alloc::AllocError;
 /// Which arrival a departure is given by.
 #[derive(Clone, Copy, Debug)]
 enum Choice {
-    /// The server may give it by this one, at this key.
-    Acts(u32, Key),
-    /// It may be one that has no key yet.
-    Waits(u32),
+    /// The server may give it in this lane by this one, at this key.
+    Acts(u32, u32, Key),
+    /// It may be one that has no key yet, and has this least moment.
+    Waits(u32, u64),
     /// None of those that ask for it.
     None,
 }
 
 impl Choice {
-    /// This one, unless only the other one is an act, or this one is none.
+    /// This one, or the other one where that can be had sooner.
     fn or(self, other: Choice) -> Choice {
         match (self, other) {
-            (Choice::Acts(..), _) => self,
-            (_, Choice::Acts(..)) => other,
-            (Choice::Waits(_), _) => self,
-            (Choice::None, _) => other,
+            (Choice::Acts(..), _) | (_, Choice::None) => self,
+            (_, Choice::Acts(..)) | (Choice::None, _) => other,
+            (Choice::Waits(_, this), Choice::Waits(_, that)) => {
+                if that < this { other } else { self }
+            }
         }
     }
 }
 
-/// What may have asked for a departure.
+/// What may have asked for a departure, with its lanes: of the lane that has the relayed address now, and of the one that had it
+/// before, each as it is and as it was before its last deletion.
 #[derive(Clone, Copy)]
-struct Causes {
+struct Asked {
+    /// The lane that it is most likely of.
     lane: u32,
-    first: Option<Cause>,
-    second: Option<Cause>,
+    causes: [Option<(u32, Cause)>; 6],
 }
 
 impl Search {
-    /// Places data, behind the act that gives it; or tells the arrival that it waits for.
+    /// Places data, behind the act that gives it; or tells what it waits for.
     ///
-    /// It is acted on as it leaves, so that a permission that was asked for before the data left is there; or else at its arrival,
-    /// before the allocation or the permission ended.
+    /// It is acted on as it leaves, so that a permission that was asked for before the data left is there; or else before the
+    /// allocation was deleted, or at its arrival, before the permission ended.
     pub(crate) fn place_data(
         &mut self,
         judge: &Judge<'_>,
         leaves: &Sighting,
-        may_wait: bool,
         portion: &mut Portion,
-    ) -> Result<Option<u32>, AllocError> {
-        let Some(causes) = self.causes_of(judge, leaves) else {
-            return Ok(None);
-        };
-        let lane = causes.lane;
-        match self.choose(judge, causes, leaves)? {
-            Choice::Acts(number, key) => self.write_act(lane, number, leaves.id, key, portion)?,
-            Choice::Waits(number) if may_wait => return Ok(Some(number)),
-            _ => {
-                if may_wait {
-                    if let Some(number) = self.coming(judge, causes, leaves) {
-                        return Ok(Some(number));
-                    }
-                }
-                if let Some(number) = self.likely(judge, causes, leaves) {
-                    let key = self.clock.tick();
+    ) -> Result<Option<Wait>, AllocError> {
+        let asked = self.asked_by(judge, leaves);
+        if let Some(asked) = &asked {
+            match self.choose(judge, asked, leaves)? {
+                Choice::Acts(lane, number, key) => {
                     self.write_act(lane, number, leaves.id, key, portion)?;
+                    return self.leave(lane, leaves, portion);
                 }
+                Choice::Waits(number, _) => return Ok(Some(Wait::Arrival(number))),
+                Choice::None => {}
             }
         }
+        if self.has_time(judge, leaves) {
+            return Ok(Some(Wait::Next));
+        }
+        let lane = match asked.or(self.asked_by_last(judge, leaves)) {
+            Some(asked) => match self.likely(judge, &asked, leaves) {
+                Some((lane, number)) => {
+                    let key = self.clock.tick();
+                    self.write_act(lane, number, leaves.id, key, portion)?;
+                    lane
+                }
+                None => asked.lane,
+            },
+            None => return Ok(None),
+        };
+        self.leave(lane, leaves, portion)
+    }
+
+    /// Writes that data leaves.
+    fn leave(
+        &mut self,
+        lane: u32,
+        leaves: &Sighting,
+        portion: &mut Portion,
+    ) -> Result<Option<Wait>, AllocError> {
         let key = self.clock.tick();
         let sight = leaves.id;
         portion.push(lane, Event::Out { sight, key })?;
         Ok(None)
     }
 
-    /// The lane of data that leaves, and what may have asked for it.
-    fn causes_of(&self, judge: &Judge<'_>, leaves: &Sighting) -> Option<Causes> {
+    /// What may have asked for data that leaves; none where nobody has or had its relayed address.
+    fn asked_by(&self, judge: &Judge<'_>, leaves: &Sighting) -> Option<Asked> {
         if judge.intake.policy().listens(leaves.from) {
             let lane = judge.clients.lane_of(leaves.to, leaves.from)?;
-            return Some(Causes {
-                lane,
-                first: self.from_peer(lane, leaves),
-                second: None,
-            });
+            return Some(self.asked_by_peer(lane, leaves));
         }
+        let holders = *self.holders.get(&leaves.from)?;
         let digest = digest_of(leaves.payload.as_slice());
-        let peer = leaves.to;
-        let lane = match self.holders.get(&leaves.from) {
-            Some(lane) => *lane,
-            None => self.lane_of_last()?,
+        let [send, channel, deleted] = self.asked_by_client(holders.last, leaves, digest);
+        let [send_before, channel_before, deleted_before] = match holders.before {
+            Some(lane) => self.asked_by_client(lane, leaves, digest),
+            None => [None; 3],
         };
-        let number = match self.lanes.get(lane as usize) {
-            Some(of) => of.number_of(peer),
-            None => None,
-        };
-        Some(Causes {
-            lane,
-            first: Some(Cause::Send { lane, peer, digest }),
-            second: number.map(|number| Cause::Channel {
-                lane,
-                number,
-                digest,
-            }),
+        Some(Asked {
+            lane: holders.last,
+            causes: [
+                send,
+                channel,
+                deleted,
+                send_before,
+                channel_before,
+                deleted_before,
+            ],
         })
     }
 
-    /// What asks for data that a client is given.
-    fn from_peer(&self, lane: u32, leaves: &Sighting) -> Option<Cause> {
-        let of = self.lanes.get(lane as usize)?;
-        let (peer, data) = match data_given(leaves.payload.as_slice())? {
-            Given::Peer(peer, data) => (peer, data),
-            Given::Channel(number, data) => (of.peer_of(number)?, data),
-        };
-        Some(Cause::Peer {
-            relayed: of.relayed?,
-            peer,
-            digest: digest_of(data),
+    /// What may have asked for data from an address that nobody has or had, of the last client that sent data.
+    fn asked_by_last(&self, judge: &Judge<'_>, leaves: &Sighting) -> Option<Asked> {
+        if judge.intake.policy().listens(leaves.from) {
+            return None;
+        }
+        let lane = self.lane_of_last()?;
+        let digest = digest_of(leaves.payload.as_slice());
+        let [send, channel, deleted] = self.asked_by_client(lane, leaves, digest);
+        Some(Asked {
+            lane,
+            causes: [send, channel, deleted, None, None, None],
         })
+    }
+
+    /// What of a client asks for data that leaves to a peer.
+    fn asked_by_client(
+        &self,
+        lane: u32,
+        leaves: &Sighting,
+        digest: u64,
+    ) -> [Option<(u32, Cause)>; 3] {
+        let peer = leaves.to;
+        let send = Cause::Send { lane, peer, digest };
+        let Some(of) = self.lanes.get(lane as usize) else {
+            return [None; 3];
+        };
+        let number = of.current.number_of(peer);
+        let deleted = of.number_before(peer, number);
+        let by_channel = |number: u16| {
+            let channel = Cause::Channel {
+                lane,
+                number,
+                digest,
+            };
+            (lane, channel)
+        };
+        [
+            Some((lane, send)),
+            number.map(by_channel),
+            deleted.map(by_channel),
+        ]
+    }
+
+    /// What asks for data that a client is given.
+    fn asked_by_peer(&self, lane: u32, leaves: &Sighting) -> Asked {
+        let mut causes = [None; 6];
+        if let Some(of) = self.lanes.get(lane as usize) {
+            if let Some(given) = data_given(leaves.payload.as_slice()) {
+                let current = cause_of(&of.current, given);
+                causes[0] = current.map(|cause| (lane, cause));
+                causes[1] = cause_before(of, given, current).map(|cause| (lane, cause));
+            }
+        }
+        Asked { lane, causes }
     }
 
     /// The lane of the last data of a client, or else the first one.
@@ -140,15 +195,19 @@ impl Search {
     fn choose(
         &mut self,
         judge: &Judge<'_>,
-        causes: Causes,
+        asked: &Asked,
         leaves: &Sighting,
     ) -> Result<Choice, AllocError> {
-        let first = self.choose_of(judge, causes.lane, causes.first, leaves)?;
-        if let Choice::Acts(..) = first {
-            return Ok(first);
+        let mut choice = Choice::None;
+        for cause in &asked.causes {
+            if let Some((lane, cause)) = cause {
+                choice = choice.or(self.choose_of(judge, *lane, cause, leaves)?);
+                if let Choice::Acts(..) = choice {
+                    return Ok(choice);
+                }
+            }
         }
-        let second = self.choose_of(judge, causes.lane, causes.second, leaves)?;
-        Ok(first.or(second))
+        Ok(choice)
     }
 
     /// The first arrival that asks for it and by which the server may give it, of so many that are tried.
@@ -156,23 +215,23 @@ impl Search {
         &mut self,
         judge: &Judge<'_>,
         lane: u32,
-        cause: Option<Cause>,
+        cause: &Cause,
         leaves: &Sighting,
     ) -> Result<Choice, AllocError> {
-        let Some(cause) = cause else {
-            return Ok(Choice::None);
-        };
         let earliest = self.earliest(judge);
-        let mut next = self.arrivals.first(&cause, earliest);
+        let mut next = self.arrivals.first(cause, earliest);
         for _ in 0..CANDIDATES {
             let Some(number) = next else {
                 return Ok(Choice::None);
             };
             if self.may_come(judge, number, leaves) {
-                return Ok(Choice::Waits(number));
+                return Ok(match self.sighting_of(judge, number) {
+                    Some(arrives) => Choice::Waits(number, arrives.lo),
+                    None => Choice::None,
+                });
             }
             if let Some(key) = self.key_by(judge, lane, number, leaves)? {
-                return Ok(Choice::Acts(number, key));
+                return Ok(Choice::Acts(lane, number, key));
             }
             next = self.arrivals.next(number);
         }
@@ -194,19 +253,32 @@ impl Search {
             return Ok(None);
         };
         let now = self.clock.tick();
-        let early = after(came);
-        let is_open = self.given_to.is_none_or(|given_to| came.moment > given_to);
+        let given_to = self.given_to;
         let Some(of) = self.lanes.get_mut(lane as usize) else {
             return Ok(None);
         };
-        if judge.relays(lane, &mut of.table, arrives, leaves, now)? {
+        if judge.relays(lane, &mut of.current.table, arrives, leaves, now)? {
             return Ok(Some(now));
         }
-        if !is_open {
-            return Ok(None);
+        for deleted in &mut of.deleted {
+            if let Some(key) = deleted.key_behind(came) {
+                if is_open(given_to, key)
+                    && judge.relays(lane, &mut deleted.holding.table, arrives, leaves, key)?
+                {
+                    deleted.take_key();
+                    return Ok(Some(key));
+                }
+            }
         }
-        let ended_since = of.ended.is_some_and(|ended| ended > came);
-        if ended_since || judge.relays(lane, &mut of.table, arrives, leaves, early)? {
+        let early = after(came);
+        let was_there = match of.current.table.running() {
+            Some(tenancy) => tenancy.born.key < came,
+            None => false,
+        };
+        if was_there
+            && is_open(given_to, came)
+            && judge.relays(lane, &mut of.current.table, arrives, leaves, early)?
+        {
             return Ok(Some(early));
         }
         Ok(None)
@@ -221,38 +293,28 @@ impl Search {
         arrival.key
     }
 
-    /// The next data of the lane that may come before the departure.
-    fn coming(&mut self, judge: &Judge<'_>, causes: Causes, leaves: &Sighting) -> Option<u32> {
-        let stream = if judge.intake.policy().listens(leaves.from) {
-            Stream::Received(self.lanes.get(causes.lane as usize)?.relayed?)
-        } else {
-            Stream::Sent(causes.lane)
-        };
-        let number = self.arrivals.coming(&stream)?;
-        if self.may_come(judge, number, leaves) {
-            Some(number)
-        } else {
-            None
-        }
-    }
-
-    /// The arrival that a departure most likely answers although the server may not: one that asks for it, or asked for it before,
-    /// or else the last data that came to the lane.
-    fn likely(&mut self, judge: &Judge<'_>, causes: Causes, leaves: &Sighting) -> Option<u32> {
+    /// The arrival that a departure most likely answers although the server may not, and its lane: one that asks for it, or asked
+    /// for it before, or else the last data that came to the lane.
+    fn likely(
+        &mut self,
+        judge: &Judge<'_>,
+        asked: &Asked,
+        leaves: &Sighting,
+    ) -> Option<(u32, u32)> {
         let earliest = self.earliest(judge);
-        for cause in [causes.first, causes.second] {
-            if let Some(cause) = cause {
-                if let Some(number) = self.arrivals.first(&cause, earliest) {
+        for cause in &asked.causes {
+            if let Some((lane, cause)) = cause {
+                if let Some(number) = self.arrivals.first(cause, earliest) {
                     if self.waiting_since(number).is_some() {
-                        return Some(number);
+                        return Some((*lane, number));
                     }
                 }
-                if let Some(number) = self.arrivals.past(&cause, earliest) {
-                    return Some(number);
+                if let Some(number) = self.arrivals.past(cause, earliest) {
+                    return Some((*lane, number));
                 }
             }
         }
-        let last = self.lanes.get(causes.lane as usize)?.last;
+        let last = self.lanes.get(asked.lane as usize)?.last;
         let number = if judge.intake.policy().listens(leaves.from) {
             last.received?
         } else {
@@ -261,6 +323,35 @@ impl Search {
         if self.waiting_since(number)?.moment < earliest {
             return None;
         }
-        Some(number)
+        Some((asked.lane, number))
     }
+}
+
+/// Whether events may still be given at a key.
+fn is_open(given_to: Option<u64>, key: Key) -> bool {
+    given_to.is_none_or(|given_to| key.moment > given_to)
+}
+
+/// What asks for data that a client with that allocation is given.
+fn cause_of(holding: &Holding, given: Given<'_>) -> Option<Cause> {
+    let (peer, data) = match given {
+        Given::Peer(peer, data) => (peer, data),
+        Given::Channel(number, data) => (holding.peer_of(number)?, data),
+    };
+    Some(Cause::Peer {
+        relayed: holding.relayed?,
+        peer,
+        digest: digest_of(data),
+    })
+}
+
+/// What asks for data that a client is given, by the last of its deleted allocations that had such a peer, unless it is this.
+fn cause_before(of: &Lane, given: Given<'_>, current: Option<Cause>) -> Option<Cause> {
+    for deleted in of.deleted.iter().rev() {
+        let cause = cause_of(&deleted.holding, given);
+        if cause.is_some() && cause != current {
+            return cause;
+        }
+    }
+    None
 }

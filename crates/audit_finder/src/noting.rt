@@ -1,12 +1,12 @@
 //! Sightings that are new.
 
 use crate::answers::Transaction;
-use crate::causes::{cause_of_client, cause_of_peer};
+use crate::causes::{Cause, cause_of_client, cause_of_peer};
 use crate::clients::Clients;
 use crate::judge::Judge;
 use crate::lanes::Lane;
 use crate::rows::{Role, Row};
-use crate::said::answer_id;
+use crate::said::{Says, answer_of};
 use crate::search::Search;
 use audit_model::{Side, Sighting};
 use std::alloc::AllocError;
@@ -85,12 +85,67 @@ impl Search {
             return Ok(Role::Data);
         }
         let lane = judge.clients.lane_of(sighting.to, sighting.from);
-        match (lane, answer_id(sighting.payload.as_slice())) {
-            (Some(lane), Some(id)) => {
-                let of = Transaction { lane, id };
-                Ok(Role::Answer(self.answers.add(sighting.id, of)?))
+        let (Some(lane), Some(answer)) = (lane, answer_of(sighting.payload.as_slice())) else {
+            return Ok(Role::Data);
+        };
+        let (id, says) = answer;
+        let of = Transaction { lane, id };
+        Ok(Role::Answer(self.note_answer(judge, sighting, says, of)?))
+    }
+
+    /// Notes an answer, with the last request of its transaction that came before it by its interface, if that has no other.
+    fn note_answer(
+        &mut self,
+        judge: &Judge<'_>,
+        sighting: &Sighting,
+        says: Says,
+        of: Transaction,
+    ) -> Result<u32, AllocError> {
+        let request = self.request_before(judge, sighting, of);
+        let before = match self.lanes.get(of.lane as usize) {
+            Some(lane) => lane.noted,
+            None => None,
+        };
+        let answer = self.answers.add(sighting.id, says, request, before, of)?;
+        if let Some(lane) = self.lanes.get_mut(of.lane as usize) {
+            lane.noted = Some(answer);
+            match says {
+                Says::Allocated(relayed) => {
+                    lane.noted_allocation = Some(answer);
+                    self.allocations.insert((relayed, sighting.lo, answer))?;
+                }
+                Says::Deleted => {
+                    if let Some(allocation) = lane.noted_allocation {
+                        lane.noted_allocation = None;
+                        if let Some(allocation) = self.answers.get_mut(allocation) {
+                            allocation.deleted_from = Some(sighting.lo);
+                        }
+                    }
+                }
+                _ => {}
             }
-            _ => Ok(Role::Data),
         }
+        if let Some(request) = request {
+            if let Some(arrival) = self.arrivals.get_mut(request) {
+                arrival.answer = Some(answer);
+            }
+        }
+        Ok(answer)
+    }
+
+    /// The last request of a transaction that came before an answer by the same interface, no longer ago than `hold`, if it has
+    /// no other answer.
+    fn request_before(&self, judge: &Judge<'_>, answer: &Sighting, of: Transaction) -> Option<u32> {
+        let Transaction { lane, id } = of;
+        let number = self.arrivals.last(&Cause::Request { lane, id })?;
+        let arrival = self.arrivals.get(number)?;
+        if arrival.sight.iface != answer.id.iface || arrival.answer.is_some() {
+            return None;
+        }
+        let request = judge.intake.sighting(arrival.sight)?;
+        if answer.lo > request.lo.saturating_add(judge.intake.policy().hold) {
+            return None;
+        }
+        Some(number)
     }
 }

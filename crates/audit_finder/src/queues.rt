@@ -69,6 +69,11 @@ impl<K: Ord + Drop> Queues<K> {
         self.ends.get(key)?.first
     }
 
+    /// The item that was added to a queue last.
+    pub fn last(&self, key: &K) -> Option<u32> {
+        Some(self.ends.get(key)?.last)
+    }
+
     /// The item that was taken out of a queue last.
     pub fn past(&self, key: &K) -> Option<u32> {
         self.ends.get(key)?.past

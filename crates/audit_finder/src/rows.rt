@@ -14,6 +14,15 @@ pub enum Role {
     Data,
 }
 
+/// What a departure waits for.
+#[derive(Clone, Copy, Debug, PartialEq, Eq)]
+pub enum Wait {
+    /// An arrival.
+    Arrival(u32),
+    /// Whatever comes next on another interface.
+    Next,
+}
+
 /// One interface.
 #[derive(Drop)]
 pub struct Row {
@@ -21,10 +30,12 @@ pub struct Row {
     roles: Vec<Role>,
     /// How many of its sightings have a key.
     placed: usize,
-    /// How often the next one has waited for its cause.
+    /// How often the next one has waited.
     pub waits: u32,
-    /// It stands among the heads, or waits.
-    pub is_queued: bool,
+    /// The moment at which it stands among the heads.
+    pub queued: Option<u64>,
+    /// What the next one waits for.
+    pub wait: Option<Wait>,
 }
 
 impl Row {
@@ -33,7 +44,8 @@ impl Row {
             roles: Vec::new(alloc),
             placed: 0,
             waits: 0,
-            is_queued: false,
+            queued: None,
+            wait: None,
         }
     }
 

@@ -2,46 +2,73 @@
 
 use audit_model::{Addr, Sighting};
 use audit_stun::numbers::attribute::{
-    CHANNEL_NUMBER, LIFETIME, XOR_PEER_ADDRESS, XOR_RELAYED_ADDRESS,
+    CHANNEL_NUMBER, ERROR_CODE, LIFETIME, XOR_PEER_ADDRESS, XOR_RELAYED_ADDRESS,
 };
 use audit_stun::numbers::method;
-use audit_stun::{Class, Message, address, channel_data, message};
+use audit_stun::{Class, Message, address, channel_data, error_code, message};
 
-/// The message, where it is a success of that method.
-fn success_of(leaves: &Sighting, method: u16) -> Option<Message<'_>> {
-    let message = message(leaves.payload.as_slice())?;
-    if message.class() == Class::Success && message.method() == method {
-        Some(message)
-    } else {
-        None
+/// The error code Allocation Mismatch.
+const ALLOCATION_MISMATCH: u16 = 437;
+
+/// What a success or an error says of the allocation.
+#[derive(Clone, Copy, Debug, PartialEq, Eq)]
+pub enum Says {
+    /// There is a new allocation, of that relayed address; or the one that is there was asked for again.
+    Allocated(Addr),
+    /// The allocation is deleted: a success to a Refresh, of no seconds (RFC 8656, section 7).
+    Deleted,
+    /// A channel is bound.
+    Bound,
+    /// There is no allocation: the error 437 to anything but an Allocate (RFC 8656, section 18).
+    NoAllocation,
+    /// Something else, or an error.
+    Other,
+}
+
+impl Says {
+    /// Whether an allocation is made or deleted.
+    pub fn is_change(&self) -> bool {
+        matches!(self, Says::Allocated(_) | Says::Deleted)
     }
 }
 
-/// The transaction id of a success or an error.
-pub fn answer_id(payload: &[u8]) -> Option<[u8; 12]> {
+/// The transaction id of a success or an error, and what it says.
+pub fn answer_of(payload: &[u8]) -> Option<([u8; 12], Says)> {
     let message = message(payload)?;
     match message.class() {
-        Class::Success | Class::Error => Some(message.tid()),
+        Class::Success => Some((message.tid(), success_says(&message))),
+        Class::Error => Some((message.tid(), error_says(&message))),
         _ => None,
     }
 }
 
-/// Whether a departure says that the allocation is deleted: a success to a Refresh, of no seconds (RFC 8656, section 7).
-pub fn is_ending(leaves: &Sighting) -> bool {
-    match success_of(leaves, method::REFRESH) {
-        Some(message) => message.first(LIFETIME) == Some([0; 4].as_slice()),
-        None => false,
+fn success_says(message: &Message<'_>) -> Says {
+    match message.method() {
+        method::ALLOCATE => match relayed_address(message) {
+            Some(relayed) => Says::Allocated(relayed),
+            None => Says::Other,
+        },
+        method::REFRESH if message.first(LIFETIME) == Some([0; 4].as_slice()) => Says::Deleted,
+        method::CHANNEL_BIND => Says::Bound,
+        _ => Says::Other,
     }
 }
 
-/// The relayed address of a new allocation.
-pub fn allocated(leaves: &Sighting) -> Option<Addr> {
-    address(success_of(leaves, method::ALLOCATE)?.first(XOR_RELAYED_ADDRESS)?)
+fn error_says(message: &Message<'_>) -> Says {
+    match message.first(ERROR_CODE) {
+        Some(value)
+            if error_code(value) == Some(ALLOCATION_MISMATCH)
+                && message.method() != method::ALLOCATE => { Says::NoAllocation }
+        _ => Says::Other,
+    }
 }
 
-/// The channel that a ChannelBind binds, and its peer, where a departure says that it did.
-pub fn bound(arrives: &Sighting, leaves: &Sighting) -> Option<(u16, Addr)> {
-    let _success = success_of(leaves, method::CHANNEL_BIND)?;
+fn relayed_address(message: &Message<'_>) -> Option<Addr> {
+    address(message.first(XOR_RELAYED_ADDRESS)?)
+}
+
+/// The channel that a ChannelBind asks for, and its peer.
+pub fn asked_channel(arrives: &Sighting) -> Option<(u16, Addr)> {
     let request = message(arrives.payload.as_slice())?;
     let [high, low, _, _] = request.first(CHANNEL_NUMBER)? else {
         return None;

@@ -8,13 +8,20 @@ use crate::clock::Clock;
 use crate::heads::Heads;
 use crate::judge::Judge;
 use crate::lanes::Lane;
-use crate::leaving::CANDIDATES;
+use crate::leaving::{CANDIDATES, latest};
 use crate::portion::Portion;
-use crate::rows::{Role, Row};
-use audit_model::Addr;
+use crate::rows::{Role, Row, Wait};
+use audit_model::{Addr, Sighting};
 use audit_sightings::Intake;
 use std::alloc::{AllocError, Global};
-use std::collections::BTreeMap;
+use std::collections::{BTreeMap, BTreeSet};
+
+/// The lanes whose allocations had a relayed address: the last one, and another one before that.
+#[derive(Clone, Copy)]
+pub(crate) struct Holders {
+    pub(crate) last: u32,
+    pub(crate) before: Option<u32>,
+}
 
 /// What was found so far.
 #[derive(Drop)]
@@ -26,8 +33,12 @@ pub(crate) struct Search {
     pub(crate) heads: Heads,
     /// Interfaces whose next departure waits for an arrival, by the arrival.
     pub(crate) waiting: BTreeMap<u32, u32>,
-    /// The lane whose allocation last had a relayed address.
-    pub(crate) holders: BTreeMap<Addr, u32>,
+    /// Interfaces whose next departure waits for whatever comes next.
+    pub(crate) expecting: Vec<u32>,
+    /// Answers that make allocations and weren't given yet, by the relayed address and the least moment at which they leave.
+    pub(crate) allocations: BTreeSet<(Addr, u64, u32)>,
+    /// Whose each relayed address is.
+    pub(crate) holders: BTreeMap<Addr, Holders>,
     /// Arrivals that have a key, and no event yet.
     pub(crate) undecided: Vec<u32>,
     /// The last data of a client that arrived, of all lanes.
@@ -50,6 +61,8 @@ impl Search {
             answers: Answers::new(alloc),
             heads: Heads::new(alloc),
             waiting: BTreeMap::new(alloc),
+            expecting: Vec::new(alloc),
+            allocations: BTreeSet::new(alloc),
             holders: BTreeMap::new(alloc),
             undecided: Vec::new(alloc),
             last_sent: None,
@@ -84,12 +97,12 @@ impl Search {
         Ok(())
     }
 
-    /// Queues an interface by the least moment of its next sighting.
+    /// Queues an interface by the least moment of its next sighting; now, where that waited.
     fn queue_row(&mut self, intake: &Intake, iface: u32) -> Result<(), AllocError> {
-        let Some(row) = self.rows.get_mut(iface as usize) else {
+        let Some(row) = self.rows.get(iface as usize) else {
             return Ok(());
         };
-        if row.is_queued {
+        if row.queued.is_some() && row.wait.is_none() {
             return Ok(());
         }
         let Some((sight, _)) = row.next(iface) else {
@@ -98,8 +111,16 @@ impl Search {
         let Some(sighting) = intake.sighting(sight) else {
             return Ok(());
         };
-        row.is_queued = true;
-        self.heads.push(sighting.lo.max(self.clock.moment()), iface)
+        self.queue(iface, sighting.lo)
+    }
+
+    /// Queues an interface at a moment, or now where that is over.
+    fn queue(&mut self, iface: u32, moment: u64) -> Result<(), AllocError> {
+        let moment = moment.max(self.clock.moment());
+        if let Some(row) = self.rows.get_mut(iface as usize) {
+            row.queued = Some(moment);
+        }
+        self.heads.push(moment, iface)
     }
 
     /// Places sightings, the least moment first, up to the horizon.
@@ -110,24 +131,28 @@ impl Search {
         portion: &mut Portion,
     ) -> Result<(), AllocError> {
         let (_, sightings) = judge.intake.counts();
-        // Each is tried once more than it waits.
-        for _ in 0..(CANDIDATES as u64 + 1) * sightings as u64 + 1 {
-            match self.heads.pop(horizon) {
-                Some((moment, iface)) => {
-                    self.clock.reach(moment);
-                    self.try_next(judge, iface, portion)?;
-                }
-                None => {
-                    if !self.release(judge.intake, horizon)? {
-                        return Ok(());
-                    }
-                }
+        // Each is queued at first, and twice each time that it waits.
+        for _ in 0..(2 * CANDIDATES as u64 + 4) * (sightings as u64 + 1) {
+            let Some((moment, iface)) = self.heads.pop(horizon) else {
+                return Ok(());
+            };
+            if self.is_queued_at(iface, moment) {
+                self.clock.reach(moment);
+                self.try_next(judge, iface, portion)?;
             }
         }
         Ok(())
     }
 
-    /// Places the next sighting of an interface, or lets it wait for its cause.
+    /// Whether an interface stands among the heads at that moment, and not at another one since.
+    fn is_queued_at(&self, iface: u32, moment: u64) -> bool {
+        match self.rows.get(iface as usize) {
+            Some(row) => row.queued == Some(moment),
+            None => false,
+        }
+    }
+
+    /// Places the next sighting of an interface, or lets it wait.
     fn try_next(
         &mut self,
         judge: &Judge<'_>,
@@ -137,78 +162,86 @@ impl Search {
         let Some(row) = self.rows.get_mut(iface as usize) else {
             return Ok(());
         };
-        row.is_queued = false;
-        let may_wait = row.waits < CANDIDATES;
+        row.queued = None;
+        row.wait = None;
         let Some((sight, role)) = row.next(iface) else {
             return Ok(());
         };
         let Some(sighting) = judge.intake.sighting(sight) else {
             return Ok(());
         };
-        let cause = match role {
+        let wait = match role {
             Role::Arrival(number) => {
                 self.place_arrival(judge, number, sighting, portion)?;
                 None
             }
-            Role::Answer(number) => {
-                self.place_answer(judge, number, sighting, may_wait, portion)?
-            }
-            Role::Data => self.place_data(judge, sighting, may_wait, portion)?,
+            Role::Answer(number) => self.place_answer(judge, number, sighting, portion)?,
+            Role::Data => self.place_data(judge, sighting, portion)?,
         };
-        match cause {
-            Some(number) => self.wait(iface, number),
+        match wait {
+            Some(wait) => self.wait(judge, iface, wait, sighting),
             None => {
                 if let Some(row) = self.rows.get_mut(iface as usize) {
                     row.advance();
                 }
-                self.queue_row(judge.intake, iface)
+                self.queue_row(judge.intake, iface)?;
+                self.wake_expecting()
             }
         }
     }
 
-    /// Lets the next departure of an interface wait for an arrival. Where another one waits for that, it is tried again at once.
-    fn wait(&mut self, iface: u32, number: u32) -> Result<(), AllocError> {
+    /// Lets the next departure of an interface wait, till its latest moment at the most. Where another one waits for that
+    /// arrival, or it has waited often, it is not woken by it.
+    fn wait(
+        &mut self,
+        judge: &Judge<'_>,
+        iface: u32,
+        wait: Wait,
+        leaves: &Sighting,
+    ) -> Result<(), AllocError> {
+        let mut wait = wait;
+        if let Wait::Arrival(number) = wait {
+            if self.waiting.contains_key(&number) {
+                wait = Wait::Next;
+            } else {
+                self.waiting.insert(number, iface)?;
+            }
+        }
         if let Some(row) = self.rows.get_mut(iface as usize) {
+            row.wait = Some(wait);
             row.waits = row.waits.saturating_add(1);
-            row.is_queued = true;
+            if wait == Wait::Next && row.waits < CANDIDATES {
+                self.expecting.push(iface)?;
+            }
         }
-        if self.waiting.contains_key(&number) {
-            return self.heads.push(self.clock.moment(), iface);
-        }
-        self.waiting.insert(number, iface)?;
-        Ok(())
+        self.queue(iface, latest(judge, leaves))
     }
 
     /// Queues the interface whose next departure waits for an arrival, if there is one.
     pub(crate) fn wake(&mut self, number: u32) -> Result<(), AllocError> {
         match self.waiting.remove(&number) {
-            Some(iface) => self.heads.push(self.clock.moment(), iface),
+            Some(iface) => self.wake_row(iface, Wait::Arrival(number)),
             None => Ok(()),
         }
     }
 
-    /// Queues an interface whose next departure can't wait past the horizon, and tells whether there is one.
-    fn release(&mut self, intake: &Intake, horizon: u64) -> Result<bool, AllocError> {
-        let Some(number) = self.overdue(intake, horizon) else {
-            return Ok(false);
-        };
-        self.wake(number)?;
-        Ok(true)
+    /// Queues the interfaces whose next departures wait for whatever comes next.
+    fn wake_expecting(&mut self) -> Result<(), AllocError> {
+        if self.expecting.is_empty() {
+            return Ok(());
+        }
+        let expecting = std::mem::replace(&mut self.expecting, Vec::new(self.alloc));
+        for iface in expecting {
+            self.wake_row(iface, Wait::Next)?;
+        }
+        Ok(())
     }
 
-    /// An arrival for which a departure waits that has to be placed up to the horizon.
-    fn overdue(&self, intake: &Intake, horizon: u64) -> Option<u32> {
-        for (number, iface) in &self.waiting {
-            if let Some(row) = self.rows.get(*iface as usize) {
-                if let Some((sight, _)) = row.next(*iface) {
-                    if let Some(sighting) = intake.sighting(sight) {
-                        if sighting.hi <= horizon || horizon == u64::MAX {
-                            return Some(*number);
-                        }
-                    }
-                }
-            }
+    /// Queues an interface now, if its next departure waits for that.
+    fn wake_row(&mut self, iface: u32, wait: Wait) -> Result<(), AllocError> {
+        match self.rows.get(iface as usize) {
+            Some(row) if row.wait == Some(wait) => self.queue(iface, 0),
+            _ => Ok(()),
         }
-        None
     }
 }
