@@ -82,7 +82,6 @@ fn portion(
 }
 
 /// Adds a portion that fits.
-#[tactic(auto, using(audit_order::proofs::KeptSteps::stays_same))]
 fn added(
     placing: &mut Placing,
     intake: &Intake,
