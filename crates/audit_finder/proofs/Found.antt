@@ -3,20 +3,17 @@ use Rattle.std.proofs.Common.{◌≡◌, ◌≤◌, ℕ, false, List, [], ◌∷
 use Rattle.std.specs.Cmp.{IsEquivalence}
 use Rattle.std.specs.List.{IsDistinct, AllByRecursion}
 use Rattle.std.proofs.lemmas.List.{length-drop, length-take}
-use Rattle.std.proofs.lemmas.Cmp.{nat_eq_equiv, on_equiv, and_equiv}
+use Rattle.std.proofs.lemmas.Cmp.{on_equiv, and_equiv}
 use Rattle.std.proofs.lemmas.List.Sums.{sum_by-cons}
 use Rattle.std.proofs.lemmas.List.Elements.{All-nil, All-cons}
 use Rattle.indexmap.proofs.MapLemmas.{distinct-take, distinct-drop}
-use Rattle.audit_model.specs.declared.address.Addr.{Addr}
 use Rattle.audit_model.specs.declared.certificate.CertLane.{CertLane}
 use Rattle.audit_model.specs.EventCount.{event_count}
-use Rattle.audit_model.specs.Lanes.{same_addr, same_lane}
+use Rattle.audit_model.specs.Lanes.{same_lane}
+use Rattle.audit_model.proofs.Apart.{same_addr_equiv}
 use Rattle.audit_sightings.specs.Intake.{Taken, NamesWhatIsThere}
 use Rattle.audit_finder.specs.Clients.{Pair, same}
 use Rattle.audit_finder.specs.Found.{pair_of, empty_lane, AllNamed}
-
-same_addr_equiv : IsEquivalence same_addr
-same_addr_equiv = and_equiv (on_equiv (λ (a : Addr). a.ip) nat_eq_equiv) (on_equiv (λ (a : Addr). a.port) nat_eq_equiv)
 
 same_equiv : IsEquivalence same
 same_equiv = and_equiv (on_equiv (λ (p : Pair). p.0) same_addr_equiv) (on_equiv (λ (p : Pair). p.1) same_addr_equiv)
