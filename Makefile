@@ -1,7 +1,7 @@
 # turnaudit: `make demo` audits a capture of a real server, `make test` runs the gate and judges the captures of real servers.
 
 PROGRAM = crates/turnaudit/out/turnaudit
-SOURCES = $(wildcard crates/*/src/*.rt crates/*/src/*/*.rt)
+SOURCES = crates.txt $(shell find crates \( -path '*/src/*.rt' -o -path '*/specs/*.antt' -o -path '*/proofs/*.antt' \) -not -path '*/out/*')
 DEMO = examples/coturn-channels-two-files
 
 .PHONY: demo test
@@ -12,7 +12,8 @@ demo: $(PROGRAM)
 
 # Proves and builds the program.
 $(PROGRAM): $(SOURCES)
-	cd crates/turnaudit && rt run -- --help > /dev/null
+	@tools/build.py
+	@touch $@
 
 # Proves every crate from nothing, tries the must-fail edits, and runs the tests and the program; then, with the program that this
 # built, judges the captures in examples.
