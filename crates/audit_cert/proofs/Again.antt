@@ -8,15 +8,15 @@ use Rattle.std.proofs.lemmas.Bool.{eqb-true}
 use Rattle.std.proofs.lemmas.List.Folds.{list_any-append}
 use Rattle.std.proofs.lemmas.Fmt.{digits_decimal}
 use Rattle.std.proofs.lemmas.Nat.{from_be_bytes-to_be_bytes_4}
-use Rattle.audit_model.specs.declared.token.TokenFault.{TokenFault}
-use Rattle.audit_model.specs.declared.token.TokenFault.TheVariants.{Shape}
+use Rattle.audit_text.specs.declared.token.TokenFault.{TokenFault}
+use Rattle.audit_text.specs.declared.token.TokenFault.TheVariants.{Shape}
 use Rattle.audit_model.specs.declared.address.Addr.{Addr}
 use Rattle.audit_model.specs.declared.sighting.SightId.{SightId}
 use Rattle.audit_model.specs.declared.event.Key.{Key}
-use Rattle.audit_model.specs.Token.{◌>>=◌, cut_of, halves_of, both_of, number_of}
+use Rattle.audit_text.specs.Token.{◌>>=◌, cut_of, halves_of, both_of, number_of}
 use Rattle.audit_model.specs.AddressText.{octet_of, ip_of}
 use Rattle.audit_model.specs.Addr.{addr_of, addr_text}
-use Rattle.audit_model.proofs.Numbers.{own, number_only}
+use Rattle.audit_text.proofs.Numbers.{own, number_only}
 use Rattle.audit_cert.specs.EventLine.{word32_of, word64_of, sight_id_of, event_key_of, placed_of}
 use Rattle.audit_cert.specs.Spelling.{sight_text, key_text}
 use Rattle.audit_cert.specs.Fits.{AddrFits, SightFits, KeyFits}

@@ -1,8 +1,7 @@
 -- A line that is spelled is read again.
-use Rattle.std.proofs.Common.{◌≡◌, ℕ, ◌+◌, ◌<◌, Bool, false, cond, eqb, ◌&&◌, List, [], ◌∷◌, ◌++◌, length, Result, Ok, Err, codes, refl, sym, ap, ◌∙◌, append_assoc, eq-eqb, arith}
+use Rattle.std.proofs.Common.{◌≡◌, ℕ, ◌<◌, Bool, false, cond, eqb, ◌&&◌, List, [], ◌∷◌, ◌++◌, length, Result, Ok, Err, codes, refl, sym, ap, ◌∙◌, append_assoc, eq-eqb}
 use Rattle.std.specs.Str.{bytes_eq}
 use Rattle.std.proofs.lemmas.Bool.{lt-ltb, lt-leb}
-use Rattle.std.proofs.lemmas.List.{length-append}
 use Rattle.audit_model.specs.declared.address.Addr.{Addr}
 use Rattle.audit_model.specs.declared.sighting.SightId.{SightId}
 use Rattle.audit_model.specs.declared.event.Key.{Key}
@@ -10,20 +9,19 @@ use Rattle.audit_model.specs.declared.event.Event.{Event}
 use Rattle.audit_model.specs.declared.event.Event.TheVariants.{In, Act, Out}
 use Rattle.audit_model.specs.declared.certificate.CertLane.{CertLane}
 use Rattle.audit_model.specs.declared.certificate.CertDrop.{CertDrop}
-use Rattle.audit_model.specs.Token.{◌>>=◌, halves_of, both_of}
+use Rattle.audit_text.specs.Token.{◌>>=◌, halves_of, both_of}
 use Rattle.audit_model.specs.Addr.{addr_of, addr_text}
 use Rattle.audit_model.specs.Lanes.{has_pair}
-use Rattle.audit_cert.specs.declared.draft.Line.TheVariants as step
 use Rattle.audit_cert.specs.declared.fault.CertFaultKind.{CertFaultKind}
 use Rattle.audit_cert.specs.declared.fault.CertFaultKind.TheVariants.{Line, LaneDouble, Limit}
 use Rattle.audit_cert.specs.CertFault.{of_word}
 use Rattle.audit_cert.specs.DraftView.{Drafted}
 use Rattle.audit_cert.specs.EventLine.{sight_id_of, placed_of, act_of, event_of}
 use Rattle.audit_cert.specs.CertLines.{with_event, said_count, after_lane, after_event, after_drop, after_line}
-use Rattle.audit_cert.specs.CertText.{line_of, next_of}
 use Rattle.audit_cert.specs.Spelling.{sight_text, event_line, lane_line, drop_line}
 use Rattle.audit_cert.specs.Fits.{AddrFits, SightFits, KeyFits, EventFits, DropFits}
-use Rattle.audit_cert.proofs.Texts.{read_rest, then_read, by_line, took, ends, with_rest}
+use Rattle.audit_text.specs.Reading.{line_after}
+use Rattle.audit_cert.proofs.Texts.{read_rest, line_read}
 use Rattle.audit_cert.proofs.Words.{placed_word}
 use Rattle.audit_cert.proofs.Found.{event_word, event_ended, empty_lane, in_made, act_made, out_made}
 use Rattle.audit_cert.proofs.FoundTexts.{lane_kept, lane_read, event_kept, drop_kept, by_word}
@@ -31,21 +29,9 @@ use Rattle.audit_cert.proofs.Again.{Lacks, lacks_both, bind_again, both_again, h
 
 -- ---- one line of a text
 
-line_taken : (said next : Drafted) (line : List ℕ) → bytes_eq line (codes "end") ≡ false → after_line said line ≡ Ok next → line_of said line ≡ Ok (step.Taken, next)
-unfolding line_of
-line_taken said next line other e = ap (λ (t : Bool). cond t (ends said) (after_line said line >>= took)) other ∙ ap (λ (r : Result Drafted CertFaultKind). r >>= took) e
-
-next_taken : (said next : Drafted) (line rest : List ℕ) → Lacks 10 line → bytes_eq line (codes "end") ≡ false → after_line said line ≡ Ok next → next_of said (line ++ 10 ∷ rest) ≡ Ok (step.Taken, next, rest)
-unfolding next_of
-next_taken said next line rest lacks other e =
-    bind_again (of_word (halves_of 10 (line ++ 10 ∷ rest))) (λ h. with_rest h.1 (line_of said h.0)) (line, rest) (Ok (step.Taken, next, rest))
-    (ap of_word (halves_at 10 line rest lacks))
-    (ap (with_rest rest) (line_taken said next line other e))
-
 pub line_again : (n : ℕ) (said next : Drafted) (line rest : List ℕ) → Lacks 10 line → bytes_eq line (codes "end") ≡ false → after_line said line ≡ Ok next →
-    read_rest n said (line ++ 10 ∷ rest) ≡ read_rest (n + 1) next rest
-line_again n said next line rest lacks other e =
-    by_line n said (line ++ 10 ∷ rest) (omega (arith, length-append line (10 ∷ rest))) ∙ ap (then_read n) (next_taken said next line rest lacks other e)
+    read_rest n said (line ++ 10 ∷ rest) ≡ read_rest (line_after n) next rest
+line_again n said next line rest lacks other e = line_read n said next line rest lacks other e
 
 ended_text : (whole line rest : List ℕ) → whole ≡ line ++ 10 ∷ [] → whole ++ rest ≡ line ++ 10 ∷ rest
 ended_text whole line rest e = ap (λ (l : List ℕ). l ++ rest) e ∙ append_assoc line (10 ∷ []) rest
@@ -73,7 +59,7 @@ lane_after said client listen c l none few new =
     (ap (λ (t : Bool). cond t (Err Limit) (cond (has_pair client listen said.lanes) (Err LaneDouble) made)) (lt-leb 65536 (length said.lanes) few) ∙ ap (λ (t : Bool). cond t (Err LaneDouble) made) new))
 
 pub lane_step : (n : ℕ) (said : Drafted) (lane : CertLane) (rest : List ℕ) → AddrFits lane.client → AddrFits lane.listen → length said.drops ≡ 0 → length said.lanes < 65536 → has_pair lane.client lane.listen said.lanes ≡ false →
-    read_rest n said (lane_line lane ++ rest) ≡ read_rest (n + 1) (record said { lanes = said.lanes ++ empty_lane lane.client lane.listen ∷ [] }) rest
+    read_rest n said (lane_line lane ++ rest) ≡ read_rest (line_after n) (record said { lanes = said.lanes ++ empty_lane lane.client lane.listen ∷ [] }) rest
 lane_step n said lane rest c l none few new =
     let client : List ℕ = addr_text lane.client in
     let listen : List ℕ = addr_text lane.listen in
@@ -129,7 +115,7 @@ event_line_after said (Act sight gives key) fits some none few = worded said (co
 event_line_after said (Out sight key) fits some none few = worded said (codes "out") (placed_word sight key) _ refl (event_after said (codes "out") (placed_word sight key) (Out sight key) (out_again sight key fits.0 fits.1) some none few)
 
 pub event_step : (n : ℕ) (said : Drafted) (event : Event) (rest : List ℕ) → EventFits event → 0 < length said.lanes → length said.drops ≡ 0 → said_count said < 50331648 →
-    read_rest n said (event_line event ++ rest) ≡ read_rest (n + 1) (record said { lanes = with_event event said.lanes }) rest
+    read_rest n said (event_line event ++ rest) ≡ read_rest (line_after n) (record said { lanes = with_event event said.lanes }) rest
 event_step n said event rest fits some none few =
     ap (read_rest n said) (ended_text (event_line event) (event_word event) rest (event_ended event))
     ∙ line_again n said _ (event_word event) rest (event_lacks event fits) (not_end event) (event_line_after said event fits some none few)
@@ -143,7 +129,7 @@ drop_after said drop fits few =
     bind_again (of_word (placed_of (placed_word drop.sight drop.key))) (drop_kept said) (drop.sight, drop.key) made (ap of_word (placed_again drop.sight drop.key fits.0 fits.1)) (ap (λ (t : Bool). cond t (Err Limit) made) (lt-leb 50331648 (said_count said) few))
 
 pub drop_step : (n : ℕ) (said : Drafted) (drop : CertDrop) (rest : List ℕ) → DropFits drop → said_count said < 50331648 →
-    read_rest n said (drop_line drop ++ rest) ≡ read_rest (n + 1) (record said { drops = said.drops ++ drop ∷ [] }) rest
+    read_rest n said (drop_line drop ++ rest) ≡ read_rest (line_after n) (record said { drops = said.drops ++ drop ∷ [] }) rest
 drop_step n said drop rest fits few =
     let placed : List ℕ = placed_word drop.sight drop.key in
     let text : drop_line drop ≡ (codes "drop" ++ 32 ∷ placed) ++ 10 ∷ [] = ap (λ (x : List ℕ). codes "drop " ++ x) (sym (append_assoc (sight_text drop.sight) _ (10 ∷ []))) in

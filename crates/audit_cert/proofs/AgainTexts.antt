@@ -15,8 +15,9 @@ use Rattle.audit_cert.specs.CertText.{cert_of}
 use Rattle.audit_cert.specs.Spelling.{event_line, lane_line, lane_lines, drop_line, spelling}
 use Rattle.audit_cert.specs.Fits.{EventFits, LaneFits, DropFits, IsCertificate}
 use Rattle.audit_cert.proofs.Drafts.{longer, events_of, same_lane_symm}
-use Rattle.audit_cert.proofs.Texts.{heading, read_rest, due_heading}
-use Rattle.audit_cert.proofs.Again.{cut_at}
+use Rattle.audit_text.specs.Reading.{line_after}
+use Rattle.audit_cert.specs.CertText.{begun, after}
+use Rattle.audit_cert.proofs.Texts.{heading, in_lines, read_rest, one_read}
 use Rattle.audit_cert.proofs.AgainLines.{lane_step, event_step, drop_step}
 
 -- lines read from one on come to lines read from another on, where the rest is read
@@ -50,9 +51,9 @@ events_again n lanes lane before (event ∷ more) rest fits few =
     let some : 0 < length said.lanes = omega (arith, length-append lanes (record lane { events = before } ∷ [])) in
     let room : said_count said < 50331648 = omega (arith, counted lanes lane before) in
     let next : made ≡ in_lane lanes lane (before ++ event ∷ []) = ap (λ (l : List CertLane). record said { lanes = l }) (with_event_last event lanes (record lane { events = before })) in
-    let one : read_rest n said (flat_map event_line (event ∷ more) ++ rest) ≡ read_rest (n + 1) (in_lane lanes lane (before ++ event ∷ [])) later =
-    ap (read_rest n said) (split event_line event more rest) ∙ event_step n said event later fits.0 some refl room ∙ ap (λ (d : Drafted). read_rest (n + 1) d later) next in
-    let others = events_again (n + 1) lanes lane (before ++ event ∷ []) more rest fits.1 (omega (arith, length-append before (event ∷ []))) in
+    let one : read_rest n said (flat_map event_line (event ∷ more) ++ rest) ≡ read_rest (line_after n) (in_lane lanes lane (before ++ event ∷ [])) later =
+    ap (read_rest n said) (split event_line event more rest) ∙ event_step n said event later fits.0 some refl room ∙ ap (λ (d : Drafted). read_rest (line_after n) d later) next in
+    let others = events_again (line_after n) lanes lane (before ++ event ∷ []) more rest fits.1 (omega (arith, length-append before (event ∷ []))) in
     subst (λ (events : List Event). Comes n said (flat_map event_line (event ∷ more) ++ rest) (in_lane lanes lane events) rest) (append_assoc before (event ∷ []) more)
     (others.0, one ∙ others.1)
 
@@ -81,10 +82,10 @@ lanes_again n before (lane ∷ more) rest fits distinct few room =
     let count = sum_by-cons events_of lane more in
     let text : flat_map lane_lines (lane ∷ more) ++ rest ≡ lane_line lane ++ (flat_map event_line lane.events ++ later) =
     split lane_lines lane more rest ∙ append_assoc (lane_line lane) (flat_map event_line lane.events) later in
-    let one : read_rest n (of_lanes before) (flat_map lane_lines (lane ∷ more) ++ rest) ≡ read_rest (n + 1) (in_lane before lane []) (flat_map event_line lane.events ++ later) =
+    let one : read_rest n (of_lanes before) (flat_map lane_lines (lane ∷ more) ++ rest) ≡ read_rest (line_after n) (in_lane before lane []) (flat_map event_line lane.events ++ later) =
     ap (read_rest n (of_lanes before)) text
     ∙ lane_step n (of_lanes before) lane (flat_map event_line lane.events ++ later) fits.0.client fits.0.listen refl (omega (arith, length-append before (lane ∷ more))) (is_new before lane more distinct) in
-    let events = events_again (n + 1) before lane [] lane.events later fits.0.events (omega (arith, count)) in
+    let events = events_again (line_after n) before lane [] lane.events later fits.0.events (omega (arith, count)) in
     let others = lanes_again events.0 (before ++ lane ∷ []) more rest fits.1 (subst (IsDistinct same_lane) whole distinct) (omega (arith, ap length whole)) (omega (arith, count, sum_by_push events_of before lane)) in
     subst (λ (lanes : List CertLane). Comes n (of_lanes before) (flat_map lane_lines (lane ∷ more) ++ rest) (of_lanes lanes) rest) (sym whole)
     (others.0, one ∙ events.1 ∙ others.1)
@@ -97,19 +98,26 @@ drops_again n lanes before [] rest fits room = (n, ap (λ (drops : List CertDrop
 drops_again n lanes before (drop ∷ more) rest fits room =
     let later : List ℕ = flat_map drop_line more ++ rest in
     let said : Drafted = record { lanes = lanes; drops = before } in
-    let one : read_rest n said (flat_map drop_line (drop ∷ more) ++ rest) ≡ read_rest (n + 1) (record { lanes = lanes; drops = before ++ drop ∷ [] }) later =
+    let one : read_rest n said (flat_map drop_line (drop ∷ more) ++ rest) ≡ read_rest (line_after n) (record { lanes = lanes; drops = before ++ drop ∷ [] }) later =
     ap (read_rest n said) (split drop_line drop more rest) ∙ drop_step n said drop later fits.0 (omega arith) in
-    let others = drops_again (n + 1) lanes (before ++ drop ∷ []) more rest fits.1 (omega (arith, length-append before (drop ∷ []))) in
+    let others = drops_again (line_after n) lanes (before ++ drop ∷ []) more rest fits.1 (omega (arith, length-append before (drop ∷ []))) in
     subst (λ (drops : List CertDrop). Comes n said (flat_map drop_line (drop ∷ more) ++ rest) (record { lanes = lanes; drops = drops }) rest) (append_assoc before (drop ∷ []) more)
     (others.0, one ∙ others.1)
 
 -- ---- the whole
 
+headed : (text : List ℕ) → cert_of (heading ++ 10 ∷ text) ≡ read_rest 2 nothing_said text
+unfolding cert_of after
+headed text = one_read 1 begun (in_lines nothing_said) heading text refl refl
+
+over : (n : ℕ) (said : Drafted) → read_rest n said (codes "end\n") ≡ Ok said
+unfolding after
+over n said = refl
+
 pub cert_again : (said : Drafted) → IsCertificate said → cert_of (spelling said) ≡ Ok said
 cert_again said is =
     let tail : List ℕ = flat_map drop_line said.drops ++ codes "end\n" in
     let text : List ℕ = flat_map lane_lines said.lanes ++ tail in
-    let start : cert_of (spelling said) ≡ read_rest 2 nothing_said text = sym (due_heading (spelling said) heading text (sym (cut_at 10 heading text refl)) refl) in
     let lanes = lanes_again 2 [] said.lanes tail is.lanes is.distinct is.few_lanes (omega (arith, is.few_events)) in
     let drops = drops_again lanes.0 said.lanes [] said.drops (codes "end\n") is.drops (omega (arith, is.few_events)) in
-    start ∙ lanes.1 ∙ drops.1
+    headed text ∙ lanes.1 ∙ drops.1 ∙ over drops.0 said

@@ -1,5 +1,5 @@
 -- A text that is read is the text that is spelled.
-use Rattle.std.proofs.Common.{◌≡◌, ℕ, ◌+◌, Bool, true, false, cond, eqb, leb, ltb, ◌&&◌, List, [], ◌∷◌, ◌++◌, length, Result, Ok, Err, codes, inl, inr, refl, sym, ap, subst, ◌∙◌, append_assoc}
+use Rattle.std.proofs.Common.{◌≡◌, ℕ, Bool, true, false, cond, eqb, leb, ltb, ◌&&◌, List, [], ◌∷◌, ◌++◌, length, Result, Ok, Err, codes, inl, inr, refl, sym, ap, subst, ◌∙◌, append_assoc}
 use Rattle.std.specs.Str.{bytes_eq}
 use Rattle.std.specs.List.{flat_map, IsDistinct}
 use Rattle.std.specs.Cmp.Lexicographic.{same_text}
@@ -9,23 +9,26 @@ use Rattle.audit_model.specs.declared.address.Addr.{Addr}
 use Rattle.audit_model.specs.declared.event.Event.{Event}
 use Rattle.audit_model.specs.declared.sighting.SightId.{SightId}
 use Rattle.audit_model.specs.declared.event.Key.{Key}
-use Rattle.audit_model.specs.Token.{◌>>=◌, halves_of, both_of}
-use Rattle.audit_model.specs.Lines.{Pieces, pieces}
+use Rattle.audit_text.specs.Token.{◌>>=◌, halves_of, both_of}
+use Rattle.audit_text.specs.Lines.{Pieces, pieces}
 use Rattle.audit_model.specs.Addr.{addr_of, addr_text}
-use Rattle.audit_cert.specs.declared.fault.CertFault.{CertFault}
+use Rattle.audit_text.specs.declared.line_fault.LineFault.{LineFault}
+use Rattle.audit_text.specs.Reading.{line_after, at_line, taken_in, end_of}
+use Rattle.audit_cert.specs.declared.lines.Stage.TheVariants as stage
 use Rattle.audit_cert.specs.declared.fault.CertFaultKind.{CertFaultKind}
 use Rattle.audit_cert.specs.declared.fault.CertFaultKind.TheVariants.{Heading, Line, LaneDouble, Limit}
 use Rattle.audit_cert.specs.CertFault.{of_word}
-use Rattle.audit_cert.specs.DraftView.{Drafted, nothing_said}
+use Rattle.audit_cert.specs.DraftView.{Drafted, Progress, nothing_said}
 use Rattle.audit_cert.specs.EventLine.{placed_of, event_of}
 use Rattle.audit_model.specs.Lanes.{same_lane, has_pair}
 use Rattle.audit_cert.specs.CertLines.{with_event, said_count, after_lane, after_event, after_drop, after_line}
-use Rattle.audit_cert.specs.CertText.{fault_at, at_line, ended, read_lines, read_heading, cert_of}
+use Rattle.audit_cert.specs.CertText.{begun, after, unended, lacks, said_in, cert_of}
 use Rattle.audit_cert.specs.Spelling.{lane_lines, drop_line, spelling}
 use Rattle.audit_cert.proofs.Steps.{bind_ok, both_ok, word_ok, guard_false, guard_true, chosen, ok_is}
 use Rattle.audit_cert.proofs.Words.{halves_found, joins, placed_word, placed_found, addr_found}
 use Rattle.audit_cert.proofs.Found.{event_word, event_found, begins, body, Adds, empty_lane, adds_lane, adds_event, adds_drop}
 use Rattle.audit_cert.proofs.Drafts.{none_apart}
+use Rattle.audit_cert.proofs.Texts.{in_lines, read_from}
 
 abbrev pub Said : Type 0
 Said = Result Drafted CertFaultKind
@@ -120,40 +123,60 @@ pub joined_pieces : (text : List ℕ) → joined (pieces text).first (pieces tex
 joined_pieces [] = refl
 joined_pieces (b ∷ bs) = rejoined b bs (pieces bs) (eqb b 10) refl (joined_pieces bs)
 
-at_ok : {A B : Type 0} (line : ℕ) (r : Result A CertFaultKind) (f : A → Result B CertFault) (y : B) → at_line line r f ≡ Ok y → (x : A) × (r ≡ Ok x) × (f x ≡ Ok y)
-at_ok line (Ok x) f y e = (x, refl, e)
-at_ok line (Err kind) f y e = absurd cc
-
 -- the lines still to come are those of what they add, and `end`
 pub record Reads (said : Drafted) (text : List ℕ) (all : Drafted) : Type 0 where
   pub lines : body said ++ text ≡ body all ++ codes "end\n"
   pub apart : IsDistinct same_lane said.lanes → IsDistinct same_lane all.lanes
 
-end_found : (line : ℕ) (said all : Drafted) (piece next : List ℕ) (more : List (List ℕ)) → bytes_eq piece (codes "end") ≡ true → ended line said next more ≡ Ok all → Reads said (joined piece (next ∷ more)) all
+abbrev Whole : Type 0
+Whole = Result Drafted (LineFault CertFaultKind)
+
+abbrev from_pieces : ℕ → Progress → List ℕ → List (List ℕ) → Whole
+from_pieces line progress piece more = read_from line progress (record { first = piece; more = more })
+
+abbrev ended_with : Drafted → Progress
+ended_with said = record { stage = stage.Ended; said = said }
+
+-- `end` is the last line
+end_found : (line : ℕ) (said all : Drafted) (piece next : List ℕ) (more : List (List ℕ)) → bytes_eq piece (codes "end") ≡ true → from_pieces line (ended_with said) next more ≡ Ok all →
+    Reads said (joined piece (next ∷ more)) all
+unfolding after
 end_found line said all piece [] [] same e =
     subst (λ (d : Drafted). Reads said (piece ++ 10 ∷ []) d) (ok_is said all e) (record {
       lines = ap (λ (l : List ℕ). body said ++ (l ++ 10 ∷ [])) (same_text piece (codes "end") (sym same));
       apart = λ apart. apart;
     })
-end_found line said all piece [] (x ∷ more) same e = absurd cc
-end_found line said all piece (b ∷ bs) more same e = absurd cc
+end_found line said all piece (b ∷ bs) [] same e = absurd cc
+end_found line said all piece next (x ∷ more) same e = absurd cc
 
-pub lines_found : (line : ℕ) (said all : Drafted) (piece : List ℕ) (more : List (List ℕ)) → read_lines line said piece more ≡ Ok all → Reads said (joined piece more) all
-lines_found line said all piece [] e = absurd cc
+-- what a line and those behind it come to
+abbrev then_rest : ℕ → Result Progress CertFaultKind → List ℕ → List (List ℕ) → Whole
+then_rest line taken next more = said_in (end_of unended lacks (at_line line taken (λ progress. taken_in after (line_after line) progress next more)))
+
+next_said : (line : ℕ) (taken : Said) (next : List ℕ) (more : List (List ℕ)) (all : Drafted) → then_rest line (taken >>= (λ s. Ok (in_lines s))) next more ≡ Ok all →
+    (x : Drafted) × (taken ≡ Ok x) × (from_pieces (line_after line) (in_lines x) next more ≡ Ok all)
+next_said line (Ok x) next more all e = (x, refl, e)
+next_said line (Err kind) next more all e = absurd cc
+
+pub lines_found : (line : ℕ) (said all : Drafted) (piece : List ℕ) (more : List (List ℕ)) → from_pieces line (in_lines said) piece more ≡ Ok all → Reads said (joined piece more) all
+unfolding after
+lines_found line said all [] [] e = absurd cc
+lines_found line said all (b ∷ bs) [] e = absurd cc
 lines_found line said all piece (next ∷ more) e =
-    elim (chosen (bytes_eq piece (codes "end")) (ended (line + 1) said next more) (at_line line (after_line said piece) (λ then_said. read_lines (line + 1) then_said next more)) (Ok all) e) [
-      | inl is ↦ end_found (line + 1) said all piece next more is.0 is.1
-      | inr goes ↦
-          let x = at_ok line (after_line said piece) (λ then_said. read_lines (line + 1) then_said next more) all goes.1 in
+    elim (bytes_eq piece (codes "end")) as (λ t. bytes_eq piece (codes "end") ≡ t →
+    then_rest line (cond t (Ok (ended_with said)) (after_line said piece >>= (λ s. Ok (in_lines s)))) next more ≡ Ok all → Reads said (joined piece (next ∷ more)) all) [
+      | true ↦ λ is k. end_found (line_after line) said all piece next more is k
+      | false ↦ λ is k.
+          let x = next_said line (after_line said piece) next more all k in
           let adds = line_found said x.0 piece x.1 in
-          let rest = lines_found (line + 1) x.0 all next more x.2 in
+          let rest = lines_found (line_after line) x.0 all next more x.2 in
           record {
             lines = ap (λ (l : List ℕ). body said ++ l) (sym (append_assoc piece (10 ∷ []) (joined next more)))
                 ∙ sym (append_assoc (body said) (piece ++ 10 ∷ []) (joined next more))
                 ∙ ap (λ (l : List ℕ). l ++ joined next more) (sym adds.lines) ∙ rest.lines;
             apart = λ apart. rest.apart (adds.apart apart);
           }
-    ]
+    ] refl e
 
 -- ---- the whole
 
@@ -161,20 +184,22 @@ pub record IsFound (text : List ℕ) (all : Drafted) : Type 0 where
   pub spelled : text ≡ spelling all
   pub apart : IsDistinct same_lane all.lanes
 
-guard_heading : (t : Bool) (r : Result Drafted CertFault) (y : Drafted) → cond t r (fault_at 1 Heading) ≡ Ok y → (t ≡ true) × (r ≡ Ok y)
-guard_heading true r y e = (refl, e)
-guard_heading false r y e = absurd cc
-
-heading_found : (first : List ℕ) (more : List (List ℕ)) (all : Drafted) → read_heading first more ≡ Ok all → IsFound (joined first more) all
-heading_found first [] all e = absurd cc
+heading_found : (first : List ℕ) (more : List (List ℕ)) (all : Drafted) → from_pieces 1 begun first more ≡ Ok all → IsFound (joined first more) all
+unfolding after
+heading_found [] [] all e = absurd cc
+heading_found (b ∷ bs) [] all e = absurd cc
 heading_found first (next ∷ more) all e =
-    let g = guard_heading (bytes_eq first (codes "turnaudit-certificate 1")) (read_lines 2 nothing_said next more) all e in
-    let r = lines_found 2 nothing_said all next more g.1 in
-    record {
-      spelled = ap (λ (l : List ℕ). l ++ 10 ∷ joined next more) (same_text first (codes "turnaudit-certificate 1") (sym g.0))
-          ∙ ap (λ (l : List ℕ). codes "turnaudit-certificate 1\n" ++ l) (r.lines ∙ append_assoc (flat_map lane_lines all.lanes) (flat_map drop_line all.drops) (codes "end\n"));
-      apart = r.apart (none_apart [] refl);
-    }
+    elim (bytes_eq first (codes "turnaudit-certificate 1")) as (λ t. bytes_eq first (codes "turnaudit-certificate 1") ≡ t →
+    then_rest 1 (cond t (Ok (in_lines nothing_said)) (Err Heading)) next more ≡ Ok all → IsFound (joined first (next ∷ more)) all) [
+      | true ↦ λ is k.
+          let r = lines_found 2 nothing_said all next more k in
+          record {
+            spelled = ap (λ (l : List ℕ). l ++ 10 ∷ joined next more) (same_text first (codes "turnaudit-certificate 1") (sym is))
+                ∙ ap (λ (l : List ℕ). codes "turnaudit-certificate 1\n" ++ l) (r.lines ∙ append_assoc (flat_map lane_lines all.lanes) (flat_map drop_line all.drops) (codes "end\n"));
+            apart = r.apart (none_apart [] refl);
+          }
+      | false ↦ λ is k. absurd cc
+    ] refl e
 
 pub cert_found : (text : List ℕ) (all : Drafted) → cert_of text ≡ Ok all → IsFound text all
 unfolding cert_of

@@ -1,9 +1,9 @@
 -- What a reading's steps gave, where the whole of it gave a value.
 use Rattle.std.proofs.Common.{◌≡◌, ◌⊎◌, Bool, true, false, cond, Result, Ok, Err, inl, inr, refl, ap, subst}
 use Rattle.std.specs.Prelude.{IfOk}
-use Rattle.audit_model.specs.declared.token.TokenFault.{TokenFault}
-use Rattle.audit_model.specs.declared.token.TokenFault.TheVariants.{Shape, Number}
-use Rattle.audit_model.specs.Token.{◌>>=◌, both_of}
+use Rattle.audit_text.specs.declared.token.TokenFault.{TokenFault}
+use Rattle.audit_text.specs.declared.token.TokenFault.TheVariants.{Shape, Number}
+use Rattle.audit_text.specs.Token.{◌>>=◌, both_of}
 use Rattle.audit_cert.specs.CertFault.{of_word}
 
 pub bind_ok : {A B E : Type 0} (r : Result A E) (f : A → Result B E) (y : B) → (r >>= f) ≡ Ok y → (x : A) × (r ≡ Ok x) × (f x ≡ Ok y)

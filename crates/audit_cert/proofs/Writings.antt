@@ -4,9 +4,9 @@ use Rattle.std.specs.List.{flat_map}
 use Rattle.std.proofs.lemmas.Grind.{flat_map-append}
 use Rattle.std.proofs.lemmas.List.{take-append-le, length-append, take_more, take-append-drop}
 use Rattle.std.proofs.Math.Seq.{take-append-add}
-use Rattle.audit_model.specs.Sink.{followed_by, raised_by, Rose}
+use Rattle.audit_model.specs.Sink.{followed_by, raised_by}
 use Rattle.audit_model.specs.declared.write_fault.WriteFault.{WriteFault}
-use Rattle.audit_model.proofs.Sinks.{follows_both, raised_both}
+use Rattle.audit_model.proofs.Sinks.{follows_both}
 use Rattle.audit_cert.specs.Writing.{Course, Went, Stopped, Puts}
 
 abbrev pub course : Option (List ℕ) → Option (List ℕ) → Option ℕ → Option ℕ → Course
@@ -15,19 +15,15 @@ course t u f h = record { taken = t; taken_now = u; failures = f; failures_now =
 pub went_both : (a b : List ℕ) (t u v : Option (List ℕ)) (f h k : Option ℕ) → Went a (course t u f h) → Went b (course u v h k) → Went (a ++ b) (course t v f k)
 went_both a b t u v f h k p q = record {
   all = q.all ∙ ap (λ (o : Option (List ℕ)). followed_by o b) p.all ∙ follows_both t a b;
-  counted = (p.counted.0 + q.counted.0, q.counted.1 ∙ ap (λ (o : Option ℕ). raised_by o q.counted.0) p.counted.1 ∙ raised_both f p.counted.0 q.counted.0);
+  kept = q.kept ∙ p.kept;
 }
 
 pub stopped_first : (a b : List ℕ) (fault : WriteFault) (c : Course) → Stopped a fault c → Stopped (a ++ b) fault c
 stopped_first a b fault c s = record {
   front = (s.front.0, omega (arith, s.front.1, length-append a b), s.front.2 ∙ ap (followed_by c.taken) (sym (take-append-le s.front.0 a b s.front.1)));
   device = s.device;
+  memory = s.memory;
 }
-
-later_rise : (f k : Option ℕ) (more : ℕ) → Rose (raised_by f more) k → Rose f k
-later_rise None k more r = tt
-later_rise (Some n) None more r = tt
-later_rise (Some n) (Some m) more r = omega arith
 
 pub stopped_then : (a b : List ℕ) (fault : WriteFault) (t u v : Option (List ℕ)) (f h k : Option ℕ) → Went a (course t u f h) → Stopped b fault (course u v h k) → Stopped (a ++ b) fault (course t v f k)
 stopped_then a b fault t u v f h k p s = record {
@@ -36,7 +32,8 @@ stopped_then a b fault t u v f h k p s = record {
     omega (arith, s.front.1, length-append a b),
     s.front.2 ∙ ap (λ (o : Option (List ℕ)). followed_by o (take s.front.0 b)) p.all ∙ follows_both t a (take s.front.0 b) ∙ ap (followed_by t) (sym (take-append-add a b s.front.0)),
   );
-  device = λ is. later_rise f k p.counted.0 (subst (λ (o : Option ℕ). Rose o k) p.counted.1 (s.device is));
+  device = λ is. s.device is ∙ ap (λ (o : Option ℕ). raised_by o 1) p.kept;
+  memory = λ is. s.memory is ∙ p.kept;
 }
 
 -- the lines of one item more

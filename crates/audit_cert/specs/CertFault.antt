@@ -1,8 +1,7 @@
--- The fault of a certificate line that a word of it has, and what is claimed of a fault.
-use Rattle.std.specs.Prelude.{◌≡◌, ℕ, List, Result, Ok, Err, codes}
-use Rattle.audit_model.specs.declared.token.TokenFault.{TokenFault}
-use Rattle.audit_model.specs.declared.token.TokenFault.TheVariants as token
-use Rattle.audit_cert.specs.declared.fault.CertFault.{CertFault}
+-- The fault of a certificate line that a word of it has.
+use Rattle.std.specs.Prelude.{ℕ, Bool, true, false, List, Result, Ok, Err, codes}
+use Rattle.audit_text.specs.declared.token.TokenFault.{TokenFault}
+use Rattle.audit_text.specs.declared.token.TokenFault.TheVariants as token
 use Rattle.audit_cert.specs.declared.fault.CertFaultKind.{CertFaultKind}
 use Rattle.audit_cert.specs.declared.fault.CertFaultKind.TheVariants.{Heading, Line, Number, LaneDouble, Limit, EndMissing, Memory}
 
@@ -25,26 +24,11 @@ abbrev pub of_word : {A : Type 0} → Result A TokenFault → Result A CertFault
 of_word (Ok x) = Ok x
 of_word (Err fault) = Err (cert_fault_of fault)
 
--- the fault is the reading's, but for want of memory
-abbrev pub IsFaultOf : {A : Type 0} → CertFaultKind → Result A CertFaultKind → Type 0
-IsFaultOf Heading read = read ≡ Err Heading
-IsFaultOf Line read = read ≡ Err Line
-IsFaultOf Number read = read ≡ Err Number
-IsFaultOf LaneDouble read = read ≡ Err LaneDouble
-IsFaultOf Limit read = read ≡ Err Limit
-IsFaultOf EndMissing read = read ≡ Err EndMissing
-IsFaultOf Memory read = Unit {0}
-
--- what is claimed of a fault that is not want of memory
-abbrev pub UnlessMemory : CertFaultKind → Type 0 → Type 0
-UnlessMemory Memory claim = Unit {0}
-UnlessMemory Heading claim = claim
-UnlessMemory Line claim = claim
-UnlessMemory Number claim = claim
-UnlessMemory LaneDouble claim = claim
-UnlessMemory Limit claim = claim
-UnlessMemory EndMissing claim = claim
-
--- the fault, with its line, is the reading's first one, but for want of memory
-abbrev pub IsFirstFault : {A : Type 0} → CertFault → Result A CertFault → Type 0
-IsFirstFault fault read = UnlessMemory fault.kind (read ≡ Err fault)
+abbrev pub is_memory : CertFaultKind → Bool
+is_memory Memory = true
+is_memory Heading = false
+is_memory Line = false
+is_memory Number = false
+is_memory LaneDouble = false
+is_memory Limit = false
+is_memory EndMissing = false

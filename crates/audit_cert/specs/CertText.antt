@@ -1,59 +1,63 @@
 -- A certificate text: a heading, lines of lanes and drops, and `end`, each ended by an LF.
-use Rattle.std.specs.Prelude.{ℕ, ◌+◌, ◌==◌, if◌then◌else◌, List, [], ◌∷◌, length, Result, Ok, Err, codes}
+use Rattle.std.specs.Prelude.{◌≡◌, ℕ, if◌then◌else◌, List, Option, Some, None, Result, Ok, Err, codes}
 use Rattle.std.specs.Str.{bytes_eq}
-use Rattle.audit_model.specs.Lines.{pieces}
-use Rattle.audit_model.specs.Token.{◌>>=◌, halves_of}
-use Rattle.audit_cert.specs.declared.draft.Line.{Line as Step}
-use Rattle.audit_cert.specs.declared.draft.Line.TheVariants as step
-use Rattle.audit_cert.specs.declared.fault.CertFault.{CertFault}
+use Rattle.audit_text.specs.declared.line_fault.LineFault.{LineFault}
+use Rattle.audit_text.specs.Token.{◌>>=◌}
+use Rattle.audit_text.specs.Reading.{SoFar, read_text}
+use Rattle.audit_text.specs.Readers as readers
+use Rattle.audit_cert.specs.declared.lines.Stage.{Stage}
+use Rattle.audit_cert.specs.declared.lines.Stage.TheVariants as stage
 use Rattle.audit_cert.specs.declared.fault.CertFaultKind.{CertFaultKind}
 use Rattle.audit_cert.specs.declared.fault.CertFaultKind.TheVariants.{Heading, Line, EndMissing}
-use Rattle.audit_cert.specs.CertFault.{of_word}
-use Rattle.audit_cert.specs.DraftView.{Drafted, nothing_said}
+use Rattle.audit_cert.specs.DraftView.{Drafted, Progress, nothing_said}
 use Rattle.audit_cert.specs.CertLines.{after_line}
 
--- a fault of this kind in this line
-abbrev pub fault_at : {A : Type 0} → ℕ → CertFaultKind → Result A CertFault
-fault_at line kind = Err (record { kind = kind; line = line })
+abbrev pub begun : Progress
+begun = record { stage = stage.Heading; said = nothing_said }
 
--- a line's fault is told with the line's number
-abbrev pub at_line : {A B : Type 0} → ℕ → Result A CertFaultKind → (A → Result B CertFault) → Result B CertFault
-at_line line (Ok x) f = f x
-at_line line (Err kind) f = fault_at line kind
-
--- after `end` the text is over: its last piece is empty
-abbrev pub ended : ℕ → Drafted → List ℕ → List (List ℕ) → Result Drafted CertFault
-ended line said [] [] = Ok said
-ended line said [] (piece ∷ more) = fault_at line Line
-ended line said (b ∷ bs) more = fault_at line Line
-
--- what the lines from here on make of what is said; the last piece is no line
-abbrev pub read_lines : ℕ → Drafted → List ℕ → List (List ℕ) → Result Drafted CertFault
-read_lines line said piece [] = fault_at line (if length piece == 0 then EndMissing else Line)
-read_lines line said piece (next ∷ more) =
-    if bytes_eq piece (codes "end") then ended (line + 1) said next more
-    else at_line line (after_line said piece) (λ then_said. read_lines (line + 1) then_said next more)
-
--- the heading is the first line
-abbrev pub read_heading : List ℕ → List (List ℕ) → Result Drafted CertFault
-read_heading heading [] = fault_at 1 Heading
-read_heading heading (first ∷ more) = if bytes_eq heading (codes "turnaudit-certificate 1") then read_lines 2 nothing_said first more else fault_at 1 Heading
-
--- what a text says, or its first fault
-unfoldable pub cert_of : List ℕ → Result Drafted CertFault
-cert_of text = read_heading (pieces text).first (pieces text).more
-
--- one line taken in, and whether it is the `end` line
-unfoldable pub line_of : Drafted → List ℕ → Result (Step × Drafted) CertFaultKind
-line_of said line =
-    if bytes_eq line (codes "end") then Ok (step.End, said)
+-- the heading comes first, and after `end` the text is over
+abbrev pub after_in : Stage → Drafted → List ℕ → Result Progress CertFaultKind
+after_in stage.Heading said line = if bytes_eq line (codes "turnaudit-certificate 1") then Ok (record { stage = stage.Lines; said = said }) else Err Heading
+after_in stage.Lines said line =
+    if bytes_eq line (codes "end") then Ok (record { stage = stage.Ended; said = said })
     else (do
       next ← after_line said line
-      Ok (step.Taken, next))
+      Ok (record { stage = stage.Lines; said = next }))
+after_in stage.Ended said line = Err Line
 
--- the first line of a text, and what stands after it
-unfoldable pub next_of : Drafted → List ℕ → Result (Step × Drafted × List ℕ) CertFaultKind
-next_of said text = do
-  halves ← of_word (halves_of 10 text)
-  next ← line_of said halves.0
-  Ok (next.0, next.1, halves.1)
+unfoldable pub after : Progress → List ℕ → Result Progress CertFaultKind
+after progress line = after_in progress.stage progress.said line
+
+-- each line ends with an LF
+abbrev pub unended_in : Stage → CertFaultKind
+unended_in stage.Heading = Heading
+unended_in stage.Lines = Line
+unended_in stage.Ended = Line
+
+abbrev pub unended : Progress → List ℕ → CertFaultKind
+unended progress rest = unended_in progress.stage
+
+-- the heading and `end` have to be there
+abbrev pub lacks_in : Stage → Option CertFaultKind
+lacks_in stage.Heading = Some Heading
+lacks_in stage.Lines = Some EndMissing
+lacks_in stage.Ended = None
+
+abbrev pub lacks : Progress → Option CertFaultKind
+lacks progress = lacks_in progress.stage
+
+-- what took in the lines is what they said
+abbrev pub Says : Progress → Progress → Type 0
+Says lines progress = lines ≡ progress
+
+-- a reader was fed this text, which has no fault so far
+abbrev pub StandsFor : SoFar Progress → List ℕ → Type 0
+StandsFor reader text = readers.StandsFor Says after begun reader text
+
+abbrev pub said_in : Result Progress (LineFault CertFaultKind) → Result Drafted (LineFault CertFaultKind)
+said_in (Ok progress) = Ok progress.said
+said_in (Err fault) = Err fault
+
+-- what a text says, or its first fault
+unfoldable pub cert_of : List ℕ → Result Drafted (LineFault CertFaultKind)
+cert_of text = said_in (read_text after unended lacks begun text)

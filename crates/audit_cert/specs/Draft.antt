@@ -7,7 +7,7 @@ use Rattle.audit_model.specs.declared.certificate.TheConstants.{MAX_LANES, MAX_E
 use Rattle.audit_model.specs.declared.address.Addr.{Addr}
 use Rattle.audit_model.specs.LanePairs.{has}
 use Rattle.audit_cert.specs.DraftView.{Drafted}
-use Rattle.audit_cert.specs.declared.draft.Draft.TheInside.{Inside}
+use Rattle.audit_cert.specs.declared.draft.CertificateDraft.TheInside.{Inside}
 
 abbrev pub drafted : Inside → Drafted
 drafted d = record { lanes = d.lanes.items; drops = d.drops }

@@ -2,6 +2,7 @@
 use Rattle.std.specs.Prelude.{List, []}
 use Rattle.audit_model.specs.declared.certificate.CertLane.{CertLane}
 use Rattle.audit_model.specs.declared.certificate.CertDrop.{CertDrop}
+use Rattle.audit_cert.specs.declared.lines.Stage.{Stage}
 
 pub record Drafted : Type 0 where
   pub lanes : List CertLane
@@ -9,3 +10,8 @@ pub record Drafted : Type 0 where
 
 abbrev pub nothing_said : Drafted
 nothing_said = record { lanes = []; drops = [] }
+
+-- how far a text has been read, and what its lines said
+pub record Progress : Type 0 where
+  pub stage : Stage
+  pub said : Drafted

@@ -1,9 +1,9 @@
 -- The words of an event line: a sighting `IFACE.INDEX`, and a key `MOMENT TIE`.
 use Rattle.std.specs.Prelude.{ℕ, List, Result, Ok, Err, codes, if◌then◌else◌}
 use Rattle.std.specs.Str.{bytes_eq}
-use Rattle.audit_model.specs.declared.token.TokenFault.TheVariants.{Shape}
-use Rattle.audit_model.specs.Token.{◌>>=◌, halves_of, both_of, number_of}
-use Rattle.audit_model.specs.declared.token.TokenFault.{TokenFault}
+use Rattle.audit_text.specs.declared.token.TokenFault.TheVariants.{Shape}
+use Rattle.audit_text.specs.Token.{◌>>=◌, halves_of, both_of, number_of}
+use Rattle.audit_text.specs.declared.token.TokenFault.{TokenFault}
 use Rattle.audit_model.specs.declared.sighting.SightId.{SightId}
 use Rattle.audit_model.specs.declared.event.Key.{Key}
 use Rattle.audit_model.specs.declared.event.Event.{Event}

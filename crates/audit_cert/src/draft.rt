@@ -8,15 +8,15 @@ ghost use Rattle.audit_cert.specs.CertLines.{with_event};
 use crate::event_line::{read_event, read_placed};
 use crate::fault::CertFaultKind;
 use audit_model::{
-    Addr, CertDrop, CertLane, Certificate, Event, LanePairs, Listed, MAX_EVENTS, MAX_LANES, both,
-    halves,
+    Addr, CertDrop, CertLane, Certificate, Event, LanePairs, Listed, MAX_EVENTS, MAX_LANES,
 };
+use audit_text::{both, halves};
 use std::alloc::{AllocFailed, Global};
 use std::marker::Model;
 
 /// What the lines so far say.
 #[derive(Drop)]
-pub struct Draft {
+pub struct CertificateDraft {
     alloc: Global,
     lanes: Vec<CertLane>,
     drops: Listed<CertDrop>,
@@ -26,14 +26,7 @@ pub struct Draft {
     events: usize,
 }
 
-/// What a line was.
-#[derive(Clone, Copy, Debug, PartialEq, Eq)]
-pub enum Line {
-    Taken,
-    End,
-}
-
-impl Model for Draft {
+impl Model for CertificateDraft {
     ghost use Rattle.audit_cert.specs.DraftView.{Drafted};
 
     ghost Value = { Drafted };
@@ -67,18 +60,18 @@ fn push_lane(lanes: &mut Vec<CertLane>, lane: CertLane)
     lanes.push_reserved(lane);
 }
 
-impl Draft {
+impl CertificateDraft {
     ghost use Rattle.std.specs.Prelude.{Ok, MatchResult};
-    ghost use Rattle.audit_cert.specs.CertFault.{IsFaultOf};
+    ghost use Rattle.audit_text.specs.Reading.{UnlessMemory};
+    ghost use Rattle.audit_cert.specs.CertFault.{is_memory};
     ghost use Rattle.audit_cert.specs.DraftView.{nothing_said};
-    ghost use Rattle.audit_cert.specs.CertLines.{after_lane, after_event, after_drop};
-    ghost use Rattle.audit_cert.specs.CertText.{line_of};
+    ghost use Rattle.audit_cert.specs.CertLines.{after_lane, after_event, after_drop, after_line};
 
     #[tactic(auto, using(crate::proofs::Drafts::none_apart))]
-    pub fn new(alloc: Global) -> Draft
+    pub fn new(alloc: Global) -> CertificateDraft
         ensures { result ≡ nothing_said }
     {
-        Draft {
+        CertificateDraft {
             alloc,
             lanes: Vec::new(alloc),
             drops: Listed::new(alloc),
@@ -91,7 +84,7 @@ impl Draft {
     #[tactic(auto, unfolding(crate::specs::CertLines::after_lane))]
     fn add_lane(&mut self, words: &[u8]) -> Result<(), CertFaultKind>
         ensures { MatchResult result (λ _. after_lane self.old words.now ≡ Ok self.new)
-            (λ fault. IsFaultOf fault (after_lane self.old words.now)) }
+            (λ fault. UnlessMemory is_memory fault (after_lane self.old words.now)) }
     {
         if !self.drops.is_empty() {
             return Err(CertFaultKind::Line);
@@ -120,7 +113,7 @@ impl Draft {
     #[tactic(auto, unfolding(crate::specs::CertLines::after_event))]
     fn add_event(&mut self, word: &[u8], words: &[u8]) -> Result<(), CertFaultKind>
         ensures { MatchResult result (λ _. after_event self.old word.now words.now ≡ Ok self.new)
-            (λ fault. IsFaultOf fault (after_event self.old word.now words.now)) }
+            (λ fault. UnlessMemory is_memory fault (after_event self.old word.now words.now)) }
     {
         if self.lanes.is_empty() || !self.drops.is_empty() {
             return Err(CertFaultKind::Line);
@@ -138,7 +131,7 @@ impl Draft {
     #[tactic(auto, unfolding(crate::specs::CertLines::after_drop))]
     fn add_drop(&mut self, words: &[u8]) -> Result<(), CertFaultKind>
         ensures { MatchResult result (λ _. after_drop self.old words.now ≡ Ok self.new)
-            (λ fault. IsFaultOf fault (after_drop self.old words.now)) }
+            (λ fault. UnlessMemory is_memory fault (after_drop self.old words.now)) }
     {
         let (sight, key) = read_placed(words)?;
         if self.events >= MAX_EVENTS {
@@ -149,24 +142,20 @@ impl Draft {
         Ok(())
     }
 
-    /// Takes in what one line says.
-    #[tactic(auto, unfolding(crate::specs::CertText::line_of, crate::specs::CertLines::after_line))]
-    pub fn add_line(&mut self, line: &[u8]) -> Result<Line, CertFaultKind>
-        ensures { MatchResult result (λ step. line_of self.old line.now ≡ Ok (step, self.new))
-            (λ fault. IsFaultOf fault (line_of self.old line.now)) }
+    /// Takes in what one line of a lane or a drop says.
+    #[tactic(auto, unfolding(crate::specs::CertLines::after_line))]
+    pub fn add_line(&mut self, line: &[u8]) -> Result<(), CertFaultKind>
+        ensures { MatchResult result (λ _. after_line self.old line.now ≡ Ok self.new)
+            (λ fault. UnlessMemory is_memory fault (after_line self.old line.now)) }
     {
-        if line == b"end".as_slice() {
-            return Ok(Line::End);
-        }
         let (word, words) = halves(line, b' ')?;
         if word == b"lane".as_slice() {
-            self.add_lane(words)?;
+            self.add_lane(words)
         } else if word == b"drop".as_slice() {
-            self.add_drop(words)?;
+            self.add_drop(words)
         } else {
-            self.add_event(word, words)?;
+            self.add_event(word, words)
         }
-        Ok(Line::Taken)
     }
 
     /// What the lines said.

@@ -3,7 +3,8 @@
 ghost use Rattle.std.specs.Prelude.{◌≡◌};
 ghost use Rattle.audit_cert.specs.EventLine.{word32_of, word64_of, sight_id_of, event_key_of, placed_of, act_of, event_of};
 
-use audit_model::{Event, Key, SightId, TokenFault, both, halves, number};
+use audit_model::{Event, Key, SightId};
+use audit_text::{TokenFault, both, halves, number};
 
 /// A number of 32 bits.
 fn read_u32(word: &[u8]) -> Result<u32, TokenFault>

@@ -4,7 +4,7 @@ ghost use Rattle.std.specs.Prelude.{◌≡◌};
 ghost use Rattle.audit_cert.specs.CertFault.{cert_fault_of};
 ghost use Rattle.audit_cert.specs.declared.fault.CertFaultKind.TheVariants.{Memory};
 
-use audit_model::TokenFault;
+use audit_text::{LineFault, TokenFault};
 use std::alloc::{AllocError, AllocFailed};
 use thiserror::Error;
 
@@ -54,13 +54,7 @@ impl CertFaultKind {
 }
 
 /// A certificate text was refused.
-#[derive(Clone, Copy, Debug, PartialEq, Eq, Error)]
-#[error("{kind} in line {line}")]
-pub struct CertFault {
-    pub kind: CertFaultKind,
-    /// Counted from 1.
-    pub line: u64,
-}
+pub type CertFault = LineFault<CertFaultKind>;
 
 impl From<TokenFault> for CertFaultKind {
     ghost from_gives = { λ token fault. fault ≡ cert_fault_of token };

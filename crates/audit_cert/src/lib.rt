@@ -4,12 +4,13 @@
 mod draft;
 mod event_line;
 mod fault;
+mod lines;
 mod reading;
 mod spelling;
 mod writing;
 
 pub use fault::{CertFault, CertFaultKind};
-pub use reading::read;
+pub use reading::{CertificateReader, read};
 pub use writing::write;
 
 #[cfg(test)]

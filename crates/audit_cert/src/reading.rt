@@ -1,78 +1,86 @@
-//! The certificate text, line by line.
+//! Reading a certificate text.
 
-ghost use Rattle.std.specs.Prelude.{◌≡◌, length, ◌<◌, IfOk, MatchResult, Ok};
-ghost use Rattle.audit_cert.specs.CertFault.{IsFaultOf, IsFirstFault};
-ghost use Rattle.audit_cert.specs.declared.fault.CertFaultKind.TheVariants.{Memory};
+ghost use Rattle.std.specs.Prelude.{◌≡◌, ◌++◌, [], ℕ, List, true, false, IfOk, IfErr, MatchResult, Ok, Err};
+ghost use Rattle.audit_text.specs.Reading.{UnlessMemory};
+ghost use Rattle.audit_cert.specs.CertFault.{is_memory};
 ghost use Rattle.audit_cert.specs.DraftView.{Drafted};
 ghost use Rattle.audit_cert.specs.Fits.{IsCertificate};
-ghost use Rattle.audit_cert.specs.CertText.{next_of, cert_of};
+ghost use Rattle.audit_cert.specs.CertText.{cert_of, StandsFor};
 ghost use Rattle.audit_cert.specs.Spelling.{spelling, said_by};
 
-use crate::draft::{Draft, Line};
-use crate::fault::{CertFault, CertFaultKind};
-use audit_model::{Certificate, cut, halves};
+use crate::fault::CertFault;
+use crate::lines::CertificateLines;
+use audit_model::Certificate;
+use audit_text::TextReader;
 use std::alloc::Global;
+use std::marker::Model;
 
-const HEADING: &[u8; 23] = b"turnaudit-certificate 1";
+/// Reads a certificate text that comes in pieces, cut anywhere.
+#[derive(Drop)]
+pub struct CertificateReader {
+    reader: TextReader<CertificateLines>,
+}
 
-/// Takes in the first line of the text, and gives what stands after it.
-#[tactic(auto, unfolding(crate::specs::CertText::next_of))]
-fn next_line<'a>(draft: &mut Draft, text: &'a [u8]) -> Result<(Line, &'a [u8]), CertFaultKind>
-    ensures shorter { IfOk result (λ p. length p.1.now < length text.now) }
-    ensures next { MatchResult result (λ p. next_of draft.old text.now ≡ Ok (p.0, draft.new, p.1.now))
-        (λ kind. IsFaultOf kind (next_of draft.old text.now)) }
-{
-    let (line, rest) = halves(text, b'\n')?;
-    let line = draft.add_line(line)?;
-    Ok((line, rest))
+impl Model for CertificateReader {
+    ghost use Rattle.audit_text.specs.Reading.{SoFar};
+    ghost use Rattle.audit_cert.specs.DraftView.{Progress};
+
+    ghost Value = { SoFar Progress };
+
+    ghost view = { λ reader. reader.reader };
+}
+
+impl CertificateReader {
+    /// A reader of no bytes. It takes no memory.
+    pub fn new(alloc: Global) -> CertificateReader
+        ensures { StandsFor result [] }
+    {
+        CertificateReader {
+            reader: TextReader::new(alloc, CertificateLines::new(alloc)),
+        }
+    }
+
+    /// Takes the next piece of the text, or tells the first fault of the text so far. Then it can't become a certificate, and the reader is gone.
+    #[tactic(auto, unfolding(crate::specs::CertText::cert_of))]
+    pub fn feed(self, piece: &[u8]) -> Result<CertificateReader, CertFault>
+        ensures ok { (text : List ℕ) → StandsFor self text → IfOk result (λ fed. StandsFor fed (text ++ piece.now)) }
+        ensures err { (text : List ℕ) → StandsFor self text →
+            IfErr result (λ fault. UnlessMemory (λ f. is_memory f.kind) fault (cert_of (text ++ piece.now))) }
+    {
+        Ok(CertificateReader {
+            reader: self.reader.feed(piece)?,
+        })
+    }
+
+    /// The certificate that the text spells which ends here, or its first fault. It takes no memory.
+    #[tactic(auto, unfolding(crate::specs::CertText::cert_of))]
+    pub fn finish(self) -> Result<Certificate, CertFault>
+        ensures { (text : List ℕ) → StandsFor self text → MatchResult result (λ cert. cert_of text ≡ Ok (said_by cert)) (λ fault. cert_of text ≡ Err fault) }
+    {
+        match self.reader.finish() {
+            Ok(lines) => Ok(lines.into_draft().certificate()),
+            Err(fault) => Err(fault),
+        }
+    }
 }
 
 /// What the text says, line by line.
 fn read_text(alloc: Global, text: &[u8]) -> Result<Certificate, CertFault>
-    ensures { MatchResult result (λ cert. cert_of text.now ≡ Ok (said_by cert)) (λ fault. IsFirstFault fault (cert_of text.now)) }
+    ensures { MatchResult result (λ cert. cert_of text.now ≡ Ok (said_by cert))
+        (λ fault. UnlessMemory (λ f. is_memory f.kind) fault (cert_of text.now)) }
 {
-    let heading_fault = CertFault {
-        kind: CertFaultKind::Heading,
-        line: 1,
-    };
-    let Some((heading, mut rest)) = cut(text, b'\n') else {
-        return Err(heading_fault);
-    };
-    if heading != HEADING.as_slice() {
-        return Err(heading_fault);
-    }
-    let mut draft = Draft::new(alloc);
-    let mut line = 1u64;
-    while !rest.is_empty() {
-        line += 1;
-        match next_line(&mut draft, rest) {
-            Ok((Line::Taken, after)) => rest = after,
-            Ok((Line::End, after)) => {
-                if after.is_empty() {
-                    return Ok(draft.certificate());
-                }
-                return Err(CertFault {
-                    kind: CertFaultKind::Line,
-                    line: line + 1,
-                });
-            }
-            Err(kind) => return Err(CertFault { kind, line }),
-        }
-    }
-    Err(CertFault {
-        kind: CertFaultKind::EndMissing,
-        line: line + 1,
-    })
+    CertificateReader::new(alloc).feed(text)?.finish()
 }
 
 /// The certificate that a text spells, or its first fault: the kind, and the line from 1. One pass, n log n in the lanes.
 pub fn read(alloc: Global, text: &[u8]) -> Result<Certificate, CertFault>
-    ensures exact { MatchResult result (λ cert. cert_of text.now ≡ Ok (said_by cert)) (λ fault. IsFirstFault fault (cert_of text.now)) }
+    ensures exact { MatchResult result (λ cert. cert_of text.now ≡ Ok (said_by cert))
+        (λ fault. UnlessMemory (λ f. is_memory f.kind) fault (cert_of text.now)) }
     // What is read is spelled so.
     ensures found { IfOk result (λ cert. text.now ≡ spelling (said_by cert)) }
     // What is spelled so is read, unless memory runs out.
     ensures only { (said : Drafted) → IsCertificate said → text.now ≡ spelling said
-        → MatchResult result (λ cert. said_by cert ≡ said) (λ fault. fault.kind ≡ Memory) }
+        → MatchResult result (λ cert. said_by cert ≡ said) (λ fault. is_memory fault.kind ≡ true) }
 {
     read_text(alloc, text)
 }

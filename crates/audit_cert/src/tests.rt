@@ -20,28 +20,30 @@ drop 64.0 1000000 0
 end
 ";
 
-/// Takes some bytes, one by one, and then fails.
+/// Takes some bytes, one by one, and then fails, once.
 #[derive(Drop)]
 struct Narrow {
     bytes: Vec<u8>,
     room: usize,
+    has_failed: bool,
 }
 
 impl Sink for Narrow {
-    ghost use Rattle.std.specs.Prelude.{None};
+    ghost use Rattle.std.specs.Prelude.{Some, None, if◌then◌else◌};
 
     ghost taken = { λ _. None };
 
-    ghost failures = { λ _. None };
+    ghost failures = { λ narrow. Some (if narrow.has_failed then 1 else 0) };
 
     fn put(&mut self, piece: &[u8]) -> Result<usize, SinkFailed> {
-        if self.room == 0 {
-            return Err(SinkFailed);
+        if self.has_failed {
+            return Ok(piece.len());
         }
         match piece {
             [] => Ok(0),
             [first, ..] => {
-                if self.bytes.push(*first).is_err() {
+                if self.room == 0 || self.bytes.push(*first).is_err() {
+                    self.has_failed = true;
                     return Err(SinkFailed);
                 }
                 self.room -= 1;
@@ -51,31 +53,34 @@ impl Sink for Narrow {
     }
 }
 
-/// What a sink with that much room has after the text is read and written.
+/// What a sink with that much room is after the text is read and written.
 fn through(
     alloc: Global,
     text: &[u8],
     room: usize,
-) -> Result<(Result<(), WriteFault>, Vec<u8>), Fail> {
+) -> Result<(Result<(), WriteFault>, Narrow), Fail> {
     let certificate = read(alloc, text).ok().ok_or("the text is a certificate")?;
     let mut sink = Narrow {
         bytes: Vec::new(alloc),
         room,
+        has_failed: false,
     };
     let written = write(alloc, &certificate, &mut sink);
-    Ok((written, sink.bytes))
+    Ok((written, sink))
 }
 
 #[test]
 fn written_as_it_was_read(rt: HostRuntime) -> Result<(), Fail> {
     for text in [BINDING.as_slice(), DROPPED.as_slice()] {
-        let (written, bytes) = through(rt.alloc(), text, text.len())?;
+        let (written, sink) = through(rt.alloc(), text, text.len())?;
         assert_eq!(rt; written, Ok(()));
-        assert_eq!(rt; bytes.as_slice(), text);
+        assert_eq!(rt; sink.bytes.as_slice(), text);
+        assert!(rt; !sink.has_failed);
         for room in 0..text.len() {
-            let (written, bytes) = through(rt.alloc(), text, room)?;
+            let (written, sink) = through(rt.alloc(), text, room)?;
             assert_eq!(rt; written, Err(WriteFault::Device));
-            assert_eq!(rt; bytes.as_slice(), &text[..room]);
+            assert_eq!(rt; sink.bytes.as_slice(), &text[..room]);
+            assert!(rt; sink.has_failed);
         }
     }
     Ok(())

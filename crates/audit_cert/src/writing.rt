@@ -2,7 +2,7 @@
 
 ghost use Rattle.std.specs.Prelude.{◌≡◌, ◌++◌, codes, OnOk, OnErr, IfErr};
 ghost use Rattle.std.specs.List.{flat_map};
-ghost use Rattle.audit_model.specs.Sink.{followed_by, IsFollowedByFront, Rose};
+ghost use Rattle.audit_model.specs.Sink.{followed_by, raised_by, IsFollowedByFront};
 ghost use Rattle.audit_model.specs.declared.write_fault.WriteFault.TheVariants as fault;
 ghost use Rattle.audit_cert.specs.Spelling.{lane_line, lane_lines, event_line, drop_line, spelling, said_by};
 ghost use Rattle.audit_cert.specs.Writing.{Puts};
@@ -119,7 +119,9 @@ pub fn write<W: Sink>(
 ) -> Result<(), WriteFault>
     ensures ok { OnOk result (W.taken out.new ≡ followed_by (W.taken out.old) (spelling (said_by certificate.now))) }
     ensures front { OnErr result (IsFollowedByFront (W.taken out.old) (spelling (said_by certificate.now)) (W.taken out.new)) }
-    ensures device { IfErr result (λ f. f ≡ fault.Device → Rose (W.failures out.old) (W.failures out.new)) }
+    ensures kept { OnOk result (W.failures out.new ≡ W.failures out.old) }
+    ensures device { IfErr result (λ f. f ≡ fault.Device → W.failures out.new ≡ raised_by (W.failures out.old) 1) }
+    ensures memory { IfErr result (λ f. f ≡ fault.Memory → W.failures out.new ≡ W.failures out.old) }
 {
     put_certificate(alloc, certificate, out)
 }

@@ -1,5 +1,5 @@
 -- The names of the faults of a credentials text.
-use Rattle.std.specs.Prelude.{ℕ, List, codes}
+use Rattle.std.specs.Prelude.{ℕ, Bool, true, false, List, codes}
 use Rattle.audit_keys.specs.declared.cred_fault.CredFaultKind.{CredFaultKind}
 use Rattle.audit_keys.specs.declared.cred_fault.CredFaultKind.TheVariants.{Line, Character, Double, Limit, Memory}
 
@@ -10,3 +10,10 @@ cred_code_of Character = codes "K2"
 cred_code_of Double = codes "K3"
 cred_code_of Limit = codes "K4"
 cred_code_of Memory = codes "K5"
+
+abbrev pub is_memory : CredFaultKind → Bool
+is_memory Memory = true
+is_memory Line = false
+is_memory Character = false
+is_memory Double = false
+is_memory Limit = false

@@ -1,12 +1,12 @@
 -- What one line of a credentials text says: user, TAB, realm, TAB, password.
 use Rattle.std.specs.Prelude.{ℕ, Bool, ◌==◌, ◌&&◌, ◌||◌, if◌then◌else◌, List, length, nat_le, nat_lt, Option, Some, None, Result, Ok, Err}
 use Rattle.std.specs.List.{list_any, list_all}
-use Rattle.audit_model.specs.Token.{cut_of}
+use Rattle.audit_text.specs.Token.{cut_of}
 use Rattle.audit_keys.specs.declared.cred_fault.CredFaultKind.{CredFaultKind}
 use Rattle.audit_keys.specs.declared.cred_fault.CredFaultKind.TheVariants.{Line, Character, Limit}
 
 -- the three fields
-pub record Row : Type 0 where
+pub record LongTermCredential : Type 0 where
   pub user : List ℕ
   pub realm : List ℕ
   pub password : List ℕ
@@ -16,28 +16,28 @@ abbrev pub may_stand : ℕ → Bool
 may_stand b = (nat_le 0x20 b && nat_le b 0x7E) || (b == 9)
 
 -- the realm and the password, where there is one TAB more and no other
-abbrev pub row_after : List ℕ → Option (List ℕ × List ℕ) → Option Row
-row_after user None = None
-row_after user (Some halves) =
+abbrev pub credential_after : List ℕ → Option (List ℕ × List ℕ) → Option LongTermCredential
+credential_after user None = None
+credential_after user (Some halves) =
     if (length user == 0) || (length halves.0 == 0) || list_any (λ b. b == 9) halves.1 then None
     else Some (record { user = user; realm = halves.0; password = halves.1 })
 
-abbrev pub row_from : Option (List ℕ × List ℕ) → Option Row
-row_from None = None
-row_from (Some halves) = row_after halves.0 (cut_of 9 halves.1)
+abbrev pub credential_from : Option (List ℕ × List ℕ) → Option LongTermCredential
+credential_from None = None
+credential_from (Some halves) = credential_after halves.0 (cut_of 9 halves.1)
 
--- the row of a line with two TABs, and neither user nor realm empty
-unfoldable pub row_of : List ℕ → Option Row
-row_of line = row_from (cut_of 9 line)
+-- the credential of a line with two TABs, and neither user nor realm empty
+unfoldable pub credential_of : List ℕ → Option LongTermCredential
+credential_of line = credential_from (cut_of 9 line)
 
-abbrev pub is_too_long : Row → Bool
-is_too_long row = nat_lt 508 (length row.user) || nat_lt 508 (length row.realm) || nat_lt 508 (length row.password)
+abbrev pub is_too_long : LongTermCredential → Bool
+is_too_long credential = nat_lt 508 (length credential.user) || nat_lt 508 (length credential.realm) || nat_lt 508 (length credential.password)
 
--- a row within the limits, with the line's number
-abbrev pub limited : ℕ → Option Row → Result Row CredFaultKind
+-- a credential within the limits, with the line's number
+abbrev pub limited : ℕ → Option LongTermCredential → Result LongTermCredential CredFaultKind
 limited number None = Err Line
-limited number (Some row) = if is_too_long row || nat_lt 65536 number then Err Limit else Ok row
+limited number (Some credential) = if is_too_long credential || nat_lt 65536 number then Err Limit else Ok credential
 
--- the row of a line, or its fault
-unfoldable pub read_row : ℕ → List ℕ → Result Row CredFaultKind
-read_row number line = if list_all may_stand line then limited number (row_of line) else Err Character
+-- the credential of a line, or its fault
+unfoldable pub read_credential : ℕ → List ℕ → Result LongTermCredential CredFaultKind
+read_credential number line = if list_all may_stand line then limited number (credential_of line) else Err Character

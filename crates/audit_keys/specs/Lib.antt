@@ -5,6 +5,8 @@ pub mod CredLine
 pub mod Seen
 pub mod Keys
 pub mod CredText
-pub mod Kept
+pub mod KeyFor
+pub mod CredentialLines
+pub mod CredentialsReader
 pub mod Authentic
 pub mod CredFault

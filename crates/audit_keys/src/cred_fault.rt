@@ -3,6 +3,7 @@
 ghost use Rattle.std.specs.Prelude.{◌≡◌};
 ghost use Rattle.audit_keys.specs.declared.cred_fault.CredFaultKind.TheVariants.{Memory};
 
+use audit_text::LineFault;
 use std::alloc::{AllocError, AllocFailed};
 use thiserror::Error;
 
@@ -45,13 +46,7 @@ impl CredFaultKind {
 }
 
 /// A credentials text was refused.
-#[derive(Clone, Copy, Debug, PartialEq, Eq, Error)]
-#[error("{kind} in line {line}")]
-pub struct CredFault {
-    pub kind: CredFaultKind,
-    /// Counted from 1.
-    pub line: u64,
-}
+pub type CredFault = LineFault<CredFaultKind>;
 
 impl<T: Drop> From<AllocFailed<T>> for CredFaultKind {
     ghost from_gives = { λ _ fault. fault ≡ Memory };

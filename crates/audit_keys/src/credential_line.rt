@@ -1,12 +1,12 @@
 //! One line of a credentials text.
 
-ghost use Rattle.std.specs.Prelude.{◌≡◌, IfOk, MatchResult, option_map, Ok, Err};
+ghost use Rattle.std.specs.Prelude.{◌≡◌, ◌≤◌, OnOk, IfOk, MatchResult, option_map, Ok, Err};
 ghost use Rattle.std.specs.List.{list_all};
-ghost use Rattle.audit_keys.specs.CredLine.{row_of, read_row, may_stand};
+ghost use Rattle.audit_keys.specs.CredLine.{credential_of, read_credential, may_stand};
 ghost use Rattle.audit_keys.specs.Seen.{seen};
 
 use crate::cred_fault::CredFaultKind;
-use audit_model::cut;
+use audit_text::cut;
 
 const TAB: u8 = b'\t';
 
@@ -14,11 +14,11 @@ const TAB: u8 = b'\t';
 const MAX_FIELD: usize = 508;
 
 /// The most lines of a credentials text.
-const MAX_LINES: u64 = 65_536;
+pub(crate) const MAX_LINES: u64 = 65_536;
 
 /// What a line says.
 #[derive(Clone, Copy)]
-pub(crate) struct Row<'a> {
+pub(crate) struct LongTermCredential<'a> {
     pub(crate) user: &'a [u8],
     pub(crate) realm: &'a [u8],
     pub(crate) password: &'a [u8],
@@ -33,38 +33,39 @@ pub(crate) fn are_characters(line: &[u8]) -> bool
 }
 
 /// The fields of a line: user, TAB, realm, TAB, password. None where they are not so many, or user or realm is empty.
-#[tactic(auto, unfolding(crate::specs::CredLine::row_of))]
-fn split_line(line: &[u8]) -> Option<Row<'_>>
-    ensures { option_map seen result ≡ row_of line.now }
+#[tactic(auto, unfolding(crate::specs::CredLine::credential_of))]
+fn split_line(line: &[u8]) -> Option<LongTermCredential<'_>>
+    ensures { option_map seen result ≡ credential_of line.now }
 {
     let (user, rest) = cut(line, TAB)?;
     let (realm, password) = cut(rest, TAB)?;
     if user.is_empty() || realm.is_empty() || password.contains(&TAB) {
         return None;
     }
-    Some(Row {
+    Some(LongTermCredential {
         user,
         realm,
         password,
     })
 }
 
-/// The row that the line of this number says.
-#[tactic(auto, unfolding(crate::specs::CredLine::read_row))]
-pub(crate) fn read_line(number: u64, line: &[u8]) -> Result<Row<'_>, CredFaultKind>
-    ensures { MatchResult result (λ row. read_row number line.now ≡ Ok (seen row)) (λ kind. read_row number line.now ≡ Err kind) }
+/// The credential that the line of this number says.
+#[tactic(auto, unfolding(crate::specs::CredLine::read_credential))]
+pub(crate) fn read_line(number: u64, line: &[u8]) -> Result<LongTermCredential<'_>, CredFaultKind>
+    ensures exact { MatchResult result (λ credential. read_credential number line.now ≡ Ok (seen credential)) (λ kind. read_credential number line.now ≡ Err kind) }
+    ensures within { OnOk result (number ≤ MAX_LINES) }
 {
     if !are_characters(line) {
         return Err(CredFaultKind::Character);
     }
-    let Some(row) = split_line(line) else {
+    let Some(credential) = split_line(line) else {
         return Err(CredFaultKind::Line);
     };
-    let is_too_long = row.user.len() > MAX_FIELD
-        || row.realm.len() > MAX_FIELD
-        || row.password.len() > MAX_FIELD;
+    let is_too_long = credential.user.len() > MAX_FIELD
+        || credential.realm.len() > MAX_FIELD
+        || credential.password.len() > MAX_FIELD;
     if is_too_long || number > MAX_LINES {
         return Err(CredFaultKind::Limit);
     }
-    Ok(row)
+    Ok(credential)
 }

@@ -4,6 +4,7 @@
 
 mod cred_fault;
 mod credential_line;
+mod credential_lines;
 mod hmac;
 mod integrity;
 mod keyring;
@@ -17,3 +18,4 @@ pub use hmac::hmac_sha1;
 pub use integrity::signed;
 pub use keyring::Credentials;
 pub use long_term::long_term_key;
+pub use reading::CredentialsReader;

@@ -1,65 +1,70 @@
-//! The credentials text, from its first line to its last.
+//! Reading a credentials text.
 
-ghost use Rattle.std.specs.Prelude.{◌≡◌, List, MatchResult, Ok};
-ghost use Rattle.audit_keys.specs.CredLine.{Row};
-ghost use Rattle.audit_keys.specs.CredText.{after_line, rows_of, unended, IsFaultOf, IsFirstFault};
-ghost use Rattle.audit_keys.specs.Keys.{Knows};
-ghost use Rattle.audit_keys.specs.Kept.{key_for};
+ghost use Rattle.std.specs.Prelude.{◌≡◌, ◌++◌, [], ℕ, List, IfOk, IfErr, MatchResult, Err};
+ghost use Rattle.audit_text.specs.Reading.{UnlessMemory};
+ghost use Rattle.audit_text.specs.Readers.{Took};
+ghost use Rattle.audit_keys.specs.CredFault.{is_memory};
+ghost use Rattle.audit_keys.specs.CredText.{credentials_of};
+ghost use Rattle.audit_keys.specs.KeyFor.{HasKeysOf};
 
-use crate::cred_fault::{CredFault, CredFaultKind};
-use crate::credential_line::{are_characters, read_line};
+use crate::cred_fault::CredFault;
+use crate::credential_lines::CredentialLines;
 use crate::keyring::Credentials;
-use audit_model::cut;
+use audit_text::TextReader;
 use std::alloc::Global;
 
-/// What is wrong with bytes that no LF ends.
-fn unended_fault(bytes: &[u8]) -> CredFaultKind
-    ensures { result ≡ unended bytes.now }
-{
-    if are_characters(bytes) {
-        CredFaultKind::Line
-    } else {
-        CredFaultKind::Character
+/// Reads a credentials text that comes in pieces, cut anywhere.
+#[derive(Drop)]
+pub struct CredentialsReader {
+    reader: TextReader<CredentialLines>,
+}
+
+impl CredentialsReader {
+    ghost use Rattle.audit_keys.specs.CredentialsReader.{StandsFor};
+
+    /// A reader of no bytes. It takes no memory.
+    pub fn new(alloc: Global) -> CredentialsReader
+        ensures { StandsFor result [] }
+    {
+        CredentialsReader {
+            reader: TextReader::new(alloc, CredentialLines::new(alloc)),
+        }
+    }
+
+    #[tactic(auto, unfolding(crate::specs::CredText::credentials_of))]
+    /// Takes the next piece of the text, or tells the first fault of the text so far. Then it can't become a credentials text, and the reader is gone.
+    pub fn feed(self, piece: &[u8]) -> Result<CredentialsReader, CredFault>
+        ensures ok { (text : List ℕ) → StandsFor self text → IfOk result (λ fed. StandsFor fed (text ++ piece.now)) }
+        ensures err { (text : List ℕ) → StandsFor self text →
+            IfErr result (λ fault. UnlessMemory (λ f. is_memory f.kind) fault (credentials_of (text ++ piece.now))) }
+    {
+        Ok(CredentialsReader {
+            reader: self.reader.feed(piece)?,
+        })
+    }
+
+    #[tactic(auto, unfolding(crate::specs::CredText::credentials_of))]
+    /// The users of the text that ends here, or its first fault. It takes no memory.
+    pub fn finish(self) -> Result<Credentials, CredFault>
+        ensures { (text : List ℕ) → StandsFor self text → MatchResult result (λ credentials. Took HasKeysOf (credentials_of text) credentials)
+            (λ fault. credentials_of text ≡ Err fault) }
+    {
+        match self.reader.finish() {
+            Ok(lines) => Ok(lines.into_credentials()),
+            Err(fault) => Err(fault),
+        }
     }
 }
 
 impl Credentials {
-    /// Takes in the line of this number.
-    fn add_line(&mut self, alloc: Global, number: u64, line: &[u8]) -> Result<(), CredFaultKind>
-        ensures { (rows : List Row) → Knows (key_for self.old) rows → MatchResult result
-            (λ _. (then_rows : List Row) × (after_line number rows line.now ≡ Ok then_rows) × Knows (key_for self.new) then_rows)
-            (λ kind. IsFaultOf kind (after_line number rows line.now)) }
-    {
-        let row = read_line(number, line)?;
-        if self.lookup(row.user, row.realm).is_some() {
-            return Err(CredFaultKind::Double);
-        }
-        self.insert(alloc, row)?;
-        Ok(())
-    }
-
     /// The users of a credentials text, or its first fault: the kind, and the line from 1. Each line is user, TAB,
     /// realm, TAB, password and LF, in printable ASCII, where user and realm are not empty; a field has at most 508
     /// bytes, and there are at most 65,536 lines. No two have one user and realm. An empty text has no users.
+    /// It takes n log n in the lines.
     pub fn read(alloc: Global, text: &[u8]) -> Result<Credentials, CredFault>
-        ensures { MatchResult result
-            (λ credentials. (rows : List Row) × (rows_of text.now ≡ Ok rows) × Knows (key_for credentials) rows)
-            (λ fault. IsFirstFault fault (rows_of text.now)) }
+        ensures { MatchResult result (λ credentials. Took HasKeysOf (credentials_of text.now) credentials)
+            (λ fault. UnlessMemory (λ f. is_memory f.kind) fault (credentials_of text.now)) }
     {
-        let mut credentials = Credentials::new(alloc);
-        let mut rest = text;
-        let mut line = 0u64;
-        'lines: while !rest.is_empty() {
-            line += 1;
-            let Some((piece, after)) = cut(rest, b'\n') else {
-                let kind = unended_fault(rest);
-                return Err(CredFault { kind, line });
-            };
-            if let Err(kind) = credentials.add_line(alloc, line, piece) {
-                return Err(CredFault { kind, line });
-            }
-            rest = after;
-        }
-        Ok(credentials)
+        CredentialsReader::new(alloc).feed(text)?.finish()
     }
 }

@@ -1,9 +1,8 @@
-pub mod Cuts
-pub mod Numbers
 pub mod Breaches
 pub mod Sinks
-pub mod PolicyTexts
 pub mod Orders
 pub mod LeastBreach
 pub mod PairSets
+pub mod Sames
 pub mod Apart
+pub mod Endpoints

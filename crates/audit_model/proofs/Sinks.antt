@@ -1,6 +1,7 @@
 -- What one piece after another leaves in a sink.
-use Rattle.std.proofs.Common.{◌≡◌, ℕ, ◌+◌, ◌<◌, List, [], ◌++◌, Option, Some, None, refl, ap, sym, ◌∙◌, append_assoc, append-nil, add_assoc, arith}
-use Rattle.audit_model.specs.Sink.{followed_by, raised_by, Rose, NeverFell}
+use Rattle.std.proofs.Common.{◌≡◌, ℕ, zero, suc, ◌+◌, ◌<◌, List, [], ◌++◌, Option, Some, None, Ok, refl, ap, sym, ◌∙◌, append_assoc, append-nil, add_assoc, arith}
+use Rattle.audit_model.specs.declared.sink.SinkFailed.{SinkFailed}
+use Rattle.audit_model.specs.Sink.{failures_of, followed_by, raised_by}
 
 pub follows_nothing : (taken : Option (List ℕ)) → taken ≡ followed_by taken []
 follows_nothing None = refl
@@ -14,14 +15,22 @@ pub raised_none : (failures : Option ℕ) → failures ≡ raised_by failures 0
 raised_none None = refl
 raised_none (Some n) = let e : n ≡ n + 0 = omega arith in ap (λ (m : ℕ). Some m) e
 
-pub raised_both : (failures : Option ℕ) (a b : ℕ) → raised_by (raised_by failures a) b ≡ raised_by failures (a + b)
-raised_both None a b = refl
-raised_both (Some n) a b = ap (λ (m : ℕ). Some m) (add_assoc n a b)
+-- one call more, which took something
+calm_by : (n given : ℕ) → 0 < n → failures_of {E = SinkFailed} (Ok n) given ≡ 0
+calm_by zero given some = absurd (omega (arith, some))
+calm_by (suc n) given some = refl
 
-pub rose_by : (failures : Option ℕ) (more : ℕ) → 0 < more → Rose failures (raised_by failures more)
-rose_by None more h = tt
-rose_by (Some n) more h = omega arith
+pub calm_more : (first before after : Option ℕ) (n given : ℕ) → 0 < n → before ≡ first → after ≡ raised_by before (failures_of {E = SinkFailed} (Ok n) given) → after ≡ first
+calm_more first before after n given some was is = is ∙ ap (raised_by before) (calm_by n given some) ∙ sym (raised_none before) ∙ was
 
--- one call more
-pub never_fell_more : (first before after : Option ℕ) (more : ℕ) → NeverFell first before → after ≡ raised_by before more → NeverFell first after
-never_fell_more first before after more h e = (h.0 + more, e ∙ ap (λ (o : Option ℕ). raised_by o more) h.1 ∙ raised_both first h.0 more)
+-- one call more, which took nothing
+raised_by_none : (n given : ℕ) → n ≡ 0 → 0 < given → failures_of {E = SinkFailed} (Ok n) given ≡ 1
+raised_by_none zero zero none some = absurd (omega (arith, some))
+raised_by_none zero (suc given) none some = refl
+raised_by_none (suc n) given none some = absurd (omega (arith, none))
+
+pub raised_more : (first before after : Option ℕ) → before ≡ first → after ≡ raised_by before 1 → after ≡ raised_by first 1
+raised_more first before after was is = is ∙ ap (λ (o : Option ℕ). raised_by o 1) was
+
+pub nothing_more : (first before after : Option ℕ) (n given : ℕ) → n ≡ 0 → 0 < given → before ≡ first → after ≡ raised_by before (failures_of {E = SinkFailed} (Ok n) given) → after ≡ raised_by first 1
+nothing_more first before after n given none some was is = raised_more first before after was (is ∙ ap (raised_by before) (raised_by_none n given none some))

@@ -2,9 +2,9 @@
 use Rattle.std.specs.Prelude.{◌++◌, slice_index, codes, decimal}
 use Rattle.std.specs.Int.{w32, to_be_bytes}
 use Rattle.std.specs.Prelude.{ℕ, List, Result, Ok}
-use Rattle.audit_model.specs.declared.token.TokenFault.{TokenFault}
+use Rattle.audit_text.specs.declared.token.TokenFault.{TokenFault}
 use Rattle.audit_model.specs.declared.address.Addr.{Addr}
-use Rattle.audit_model.specs.Token.{◌>>=◌, halves_of, both_of, number_of}
+use Rattle.audit_text.specs.Token.{◌>>=◌, halves_of, both_of, number_of}
 use Rattle.audit_model.specs.AddressText.{ip_of}
 
 unfoldable pub addr_of : List ℕ → Result Addr TokenFault

@@ -1,8 +1,8 @@
 -- An IPv4 address in a text: four numbers up to 255, joined by dots.
 use Rattle.std.specs.Prelude.{ℕ, List, [], ◌∷◌, Result, Ok}
 use Rattle.std.specs.Int.{w32, from_be_bytes}
-use Rattle.audit_model.specs.declared.token.TokenFault.{TokenFault}
-use Rattle.audit_model.specs.Token.{◌>>=◌, halves_of, both_of, number_of}
+use Rattle.audit_text.specs.declared.token.TokenFault.{TokenFault}
+use Rattle.audit_text.specs.Token.{◌>>=◌, halves_of, both_of, number_of}
 
 abbrev pub octet_of : List ℕ → Result ℕ TokenFault
 octet_of word = number_of 255 word

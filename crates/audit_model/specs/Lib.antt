@@ -1,10 +1,10 @@
-pub mod Token
 pub mod AddressText
 pub mod Addr
 pub mod Window
 pub mod Event
 pub mod EventCount
 pub mod Lanes
+pub mod Sames
 pub mod LanePairs
 pub mod Rule
 pub mod Breach
@@ -13,8 +13,6 @@ pub mod PortRange
 pub mod Policy
 pub mod PolicyFault
 pub mod PolicyLines
-pub mod PolicyDraft
-pub mod Lines
 pub mod PolicyText
 pub mod Clash
 pub mod Least

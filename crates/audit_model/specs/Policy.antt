@@ -1,5 +1,5 @@
 -- The endpoints that a policy names.
-use Rattle.std.specs.Prelude.{◌≡◌, ◌⊎◌, ℕ, Any, Bool, ◌==◌, ◌&&◌, ◌||◌}
+use Rattle.std.specs.Prelude.{◌≡◌, ◌⊎◌, ℕ, Any, Bool, IsTrue, ◌==◌, ◌&&◌, ◌||◌}
 use Rattle.std.specs.List.{list_any}
 use Rattle.audit_model.specs.declared.address.Addr.{Addr}
 use Rattle.audit_model.specs.declared.policy.Policy.{Policy}
@@ -26,3 +26,7 @@ relays policy addr = list_any (λ range. is_in addr range) policy.relay
 
 abbrev pub is_of_service : Policy → ℕ → Bool
 is_of_service policy ip = list_any (λ listen. listen.ip == ip) policy.listen || list_any (λ range. range.ip == ip) policy.relay
+
+-- no listen address is in a relay range
+abbrev pub AreApart : Policy → Type 0
+AreApart policy = (addr : Addr) → IsTrue (listens policy addr) → IsTrue (relays policy addr) → ⊥

@@ -1,7 +1,7 @@
 -- The fault of a policy line that a word of it has.
-use Rattle.std.specs.Prelude.{ℕ, List, codes}
-use Rattle.audit_model.specs.declared.token.TokenFault.{TokenFault}
-use Rattle.audit_model.specs.declared.token.TokenFault.TheVariants as token
+use Rattle.std.specs.Prelude.{ℕ, Bool, true, false, List, codes}
+use Rattle.audit_text.specs.declared.token.TokenFault.{TokenFault}
+use Rattle.audit_text.specs.declared.token.TokenFault.TheVariants as token
 use Rattle.audit_model.specs.declared.policy_fault.PolicyFaultKind.{PolicyFaultKind}
 use Rattle.audit_model.specs.declared.policy_fault.PolicyFaultKind.TheVariants.{Line, Number, Overlap, Missing, Limit, Memory}
 
@@ -17,3 +17,11 @@ policy_code_of Overlap = codes "P3"
 policy_code_of Missing = codes "P4"
 policy_code_of Limit = codes "P5"
 policy_code_of Memory = codes "P6"
+
+abbrev pub is_memory : PolicyFaultKind → Bool
+is_memory Memory = true
+is_memory Line = false
+is_memory Number = false
+is_memory Overlap = false
+is_memory Missing = false
+is_memory Limit = false

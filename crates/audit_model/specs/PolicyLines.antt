@@ -4,11 +4,11 @@ use Rattle.std.specs.Str.{bytes_eq}
 use Rattle.std.specs.List.{list_any}
 use Rattle.audit_model.specs.declared.address.Addr.{Addr}
 use Rattle.audit_model.specs.declared.policy.PortRange.{PortRange}
-use Rattle.audit_model.specs.declared.token.TokenFault.{TokenFault}
-use Rattle.audit_model.specs.declared.token.TokenFault.TheVariants as token
+use Rattle.audit_text.specs.declared.token.TokenFault.{TokenFault}
+use Rattle.audit_text.specs.declared.token.TokenFault.TheVariants as token
 use Rattle.audit_model.specs.declared.policy_fault.PolicyFaultKind.{PolicyFaultKind}
 use Rattle.audit_model.specs.declared.policy_fault.PolicyFaultKind.TheVariants.{Line, Overlap, Limit}
-use Rattle.audit_model.specs.Token.{◌>>=◌, halves_of, both_of, number_of}
+use Rattle.audit_text.specs.Token.{◌>>=◌, halves_of, both_of, number_of}
 use Rattle.audit_model.specs.AddressText.{ip_of}
 use Rattle.audit_model.specs.Addr.{addr_of}
 use Rattle.audit_model.specs.PolicyFault.{policy_fault_of}
@@ -21,6 +21,7 @@ pub record Said : Type 0 where
   pub skew : Option ℕ
   pub grace : Option ℕ
   pub hold : Option ℕ
+  pub headed : Bool
 
 -- what goes on as a line's reading, where a word's did
 abbrev pub of_word : {A : Type 0} → Result A TokenFault → Result A PolicyFaultKind
@@ -77,9 +78,9 @@ after_setting said word value =
       Ok (record said { hold = hold }))
     else Err Line))
 
--- what is said with one line more, or the line's fault
-unfoldable pub after_line : Said → List ℕ → Result Said PolicyFaultKind
-after_line said line = do
+-- what is said with one line more behind the heading, or the line's fault
+unfoldable pub after_word : Said → List ℕ → Result Said PolicyFaultKind
+after_word said line = do
   halves ← of_word (halves_of 32 line)
   if bytes_eq halves.0 (codes "listen") then after_listen said halves.1
       else (if bytes_eq halves.0 (codes "relay") then after_relay said halves.1 else after_setting said halves.0 halves.1)

@@ -1,5 +1,5 @@
 -- What a sink has taken, and how often it failed. None claims nothing, and stays so.
-use Rattle.std.specs.Prelude.{◌≡◌, ℕ, zero, suc, ◌+◌, ◌<◌, ◌≤◌, List, ◌++◌, length, take, Result, Ok, Err, Option, option_map, IfSome}
+use Rattle.std.specs.Prelude.{◌≡◌, ℕ, zero, suc, ◌+◌, ◌≤◌, List, ◌++◌, length, take, Result, Ok, Err, Option, option_map}
 
 -- the bytes, and these after them
 abbrev pub followed_by : Option (List ℕ) → List ℕ → Option (List ℕ)
@@ -19,11 +19,3 @@ failures_of (Ok zero) (suc n) = 1
 -- after is before and then a front of the bytes
 abbrev pub IsFollowedByFront : Option (List ℕ) → List ℕ → Option (List ℕ) → Type 0
 IsFollowedByFront before bytes after = (n : ℕ) × (n ≤ length bytes) × (after ≡ followed_by before (take n bytes))
-
--- there are more failures than before
-abbrev pub Rose : Option ℕ → Option ℕ → Type 0
-Rose before after = IfSome before (λ m. IfSome after (λ n. m < n))
-
--- there are as many as before, or more
-abbrev pub NeverFell : Option ℕ → Option ℕ → Type 0
-NeverFell before after = (more : ℕ) × (after ≡ raised_by before more)

@@ -1,10 +1,10 @@
 //! IPv4 transport addresses, and how a text spells them.
 
 ghost use Rattle.std.specs.Prelude.{◌≡◌};
-ghost use Rattle.audit_model.specs.Token.{number_of};
+ghost use Rattle.audit_text.specs.Token.{number_of};
 ghost use Rattle.audit_model.specs.AddressText.{ip_of};
 
-use crate::token::{TokenFault, both, halves, number};
+use audit_text::{TokenFault, both, halves, number};
 use std::fmt;
 
 /// An IPv4 address and a UDP port: a transport address of RFC 8656.

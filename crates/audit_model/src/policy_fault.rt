@@ -4,7 +4,7 @@ ghost use Rattle.std.specs.Prelude.{◌≡◌};
 ghost use Rattle.audit_model.specs.PolicyFault.{policy_fault_of};
 ghost use Rattle.audit_model.specs.declared.policy_fault.PolicyFaultKind.TheVariants.{Memory};
 
-use crate::token::TokenFault;
+use audit_text::{LineFault, TokenFault};
 use std::alloc::AllocFailed;
 use thiserror::Error;
 
@@ -51,13 +51,7 @@ impl PolicyFaultKind {
 }
 
 /// A policy text was refused.
-#[derive(Clone, Copy, Debug, PartialEq, Eq, Error)]
-#[error("{kind} in line {line}")]
-pub struct PolicyFault {
-    pub kind: PolicyFaultKind,
-    /// Counted from 1.
-    pub line: u64,
-}
+pub type PolicyFault = LineFault<PolicyFaultKind>;
 
 impl From<TokenFault> for PolicyFaultKind {
     ghost from_gives = { λ token fault. fault ≡ policy_fault_of token };

@@ -1,16 +1,19 @@
-//! The policy text, line by line.
+//! The policy text: a heading, and then a setting a line.
 
-ghost use Rattle.std.specs.Prelude.{◌≡◌, ◌*◌, ◌^◌, length, ◌<◌, IfOk, MatchResult, Ok};
+ghost use Rattle.std.specs.Prelude.{◌≡◌, ◌*◌, ◌^◌, ◌<◌, MatchResult, Ok};
 ghost use Rattle.std.specs.List.{list_any};
+ghost use Rattle.audit_text.specs.Reading.{UnlessMemory};
+ghost use Rattle.audit_model.specs.PolicyFault.{is_memory};
 ghost use Rattle.audit_model.specs.PortRange.{is_in, meet};
 ghost use Rattle.audit_model.specs.PolicyLines.{listen_of, range_of, tolerance_of};
 
 use crate::address::{Addr, read_ip, read_port};
 use crate::listed::Listed;
 use crate::policy::{Policy, PortRange};
-use crate::policy_fault::{PolicyFault, PolicyFaultKind};
-use crate::token::{TokenFault, both, cut, halves, number};
+use crate::policy_fault::PolicyFaultKind;
+use audit_text::{Lines, TokenFault, both, halves, number};
 use std::alloc::Global;
+use std::marker::Model;
 
 const HEADING: &[u8; 18] = b"turnaudit-policy 1";
 
@@ -33,14 +36,34 @@ const DEFAULT_GRACE: u64 = 1_000 * NANOSECONDS_IN_MS;
 
 const DEFAULT_HOLD: u64 = 2_000 * NANOSECONDS_IN_MS;
 
+/// How long a line may be before its LF is there, in bytes. The longest that is right, a relay range, has 37.
+const LONGEST_LINE: usize = 1_024;
+
 /// What the lines so far say.
 #[derive(Debug, Drop)]
-struct Draft {
+pub struct PolicyDraft {
     listen: Listed<Addr>,
     relay: Listed<PortRange>,
     skew: Option<u64>,
     grace: Option<u64>,
     hold: Option<u64>,
+    /// Whether the heading is there.
+    headed: bool,
+}
+
+impl Model for PolicyDraft {
+    ghost use Rattle.audit_model.specs.PolicyLines.{Said};
+
+    ghost Value = { Said };
+
+    ghost view = { λ draft. record {
+      listen = draft.listen;
+      relay = draft.relay;
+      skew = draft.skew;
+      grace = draft.grace;
+      hold = draft.hold;
+      headed = draft.headed;
+    } };
 }
 
 /// A range as in `192.0.2.1:49152-65535`.
@@ -104,34 +127,34 @@ fn meets_relay(relay: &[PortRange], range: &PortRange) -> bool
     relay.iter().any(|other| range.meets(other))
 }
 
-impl Draft {
-    ghost use Rattle.audit_model.specs.PolicyLines.{after_listen, after_relay, after_setting, after_line, meets_said};
-    ghost use Rattle.audit_model.specs.PolicyDraft.{said, IsFaultOf};
-    ghost use Rattle.audit_model.specs.PolicyText.{nothing_said, policy_said};
+impl PolicyDraft {
+    ghost use Rattle.audit_model.specs.PolicyLines.{after_listen, after_relay, after_setting, after_word, meets_said};
+    ghost use Rattle.audit_model.specs.PolicyText.{nothing_said, after, policy_said};
 
-    fn new(alloc: Global) -> Draft
-        ensures { said result ≡ nothing_said }
+    pub fn new(alloc: Global) -> PolicyDraft
+        ensures { result ≡ nothing_said }
     {
-        Draft {
+        PolicyDraft {
             listen: Listed::new(alloc),
             relay: Listed::new(alloc),
             skew: None,
             grace: None,
             hold: None,
+            headed: false,
         }
     }
 
     /// Whether the range meets an endpoint of an earlier line.
     fn meets(&self, range: &PortRange) -> bool
-        ensures { result ≡ meets_said (said self.now) range.now }
+        ensures { result ≡ meets_said self.now range.now }
     {
         meets_listen(self.listen.as_slice(), range) || meets_relay(self.relay.as_slice(), range)
     }
 
     #[tactic(auto, unfolding(crate::specs::PolicyLines::after_listen))]
     fn add_listen(&mut self, value: &[u8]) -> Result<(), PolicyFaultKind>
-        ensures { MatchResult result (λ _. after_listen (said self.old) value.now ≡ Ok (said self.new))
-            (λ fault. IsFaultOf fault (after_listen (said self.old) value.now)) }
+        ensures { MatchResult result (λ _. after_listen self.old value.now ≡ Ok self.new)
+            (λ fault. UnlessMemory is_memory fault (after_listen self.old value.now)) }
     {
         let addr = read_listen(value)?;
         if self.listen.len() >= MAX_ENDPOINTS {
@@ -146,8 +169,8 @@ impl Draft {
 
     #[tactic(auto, unfolding(crate::specs::PolicyLines::after_relay))]
     fn add_relay(&mut self, value: &[u8]) -> Result<(), PolicyFaultKind>
-        ensures { MatchResult result (λ _. after_relay (said self.old) value.now ≡ Ok (said self.new))
-            (λ fault. IsFaultOf fault (after_relay (said self.old) value.now)) }
+        ensures { MatchResult result (λ _. after_relay self.old value.now ≡ Ok self.new)
+            (λ fault. UnlessMemory is_memory fault (after_relay self.old value.now)) }
     {
         let range = read_range(value)?;
         if self.relay.len() >= MAX_ENDPOINTS {
@@ -163,8 +186,8 @@ impl Draft {
     /// Takes in what a setting's line says.
     #[tactic(auto, unfolding(crate::specs::PolicyLines::after_setting))]
     fn add_setting(&mut self, word: &[u8], value: &[u8]) -> Result<(), PolicyFaultKind>
-        ensures { MatchResult result (λ _. after_setting (said self.old) word.now value.now ≡ Ok (said self.new))
-            (λ fault. IsFaultOf fault (after_setting (said self.old) word.now value.now)) }
+        ensures { MatchResult result (λ _. after_setting self.old word.now value.now ≡ Ok self.new)
+            (λ fault. UnlessMemory is_memory fault (after_setting self.old word.now value.now)) }
     {
         if word == b"skew-us".as_slice() {
             self.skew = read_tolerance(self.skew, value, MAX_SKEW_US, NANOSECONDS_IN_US)?;
@@ -178,11 +201,11 @@ impl Draft {
         Ok(())
     }
 
-    /// Takes in what one line says.
-    #[tactic(auto, unfolding(crate::specs::PolicyLines::after_line))]
+    /// Takes in what a line behind the heading says.
+    #[tactic(auto, unfolding(crate::specs::PolicyLines::after_word))]
     fn add_line(&mut self, line: &[u8]) -> Result<(), PolicyFaultKind>
-        ensures { MatchResult result (λ _. after_line (said self.old) line.now ≡ Ok (said self.new))
-            (λ fault. IsFaultOf fault (after_line (said self.old) line.now)) }
+        ensures { MatchResult result (λ _. after_word self.old line.now ≡ Ok self.new)
+            (λ fault. UnlessMemory is_memory fault (after_word self.old line.now)) }
     {
         let (word, value) = halves(line, b' ')?;
         if word == b"listen".as_slice() {
@@ -194,24 +217,75 @@ impl Draft {
         }
     }
 
-    /// The policy, where there is a listen line.
-    #[tactic(auto, unfolding(crate::specs::PolicyText::policy_said))]
-    fn policy(self) -> Result<Policy, PolicyFaultKind>
-        ensures { result ≡ policy_said (said self) }
+    /// The policy that is said.
+    pub fn policy(self) -> Policy
+        ensures { result ≡ policy_said self }
     {
-        if self.listen.is_empty() {
-            return Err(PolicyFaultKind::Missing);
-        }
-        Ok(Policy {
+        Policy {
             listen: self.listen,
             relay: self.relay,
             skew: self.skew.unwrap_or(DEFAULT_SKEW),
             grace: self.grace.unwrap_or(DEFAULT_GRACE),
             hold: self.hold.unwrap_or(DEFAULT_HOLD),
-        })
+        }
+    }
+
+    /// Takes in a line: the heading first.
+    #[tactic(auto, unfolding(crate::specs::PolicyText::after))]
+    fn add(&mut self, line: &[u8]) -> Result<(), PolicyFaultKind>
+        ensures { MatchResult result (λ _. after self.old line.now ≡ Ok self.new)
+            (λ fault. UnlessMemory is_memory fault (after self.old line.now)) }
+    {
+        if self.headed {
+            return self.add_line(line);
+        }
+        if line != HEADING.as_slice() {
+            return Err(PolicyFaultKind::Line);
+        }
+        self.headed = true;
+        Ok(())
     }
 }
 
-mod reading;
+impl Lines for PolicyDraft {
+    ghost use Rattle.audit_model.specs.PolicyLines.{Said};
+    ghost use Rattle.audit_model.specs.PolicyText.{Says, after, unended, lacks};
 
-pub use reading::read_policy;
+    type Kind = PolicyFaultKind;
+
+    ghost said = { Said };
+
+    ghost says = { Says };
+
+    ghost after = { after };
+
+    ghost unended = { unended };
+
+    ghost lacks = { lacks };
+
+    ghost is_memory = { is_memory };
+
+    const LONGEST: usize = LONGEST_LINE;
+
+    fn take_line(&mut self, line: &[u8]) -> Result<(), PolicyFaultKind> {
+        self.add(line)
+    }
+
+    fn unended(&self, _rest: &[u8]) -> PolicyFaultKind {
+        PolicyFaultKind::Line
+    }
+
+    fn lacks(&self) -> Option<PolicyFaultKind> {
+        if !self.headed {
+            Some(PolicyFaultKind::Line)
+        } else if self.listen.is_empty() {
+            Some(PolicyFaultKind::Missing)
+        } else {
+            None
+        }
+    }
+
+    fn no_memory() -> PolicyFaultKind {
+        PolicyFaultKind::Memory
+    }
+}

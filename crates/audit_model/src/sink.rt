@@ -1,7 +1,7 @@
 //! Where output goes.
 
 ghost use Rattle.std.specs.Prelude.{◌≡◌, ◌≤◌, length, take, IfOk, OnOk, OnErr};
-ghost use Rattle.audit_model.specs.Sink.{failures_of, followed_by, raised_by, IsFollowedByFront, Rose, NeverFell};
+ghost use Rattle.audit_model.specs.Sink.{failures_of, followed_by, raised_by, IsFollowedByFront};
 
 /// A sink took nothing of what it was given.
 #[derive(Clone, Copy, Debug, PartialEq, Eq)]
@@ -26,12 +26,12 @@ pub trait Sink {
         ensures counted { failures self.new ≡ raised_by (failures self.old) (failures_of result (length piece.now)) };
 }
 
-/// Puts all of the bytes, piece by piece. After a failure a front of them is taken, and the sink has counted it.
+/// Puts all of the bytes, piece by piece. After a failure a front of them is taken, and the sink has counted that one.
 pub fn put_all<W: Sink>(sink: &mut W, bytes: &[u8]) -> Result<(), SinkFailed>
     ensures ok { OnOk result (W.taken sink.new ≡ followed_by (W.taken sink.old) bytes.now) }
     ensures front { OnErr result (IsFollowedByFront (W.taken sink.old) bytes.now (W.taken sink.new)) }
-    ensures failed { OnErr result (Rose (W.failures sink.old) (W.failures sink.new)) }
-    ensures counted { NeverFell (W.failures sink.old) (W.failures sink.new) }
+    ensures kept { OnOk result (W.failures sink.new ≡ W.failures sink.old) }
+    ensures failed { OnErr result (W.failures sink.new ≡ raised_by (W.failures sink.old) 1) }
 {
     let mut done = 0;
     while done < bytes.len() {

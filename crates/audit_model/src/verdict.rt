@@ -22,7 +22,7 @@ impl Breach {
     ghost use Rattle.audit_model.specs.Breach.{breach_cmp, lesser};
 
     /// The order in which breaches of one phase are told: by moment, tie, lane, rule, place and sighting.
-    pub fn told_before(&self, other: &Breach) -> Ordering
+    pub fn telling_order(&self, other: &Breach) -> Ordering
         ensures { result ≡ breach_cmp self.now other.now }
     {
         self.at
@@ -39,7 +39,7 @@ impl Breach {
         ensures { result ≡ lesser first second }
     {
         match (first, second) {
-            (Some(one), Some(other)) => match other.told_before(&one) {
+            (Some(one), Some(other)) => match other.telling_order(&one) {
                 Ordering::Less => Some(other),
                 _ => Some(one),
             },

@@ -1,5 +1,5 @@
 use Rattle.std.proofs.Common.{◌≡◌, ◌-◌, ◌≤◌, length, take}
-use Rattle.audit_model.specs.Sink.{followed_by, NeverFell}
+use Rattle.audit_model.specs.Sink.{followed_by}
 use Rattle.audit_model.proofs.sink.put_all.Given as goal
 
 -- a front of the bytes is taken
@@ -7,7 +7,7 @@ abbrev pub invariant-loop-done : goal.invariant-loop-done
 invariant-loop-done g l = record {
   within : l.done ≤ length l.bytes;
   taken : g.W.Sink.taken l.sink ≡ followed_by (g.W.Sink.taken l.fn.sink) (take l.done l.bytes);
-  counted : NeverFell (g.W.Sink.failures l.fn.sink) (g.W.Sink.failures l.sink);
+  kept : g.W.Sink.failures l.sink ≡ g.W.Sink.failures l.fn.sink;
 }
 
 abbrev pub decreases-loop-done : goal.decreases-loop-done

@@ -3,7 +3,7 @@ use Rattle.std.specs.Prelude.{IsSome, ◌&&◌}
 use Rattle.std.specs.Str.{bytes_eq}
 use Rattle.std.specs.Global.{Vec}
 use Rattle.std.specs.BTreeMap.{BTreeMap, UpdatesBy}
-use Rattle.audit_keys.specs.Kept.{key_for}
+use Rattle.audit_keys.specs.KeyFor.{key_for}
 use Rattle.audit_keys.proofs.Keyrings.{by_bytes, vec_cmp, find, in_old_realm, in_new_realm}
 use Rattle.audit_keys.proofs.keyring.Credentials.insert.Goals as goal
 
@@ -14,8 +14,8 @@ at_bytes bs cs m n w e h = subst (λ (l : List ℕ). UpdatesBy vec_cmp (by_bytes
 pub returns-in-Some-clause-ok : goal.returns-in-Some-clause-ok
 unfolding key_for
 returns-in-Some-clause-ok c = λ u r.
-    let user = c.args.row.user.now in
-    let realm = c.args.row.realm.now in
+    let user = c.args.credential.user.now in
+    let realm = c.args.credential.realm.now in
     let realms = c.args.self.now.realms in
     let users = c.insert.new.self in
     in_old_realm realms (c.get_mut.follows.lender users) c.in-Some.users.now users user realm c.long_term_key-key.result c.in-Some.ensures.value
@@ -26,8 +26,8 @@ returns-in-Some-clause-ok c = λ u r.
 pub returns-clause-ok : goal.returns-clause-ok
 unfolding key_for
 returns-clause-ok c = λ u r.
-    let user = c.args.row.user.now in
-    let realm = c.args.row.realm.now in
+    let user = c.args.credential.user.now in
+    let realm = c.args.credential.realm.now in
     let realms = c.args.self.now.realms in
     let users = c.insert-2.new.self in
     in_new_realm realms c.insert-3.new.self c.new-users.result users user realm c.long_term_key-key.result c.in_default.ensures.value c.new-users.ensures.empty

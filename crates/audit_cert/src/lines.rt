@@ -1,0 +1,132 @@
+//! The certificate text: a heading, lines of lanes and drops, and `end`.
+
+ghost use Rattle.std.specs.Prelude.{◌≡◌, MatchResult, Ok};
+ghost use Rattle.audit_text.specs.Reading.{UnlessMemory};
+ghost use Rattle.audit_cert.specs.CertFault.{is_memory};
+
+use crate::draft::CertificateDraft;
+use crate::fault::CertFaultKind;
+use audit_text::Lines;
+use std::alloc::Global;
+use std::marker::Model;
+
+const HEADING: &[u8; 23] = b"turnaudit-certificate 1";
+
+/// How long a line may be before its LF is there, in bytes. The longest that is right, an act, has 78.
+const LONGEST_LINE: usize = 1_024;
+
+/// Which line comes next.
+#[derive(Clone, Copy, Debug, PartialEq, Eq)]
+pub enum Stage {
+    /// The heading.
+    Heading,
+    /// One of a lane or a drop, or `end`.
+    Lines,
+    /// None: `end` was there.
+    Ended,
+}
+
+/// What the lines of a certificate text say so far.
+#[derive(Drop)]
+pub struct CertificateLines {
+    draft: CertificateDraft,
+    stage: Stage,
+}
+
+impl Model for CertificateLines {
+    ghost use Rattle.audit_cert.specs.DraftView.{Progress};
+
+    ghost Value = { Progress };
+
+    ghost view = { λ lines. record { stage = lines.stage; said = lines.draft } };
+}
+
+impl CertificateLines {
+    ghost use Rattle.audit_cert.specs.CertText.{begun, after};
+
+    /// No line yet. It takes no memory.
+    pub fn new(alloc: Global) -> CertificateLines
+        ensures { result ≡ begun }
+    {
+        CertificateLines {
+            draft: CertificateDraft::new(alloc),
+            stage: Stage::Heading,
+        }
+    }
+
+    /// Takes in a line: the heading first, and none after `end`.
+    #[tactic(auto, unfolding(crate::specs::CertText::after))]
+    fn add(&mut self, line: &[u8]) -> Result<(), CertFaultKind>
+        ensures { MatchResult result (λ _. after self.old line.now ≡ Ok self.new)
+            (λ fault. UnlessMemory is_memory fault (after self.old line.now)) }
+    {
+        match self.stage {
+            Stage::Heading => {
+                if line != HEADING.as_slice() {
+                    return Err(CertFaultKind::Heading);
+                }
+                self.stage = Stage::Lines;
+                Ok(())
+            }
+            Stage::Lines => {
+                if line == b"end".as_slice() {
+                    self.stage = Stage::Ended;
+                    return Ok(());
+                }
+                self.draft.add_line(line)
+            }
+            Stage::Ended => Err(CertFaultKind::Line),
+        }
+    }
+
+    /// What the lines said.
+    pub fn into_draft(self) -> CertificateDraft
+        ensures { result ≡ self.said }
+    {
+        self.draft
+    }
+}
+
+impl Lines for CertificateLines {
+    ghost use Rattle.audit_cert.specs.DraftView.{Progress};
+    ghost use Rattle.audit_cert.specs.CertText.{Says, after, unended, lacks};
+
+    type Kind = CertFaultKind;
+
+    ghost said = { Progress };
+
+    ghost says = { Says };
+
+    ghost after = { after };
+
+    ghost unended = { unended };
+
+    ghost lacks = { lacks };
+
+    ghost is_memory = { is_memory };
+
+    const LONGEST: usize = LONGEST_LINE;
+
+    fn take_line(&mut self, line: &[u8]) -> Result<(), CertFaultKind> {
+        self.add(line)
+    }
+
+    fn unended(&self, _rest: &[u8]) -> CertFaultKind {
+        match self.stage {
+            Stage::Heading => CertFaultKind::Heading,
+            Stage::Lines | Stage::Ended => CertFaultKind::Line,
+        }
+    }
+
+    fn lacks(&self) -> Option<CertFaultKind> {
+        match self.stage {
+            Stage::Heading => Some(CertFaultKind::Heading),
+            Stage::Lines => Some(CertFaultKind::EndMissing),
+            Stage::Ended => None,
+        }
+    }
+
+    fn no_memory() -> CertFaultKind {
+        CertFaultKind::Memory
+    }
+}

@@ -1,0 +1,18 @@
+-- The key that credentials keep for a user of a realm.
+use Rattle.std.specs.Prelude.{ℕ, List, Option}
+use Rattle.std.specs.Option.{option_and_then}
+use Rattle.std.specs.Ordering.{nat_cmp}
+use Rattle.std.specs.Cmp.Lexicographic.{slice_cmp}
+use Rattle.std.specs.BTreeMap.{get_by}
+use Rattle.audit_keys.specs.declared.keyring.Credentials.{Credentials}
+use Rattle.audit_keys.specs.CredLine.{LongTermCredential}
+use Rattle.audit_keys.specs.Keys.{Knows}
+
+unfoldable pub key_for : Credentials → List ℕ → List ℕ → Option (List ℕ)
+key_for credentials user realm =
+    option_and_then (λ users. get_by (λ k. slice_cmp nat_cmp user k.items) users)
+    (get_by (λ k. slice_cmp nat_cmp realm k.items) credentials.realms)
+
+-- credentials keep the keys of these credentials, and no others
+abbrev pub HasKeysOf : Credentials → List LongTermCredential → Type 0
+HasKeysOf credentials listed = Knows (key_for credentials) listed

@@ -1,0 +1,100 @@
+//! The lines of a credentials text.
+
+ghost use Rattle.std.specs.Prelude.{◌≡◌, ◌≤◌, []};
+ghost use Rattle.audit_keys.specs.declared.credential_line.TheConstants.{MAX_LINES};
+
+use crate::cred_fault::CredFaultKind;
+use crate::credential_line::{MAX_LINES, are_characters, read_line};
+use crate::keyring::Credentials;
+use audit_text::Lines;
+use std::alloc::Global;
+
+/// How long a line may be before its LF is there, in bytes. The longest that is right has 1,526.
+const LONGEST_LINE: usize = 4_096;
+
+/// The users that the lines so far say.
+#[derive(Drop)]
+pub struct CredentialLines {
+    credentials: Credentials,
+    /// How many lines there were.
+    count: u64,
+    alloc: Global,
+    ghost few: { count ≤ MAX_LINES },
+}
+
+impl CredentialLines {
+    ghost use Rattle.audit_keys.specs.CredentialLines.{Says};
+
+    /// No line yet. It takes no memory.
+    pub(crate) fn new(alloc: Global) -> CredentialLines
+        ensures { Says result [] }
+    {
+        CredentialLines {
+            credentials: Credentials::new(alloc),
+            count: 0,
+            alloc,
+        }
+    }
+
+    /// The users that the lines said.
+    pub(crate) fn into_credentials(self) -> Credentials
+        ensures { result ≡ self.credentials }
+    {
+        self.credentials
+    }
+}
+
+impl Lines for CredentialLines {
+    ghost use Rattle.std.specs.Prelude.{List};
+    ghost use Rattle.audit_keys.specs.CredFault.{is_memory};
+    ghost use Rattle.audit_keys.specs.CredLine.{LongTermCredential as Line};
+    ghost use Rattle.audit_keys.specs.CredText.{after, unended, lacks};
+    ghost use Rattle.audit_keys.specs.CredentialLines.{Says};
+
+    type Kind = CredFaultKind;
+
+    ghost said = { List Line };
+
+    ghost says = { Says };
+
+    ghost after = { after };
+
+    ghost unended = { unended };
+
+    ghost lacks = { lacks };
+
+    ghost is_memory = { is_memory };
+
+    const LONGEST: usize = LONGEST_LINE;
+
+    fn take_line(&mut self, line: &[u8]) -> Result<(), CredFaultKind> {
+        let number = self.count + 1;
+        let credential = read_line(number, line)?;
+        if self
+            .credentials
+            .lookup(credential.user, credential.realm)
+            .is_some()
+        {
+            return Err(CredFaultKind::Double);
+        }
+        self.credentials.insert(self.alloc, credential)?;
+        self.count = number;
+        Ok(())
+    }
+
+    fn unended(&self, rest: &[u8]) -> CredFaultKind {
+        if are_characters(rest) {
+            CredFaultKind::Line
+        } else {
+            CredFaultKind::Character
+        }
+    }
+
+    fn lacks(&self) -> Option<CredFaultKind> {
+        None
+    }
+
+    fn no_memory() -> CredFaultKind {
+        CredFaultKind::Memory
+    }
+}

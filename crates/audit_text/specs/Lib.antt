@@ -1,0 +1,4 @@
+pub mod Token
+pub mod Lines
+pub mod Reading
+pub mod Readers

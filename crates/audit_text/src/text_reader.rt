@@ -1,0 +1,196 @@
+//! Reading a text that comes in pieces, line by line.
+
+ghost use Rattle.std.specs.Prelude.{◌≡◌, ◌++◌, [], ℕ, List, true, false, MatchResult, Ok, OnOk, IfOk, IfErr};
+ghost use Rattle.audit_text.specs.Lines.{has_lf};
+ghost use Rattle.audit_text.specs.Reading.{SoFar, so_far, with_more, read_text, UnlessMemory, line_after};
+ghost use Rattle.audit_text.specs.Readers.{Stands, StandsFor, Took};
+
+use crate::line_fault::LineFault;
+use crate::token::cut;
+use std::alloc::Global;
+use std::marker::Model;
+
+/// What takes in a text line by line.
+pub trait Lines: Drop {
+    ghost use Rattle.std.specs.Prelude.{Bool, List, ℕ, Option, Result};
+
+    /// What may be wrong with a line.
+    type Kind;
+
+    /// What lines say.
+    ghost said: { Type 0 };
+
+    /// Whether this is what the lines say that were taken in.
+    ghost says: { Self → said → Type 0 };
+
+    /// What is said with one line more, or what is wrong with it.
+    ghost after: { said → List ℕ → Result said Self.Kind };
+
+    /// What is wrong with bytes that no LF ends.
+    ghost unended: { said → List ℕ → Self.Kind };
+
+    /// What is lacking where the text ends behind the last line.
+    ghost lacks: { said → Option Self.Kind };
+
+    /// Whether a fault is want of memory.
+    ghost is_memory: { Self.Kind → Bool };
+
+    /// How long a line may be before its LF is there, in bytes. No line that is right is longer.
+    const LONGEST: usize;
+
+    /// Takes in a line, without its LF.
+    fn take_line(&mut self, line: &[u8]) -> Result<(), Self::Kind>
+        ensures { (before : said) → says self.old before → MatchResult result
+            (λ _. Took says (after before line.now) self.new)
+            (λ kind. UnlessMemory is_memory kind (after before line.now)) };
+
+    /// What is wrong with bytes that no LF ends.
+    fn unended(&self, rest: &[u8]) -> Self::Kind
+        ensures { (before : said) → says self.now before → result ≡ unended before rest.now };
+
+    /// What is lacking where the text ends here.
+    fn lacks(&self) -> Option<Self::Kind>
+        ensures { (before : said) → says self.now before → result ≡ lacks before };
+
+    /// The fault that is want of memory.
+    fn no_memory() -> Self::Kind
+        ensures { is_memory result ≡ true };
+}
+
+/// Reads a text in pieces, cut anywhere. It keeps the line that has not ended yet.
+#[derive(Drop)]
+pub struct TextReader<L: Lines> {
+    lines: L,
+    /// The bytes so far of the line that comes.
+    held: Vec<u8>,
+    /// The number of the line that comes, from 1.
+    line: u64,
+}
+
+impl<L: Lines> Model for TextReader<L> {
+    ghost use Rattle.audit_text.specs.Reading.{SoFar};
+
+    ghost Value = { SoFar L };
+
+    ghost use Rattle.std.specs.Prelude.{◌≡◌, false};
+    ghost use Rattle.audit_text.specs.Lines.{has_lf};
+
+    ghost view = { λ reader. record { said = reader.lines; line = reader.line; rest = reader.held.items } };
+
+    ghost invariant = { λ reader. has_lf reader.held.items ≡ false };
+}
+
+/// Takes in a line that is whole.
+fn take<L: Lines>(lines: &mut L, number: u64, line: &[u8]) -> Result<(), LineFault<L::Kind>>
+    ensures ok { (before : L.said) → L.says lines.old before → OnOk result (Took L.says (L.after before line.now) lines.new) }
+    ensures err { (before : L.said) → L.says lines.old before →
+        IfErr result (λ fault. (fault.line ≡ number) × UnlessMemory L.is_memory fault.kind (L.after before line.now)) }
+{
+    match lines.take_line(line) {
+        Ok(()) => Ok(()),
+        Err(kind) => Err(LineFault { kind, line: number }),
+    }
+}
+
+impl<L: Lines> TextReader<L> {
+    /// A reader of no bytes. It takes no memory.
+    pub fn new(alloc: Global, lines: L) -> Self
+        ensures { (start : L.said) → L.says lines start → StandsFor L.says L.after start result [] }
+    {
+        TextReader {
+            lines,
+            held: Vec::new(alloc),
+            line: 1,
+        }
+    }
+
+    fn fault(&self, kind: L::Kind) -> LineFault<L::Kind>
+        ensures { result ≡ record { kind = kind; line = self.now.line } }
+    {
+        LineFault {
+            kind,
+            line: self.line,
+        }
+    }
+
+    /// Adds bytes to the line that comes.
+    fn hold(&mut self, bytes: &[u8]) -> Result<(), LineFault<L::Kind>>
+        requires { has_lf bytes.now ≡ false }
+        ensures ok { OnOk result (self.new.rest ≡ self.old.rest ++ bytes.now) }
+        ensures err { IfErr result (λ fault. L.is_memory fault.kind ≡ true) }
+        ensures lines { self.new.said ≡ self.old.said }
+        ensures line { self.new.line ≡ self.old.line }
+    {
+        match self.held.extend_from_slice(bytes) {
+            Ok(()) => Ok(()),
+            Err(_) => Err(self.fault(L::no_memory())),
+        }
+    }
+
+    /// Takes in the line that comes, whose last bytes are these.
+    fn end_line(&mut self, bytes: &[u8]) -> Result<(), LineFault<L::Kind>>
+        requires { has_lf bytes.now ≡ false }
+        ensures ok { (before : L.said) → L.says self.old.said before →
+            OnOk result (Took L.says (L.after before (self.old.rest ++ bytes.now)) self.new.said) }
+        ensures next { OnOk result (self.new.line ≡ line_after self.old.line) }
+        ensures held { OnOk result (self.new.rest ≡ []) }
+        ensures err { (before : L.said) → L.says self.old.said before → IfErr result (λ fault. L.is_memory fault.kind ≡ false →
+            (fault.line ≡ self.old.line) × UnlessMemory L.is_memory fault.kind (L.after before (self.old.rest ++ bytes.now))) }
+    {
+        if self.held.is_empty() {
+            take(&mut self.lines, self.line, bytes)?;
+        } else {
+            self.hold(bytes)?;
+            take(&mut self.lines, self.line, &self.held)?;
+            self.held.clear();
+        }
+        self.line = self.line.saturating_add(1);
+        Ok(())
+    }
+
+    /// Takes in each line that ends in the piece, and holds the rest.
+    fn take_in(&mut self, piece: &[u8]) -> Result<(), LineFault<L::Kind>>
+        ensures ok { (before : SoFar L.said) → Stands L.says self.old before →
+            OnOk result ((next : SoFar L.said) × (with_more L.after before piece.now ≡ Ok next) × Stands L.says self.new next) }
+        ensures err { (before : SoFar L.said) → Stands L.says self.old before →
+            IfErr result (λ fault. UnlessMemory (λ f. L.is_memory f.kind) fault (with_more L.after before piece.now)) }
+    {
+        let _held = &self.held;
+        let mut rest = piece;
+        'lines: while let Some((line, behind)) = cut(rest, b'\n') {
+            self.end_line(line)?;
+            rest = behind;
+        }
+        self.hold(rest)
+    }
+
+    /// Takes the next piece of the text. Once it is refused the reader is gone. A line that has not ended, and is longer than any line that is right,
+    /// is refused as if the text ended there, so that bytes without an LF are not kept for ever.
+    pub fn feed(mut self, piece: &[u8]) -> Result<Self, LineFault<L::Kind>>
+        ensures ok { (start : L.said) (text : List ℕ) → StandsFor L.says L.after start self text →
+            IfOk result (λ reader. StandsFor L.says L.after start reader (text ++ piece.now)) }
+        ensures err { (start : L.said) (text : List ℕ) → StandsFor L.says L.after start self text →
+            IfErr result (λ fault. UnlessMemory (λ f. L.is_memory f.kind) fault (read_text L.after L.unended L.lacks start (text ++ piece.now))) }
+    {
+        self.take_in(piece)?;
+        if self.held.len() > L::LONGEST {
+            return Err(self.fault(self.lines.unended(&self.held)));
+        }
+        Ok(self)
+    }
+
+    /// What takes in the lines, where the text may end here, or what is wrong with a text that ends here. It takes no memory.
+    pub fn finish(self) -> Result<L, LineFault<L::Kind>>
+        ensures { (start : L.said) (text : List ℕ) → StandsFor L.says L.after start self text → MatchResult result
+            (λ lines. Took L.says (read_text L.after L.unended L.lacks start text) lines)
+            (λ fault. read_text L.after L.unended L.lacks start text ≡ Err fault) }
+    {
+        if !self.held.is_empty() {
+            return Err(self.fault(self.lines.unended(&self.held)));
+        }
+        match self.lines.lacks() {
+            None => Ok(self.lines),
+            Some(kind) => Err(self.fault(kind)),
+        }
+    }
+}
