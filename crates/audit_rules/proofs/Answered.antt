@@ -30,12 +30,12 @@ Served x = IsTrue (listens x.policy x.listen)
 
 pub binding_may : (x : Situation) → Served x → IsResponse x Success BINDING → AllHold (binding_checks x) → MayAnswer x Same
 unfolding MayAnswer
-binding_may x served response all = (served, Binding, (record { response = response; mapped = all.1.0 }, refl))
+binding_may x served response (tells, (mapped, end)) = (served, Binding, (record { response = response; mapped = mapped }, refl))
 
 pub error_may : (x : Situation) → Served x → IsResponse x Error (asked x).method → AllHold (error_checks x) → MayAnswer x Same
 unfolding MayAnswer
-error_may x served response all =
-    let s = some_and (code_of (answered x)) (Fits x) all.1.0 in
+error_may x served response (tells, (fits, end)) =
+    let s = some_and (code_of (answered x)) (Fits x) fits in
     (served, ErrorCase, (record { response = response; code = s.0; tells = s.1; fits = s.2 }, refl))
 
 pub made_is : (x : Situation) (found : Option Allocation) → made_it x found ≡ true → IsSomeAnd found (λ a. UsableNow x a.until × (a.id ≡ (asked x).tid))
@@ -55,27 +55,26 @@ pub new_may : (x : Situation) → Served x → IsResponse x Success ALLOCATE →
     → (user : List ℕ) (relayed : Addr) (seconds : ℕ) → first_of USERNAME (asked x).attributes ≡ Some user → address_named XOR_RELAYED_ADDRESS (answered x) ≡ Some relayed → lifetime_of (answered x) ≡ Some seconds
     → MayAnswer x (Makes (made_by x relayed user seconds))
 unfolding MayAnswer
-new_may x served response first all user relayed seconds u r s =
-    let more = all.1.1.1.1.1.1 in (
-      served,
-      New,
-      record {
-        response = response;
-        first = λ again. not_made x x.allocation first again;
-        user = user;
-        authentic = authentic_as x user all.0 u;
-        free = all.1.0;
-        served = all.1.1.0;
-        relayed = relayed;
-        tells = r;
-        in_range = has_some (address_named XOR_RELAYED_ADDRESS (answered x)) (MayBeRelayed x) relayed r more.0;
-        seconds = seconds;
-        lasts = (s, is_some_time seconds (lifetime_of (answered x)) s more.1.0);
-        mapped = more.1.1.0;
-        signed = more.1.1.1.0;
-        changes = refl;
-      },
-    )
+new_may x served response first (by, (free, (asks, (tells_relayed, (tells_lifetime, (tells_mapped, (in_range, (not_zero, (mapped, (signed, end)))))))))) user relayed seconds u r s = (
+  served,
+  New,
+  record {
+    response = response;
+    first = λ again. not_made x x.allocation first again;
+    user = user;
+    authentic = authentic_as x user by u;
+    free = free;
+    served = asks;
+    relayed = relayed;
+    tells = r;
+    in_range = has_some (address_named XOR_RELAYED_ADDRESS (answered x)) (MayBeRelayed x) relayed r in_range;
+    seconds = seconds;
+    lasts = (s, is_some_time seconds (lifetime_of (answered x)) s not_zero);
+    mapped = mapped;
+    signed = signed;
+    changes = refl;
+  },
+)
 
 same_again : (x : Situation) (found : Option Allocation) → IsSomeAnd found (λ a. UsableNow x a.until × (a.id ≡ (asked x).tid)) → IsSomeAnd found (IsOwn x) → IsSomeAnd found (λ a. Names XOR_RELAYED_ADDRESS (answered x) a.relayed)
     → IsSomeAnd found (λ a. UsableNow x a.until × ((a.id ≡ (asked x).tid) × IsOwn x a × Names XOR_RELAYED_ADDRESS (answered x) a.relayed))
@@ -84,19 +83,18 @@ same_again x None made own names = absurd made
 
 pub again_may : (x : Situation) → Served x → IsResponse x Success ALLOCATE → made_it x x.allocation ≡ true → AllHold (again_checks x) → MayAnswer x Same
 unfolding MayAnswer
-again_may x served response again all =
-    let by = authentic x all.0 in
-    let more = all.1.1.1.1 in (
+again_may x served response again (by, (own, (tells_relayed, (tells_mapped, (relayed, (mapped, (signed, end))))))) =
+    let user = authentic x by in (
       served,
       Again,
       (
         record {
           response = response;
-          user = by.0;
-          authentic = by.2;
-          same = same_again x x.allocation (made_is x x.allocation again) all.1.0 more.0;
-          mapped = more.1.0;
-          signed = more.1.1.0;
+          user = user.0;
+          authentic = user.2;
+          same = same_again x x.allocation (made_is x x.allocation again) own relayed;
+          mapped = mapped;
+          signed = signed;
         },
         refl,
       ),
@@ -113,19 +111,18 @@ allowed x (inr a) (inr b) (inr c) (inr d) = inr (both_some x.allocation (λ a. U
 pub refresh_may : (x : Situation) → Served x → IsResponse x Success REFRESH → AllHold (refresh_checks x) → (seconds : ℕ) → lifetime_of (answered x) ≡ Some seconds
     → MayAnswer x (if seconds == 0 then Removes else Renews (seconds_after x.moment seconds))
 unfolding MayAnswer
-refresh_may x served response all seconds s =
-    let by = authentic x all.0 in
-    let more = all.1.1 in (
+refresh_may x served response (by, (tells, (there, (usable, (own, (same_end, (signed, end))))))) seconds s =
+    let user = authentic x by in (
       served,
       Refresh,
       record {
         response = response;
-        user = by.0;
-        authentic = by.2;
+        user = user.0;
+        authentic = user.2;
         seconds = seconds;
         lasts = s;
-        allowed = allowed x more.0 more.1.0 more.1.1.0 more.1.1.1.0;
-        signed = more.1.1.1.1.0;
+        allowed = allowed x there usable own same_end;
+        signed = signed;
         changes = refl;
       },
     )
@@ -133,20 +130,19 @@ refresh_may x served response all seconds s =
 pub permission_may : (x : Situation) → Served x → IsResponse x Success CREATE_PERMISSION → AllHold (permission_checks x) → (ips : List ℕ) → peer_ips_of (asked x) ≡ Some ips
     → MayAnswer x (Grants ips (seconds_after x.moment 300))
 unfolding MayAnswer
-permission_may x served response all ips p =
-    let by = authentic x all.0 in
-    let more = all.1.1 in (
+permission_may x served response (by, (there, (usable, (own, (some, (signed, end)))))) ips p =
+    let user = authentic x by in (
       served,
       Permission,
       record {
         response = response;
-        user = by.0;
-        authentic = by.2;
-        own = both_some x.allocation (λ a. UsableNow x a.until) (IsOwn x) more.0 more.1.0;
+        user = user.0;
+        authentic = user.2;
+        own = both_some x.allocation (λ a. UsableNow x a.until) (IsOwn x) usable own;
         ips = ips;
         names = p;
-        some = has_some (peer_ips_of (asked x)) (λ l. 0 < length l) ips p more.1.1.0;
-        signed = more.1.1.1.0;
+        some = has_some (peer_ips_of (asked x)) (λ l. 0 < length l) ips p some;
+        signed = signed;
         changes = refl;
       },
     )
@@ -159,25 +155,23 @@ own_and x None P u own p = absurd u
 pub channel_bind_may : (x : Situation) → Served x → IsResponse x Success CHANNEL_BIND → AllHold (channel_bind_checks x) → (number : ℕ) (peer : Addr) → channel_number_of (asked x) ≡ Some number
     → address_named XOR_PEER_ADDRESS (asked x) ≡ Some peer → MayAnswer x (Binds number peer (seconds_after x.moment 600) (seconds_after x.moment 300))
 unfolding MayAnswer
-channel_bind_may x served response all number peer n p =
-    let by = authentic x all.0 in
-    let more = all.1.1.1 in
-    let after = more.1.1.1 in
-    let of_peer = has_some (address_named XOR_PEER_ADDRESS (asked x)) (λ one. IsSomeAnd (channel_number_of (asked x)) (λ k. WithAllocation x (NoConflict x k one))) peer p after.0 in
+channel_bind_may x served response (by, (there, (usable, (own, (in_range, (names, (may_bind, (signed, end)))))))) number peer n p =
+    let user = authentic x by in
+    let of_peer = has_some (address_named XOR_PEER_ADDRESS (asked x)) (λ one. IsSomeAnd (channel_number_of (asked x)) (λ k. WithAllocation x (NoConflict x k one))) peer p may_bind in
     let free = has_some (channel_number_of (asked x)) (λ k. WithAllocation x (NoConflict x k peer)) number n of_peer in (
       served,
       ChannelBind,
       record {
         response = response;
-        user = by.0;
-        authentic = by.2;
+        user = user.0;
+        authentic = user.2;
         number = number;
         asks = n;
-        in_range = has_some (channel_number_of (asked x)) IsChannelNumber number n more.1.0;
+        in_range = has_some (channel_number_of (asked x)) IsChannelNumber number n in_range;
         peer = peer;
         names = p;
-        own = own_and x x.allocation (NoConflict x number peer) all.1.1.0 more.0 free;
-        signed = after.1.0;
+        own = own_and x x.allocation (NoConflict x number peer) usable own free;
+        signed = signed;
         changes = refl;
       },
     )
@@ -189,21 +183,20 @@ send_relays x None u r p = absurd u
 
 pub send_may : (x : Situation) → Served x → GoesUp x → IsOf x.arrives.payload Indication SEND → AllHold (send_checks x) → MayAnswer x Same
 unfolding MayAnswer
-send_may x served goes is all =
-    let more = all.1.1 in (
-      served,
-      Send,
-      (
-        record {
-          goes = goes;
-          indication = is;
-          relays = send_relays x x.allocation all.1.0 more.0 more.1.1.1.0;
-          peer = more.1.0;
-          sends = more.1.1.1.1.0;
-        },
-        refl,
-      ),
-    )
+send_may x served goes is (there, (usable, (relayed, (peer, (granted, (permitted, (sends, end))))))) = (
+  served,
+  Send,
+  (
+    record {
+      goes = goes;
+      indication = is;
+      relays = send_relays x x.allocation usable relayed permitted;
+      peer = peer;
+      sends = sends;
+    },
+    refl,
+  ),
+)
 
 data_relays : (x : Situation) (found : Option Allocation) → IsSomeAnd found (λ a. UsableNow x a.until × Unit {0}) → IsSomeAnd found (λ a. x.arrives.to ≡ a.relayed) → IsSomeAnd found (λ a. Permits x a x.arrives.from.ip)
     → IsSomeAnd found (λ a. UsableNow x a.until × ((x.arrives.to ≡ a.relayed) × Permits x a x.arrives.from.ip))
@@ -212,21 +205,20 @@ data_relays x None u r p = absurd u
 
 pub data_may : (x : Situation) → Served x → GoesDown x → IsOf x.leaves.payload Indication DATA_METHOD → AllHold (data_checks x) → MayAnswer x Same
 unfolding MayAnswer
-data_may x served goes is all =
-    let more = all.1.1.1.1 in (
-      served,
-      Data,
-      (
-        record {
-          goes = goes;
-          indication = is;
-          relays = data_relays x x.allocation all.1.1.1.0 more.0 more.1.1.0;
-          peer = more.1.1.1.0;
-          sends = more.1.1.1.1.0;
-        },
-        refl,
-      ),
-    )
+data_may x served goes is (tells_peer, (tells_data, (there, (usable, (relayed, (granted, (permitted, (peer, (sends, end))))))))) = (
+  served,
+  Data,
+  (
+    record {
+      goes = goes;
+      indication = is;
+      relays = data_relays x x.allocation usable relayed permitted;
+      peer = peer;
+      sends = sends;
+    },
+    refl,
+  ),
+)
 
 -- the channel of a number is there, to this peer, and usable
 carried : (x : Situation) (channel : Option Channel) (peer : Addr) → IsSomeAnd channel (λ c. UsableNow x c.lease.until) → IsSomeAnd channel (λ c. c.peer ≡ peer) → IsSomeAnd channel (λ c. (c.peer ≡ peer) × UsableNow x c.lease.until)
@@ -241,10 +233,9 @@ up_relays x None number u r c p = absurd u
 
 pub channel_up_may : (x : Situation) → Served x → GoesUp x → AllHold (channel_up_checks x) → (number : ℕ) (bytes : List ℕ) (past : ℕ) → channel_data_of x.arrives.payload ≡ Some (number, bytes, past) → MayAnswer x Same
 unfolding MayAnswer
-channel_up_may x served goes all number bytes past said =
-    let more = all.1.1 in
+channel_up_may x served goes (there, (usable, (relayed, (bound, (lasting, (to_peer, (sends, end))))))) number bytes past said =
     let at : (P : ℕ → List ℕ → ℕ → Type 0) → SaysChannel x.arrives.payload P → P number bytes past = λ P h. has_some (channel_data_of x.arrives.payload) (λ s. P s.0 s.1 s.2) (number, bytes, past) said h in
-    let sent : bytes ≡ x.leaves.payload = at (λ k b p. b ≡ x.leaves.payload) more.1.1.1.1.0 in (
+    let sent : bytes ≡ x.leaves.payload = at (λ k b p. b ≡ x.leaves.payload) sends in (
       served,
       ChannelUp,
       (
@@ -253,7 +244,7 @@ channel_up_may x served goes all number bytes past said =
           number = number;
           past = past;
           says = subst (λ b. channel_data_of x.arrives.payload ≡ Some (number, b, past)) sent said;
-          relays = up_relays x x.allocation number all.1.0 more.0 (at (λ k b p. WithAllocation x (λ a. IsSomeAnd (a.channels k) (λ c. UsableNow x c.lease.until))) more.1.1.0) (at (λ k b p. WithAllocation x (λ a. IsSomeAnd (a.channels k) (λ c. c.peer ≡ x.leaves.to))) more.1.1.1.0);
+          relays = up_relays x x.allocation number usable relayed (at (λ k b p. WithAllocation x (λ a. IsSomeAnd (a.channels k) (λ c. UsableNow x c.lease.until))) lasting) (at (λ k b p. WithAllocation x (λ a. IsSomeAnd (a.channels k) (λ c. c.peer ≡ x.leaves.to))) to_peer);
         },
         refl,
       ),
@@ -267,11 +258,9 @@ down_relays x None number u r q c p = absurd u
 
 pub channel_down_may : (x : Situation) → Served x → GoesDown x → AllHold (channel_down_checks x) → (number : ℕ) (bytes : List ℕ) (past : ℕ) → channel_data_of x.leaves.payload ≡ Some (number, bytes, past) → MayAnswer x Same
 unfolding MayAnswer
-channel_down_may x served goes all number bytes past said =
-    let more = all.1.1.1 in
+channel_down_may x served goes (padding, (there, (usable, (relayed, (granted, (permitted, (bound, (lasting, (of_peer, (sends, end)))))))))) number bytes past said =
     let at : (P : ℕ → List ℕ → ℕ → Type 0) → SaysChannel x.leaves.payload P → P number bytes past = λ P h. has_some (channel_data_of x.leaves.payload) (λ s. P s.0 s.1 s.2) (number, bytes, past) said h in
-    let channel = more.1.1.1 in
-    let sent : bytes ≡ x.arrives.payload = at (λ k b p. b ≡ x.arrives.payload) channel.1.1.1.0 in (
+    let sent : bytes ≡ x.arrives.payload = at (λ k b p. b ≡ x.arrives.payload) sends in (
       served,
       ChannelDown,
       (
@@ -280,8 +269,8 @@ channel_down_may x served goes all number bytes past said =
           number = number;
           past = past;
           says = subst (λ b. channel_data_of x.leaves.payload ≡ Some (number, b, past)) sent said;
-          padding = at (λ k b p. p ≤ 3) all.0;
-          relays = down_relays x x.allocation number all.1.1.0 more.0 more.1.1.0 (at (λ k b p. WithAllocation x (λ a. IsSomeAnd (a.channels k) (λ c. UsableNow x c.lease.until))) channel.1.0) (at (λ k b p. WithAllocation x (λ a. IsSomeAnd (a.channels k) (λ c. c.peer ≡ x.arrives.from))) channel.1.1.0);
+          padding = at (λ k b p. p ≤ 3) padding;
+          relays = down_relays x x.allocation number usable relayed permitted (at (λ k b p. WithAllocation x (λ a. IsSomeAnd (a.channels k) (λ c. UsableNow x c.lease.until))) lasting) (at (λ k b p. WithAllocation x (λ a. IsSomeAnd (a.channels k) (λ c. c.peer ≡ x.arrives.from))) of_peer);
         },
         refl,
       ),

@@ -37,6 +37,14 @@ not_both [] rule f all = f
 not_both (check ∷ checks) rule (inl f) all = f.1 all.0
 not_both (check ∷ checks) rule (inr f) all = not_both checks rule f.1 all.1
 
+-- one check is the first that fails
+pub one_first : (checks : List Check) (one other : Rule) → FirstFails checks one → FirstFails checks other → one ≡ other
+one_first [] one other f g = absurd f
+one_first (check ∷ checks) one other (inl f) (inl g) = f.0 ∙ sym g.0
+one_first (check ∷ checks) one other (inl f) (inr g) = absurd (f.1 g.0)
+one_first (check ∷ checks) one other (inr f) (inl g) = absurd (g.1 f.0)
+one_first (check ∷ checks) one other (inr f) (inr g) = one_first checks one other f.1 g.1
+
 -- ---- from the answer to the checks
 
 path_at : (x : Situation) (a d : Option Path) → arrival_path x ≡ a → departure_path x ≡ d → AllHold (path_checks x a d) → AllHold (path_checks x (arrival_path x) (departure_path x))
@@ -145,27 +153,29 @@ abbrev May : Situation → Type 0
 May x = (change : Change) × MayAnswer x change
 
 new_change : (x : Situation) → Served x → IsResponse x Success ALLOCATE → made_it x x.allocation ≡ false → AllHold (new_checks x) → May x
-new_change x served r e all =
-    let by = authentic x all.0 in
-    let relayed = has (address_named XOR_RELAYED_ADDRESS (answered x)) all.1.1.1.0 in
-    let seconds = has (lifetime_of (answered x)) all.1.1.1.1.0 in
-    (_, new_may x served r e all by.0 relayed.0 seconds.0 by.1 relayed.1 seconds.1)
+new_change x served r e (by, (free, (asks, (tells_relayed, (tells_lifetime, rest))))) =
+    let user = authentic x by in
+    let relayed = has (address_named XOR_RELAYED_ADDRESS (answered x)) tells_relayed in
+    let seconds = has (lifetime_of (answered x)) tells_lifetime in
+    (_, new_may x served r e (by, (free, (asks, (tells_relayed, (tells_lifetime, rest))))) user.0 relayed.0 seconds.0 user.1 relayed.1 seconds.1)
 
 allocate_change : (x : Situation) (b : Bool) → made_it x x.allocation ≡ b → Served x → IsResponse x Success ALLOCATE → AllHold (choose b (again_checks x) (new_checks x)) → May x
 allocate_change x true e served r all = (Same, again_may x served r e all)
 allocate_change x false e served r all = new_change x served r e all
 
 refresh_change : (x : Situation) → Served x → IsResponse x Success REFRESH → AllHold (refresh_checks x) → May x
-refresh_change x served r all = let seconds = has (lifetime_of (answered x)) all.1.0 in (_, refresh_may x served r all seconds.0 seconds.1)
+refresh_change x served r (by, (tells, rest)) = let seconds = has (lifetime_of (answered x)) tells in (_, refresh_may x served r (by, (tells, rest)) seconds.0 seconds.1)
 
 permission_change : (x : Situation) → Served x → IsResponse x Success CREATE_PERMISSION → AllHold (permission_checks x) → May x
-permission_change x served r all = let ips = some_and (peer_ips_of (asked x)) (λ l. 0 < length l) all.1.1.1.1.0 in (_, permission_may x served r all ips.0 ips.1)
+permission_change x served r (by, (there, (usable, (own, (some, rest))))) =
+    let ips = some_and (peer_ips_of (asked x)) (λ l. 0 < length l) some in
+    (_, permission_may x served r (by, (there, (usable, (own, (some, rest))))) ips.0 ips.1)
 
 channel_bind_change : (x : Situation) → Served x → IsResponse x Success CHANNEL_BIND → AllHold (channel_bind_checks x) → May x
-channel_bind_change x served r all =
-    let number = some_and (channel_number_of (asked x)) IsChannelNumber all.1.1.1.1.0 in
-    let peer = has (address_named XOR_PEER_ADDRESS (asked x)) all.1.1.1.1.1.0 in
-    (_, channel_bind_may x served r all number.0 peer.0 number.1 peer.1)
+channel_bind_change x served r (by, (there, (usable, (own, (in_range, (names, rest)))))) =
+    let number = some_and (channel_number_of (asked x)) IsChannelNumber in_range in
+    let peer = has (address_named XOR_PEER_ADDRESS (asked x)) names in
+    (_, channel_bind_may x served r (by, (there, (usable, (own, (in_range, (names, rest)))))) number.0 peer.0 number.1 peer.1)
 
 abbrev Responds : Situation → ℕ → Type 0
 Responds x method = IsResponse x Success method
@@ -202,18 +212,18 @@ class_change x Indication e served f g message request its all = absurd (elim it
 
 up_change : (x : Situation) → Served x → arrival_path x ≡ Some Client → departure_path x ≡ Some Relay → AllHold (up_checks x) → May x
 up_change x served f g all = elim (chosen (is_channel x.arrives.payload) _ _ all) [
-  | inl a ↦ (let said = some_and (channel_data_of x.arrives.payload) (λ s. Unit {0}) a.1.0 in (Same, channel_up_may x served (f, g) a.1.1 said.0.0 said.0.1 said.0.2 said.1))
-  | inr b ↦ (Same, send_may x served (f, g) b.1.0 b.1.1)
+  | inl (is, (any, rest)) ↦ (let said = some_and (channel_data_of x.arrives.payload) (λ s. Unit {0}) any in (Same, channel_up_may x served (f, g) rest said.0.0 said.0.1 said.0.2 said.1))
+  | inr (is, (indication, rest)) ↦ (Same, send_may x served (f, g) indication rest)
 ]
 
 down_change : (x : Situation) → Served x → arrival_path x ≡ Some Relay → departure_path x ≡ Some Client → AllHold (down_checks x) → May x
 down_change x served f g all = elim (chosen (is_channel x.leaves.payload) _ _ all) [
-  | inl a ↦ (let said = some_and (channel_data_of x.leaves.payload) (λ s. Unit {0}) a.1.0 in (Same, channel_down_may x served (f, g) a.1.1 said.0.0 said.0.1 said.0.2 said.1))
-  | inr b ↦ (Same, data_may x served (f, g) b.1.1.0 b.1.1.1)
+  | inl (is, (any, rest)) ↦ (let said = some_and (channel_data_of x.leaves.payload) (λ s. Unit {0}) any in (Same, channel_down_may x served (f, g) rest said.0.0 said.0.1 said.0.2 said.1))
+  | inr (is, (message, (indication, rest))) ↦ (Same, data_may x served (f, g) indication rest)
 ]
 
 path_change : (x : Situation) (a d : Option Path) → arrival_path x ≡ a → departure_path x ≡ d → Served x → AllHold (path_checks x a d) → May x
-path_change x (Some Client) (Some Client) f g served h = class_change x (answered x).class refl served f g h.0 h.1.0 h.1.1.0 h.1.1.1
+path_change x (Some Client) (Some Client) f g served (message, (request, (its, rest))) = class_change x (answered x).class refl served f g message request its rest
 path_change x (Some Client) (Some Relay) f g served h = up_change x served f g h
 path_change x (Some Relay) (Some Client) f g served h = down_change x served f g h
 path_change x (Some Relay) (Some Relay) f g served h = absurd h.0

@@ -4,4 +4,7 @@ pub mod Tables
 pub mod Held
 pub mod Chosen
 pub mod OneAnswer
+pub mod Said
+pub mod Keys
+pub mod KeyChecks
 pub mod Named

@@ -1,19 +1,14 @@
--- An act is one answer at the most, and changes the table in one way.
-use Rattle.std.proofs.Common.{◌≡◌, ℕ, ◌==◌, Option, Some, None, Bool, true, false, refl, sym, ap, subst, ◌∙◌}
+-- An act is one answer at the most.
+use Rattle.std.proofs.Common.{◌≡◌, ℕ, ◌==◌, Option, Some, None, Bool, true, false, refl, sym, ap, ◌∙◌}
 use Rattle.audit_stun.specs.declared.class.Class.{Class}
 use Rattle.audit_stun.specs.declared.class.Class.TheVariants.{Request, Indication, Success, Error}
 use Rattle.audit_stun.specs.declared.numbers.method.TheConstants.{BINDING, ALLOCATE, REFRESH, CREATE_PERMISSION, CHANNEL_BIND}
-use Rattle.audit_stun.specs.declared.numbers.attribute.TheConstants.{USERNAME, XOR_RELAYED_ADDRESS, XOR_PEER_ADDRESS}
-use Rattle.audit_stun.specs.Counted.{first_of}
 use Rattle.audit_rules.specs.declared.path.Path.{Path}
 use Rattle.audit_rules.specs.declared.path.Path.TheVariants.{Client, Relay}
-use Rattle.audit_rules.specs.Allocation.{Change, Makes, Grants, Binds}
+use Rattle.audit_rules.specs.Allocation.{Change}
 use Rattle.audit_rules.specs.Situation.{Situation, asked, answered, arrival_path, departure_path}
-use Rattle.audit_rules.specs.Values.{AreBytes, address_named, lifetime_of, channel_number_of, peer_ips_of}
+use Rattle.audit_rules.specs.Values.{AreBytes}
 use Rattle.audit_rules.specs.Standing.{IsResponse}
-use Rattle.audit_rules.specs.Allocating.{AnswersNew, AnswersRefresh, made_by, seconds_after}
-use Rattle.audit_rules.specs.Granting.{AnswersPermission, AnswersChannelBind}
-use Rattle.audit_rules.specs.Effect.{refreshed}
 use Rattle.audit_rules.specs.Answer.{Answers, Case, Binding, Error as ErrorCase, New, Again, Refresh, Permission, ChannelBind, Send, ChannelUp, Data, ChannelDown}
 use Rattle.audit_rules.specs.FirstRule.{made_it, is_channel}
 use Rattle.audit_rules.proofs.Chosen.{made_true, made_false, again_is, message_is_none, channel_is}
@@ -77,47 +72,3 @@ kind_is ChannelDown x change up down r = kind_down x true r.0.goes.0 r.0.goes.1 
 
 pub same_case : (one other : Case) (x : Situation) (c d : Change) → AreBytes x.arrives.payload → AreBytes x.leaves.payload → Answers one x c → Answers other x d → one ≡ other
 same_case one other x c d up down r s = sym (kind_is one x c up down r) ∙ kind_is other x d up down s
-
-abbrev inside : {A : Type 0} (a : A) (o : Option A) → A
-inside a (Some b) = b
-inside a None = a
-
-some_inj : {A : Type 0} (o : Option A) (a b : A) → o ≡ Some a → o ≡ Some b → a ≡ b
-some_inj o a b e f = ap (inside a) (sym e ∙ f)
-
-new_change_is : (x : Situation) (c d : Change) → AnswersNew x c → AnswersNew x d → c ≡ d
-new_change_is x c d r s =
-    let relayed = some_inj (address_named XOR_RELAYED_ADDRESS (answered x)) r.relayed s.relayed r.tells s.tells in
-    let user = some_inj (first_of USERNAME (asked x).attributes) r.user s.user r.authentic.names_user s.authentic.names_user in
-    let seconds = some_inj (lifetime_of (answered x)) r.seconds s.seconds r.lasts.0 s.lasts.0 in
-    r.changes ∙ ap (λ a. Makes (made_by x a r.user r.seconds)) relayed ∙ ap (λ u. Makes (made_by x s.relayed u r.seconds)) user ∙ ap (λ n. Makes (made_by x s.relayed s.user n)) seconds ∙ sym s.changes
-
-refresh_change_is : (x : Situation) (c d : Change) → AnswersRefresh x c → AnswersRefresh x d → c ≡ d
-refresh_change_is x c d r s = r.changes ∙ ap (refreshed x.moment) (some_inj (lifetime_of (answered x)) r.seconds s.seconds r.lasts s.lasts) ∙ sym s.changes
-
-permission_change_is : (x : Situation) (c d : Change) → AnswersPermission x c → AnswersPermission x d → c ≡ d
-permission_change_is x c d r s = r.changes ∙ ap (λ ips. Grants ips (seconds_after x.moment 300)) (some_inj (peer_ips_of (asked x)) r.ips s.ips r.names s.names) ∙ sym s.changes
-
-channel_bind_change_is : (x : Situation) (c d : Change) → AnswersChannelBind x c → AnswersChannelBind x d → c ≡ d
-channel_bind_change_is x c d r s =
-    let number = some_inj (channel_number_of (asked x)) r.number s.number r.asks s.asks in
-    let peer = some_inj (address_named XOR_PEER_ADDRESS (asked x)) r.peer s.peer r.names s.names in
-    r.changes ∙ ap (λ n. Binds n r.peer (seconds_after x.moment 600) (seconds_after x.moment 300)) number ∙ ap (λ p. Binds s.number p (seconds_after x.moment 600) (seconds_after x.moment 300)) peer ∙ sym s.changes
-
-change_is : (case : Case) (x : Situation) (c d : Change) → Answers case x c → Answers case x d → c ≡ d
-change_is Binding x c d r s = r.1 ∙ sym s.1
-change_is ErrorCase x c d r s = r.1 ∙ sym s.1
-change_is New x c d r s = new_change_is x c d r s
-change_is Again x c d r s = r.1 ∙ sym s.1
-change_is Refresh x c d r s = refresh_change_is x c d r s
-change_is Permission x c d r s = permission_change_is x c d r s
-change_is ChannelBind x c d r s = channel_bind_change_is x c d r s
-change_is Send x c d r s = r.1 ∙ sym s.1
-change_is ChannelUp x c d r s = r.1 ∙ sym s.1
-change_is Data x c d r s = r.1 ∙ sym s.1
-change_is ChannelDown x c d r s = r.1 ∙ sym s.1
-
-pub same_change : (one other : Case) (x : Situation) (c d : Change) → AreBytes x.arrives.payload → AreBytes x.leaves.payload → Answers one x c → Answers other x d → c ≡ d
-same_change one other x c d up down r s =
-    let same = same_case one other x c d up down r s in
-    change_is other x c d (subst (λ k. Answers k x c) same r) s

@@ -14,5 +14,8 @@ pub mod Seen
 pub mod Named
 pub mod Fault
 pub mod Effect
+pub mod Said
+pub mod Keys
+pub mod Judged
 pub mod Tenancies
 pub mod Changes

@@ -1,16 +1,16 @@
 //! Judging an act, and changing the table by it.
 
 ghost use Rattle.std.specs.Prelude.{◌≡◌, IfOk, IfErr, OnErr};
-ghost use Rattle.audit_rules.specs.Allocation.{Change};
 ghost use Rattle.audit_rules.specs.Answer.{MayAnswer};
 ghost use Rattle.audit_rules.specs.FirstRule.{FirstRule};
 ghost use Rattle.audit_rules.specs.Fault.{IsBroken};
+ghost use Rattle.audit_rules.specs.Said.{change_in};
 ghost use Rattle.audit_rules.specs.Effect.{standing};
 ghost use Rattle.audit_rules.specs.Changes.{IsChanged};
 ghost use Rattle.audit_rules.specs.Seen.{situation_of};
 
 use crate::acts::Act;
-use crate::change::{Cause, change};
+use crate::change::{ActAt, change};
 use crate::credentials::CredRow;
 use crate::fault::ActFault;
 use crate::judging::judged;
@@ -21,8 +21,9 @@ use std::alloc::Global;
 /// Judges the act that answers an arrival by a departure, and changes the table as the server does (RFC 8656).
 ///
 /// It gives the tenancy that the act ended, if any. It fails by the first rule, R1 to R21, that the act breaks, or for
-/// want of memory; the table stays as it was then. It looks through the users and, for a ChannelBind, the channels; it
-/// hashes only what the case asks to be signed, and takes memory only for what the table gains.
+/// want of memory; the table stays as it was then. It looks through the users, of whom those that the request names
+/// matter alone (of two of one user and realm the first counts), and, for a ChannelBind, through the channels; it hashes
+/// only what the case asks to be signed, and takes memory only for what the table gains.
 pub fn act(
     alloc: Global,
     table: &mut LaneTable,
@@ -32,9 +33,9 @@ pub fn act(
     leaves: &Sighting,
     at: At,
 ) -> Result<Option<Tenancy>, ActFault>
-    // The server may answer so, and the table is changed accordingly.
-    ensures ok { IfOk result (λ ended. (change : Change) × MayAnswer (situation_of table.old users.now policy.now arrives.now leaves.now at.key.moment) change
-        × IsChanged policy.now.grace at arrives.now.id change (standing table.old) (standing table.new) ended) }
+    // The server may answer so, and the table is changed as the departure says.
+    ensures ok { IfOk result (λ ended. let x = situation_of table.old users.now policy.now arrives.now leaves.now at.key.moment in
+        MayAnswer x (change_in x) × IsChanged policy.now.grace at arrives.now.id (change_in x) (standing table.old) (standing table.new) ended) }
     // The rule is that of the first check that fails.
     ensures broken { IfErr result (λ fault. IsBroken fault (λ rule. FirstRule (situation_of table.old users.now policy.now arrives.now leaves.now at.key.moment) rule)) }
     ensures err { OnErr result (standing table.new ≡ standing table.old) }
@@ -50,10 +51,10 @@ pub fn act(
             moment: at.key.moment,
         },
     )?;
-    let cause = Cause {
+    let by = ActAt {
         at,
         sight: arrives.id,
         grace: policy.grace,
     };
-    Ok(change(alloc, table, cause, effect)?)
+    Ok(change(alloc, table, by, effect)?)
 }

@@ -17,6 +17,7 @@ ghost use Rattle.audit_rules.specs.Seen.{situation};
 use crate::acts::Act;
 use crate::credentials::{authenticated, signed_back};
 use crate::table::Allocation;
+use crate::usable::usable_allocation;
 use crate::values::{UDP, address_in, family_in, lifetime_in, transport_in};
 use audit_model::{Addr, Rule};
 use audit_stun::Message;
@@ -39,16 +40,14 @@ pub fn is_again(act: &Act<'_, '_>, request: &Message<'_>) -> bool
     requires { request.now ≡ (situation act.now).arrives.payload }
     ensures { result ≡ made_it (situation act.now) (situation act.now).allocation }
 {
-    match &act.table.allocation {
-        None => false,
-        Some(found) => {
-            found.lease.usable(act.moment, act.policy.grace) && found.id == request.tid()
-        }
+    match usable_allocation(act) {
+        Ok(found) => found.id == request.tid(),
+        Err(_) => false,
     }
 }
 
 /// Whether no allocation is there, or one that is over.
-fn nothing_lasts(act: &Act<'_, '_>) -> bool
+pub fn nothing_lasts(act: &Act<'_, '_>) -> bool
     ensures { IsTrue result ↔ NothingLasts (situation act.now) }
 {
     match &act.table.allocation {

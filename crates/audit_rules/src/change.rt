@@ -28,9 +28,9 @@ const PERMISSION_SECONDS: u32 = 300;
 /// How long a channel lasts (RFC 8656, section 12).
 const CHANNEL_SECONDS: u32 = 600;
 
-/// The act that changes a table.
+/// The act that changes a table: where it stands.
 #[derive(Clone, Copy)]
-pub struct Cause {
+pub struct ActAt {
     pub at: At,
     /// The act's arrival.
     pub sight: SightId,
@@ -63,24 +63,24 @@ fn stopped(table: &LaneTable, key: Key) -> Option<Tenancy>
 fn make(
     alloc: Global,
     table: &mut LaneTable,
-    cause: Cause,
+    act: ActAt,
     made: Made<'_>,
     id: [u8; 12],
 ) -> Result<Option<Tenancy>, AllocError>
-    ensures ok { IfOk result (λ ended. IsChanged cause.grace cause.at cause.sight (change_of cause.at.key.moment (effects.Makes made.entry id)) (standing table.old) (standing table.new) ended) }
+    ensures ok { IfOk result (λ ended. IsChanged act.grace act.at act.sight (change_of act.at.key.moment (effects.Makes made.entry id)) (standing table.old) (standing table.new) ended) }
     ensures err { OnErr result (table.new ≡ table.old) }
 {
     let user = Vec::from_slice(alloc, made.user)?;
-    let ended = stopped(table, cause.at.key);
-    let lease = lease_for(cause.at.key.moment, made.seconds);
+    let ended = stopped(table, act.at.key);
+    let lease = lease_for(act.at.key.moment, made.seconds);
     table.allocation = Some(Allocation {
         permissions: Leases::new(alloc),
         channels: Leases::new(alloc),
         user: Listed::from(user),
         lease,
-        last: lease.until.saturating_add(cause.grace),
-        born: cause.at,
-        sight: cause.sight,
+        last: lease.until.saturating_add(act.grace),
+        born: act.at,
+        sight: act.sight,
         relayed: made.relayed,
         id,
     });
@@ -88,18 +88,18 @@ fn make(
 }
 
 /// Renews the allocation, or removes it.
-fn refresh(table: &mut LaneTable, cause: Cause, seconds: u32) -> Option<Tenancy>
-    ensures { IsChanged cause.grace cause.at cause.sight (refreshed cause.at.key.moment seconds) (standing table.old) (standing table.new) result }
+fn refresh(table: &mut LaneTable, act: ActAt, seconds: u32) -> Option<Tenancy>
+    ensures { IsChanged act.grace act.at act.sight (refreshed act.at.key.moment seconds) (standing table.old) (standing table.new) result }
 {
     if seconds == 0 {
-        let ended = stopped(table, cause.at.key);
+        let ended = stopped(table, act.at.key);
         table.allocation = None;
         return ended;
     }
     if let Some(found) = &mut table.allocation {
-        let lease = lease_for(cause.at.key.moment, seconds);
+        let lease = lease_for(act.at.key.moment, seconds);
         found.lease = lease;
-        found.last = lease.until.saturating_add(cause.grace);
+        found.last = lease.until.saturating_add(act.grace);
     }
     None
 }
@@ -152,17 +152,17 @@ fn bind(found: &mut Allocation, moment: u64, bound: Bound) -> Result<(), AllocEr
 pub fn change(
     alloc: Global,
     table: &mut LaneTable,
-    cause: Cause,
+    act: ActAt,
     effect: Effect<'_>,
 ) -> Result<Option<Tenancy>, AllocError>
-    ensures ok { IfOk result (λ ended. IsChanged cause.grace cause.at cause.sight (change_of cause.at.key.moment effect.entry) (standing table.old) (standing table.new) ended) }
+    ensures ok { IfOk result (λ ended. IsChanged act.grace act.at act.sight (change_of act.at.key.moment effect.entry) (standing table.old) (standing table.new) ended) }
     ensures err { OnErr result (standing table.new ≡ standing table.old) }
 {
-    let moment = cause.at.key.moment;
+    let moment = act.at.key.moment;
     match effect {
         Effect::Same => Ok(None),
-        Effect::Makes { made, id } => make(alloc, table, cause, made, id),
-        Effect::Refreshes { seconds } => Ok(refresh(table, cause, seconds)),
+        Effect::Makes { made, id } => make(alloc, table, act, made, id),
+        Effect::Refreshes { seconds } => Ok(refresh(table, act, seconds)),
         Effect::Grants { ips } => {
             if let Some(found) = &mut table.allocation {
                 grant(found, moment, ips.as_slice())?;

@@ -12,6 +12,7 @@ ghost use Rattle.audit_rules.specs.Seen.{situation, seen};
 use crate::acts::Act;
 use crate::credentials::{authenticated, signed_back};
 use crate::table::Allocation;
+use crate::usable::usable_allocation;
 use crate::values::{address_in, channel_number_in};
 use audit_model::{Addr, Rule};
 use audit_stun::Message;
@@ -67,12 +68,7 @@ pub fn channel_bind(
     let Some(signer) = authenticated(act, request) else {
         return Err(Rule::NotAuthentic);
     };
-    let Some(found) = &act.table.allocation else {
-        return Err(Rule::NoAllocation);
-    };
-    if !found.lease.usable(act.moment, act.policy.grace) {
-        return Err(Rule::AllocationOver);
-    }
+    let found = usable_allocation(act)?;
     if signer.user != found.user.as_slice() {
         return Err(Rule::OtherUser);
     }

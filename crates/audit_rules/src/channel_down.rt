@@ -7,6 +7,7 @@ ghost use Rattle.audit_rules.specs.Checks.{channel_down_checks};
 ghost use Rattle.audit_rules.specs.Seen.{situation};
 
 use crate::acts::Act;
+use crate::usable::usable_allocation;
 use audit_model::Rule;
 
 /// How many bytes of padding may follow the data (RFC 8656, section 12.5).
@@ -20,12 +21,7 @@ pub fn channel_down(act: &Act<'_, '_>, number: u16, bytes: &[u8], past: usize) -
     if past > MOST_PADDING {
         return Err(Rule::Malformed);
     }
-    let Some(found) = &act.table.allocation else {
-        return Err(Rule::NoAllocation);
-    };
-    if !found.lease.usable(act.moment, act.policy.grace) {
-        return Err(Rule::AllocationOver);
-    }
+    let found = usable_allocation(act)?;
     if act.arrives.to != found.relayed {
         return Err(Rule::RelayedAddress);
     }

@@ -7,6 +7,7 @@ ghost use Rattle.audit_rules.specs.Checks.{channel_up_checks};
 ghost use Rattle.audit_rules.specs.Seen.{situation};
 
 use crate::acts::Act;
+use crate::usable::usable_allocation;
 use audit_model::Rule;
 
 /// The data goes from the relayed address to the channel's peer. No permission is asked for (own).
@@ -14,12 +15,7 @@ pub fn channel_up(act: &Act<'_, '_>, number: u16, bytes: &[u8], past: usize) -> 
     requires { channel_data_of (situation act.now).arrives.payload ≡ Some (number, bytes.now, past) }
     ensures { MatchResult result (λ _. AllHold (channel_up_checks (situation act.now))) (λ rule. FirstFails (channel_up_checks (situation act.now)) rule) }
 {
-    let Some(found) = &act.table.allocation else {
-        return Err(Rule::NoAllocation);
-    };
-    if !found.lease.usable(act.moment, act.policy.grace) {
-        return Err(Rule::AllocationOver);
-    }
+    let found = usable_allocation(act)?;
     if act.leaves.from != found.relayed {
         return Err(Rule::RelayedAddress);
     }

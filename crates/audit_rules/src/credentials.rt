@@ -22,7 +22,7 @@ pub struct CredRow<'a> {
 }
 
 impl<'a> CredRow<'a> {
-    ghost use Rattle.audit_keys.specs.Kept.{key_for};
+    ghost use Rattle.audit_keys.specs.KeyFor.{key_for};
     ghost use Rattle.audit_rules.specs.Named.{Names, NamesNobody};
 
     /// The row of the user and the realm that a message names in USERNAME and REALM, with their long-term key (RFC 8489, section 9.2). None where the

@@ -6,6 +6,7 @@ ghost use Rattle.audit_rules.specs.Checks.{data_checks};
 ghost use Rattle.audit_rules.specs.Seen.{situation};
 
 use crate::acts::Act;
+use crate::usable::usable_allocation;
 use crate::values::address_in;
 use audit_model::Rule;
 use audit_stun::Message;
@@ -22,12 +23,7 @@ pub fn data(act: &Act<'_, '_>, indication: &Message<'_>) -> Result<(), Rule>
     let Some(data) = indication.first(DATA) else {
         return Err(Rule::Malformed);
     };
-    let Some(found) = &act.table.allocation else {
-        return Err(Rule::NoAllocation);
-    };
-    if !found.lease.usable(act.moment, act.policy.grace) {
-        return Err(Rule::AllocationOver);
-    }
+    let found = usable_allocation(act)?;
     if act.arrives.to != found.relayed {
         return Err(Rule::RelayedAddress);
     }

@@ -8,7 +8,9 @@ ghost use Rattle.audit_rules.specs.Checks.{error_checks};
 ghost use Rattle.audit_rules.specs.Seen.{situation};
 
 use crate::acts::Act;
+use crate::allocate::nothing_lasts;
 use crate::credentials::authenticated;
+use crate::usable::usable_allocation;
 use crate::values::{UDP, error_code_in, transport_in};
 use audit_model::Rule;
 use audit_stun::Message;
@@ -31,11 +33,10 @@ fn is_mismatch(act: &Act<'_, '_>, request: &Message<'_>) -> bool
     requires { request.now ≡ (situation act.now).arrives.payload }
     ensures { IsTrue result ↔ IsMismatch (situation act.now) }
 {
-    let allocates = request.method() == ALLOCATE;
-    match &act.table.allocation {
-        None => !allocates,
-        Some(found) if allocates => found.lease.usable(act.moment, act.policy.grace),
-        Some(found) => found.lease.gone(act.moment),
+    if request.method() == ALLOCATE {
+        usable_allocation(act).is_ok()
+    } else {
+        nothing_lasts(act)
     }
 }
 
@@ -44,12 +45,9 @@ fn is_by_other(act: &Act<'_, '_>, request: &Message<'_>) -> bool
     requires { request.now ≡ (situation act.now).arrives.payload }
     ensures { IsTrue result ↔ IsByOther (situation act.now) }
 {
-    let Some(found) = &act.table.allocation else {
+    let Ok(found) = usable_allocation(act) else {
         return false;
     };
-    if !found.lease.usable(act.moment, act.policy.grace) {
-        return false;
-    }
     match authenticated(act, request) {
         None => false,
         Some(signer) => signer.user != found.user.as_slice(),

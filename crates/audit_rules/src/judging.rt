@@ -6,11 +6,10 @@ ghost use Rattle.audit_rules.specs.declared.path.Path.TheVariants as paths;
 ghost use Rattle.audit_rules.specs.Allocation.{Same};
 ghost use Rattle.audit_rules.specs.Situation.{arrival_path, departure_path};
 ghost use Rattle.audit_rules.specs.Relaying.{GoesUp, GoesDown};
-ghost use Rattle.audit_rules.specs.Answer.{MayAnswer};
 ghost use Rattle.audit_rules.specs.Check.{FirstFails};
 ghost use Rattle.audit_rules.specs.FirstRule.{FirstRule, response_checks, up_checks, down_checks, is_channel};
 ghost use Rattle.audit_rules.specs.Fault.{IsBroken};
-ghost use Rattle.audit_rules.specs.Effect.{change_of};
+ghost use Rattle.audit_rules.specs.Judged.{MayTakeEffect};
 ghost use Rattle.audit_rules.specs.Seen.{situation};
 
 use crate::acts::Act;
@@ -34,7 +33,7 @@ fn response<'a>(alloc: Global, act: &Act<'_, 'a>) -> Result<Effect<'a>, ActFault
     requires forth { arrival_path (situation act.now) ≡ Some paths.Client }
     requires back { departure_path (situation act.now) ≡ Some paths.Client }
     ensures { MatchResult result
-        (λ effect. MayAnswer (situation act.now) (change_of act.now.moment effect))
+        (MayTakeEffect act.now)
         (λ fault. IsBroken fault (λ rule. FirstFails (response_checks (situation act.now)) rule)) }
 {
     let Some(answer) = message(act.leaves.payload.as_slice()) else {
@@ -73,7 +72,7 @@ fn sent_in_channel<'a>(act: &Act<'_, '_>) -> Result<Effect<'a>, Rule>
     requires goes { GoesUp (situation act.now) }
     requires channel { IsTrue (is_channel (situation act.now).arrives.payload) }
     ensures { MatchResult result
-        (λ effect. MayAnswer (situation act.now) (change_of act.now.moment effect))
+        (MayTakeEffect act.now)
         (λ rule. FirstFails (up_checks (situation act.now)) rule) }
 {
     let Some((number, bytes, past)) = channel_data(act.arrives.payload.as_slice()) else {
@@ -90,7 +89,7 @@ fn sent_in_indication<'a>(act: &Act<'_, '_>) -> Result<Effect<'a>, Rule>
     requires goes { GoesUp (situation act.now) }
     requires channel { is_channel (situation act.now).arrives.payload ≡ false }
     ensures { MatchResult result
-        (λ effect. MayAnswer (situation act.now) (change_of act.now.moment effect))
+        (MayTakeEffect act.now)
         (λ rule. FirstFails (up_checks (situation act.now)) rule) }
 {
     let Some(indication) = message(act.arrives.payload.as_slice()) else {
@@ -110,7 +109,7 @@ fn told_in_channel<'a>(act: &Act<'_, '_>) -> Result<Effect<'a>, Rule>
     requires goes { GoesDown (situation act.now) }
     requires channel { IsTrue (is_channel (situation act.now).leaves.payload) }
     ensures { MatchResult result
-        (λ effect. MayAnswer (situation act.now) (change_of act.now.moment effect))
+        (MayTakeEffect act.now)
         (λ rule. FirstFails (down_checks (situation act.now)) rule) }
 {
     let Some((number, bytes, past)) = channel_data(act.leaves.payload.as_slice()) else {
@@ -127,7 +126,7 @@ fn told_in_indication<'a>(act: &Act<'_, '_>) -> Result<Effect<'a>, Rule>
     requires goes { GoesDown (situation act.now) }
     requires channel { is_channel (situation act.now).leaves.payload ≡ false }
     ensures { MatchResult result
-        (λ effect. MayAnswer (situation act.now) (change_of act.now.moment effect))
+        (MayTakeEffect act.now)
         (λ rule. FirstFails (down_checks (situation act.now)) rule) }
 {
     let Some(indication) = message(act.leaves.payload.as_slice()) else {
@@ -143,7 +142,7 @@ fn told_in_indication<'a>(act: &Act<'_, '_>) -> Result<Effect<'a>, Rule>
 /// What the act does to the table, or the first rule that it breaks.
 pub fn judged<'a>(alloc: Global, act: &Act<'_, 'a>) -> Result<Effect<'a>, ActFault>
     ensures { MatchResult result
-        (λ effect. MayAnswer (situation act.now) (change_of act.now.moment effect))
+        (MayTakeEffect act.now)
         (λ fault. IsBroken fault (λ rule. FirstRule (situation act.now) rule)) }
 {
     if !act.policy.listens(act.table.listen) {

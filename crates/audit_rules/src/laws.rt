@@ -6,32 +6,40 @@ ghost use Rattle.audit_rules.specs.Allocation.{Change};
 ghost use Rattle.audit_rules.specs.Answer.{MayAnswer, Answers, Case};
 ghost use Rattle.audit_rules.specs.Check.{AllHold};
 ghost use Rattle.audit_rules.specs.FirstRule.{FirstRule, checks_of};
+ghost use Rattle.audit_rules.specs.Keys.{KeyFor, AgreeOn, with_keys};
+ghost use Rattle.audit_rules.specs.Said.{change_in};
+ghost use Rattle.audit_rules.specs.Situation.{Situation};
 ghost use Rattle.audit_rules.specs.Values.{AreBytes};
-ghost use Rattle.audit_rules.specs.Seen.{situation};
-
-use crate::acts::Act;
-
-/// A payload is bytes.
-fn bytes(payload: &[u8])
-    ensures { AreBytes payload.now }
-{
-    let _length = payload.len();
-}
 
 /// The checks of an act all hold exactly where the server may answer so. Where one of them fails, the server may not.
-pub fn no_rule_fails_where_it_may_answer(act: &Act<'_, '_>)
-    ensures exact { AllHold (checks_of (situation act.now)) ↔ ((change : Change) × MayAnswer (situation act.now) change) }
-    ensures fails { (rule : Rule) → FirstRule (situation act.now) rule → (change : Change) → MayAnswer (situation act.now) change → ⊥ }
-{
-    bytes(act.arrives.payload.as_slice());
-    bytes(act.leaves.payload.as_slice());
-}
+pub fn no_rule_fails_where_it_may_answer()
+    ensures exact { (x : Situation) → AreBytes x.arrives.payload → AreBytes x.leaves.payload → AllHold (checks_of x) ↔ ((change : Change) × MayAnswer x change) }
+    ensures fails { (x : Situation) → AreBytes x.arrives.payload → AreBytes x.leaves.payload →
+        (rule : Rule) → FirstRule x rule → (change : Change) → MayAnswer x change → ⊥ }
+{}
+
+/// The first rule that fails is one.
+pub fn one_first_rule()
+    ensures { (x : Situation) (one other : Rule) → FirstRule x one → FirstRule x other → one ≡ other }
+{}
 
 /// An act is one of the eleven answers at the most, and changes the table in one way.
-pub fn one_answer(act: &Act<'_, '_>)
-    ensures case { (one other : Case) (c d : Change) → Answers one (situation act.now) c → Answers other (situation act.now) d → one ≡ other }
-    ensures change { (one other : Case) (c d : Change) → Answers one (situation act.now) c → Answers other (situation act.now) d → c ≡ d }
-{
-    bytes(act.arrives.payload.as_slice());
-    bytes(act.leaves.payload.as_slice());
-}
+pub fn one_answer()
+    ensures case { (x : Situation) → AreBytes x.arrives.payload → AreBytes x.leaves.payload →
+        (one other : Case) (c d : Change) → Answers one x c → Answers other x d → one ≡ other }
+    ensures change { (x : Situation) (one other : Case) (c d : Change) → Answers one x c → Answers other x d → c ≡ d }
+{}
+
+/// Where the server may answer by a change, it is the one that the departure says.
+pub fn change_is_said()
+    ensures { (x : Situation) (change : Change) → MayAnswer x change → change ≡ change_in x }
+{}
+
+/// An act goes by the key of the user and the realm that its request names, and by no other.
+pub fn keys_that_matter()
+    ensures may { (x : Situation) (key_for : KeyFor) → AgreeOn x.key_for key_for x.arrives.payload →
+        (change : Change) → MayAnswer x change ↔ MayAnswer (with_keys key_for x) change }
+    ensures said { (x : Situation) (key_for : KeyFor) → change_in x ≡ change_in (with_keys key_for x) }
+    ensures first { (x : Situation) (key_for : KeyFor) → AgreeOn x.key_for key_for x.arrives.payload →
+        (rule : Rule) → FirstRule x rule ↔ FirstRule (with_keys key_for x) rule }
+{}

@@ -22,6 +22,7 @@ mod refresh;
 mod responses;
 mod send;
 mod table;
+mod usable;
 mod values;
 
 pub use acting::act;

@@ -12,6 +12,7 @@ ghost use Rattle.audit_rules.specs.Seen.{situation};
 use crate::acts::Act;
 use crate::credentials::{authenticated, signed_back};
 use crate::fault::ActFault;
+use crate::usable::usable_allocation;
 use audit_model::Rule;
 use audit_stun::{Message, address};
 use smallvec::SmallVec;
@@ -52,12 +53,7 @@ pub fn permission(
     let Some(signer) = authenticated(act, request) else {
         return Err(ActFault::Broken(Rule::NotAuthentic));
     };
-    let Some(found) = &act.table.allocation else {
-        return Err(ActFault::Broken(Rule::NoAllocation));
-    };
-    if !found.lease.usable(act.moment, act.policy.grace) {
-        return Err(ActFault::Broken(Rule::AllocationOver));
-    }
+    let found = usable_allocation(act)?;
     if signer.user != found.user.as_slice() {
         return Err(ActFault::Broken(Rule::OtherUser));
     }

@@ -11,19 +11,10 @@ ghost use Rattle.audit_rules.specs.Seen.{situation};
 
 use crate::acts::Act;
 use crate::credentials::{authenticated, signed_back};
+use crate::usable::usable_allocation;
 use crate::values::lifetime_in;
 use audit_model::Rule;
 use audit_stun::Message;
-
-/// Whether a usable allocation is there.
-fn is_usable(act: &Act<'_, '_>) -> bool
-    ensures { IsTrue result ↔ WithUsable (situation act.now) (λ a. Unit {0}) }
-{
-    match &act.table.allocation {
-        None => false,
-        Some(found) => found.lease.usable(act.moment, act.policy.grace),
-    }
-}
 
 /// The seconds for which the allocation lasts from now on; 0 where it is removed. A success of 0 to a request of 0 is accepted
 /// where no usable allocation is there (own: RFC 8656 answers 437).
@@ -41,13 +32,9 @@ pub fn refresh(act: &Act<'_, '_>, request: &Message<'_>, success: &Message<'_>) 
         return Err(Rule::Malformed);
     };
     let asks_end = lifetime_in(request) == Some(0);
-    if is_usable(act) || !asks_end || seconds != 0 {
-        let Some(found) = &act.table.allocation else {
-            return Err(Rule::NoAllocation);
-        };
-        if !found.lease.usable(act.moment, act.policy.grace) {
-            return Err(Rule::AllocationOver);
-        }
+    let usable = usable_allocation(act);
+    if usable.is_ok() || !asks_end || seconds != 0 {
+        let found = usable?;
         if signer.user != found.user.as_slice() {
             return Err(Rule::OtherUser);
         }

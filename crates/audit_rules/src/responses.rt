@@ -7,12 +7,11 @@ ghost use Rattle.audit_stun.specs.declared.numbers.method.TheConstants as method
 ghost use Rattle.audit_rules.specs.Allocation.{Same};
 ghost use Rattle.audit_rules.specs.Situation.{asked, answered};
 ghost use Rattle.audit_rules.specs.Standing.{IsResponse};
-ghost use Rattle.audit_rules.specs.Answer.{MayAnswer};
 ghost use Rattle.audit_rules.specs.Check.{FirstFails};
 ghost use Rattle.audit_rules.specs.Checks.{binding_checks, error_checks, new_checks, again_checks, refresh_checks, permission_checks, channel_bind_checks};
 ghost use Rattle.audit_rules.specs.FirstRule.{choose, made_it, success_checks};
 ghost use Rattle.audit_rules.specs.Fault.{IsBroken};
-ghost use Rattle.audit_rules.specs.Effect.{change_of};
+ghost use Rattle.audit_rules.specs.Judged.{MayTakeEffect};
 ghost use Rattle.audit_rules.specs.Seen.{situation};
 
 use crate::acts::Act;
@@ -35,7 +34,7 @@ fn binding_success<'a>(act: &Act<'_, '_>, success: &Message<'_>) -> Result<Effec
     requires served { IsTrue (listens (situation act.now).policy (situation act.now).listen) }
     requires response { IsResponse (situation act.now) Success methods.BINDING }
     ensures { MatchResult result
-        (λ effect. MayAnswer (situation act.now) (change_of act.now.moment effect))
+        (MayTakeEffect act.now)
         (λ rule. FirstFails (binding_checks (situation act.now)) rule) }
 {
     binding(act, success)?;
@@ -55,7 +54,7 @@ fn allocation_again<'a>(
     requires response { IsResponse (situation act.now) Success methods.ALLOCATE }
     requires again { IsTrue (made_it (situation act.now) (situation act.now).allocation) }
     ensures { MatchResult result
-        (λ effect. MayAnswer (situation act.now) (change_of act.now.moment effect))
+        (MayTakeEffect act.now)
         (λ rule. FirstFails (again_checks (situation act.now)) rule) }
 {
     let Some(found) = &act.table.allocation else {
@@ -77,7 +76,7 @@ fn allocation_made<'a>(
     requires response { IsResponse (situation act.now) Success methods.ALLOCATE }
     requires first { made_it (situation act.now) (situation act.now).allocation ≡ false }
     ensures { MatchResult result
-        (λ effect. MayAnswer (situation act.now) (change_of act.now.moment effect))
+        (MayTakeEffect act.now)
         (λ rule. FirstFails (new_checks (situation act.now)) rule) }
 {
     let made = new_allocation(act, request, success)?;
@@ -98,7 +97,7 @@ fn refresh_success<'a>(
     requires served { IsTrue (listens (situation act.now).policy (situation act.now).listen) }
     requires response { IsResponse (situation act.now) Success methods.REFRESH }
     ensures { MatchResult result
-        (λ effect. MayAnswer (situation act.now) (change_of act.now.moment effect))
+        (MayTakeEffect act.now)
         (λ rule. FirstFails (refresh_checks (situation act.now)) rule) }
 {
     let seconds = refresh(act, request, success)?;
@@ -117,7 +116,7 @@ fn permission_success<'a>(
     requires served { IsTrue (listens (situation act.now).policy (situation act.now).listen) }
     requires response { IsResponse (situation act.now) Success methods.CREATE_PERMISSION }
     ensures { MatchResult result
-        (λ effect. MayAnswer (situation act.now) (change_of act.now.moment effect))
+        (MayTakeEffect act.now)
         (λ fault. IsBroken fault (λ rule. FirstFails (permission_checks (situation act.now)) rule)) }
 {
     let ips = permission(alloc, act, request, success)?;
@@ -135,7 +134,7 @@ fn channel_bind_success<'a>(
     requires served { IsTrue (listens (situation act.now).policy (situation act.now).listen) }
     requires response { IsResponse (situation act.now) Success methods.CHANNEL_BIND }
     ensures { MatchResult result
-        (λ effect. MayAnswer (situation act.now) (change_of act.now.moment effect))
+        (MayTakeEffect act.now)
         (λ rule. FirstFails (channel_bind_checks (situation act.now)) rule) }
 {
     let bound = channel_bind(act, request, success)?;
@@ -154,7 +153,7 @@ pub fn error_response<'a>(
     requires served { IsTrue (listens (situation act.now).policy (situation act.now).listen) }
     requires response { IsResponse (situation act.now) Error (asked (situation act.now)).method }
     ensures { MatchResult result
-        (λ effect. MayAnswer (situation act.now) (change_of act.now.moment effect))
+        (MayTakeEffect act.now)
         (λ rule. FirstFails (error_checks (situation act.now)) rule) }
 {
     error(act, request, response)?;
@@ -173,7 +172,7 @@ pub fn success_response<'a>(
     requires served { IsTrue (listens (situation act.now).policy (situation act.now).listen) }
     requires response { IsResponse (situation act.now) Success (answered (situation act.now)).method }
     ensures { MatchResult result
-        (λ effect. MayAnswer (situation act.now) (change_of act.now.moment effect))
+        (MayTakeEffect act.now)
         (λ fault. IsBroken fault (λ rule. FirstFails (success_checks (situation act.now) (answered (situation act.now)).method) rule)) }
 {
     match success.method() {

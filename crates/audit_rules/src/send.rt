@@ -6,6 +6,7 @@ ghost use Rattle.audit_rules.specs.Checks.{send_checks};
 ghost use Rattle.audit_rules.specs.Seen.{situation};
 
 use crate::acts::Act;
+use crate::usable::usable_allocation;
 use crate::values::address_in;
 use audit_model::Rule;
 use audit_stun::Message;
@@ -16,12 +17,7 @@ pub fn send(act: &Act<'_, '_>, indication: &Message<'_>) -> Result<(), Rule>
     requires { indication.now ≡ (situation act.now).arrives.payload }
     ensures { MatchResult result (λ _. AllHold (send_checks (situation act.now))) (λ rule. FirstFails (send_checks (situation act.now)) rule) }
 {
-    let Some(found) = &act.table.allocation else {
-        return Err(Rule::NoAllocation);
-    };
-    if !found.lease.usable(act.moment, act.policy.grace) {
-        return Err(Rule::AllocationOver);
-    }
+    let found = usable_allocation(act)?;
     if act.leaves.from != found.relayed {
         return Err(Rule::RelayedAddress);
     }

@@ -1,19 +1,10 @@
-use Rattle.std.proofs.Common.{subst}
-use Rattle.audit_rules.specs.Values.{AreBytes}
-use Rattle.audit_rules.specs.Seen.{situation}
-use Rattle.audit_rules.proofs.OneAnswer.{same_case, same_change}
+use Rattle.std.proofs.Common.{sym, ◌∙◌}
+use Rattle.audit_rules.proofs.OneAnswer.{same_case}
+use Rattle.audit_rules.proofs.Said.{case_says}
 use Rattle.audit_rules.proofs.laws.one_answer.Goals as goal
 
 pub returns-clause-case : goal.returns-clause-case
-returns-clause-case c = λ one other d e r s.
-    let x = situation c.args.act.now in
-    let up : AreBytes x.arrives.payload = subst AreBytes c.as_slice.ensures c.bytes.ensures in
-    let down : AreBytes x.leaves.payload = subst AreBytes c.as_slice-2.ensures c.bytes-2.ensures in
-    same_case one other x d e up down r s
+returns-clause-case c = λ x up down one other first second r s. same_case one other x first second up down r s
 
 pub returns-clause-change : goal.returns-clause-change
-returns-clause-change c = λ one other d e r s.
-    let x = situation c.args.act.now in
-    let up : AreBytes x.arrives.payload = subst AreBytes c.as_slice.ensures c.bytes.ensures in
-    let down : AreBytes x.leaves.payload = subst AreBytes c.as_slice-2.ensures c.bytes-2.ensures in
-    same_change one other x d e up down r s
+returns-clause-change c = λ x one other first second r s. sym (case_says one x first r) ∙ case_says other x second s

@@ -1,4 +1,4 @@
-use Rattle.audit_keys.specs.Kept.{key_for}
+use Rattle.audit_keys.specs.KeyFor.{key_for}
 use Rattle.audit_rules.proofs.Named.{nobody_without_message, nobody_without_user, nobody_without_realm, nobody_without_key}
 use Rattle.audit_rules.proofs.credentials.CredRow.of.Goals as goal
 

@@ -1,0 +1,14 @@
+pub mod Orders
+pub mod Local
+pub mod Holding
+pub mod Whole
+pub mod Both
+pub mod Sorting
+pub mod Placing
+pub mod Along
+pub mod Verdict
+pub mod Lawful
+pub mod Once
+pub mod Meeting
+pub mod Unique
+pub mod KeyRuns

@@ -1,0 +1,15 @@
+pub mod Step
+pub mod Rules
+pub mod State
+pub mod Run
+pub mod Placed
+pub mod Tenancies
+pub mod Holding
+pub mod Homes
+pub mod Lawful
+pub mod Glued
+pub mod Placing
+pub mod Whole
+pub mod Captured
+pub mod Keys
+pub mod Acting
