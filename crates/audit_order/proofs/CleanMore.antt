@@ -12,12 +12,12 @@ use Rattle.audit_model.specs.declared.sighting.SightId.{SightId}
 use Rattle.audit_model.specs.Breach.{key_cmp}
 use Rattle.audit_model.specs.Event.{key_of}
 use Rattle.audit_sightings.specs.Intake.{Taken}
-use Rattle.audit_order.specs.declared.entry.Entry.{Entry}
-use Rattle.audit_order.specs.Clean.{IsFine, IsClean, PlacesAt, PlacesEvent, Takes, times_placed, one_if}
-use Rattle.audit_order.specs.FirstPlace.{places}
-use Rattle.audit_order.specs.Table.{same_sight}
-use Rattle.audit_order.proofs.FirstPush.{same_is}
-use Rattle.audit_order.proofs.CleanSteps.{all_left, all_right, times_cons, times_append}
+use Rattle.audit_placement.specs.declared.entry.Entry.{Entry}
+use Rattle.audit_placement.specs.Clean.{IsFine, IsClean, PlacesAt, PlacesEvent, Takes, times_placed, one_if}
+use Rattle.audit_placement.specs.FirstPlace.{places}
+use Rattle.audit_model.specs.Sames.{same_sight}
+use Rattle.audit_placement.proofs.FirstPush.{same_is}
+use Rattle.audit_placement.proofs.CleanSteps.{all_left, all_right, times_cons, times_append}
 
 -- no sighting, or one
 abbrev NoneOrOne : (SightId → Option Key) → Event → (SightId → Option Key) → Type 0

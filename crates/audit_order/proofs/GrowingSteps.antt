@@ -13,19 +13,19 @@ use Rattle.audit_model.specs.declared.event.Key.{Key}
 use Rattle.audit_model.specs.declared.sighting.SightId.{SightId}
 use Rattle.audit_model.specs.Event.{key_of}
 use Rattle.audit_sightings.specs.Intake.{Taken}
-use Rattle.audit_order.specs.declared.entry.Entry.{Entry}
-use Rattle.audit_order.specs.declared.entry.LaneEnd.{LaneEnd}
-use Rattle.audit_order.specs.declared.entry.Pair.{Pair}
+use Rattle.audit_placement.specs.declared.entry.Entry.{Entry}
+use Rattle.audit_placement.specs.declared.entry.LaneEnd.{LaneEnd}
+use Rattle.audit_model.specs.declared.pair.Pair.{Pair}
 use Rattle.audit_order.specs.declared.growing.Growing.{Growing}
-use Rattle.audit_order.specs.Clean.{IsFine, IsClean, Takes, one_if}
-use Rattle.audit_order.specs.Entries.{entry_of, entries_from, lane_entries, lanes_entries, drop_entries, arrival_of}
-use Rattle.audit_order.specs.FirstPlace.{places}
+use Rattle.audit_placement.specs.Clean.{IsFine, IsClean, Takes, one_if}
+use Rattle.audit_placement.specs.Entries.{entry_of, entries_from, lane_entries, lanes_entries, drop_entries, arrival_of}
+use Rattle.audit_placement.specs.FirstPlace.{places}
 use Rattle.audit_order.specs.Grown.{empty_lane}
 use Rattle.audit_order.specs.Growing.{listed, with_event, last_key, places_one, placing_count, IsSound}
-use Rattle.audit_order.specs.Keys.{key_at}
+use Rattle.audit_placement.specs.Keys.{key_at}
 use Rattle.audit_order.proofs.CleanMore.{clean_more}
-use Rattle.audit_order.proofs.CleanSteps.{all_left, all_right, times_append}
-use Rattle.audit_order.proofs.Turns.{last_of, entries_push, lanes_push}
+use Rattle.audit_placement.proofs.CleanSteps.{all_left, all_right, times_append}
+use Rattle.audit_placement.proofs.Turns.{last_of, entries_push, lanes_push}
 
 -- the new entries are the old ones with one more among them
 pub record Gains (old new : List Entry) (entry : Entry) : Type 0 where

@@ -14,21 +14,21 @@ use Rattle.audit_model.specs.declared.sighting.SightId.{SightId}
 use Rattle.audit_model.specs.Event.{key_of}
 use Rattle.audit_model.specs.EventCount.{event_count}
 use Rattle.audit_sightings.specs.Intake.{Taken}
-use Rattle.audit_sightings.specs.Rows.{row_at}
-use Rattle.audit_order.specs.declared.entry.Entry.{Entry}
-use Rattle.audit_order.specs.declared.entry.Pair.{Pair}
+use Rattle.audit_sightings.specs.ByInterface.{of_interface}
+use Rattle.audit_placement.specs.declared.entry.Entry.{Entry}
+use Rattle.audit_model.specs.declared.pair.Pair.{Pair}
 use Rattle.audit_order.specs.declared.growing.Growing.{Growing}
-use Rattle.audit_order.specs.declared.places.Places.{Places}
+use Rattle.audit_placement.specs.declared.places.Places.{Places}
 use Rattle.audit_order.specs.declared.portions.Placing.{Placing}
-use Rattle.audit_order.specs.declared.places.Places.TheVariants.{Once, First}
-use Rattle.audit_order.specs.Clean.{IsFine, IsClean, one_if}
-use Rattle.audit_order.specs.Entries.{entries_from, lane_entries, lanes_entries, drop_entries, arrival_of, entries}
+use Rattle.audit_placement.specs.declared.places.Places.TheVariants.{Once, First}
+use Rattle.audit_placement.specs.Clean.{IsFine, IsClean, one_if}
+use Rattle.audit_placement.specs.Entries.{entries_from, lane_entries, lanes_entries, drop_entries, arrival_of, entries}
 use Rattle.audit_order.specs.Growing.{listed, places_one, placing_count, IsSound}
-use Rattle.audit_order.specs.Keys.{key_at}
+use Rattle.audit_placement.specs.Keys.{key_at}
 use Rattle.audit_order.specs.Kept.{AreOf, Keeps, Stays}
-use Rattle.audit_order.specs.Places.{Knows}
+use Rattle.audit_placement.specs.Places.{Knows}
 use Rattle.audit_order.proofs.CleanMore.{clean_same}
-use Rattle.audit_order.proofs.CleanSteps.{clean_tells, one_at_most}
+use Rattle.audit_placement.proofs.CleanSteps.{clean_tells, one_at_most}
 use Rattle.audit_order.proofs.GrowingSteps.{placing_cons, placing_append}
 use Rattle.audit_order.proofs.StaySteps.{clean_still}
 
@@ -143,4 +143,4 @@ kept_still before now placing stays kept = record {
 
 -- an intake that didn't grow
 pub stays_same : (taken : Taken) → Stays taken taken
-stays_same taken = record { policy = refl; rows = λ iface. ([], sym (append-nil (row_at taken.interfaces iface))) }
+stays_same taken = record { policy = refl; rows = λ iface. ([], sym (append-nil (of_interface taken.interfaces iface))) }

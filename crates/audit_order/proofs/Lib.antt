@@ -1,16 +1,3 @@
-pub mod LeastOfTwo
-pub mod LeastOfChecks
-pub mod FirstPush
-pub mod Turns
-pub mod NeighbourSteps
-pub mod UnplacedSteps
-pub mod Interfaces
-pub mod LeastOfWhole
-pub mod Tables
-pub mod TableGrowth
-pub mod InOrder
-pub mod AmongSteps
-pub mod CleanSteps
 pub mod CleanMore
 pub mod GrowingSteps
 pub mod PortionSteps

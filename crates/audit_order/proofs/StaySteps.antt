@@ -15,15 +15,15 @@ use Rattle.audit_model.specs.declared.sighting.SightId.{SightId}
 use Rattle.audit_model.specs.declared.sighting.Sighting.{Sighting}
 use Rattle.audit_model.specs.Event.{key_of}
 use Rattle.audit_sightings.specs.Intake.{Taken, sighting_at, IsThere, NamesWhatIsThere}
-use Rattle.audit_sightings.specs.Rows.{row_at}
-use Rattle.audit_order.specs.declared.entry.Entry.{Entry}
-use Rattle.audit_order.specs.declared.entry.Pair.{Pair}
-use Rattle.audit_order.specs.Checks.{Check, differ, goes_against, is_so, event_checks, placing_checks, act_checks, first_broken}
-use Rattle.audit_order.specs.Clean.{IsFine, IsClean}
-use Rattle.audit_order.specs.Entries.{entry_of, entries_from, lane_entries, lanes_entries, entries}
+use Rattle.audit_sightings.specs.ByInterface.{of_interface}
+use Rattle.audit_placement.specs.declared.entry.Entry.{Entry}
+use Rattle.audit_model.specs.declared.pair.Pair.{Pair}
+use Rattle.audit_placement.specs.Checks.{Check, differ, goes_against, is_so, event_checks, placing_checks, act_checks, first_broken}
+use Rattle.audit_placement.specs.Clean.{IsFine, IsClean}
+use Rattle.audit_placement.specs.Entries.{entry_of, entries_from, lane_entries, lanes_entries, entries}
 use Rattle.audit_order.specs.Kept.{Stays}
-use Rattle.audit_order.specs.Named.{AllNamed}
-use Rattle.audit_order.proofs.CleanSteps.{all_left, all_right}
+use Rattle.audit_placement.specs.Named.{AllNamed}
+use Rattle.audit_placement.proofs.CleanSteps.{all_left, all_right}
 
 -- none of the checks is broken
 abbrev AreHeld : List Check → Type 0
@@ -57,8 +57,8 @@ or_false false b is = (refl, is)
 module _ (taken : Taken) (pair : Option Pair) (last : Option Key) where
   placing_named : (side : Side) (sight : SightId) (key : Key) → first_broken (placing_checks taken false pair last side sight key) ≡ None → IsThere taken side sight
   placing_named side sight key none =
-      let held = are_held (placing_checks taken false pair last side sight key) none in
-      there_by side (sighting_at taken sight) held.1.0 held.1.1.1.1.0
+      let (_, (there, (_, (_, (way, _))))) = are_held (placing_checks taken false pair last side sight key) none in
+      there_by side (sighting_at taken sight) there way
 
   -- an event that breaks no rule names what is there
   pub own_named : (event : Event) → first_broken (event_checks taken false pair last event) ≡ None → NamesWhatIsThere taken event
@@ -109,7 +109,7 @@ module _ (before now : Taken) (stays : Stays before now) where
       let grown = stays.rows sight.iface in
       at_row now.interfaces sight.iface sight.index
       ∙ ap (λ (row : List Sighting). slice_get row sight.index) grown.1
-      ∙ get_before (row_at before.interfaces sight.iface) grown.0 sight.index x (sym (at_row before.interfaces sight.iface sight.index) ∙ there)
+      ∙ get_before (of_interface before.interfaces sight.iface) grown.0 sight.index x (sym (at_row before.interfaces sight.iface sight.index) ∙ there)
 
   same_by : (sight : SightId) (o : Option Sighting) → sighting_at before sight ≡ o → is_some o ≡ true → sighting_at now sight ≡ sighting_at before sight
   same_by sight None is there = absurd (true≢false (sym there))

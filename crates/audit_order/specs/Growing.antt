@@ -7,11 +7,11 @@ use Rattle.audit_model.specs.declared.event.Event.TheVariants.{In, Act, Out}
 use Rattle.audit_model.specs.declared.event.Key.{Key}
 use Rattle.audit_model.specs.Event.{key_of}
 use Rattle.audit_sightings.specs.Intake.{Taken}
-use Rattle.audit_order.specs.declared.entry.Entry.{Entry}
+use Rattle.audit_placement.specs.declared.entry.Entry.{Entry}
 use Rattle.audit_order.specs.declared.growing.Growing.{Growing}
-use Rattle.audit_order.specs.Clean.{IsClean, one_if}
-use Rattle.audit_order.specs.Entries.{lanes_entries, drop_entries}
-use Rattle.audit_order.specs.Keys.{key_at}
+use Rattle.audit_placement.specs.Clean.{IsClean, one_if}
+use Rattle.audit_placement.specs.Entries.{lanes_entries, drop_entries}
+use Rattle.audit_placement.specs.Keys.{key_at}
 
 -- what stands in lanes and drops, by lane and place
 abbrev pub listed : List CertLane → List CertDrop → List Entry

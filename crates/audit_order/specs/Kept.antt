@@ -8,15 +8,15 @@ use Rattle.audit_model.specs.EventCount.{event_count}
 use Rattle.audit_model.specs.LanePairs.{has}
 use Rattle.audit_model.specs.Lanes.{has_pair}
 use Rattle.audit_sightings.specs.Intake.{Taken}
-use Rattle.audit_sightings.specs.Rows.{Grows}
-use Rattle.audit_order.specs.declared.places.Places.{Places}
-use Rattle.audit_order.specs.declared.places.Places.TheVariants.{Once, First}
+use Rattle.audit_sightings.specs.ByInterface.{Grows}
+use Rattle.audit_placement.specs.declared.places.Places.{Places}
+use Rattle.audit_placement.specs.declared.places.Places.TheVariants.{Once, First}
 use Rattle.audit_order.specs.declared.portions.Placing.{Placing}
-use Rattle.audit_order.specs.Clean.{IsClean}
-use Rattle.audit_order.specs.Entries.{entries}
-use Rattle.audit_order.specs.FirstPlace.{Notes}
+use Rattle.audit_placement.specs.Clean.{IsClean}
+use Rattle.audit_placement.specs.Entries.{entries}
+use Rattle.audit_placement.specs.FirstPlace.{Notes}
 use Rattle.audit_order.specs.Growing.{placing_count}
-use Rattle.audit_order.specs.Keys.{key_at}
+use Rattle.audit_placement.specs.Keys.{key_at}
 
 -- the same intake, later: its policy, and the sightings that it had, and maybe more behind those of their interfaces
 pub record Stays (before now : Taken) : Type 0 where

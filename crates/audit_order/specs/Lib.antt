@@ -1,14 +1,3 @@
-pub mod Named
-pub mod Entries
-pub mod Table
-pub mod Keys
-pub mod Places
-pub mod Clean
 pub mod Grown
 pub mod Growing
 pub mod Kept
-pub mod FirstPlace
-pub mod Checks
-pub mod Shows
-pub mod Neighbours
-pub mod Among

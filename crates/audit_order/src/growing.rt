@@ -5,16 +5,15 @@ ghost use Rattle.audit_model.specs.declared.certificate.CertLane.{CertLane as La
 ghost use Rattle.audit_model.specs.Event.{key_of};
 ghost use Rattle.audit_model.specs.EventCount.{event_count};
 ghost use Rattle.audit_sightings.specs.Intake.{Taken, taken};
-ghost use Rattle.audit_order.specs.Clean.{Takes, one_if};
+ghost use Rattle.audit_placement.specs.Clean.{Takes, one_if};
 ghost use Rattle.audit_order.specs.Grown.{empty_lane, with_events};
 ghost use Rattle.audit_order.specs.Growing.{IsSound, last_key, places_one, with_event};
 ghost use Rattle.audit_order.specs.Kept.{Stays};
-ghost use Rattle.audit_order.specs.Keys.{key_at};
+ghost use Rattle.audit_placement.specs.Keys.{key_at};
 
-use crate::entry::{LaneEnd, Pair};
-use crate::keys::PlacedKeys;
-use crate::taking::takes;
-use audit_model::{Addr, CertDrop, CertLane, Event, Extension, Key, Listed};
+use crate::taking::note_event;
+use audit_model::{Addr, CertDrop, CertLane, Event, Extension, Key, Listed, Pair};
+use audit_placement::{LaneEnd, PlacedKeys};
 use audit_sightings::Intake;
 use std::alloc::{AllocError, Global};
 
@@ -86,7 +85,7 @@ impl Growing {
         ensures lanes { self.new.lanes ≡ self.old.lanes }
         ensures drops { self.new.drops ≡ self.old.drops }
     {
-        self.clean = self.clean && takes(intake, &mut self.keys, end, event);
+        self.clean = self.clean && note_event(intake, &mut self.keys, end, event);
         self.count = self.count.saturating_add(u32::from(is_placing(event)));
     }
 

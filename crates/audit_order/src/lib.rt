@@ -1,24 +1,10 @@
-//! Placement: whether a certificate places each sighting once, in its window and in order.
+//! Placement of a certificate that grows in portions.
 #![tactic(auto)]
 
-mod entry;
-mod events;
-mod first;
 mod fitting;
 mod growing;
-mod keys;
-mod laws;
-mod neighbours;
-mod places;
 mod portions;
-mod single;
-mod table;
 mod taking;
-#[cfg(test)]
-mod tests;
-mod unplaced;
-mod whole;
 
-pub use laws::by_lane_and_place;
+pub use audit_placement::{Placement, by_lane_and_place, placed};
 pub use portions::Placing;
-pub use whole::{Placement, placed};

@@ -6,17 +6,15 @@ ghost use Rattle.std.specs.Ordering.{is_gt};
 ghost use Rattle.audit_model.specs.declared.event.Key.{Key as EventKey};
 ghost use Rattle.audit_model.specs.Breach.{key_cmp};
 ghost use Rattle.audit_sightings.specs.Intake.{taken};
-ghost use Rattle.audit_order.specs.Clean.{PlacesAt, Takes};
-ghost use Rattle.audit_order.specs.Keys.{key_at};
+ghost use Rattle.audit_placement.specs.Clean.{PlacesAt, Takes};
+ghost use Rattle.audit_placement.specs.Keys.{key_at};
 
-use crate::entry::LaneEnd;
-use crate::keys::PlacedKeys;
-use crate::single::event_rule;
 use audit_model::{Event, Key, SightId};
+use audit_placement::{LaneEnd, PlacedKeys, event_rule};
 use audit_sightings::Intake;
 
 /// Whether the key is greater than that of the sighting before it on the interface, where that is placed.
-fn is_behind(keys: &PlacedKeys, sight: SightId, key: Key) -> bool
+fn follows_its_neighbour(keys: &PlacedKeys, sight: SightId, key: Key) -> bool
     ensures { OnTrue result ((index : ℕ) (before : EventKey) → sight.index ≡ index + 1
         → key_at keys.now (record { iface = sight.iface; index = index }) ≡ Some before → is_gt (key_cmp key before) ≡ true) }
 {
@@ -33,7 +31,7 @@ fn is_behind(keys: &PlacedKeys, sight: SightId, key: Key) -> bool
 }
 
 /// Whether the key of the sighting after it on the interface is greater, where that is placed.
-fn is_ahead(keys: &PlacedKeys, sight: SightId, key: Key) -> bool
+fn precedes_its_neighbour(keys: &PlacedKeys, sight: SightId, key: Key) -> bool
     ensures { OnTrue result ((next : EventKey) → key_at keys.now (record { iface = sight.iface; index = sight.index + 1 }) ≡ Some next
         → is_gt (key_cmp next key) ≡ true) }
 {
@@ -50,24 +48,24 @@ fn is_ahead(keys: &PlacedKeys, sight: SightId, key: Key) -> bool
 }
 
 /// Notes the key of a sighting that isn't placed yet, and tells whether it stands between its neighbours.
-fn places(keys: &mut PlacedKeys, sight: SightId, key: Key) -> bool
+fn note_key(keys: &mut PlacedKeys, sight: SightId, key: Key) -> bool
     ensures { OnTrue result (PlacesAt (key_at keys.old) sight key (key_at keys.new)) }
 {
     keys.key(sight).is_none()
-        && is_behind(keys, sight, key)
-        && is_ahead(keys, sight, key)
+        && follows_its_neighbour(keys, sight, key)
+        && precedes_its_neighbour(keys, sight, key)
         && keys.place(sight, key)
 }
 
 /// Notes what an event places behind the end of its lane, and tells whether it shows no breach.
-pub fn takes(intake: &Intake, keys: &mut PlacedKeys, end: LaneEnd, event: Event) -> bool
+pub fn note_event(intake: &Intake, keys: &mut PlacedKeys, end: LaneEnd, event: Event) -> bool
     ensures { OnTrue result (Takes (taken intake.now) (key_at keys.old) end.pair end.last event (key_at keys.new)) }
 {
     if event_rule(intake, end, event, false).is_some() {
         return false;
     }
     match event {
-        Event::In { sight, key } | Event::Out { sight, key } => places(keys, sight, key),
+        Event::In { sight, key } | Event::Out { sight, key } => note_key(keys, sight, key),
         Event::Act { .. } => true,
     }
 }

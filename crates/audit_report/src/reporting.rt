@@ -1,7 +1,7 @@
 //! The report, line by line.
 
 ghost use Rattle.std.specs.Prelude.{◌≡◌, ◌++◌, IfOk, OnOk, OnErr, IfErr, option_copied, string_bytes};
-ghost use Rattle.audit_model.specs.Sink.{followed_by, IsFollowedByFront, Rose};
+ghost use Rattle.audit_model.specs.Sink.{followed_by, raised_by, IsFollowedByFront};
 ghost use Rattle.audit_report.specs.ReportText.{datagram_text, name_text, sighting_line, place_line, rule_line, verdict_lines, report_text};
 ghost use Rattle.audit_sightings.specs.Intake.{taken};
 
@@ -102,8 +102,9 @@ pub fn report<W: Sink>(
 ) -> Result<(), WriteFault>
     ensures ok { OnOk result (W.taken out.new ≡ followed_by (W.taken out.old) (report_text verdict.now (taken intake.now))) }
     ensures front { OnErr result (IsFollowedByFront (W.taken out.old) (report_text verdict.now (taken intake.now)) (W.taken out.new)) }
-    ensures device { IfErr result (λ fault. fault ≡ WriteFault.Device → Rose (W.failures out.old) (W.failures out.new)) }
-    ensures memory { IfErr result (λ fault. fault ≡ WriteFault.Memory → W.taken out.new ≡ W.taken out.old) }
+    ensures kept { OnOk result (W.failures out.new ≡ W.failures out.old) }
+    ensures device { IfErr result (λ fault. fault ≡ WriteFault.Device → W.failures out.new ≡ raised_by (W.failures out.old) 1) }
+    ensures memory { IfErr result (λ fault. fault ≡ WriteFault.Memory → (W.taken out.new ≡ W.taken out.old) × (W.failures out.new ≡ W.failures out.old)) }
 {
     let text = whole_report(alloc, verdict, intake)?;
     put_all(out, text.as_bytes())?;

@@ -1,12 +1,12 @@
 -- What an intake stands for, from call to call.
-use Rattle.std.proofs.Common.{◌≡◌, ◌≢◌, ◌⊎◌, ℕ, zero, suc, ◌+◌, ◌*◌, ◌<◌, ◌≤◌, List, [], ◌∷◌, ◌++◌, length, get_or, Option, Some, None, Result, Ok, Err, refl, sym, ap, subst, ◌∙◌, arith, append_assoc, inl, inr, vec_len}
-use Rattle.std.specs.Prelude.{slice_set, IsOk, OnOk, IfErr}
+use Rattle.std.proofs.Common.{◌≡◌, ℕ, zero, suc, ◌+◌, ◌*◌, ◌<◌, ◌≤◌, List, [], ◌∷◌, ◌++◌, length, get_or, Option, Some, None, refl, sym, ap, subst, ◌∙◌, arith, append_assoc, inl, inr, vec_len}
+use Rattle.std.specs.Prelude.{IsOk}
 use Rattle.std.specs.List.{concat}
 use Rattle.std.specs.Option.{option_to_list}
 use Rattle.std.proofs.lemmas.Bool.{cases_lt}
 use Rattle.std.proofs.lemmas.Bool.Decides.{eqb_tells}
-use Rattle.std.proofs.lemmas.List.{append-nil, length-append, length-set, get_or-set_same, get_or-set_other, get_or_append_left, get_or-append-add}
-use Rattle.std.proofs.lemmas.List.Elements.{All-append, All-nil}
+use Rattle.std.proofs.lemmas.List.{length-append, get_or-set_same, get_or-set_other, get_or_append_left}
+use Rattle.std.proofs.lemmas.List.Elements.{All-nil}
 use Rattle.std.proofs.Math.Seq.{get_or-append_seam}
 use Rattle.audit_model.specs.declared.policy.Policy.{Policy}
 use Rattle.audit_model.specs.declared.sighting.Sighting.{Sighting}
@@ -20,9 +20,9 @@ use Rattle.audit_pcapng.specs.Readers as reader
 use Rattle.audit_sightings.specs.declared.fault.IntakeFaultKind.{IntakeFaultKind}
 use Rattle.audit_sightings.specs.declared.fault.IntakeFaultKind.TheVariants as faults
 use Rattle.audit_sightings.specs.declared.intake.Intake.{Intake}
-use Rattle.audit_sightings.specs.Kept.{kept_of}
-use Rattle.audit_sightings.specs.Sightings.{sightings_of, AreSightings, AreSound, more_of, IsRefused, TakesIn, Stops}
-use Rattle.audit_sightings.specs.Files.{Fed, not_fed, fed_at, packets_of, StandsFor, with_piece, GoesOn, Refuses, IsNext}
+use Rattle.audit_sightings.specs.ServiceDatagram.{service_datagram_of}
+use Rattle.audit_sightings.specs.Sightings.{sightings_of, AreSound, more_of, IsRefused, TakesIn, Stops}
+use Rattle.audit_sightings.specs.Files.{Fed, not_fed, fed_at, packets_of, StandsFor, with_piece, Refuses, IsNext}
 use Rattle.audit_sightings.proofs.TakingSteps.{AreSightings-same}
 
 none_given : (policy : Policy) (iface : ℕ) → [] ≡ sightings_of policy iface []
@@ -30,12 +30,12 @@ unfolding sightings_of
 none_given policy iface = refl
 
 -- an intake of no files
-pub stands_new : (intake : Intake) → intake.failed ≡ None → vec_len intake.files ≡ 0 → intake.rows ≡ [] → StandsFor intake []
+pub stands_new : (intake : Intake) → intake.failed ≡ None → vec_len intake.files ≡ 0 → intake.interfaces ≡ [] → StandsFor intake []
 stands_new intake unfailed none empty = record {
   unfailed = unfailed;
   count = sym none;
   read = λ file other less. absurd (omega arith);
-  sound = λ file. All-nil (λ packet. IsOk (kept_of intake.policy packet));
+  sound = λ file. All-nil (λ packet. IsOk (service_datagram_of intake.policy packet));
   sightings = rw empty (record { each = λ file number less. none_given intake.policy (64 * file + number); last = λ last e. absurd (omega arith) });
 }
 
@@ -59,9 +59,9 @@ pub sound_as : (policy : Policy) (one other : Fed) → one ≡ other → AreSoun
 sound_as policy one other e sound = subst (λ (fed : Fed). AreSound policy fed.packets) (sym e) sound
 
 -- one file more
-pub stands_more : (old new : Intake) (files : List Fed) (added : BlockReader) → StandsFor old files → new.failed ≡ old.failed → new.policy ≡ old.policy → new.rows ≡ old.rows
+pub stands_more : (old new : Intake) (files : List Fed) (added : BlockReader) → StandsFor old files → new.failed ≡ old.failed → new.policy ≡ old.policy → new.interfaces ≡ old.interfaces
     → new.files.items ≡ old.files.items ++ added ∷ [] → vec_len new.files ≡ vec_len old.files + 1 → vec_len old.files ≡ length old.files.items → reader.StandsFor added [] [] → StandsFor new (files ++ not_fed ∷ [])
-stands_more old new files added stands failed policy rows items len len_is fresh =
+stands_more old new files added stands failed policy interfaces items len len_is fresh =
     let same : (file : ℕ) → packets_of files file ≡ packets_of (files ++ not_fed ∷ []) file = λ file. ap (λ (fed : Fed). fed.packets) (sym (fed_at-more files file)) in
     record {
       unfailed = failed ∙ stands.unfailed;
@@ -73,7 +73,7 @@ stands_more old new files added stands failed policy rows items len len_is fresh
             (read_as added _ _ (fed_at-more files (length old.files.items) ∙ fed_at-past files (length old.files.items) (omega (arith, stands.count))) fresh)
       ]);
       sound = λ file. rw policy (sound_as old.policy _ _ (fed_at-more files file) (stands.sound file));
-      sightings = rw (policy, rows) (AreSightings-same old.policy old.rows (packets_of files) (packets_of (files ++ not_fed ∷ [])) same stands.sightings);
+      sightings = rw (policy, interfaces) (AreSightings-same old.policy old.interfaces (packets_of files) (packets_of (files ++ not_fed ∷ [])) same stands.sightings);
     }
 
 pub packets_of-piece : (files : List Fed) (file : ℕ) (piece : List ℕ) (more : List Packet) (other : ℕ) → file < length files → more_of (packets_of files) file more other ≡ packets_of (with_piece files file piece more) other
@@ -83,10 +83,10 @@ packets_of-piece files file piece more other less = elim (eqb_tells other file) 
 ]
 
 -- the next block has a fault
-pub refused_by_block : (old : Intake) (rows : List (List Sighting)) (files : List Fed) (file : ℕ) (piece : List ℕ) (packets : List Packet) (fault : CaptureFault) → StandsFor old files
-    → reader.Refuses ((fed_at files file).text ++ piece) (packets_of files file) [] packets fault → TakesIn old.policy old.rows file packets rows → Refuses old.policy rows files file piece (faults.Capture fault)
-refused_by_block old rows files file piece packets fault stands refuses taken =
-    let taken_so : TakesIn old.policy old.rows file refuses.more rows = subst (λ (p : List Packet). TakesIn old.policy old.rows file p rows) refuses.added taken in
+pub refused_by_block : (old : Intake) (interfaces : List (List Sighting)) (files : List Fed) (file : ℕ) (piece : List ℕ) (packets : List Packet) (fault : CaptureFault) → StandsFor old files
+    → reader.Refuses ((fed_at files file).text ++ piece) (packets_of files file) [] packets fault → TakesIn old.policy old.interfaces file packets interfaces → Refuses old.policy interfaces files file piece (faults.Capture fault)
+refused_by_block old interfaces files file piece packets fault stands refuses taken =
+    let taken_so : TakesIn old.policy old.interfaces file refuses.more interfaces = subst (λ (p : List Packet). TakesIn old.policy old.interfaces file p interfaces) refuses.added taken in
     record {
       more = refuses.more;
       begins = refuses.begins;
@@ -134,20 +134,20 @@ begins_first text packets others begins =
       },
     )
 
-pub next_by_packet : (policy : Policy) (rows : List (List Sighting)) (text : List ℕ) (packets : List Packet) (packet : Packet) (fault : IntakeFaultKind) → BeginsWith text (packets ++ packet ∷ [])
-    → IsRefused policy rows packet fault → IsNext policy rows text packets fault
-next_by_packet policy rows text packets packet (faults.Capture fault) begins refused = absurd refused
-next_by_packet policy rows text packets packet faults.Fragment begins refused = (packet, begins, refused)
-next_by_packet policy rows text packets packet faults.Hairpin begins refused = (packet, begins, refused)
-next_by_packet policy rows text packets packet faults.CutDatagram begins refused = (packet, begins, refused)
-next_by_packet policy rows text packets packet faults.Limit begins refused = (packet, begins, refused)
-next_by_packet policy rows text packets packet faults.Memory begins refused = (packet, begins, refused)
-next_by_packet policy rows text packets packet faults.Failed begins refused = absurd refused
+pub next_by_packet : (policy : Policy) (interfaces : List (List Sighting)) (text : List ℕ) (packets : List Packet) (packet : Packet) (fault : IntakeFaultKind) → BeginsWith text (packets ++ packet ∷ [])
+    → IsRefused policy interfaces packet fault → IsNext policy interfaces text packets fault
+next_by_packet policy interfaces text packets packet (faults.Capture fault) begins refused = absurd refused
+next_by_packet policy interfaces text packets packet faults.Fragment begins refused = (packet, begins, refused)
+next_by_packet policy interfaces text packets packet faults.Hairpin begins refused = (packet, begins, refused)
+next_by_packet policy interfaces text packets packet faults.CutDatagram begins refused = (packet, begins, refused)
+next_by_packet policy interfaces text packets packet faults.Limit begins refused = (packet, begins, refused)
+next_by_packet policy interfaces text packets packet faults.Memory begins refused = (packet, begins, refused)
+next_by_packet policy interfaces text packets packet faults.Failed begins refused = absurd refused
 
 -- a packet is refused
-pub refused_by_frame : (old : Intake) (rows : List (List Sighting)) (files : List Fed) (file : ℕ) (piece : List ℕ) (packets : List Packet) (fault : IntakeFaultKind) → StandsFor old files
-    → BeginsWith ((fed_at files file).text ++ piece) (packets_of files file ++ packets) → Stops old.policy old.rows file packets rows fault → Refuses old.policy rows files file piece fault
-refused_by_frame old rows files file piece packets fault stands begins stops =
+pub refused_by_frame : (old : Intake) (interfaces : List (List Sighting)) (files : List Fed) (file : ℕ) (piece : List ℕ) (packets : List Packet) (fault : IntakeFaultKind) → StandsFor old files
+    → BeginsWith ((fed_at files file).text ++ piece) (packets_of files file ++ packets) → Stops old.policy old.interfaces file packets interfaces fault → Refuses old.policy interfaces files file piece fault
+refused_by_frame old interfaces files file piece packets fault stands begins stops =
     let text : List ℕ = (fed_at files file).text ++ piece in
     let so_far : List Packet = packets_of files file in
     let parts : so_far ++ packets ≡ ((so_far ++ stops.before) ++ stops.packet ∷ []) ++ stops.after =
@@ -158,7 +158,7 @@ refused_by_frame old rows files file piece packets fault stands begins stops =
       begins = begins_first text (so_far ++ stops.before) (stops.packet ∷ []) through;
       sound = stops.taken.sound;
       sightings = stops.taken.taken (packets_of files) stands.sightings;
-      next = next_by_packet old.policy rows text (so_far ++ stops.before) stops.packet fault through stops.refused;
+      next = next_by_packet old.policy interfaces text (so_far ++ stops.before) stops.packet fault through stops.refused;
     }
 
 -- the reader of a file, as a loop has it

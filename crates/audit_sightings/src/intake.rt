@@ -2,8 +2,8 @@
 
 ghost use Rattle.std.specs.Prelude.{◌≤◌, vec_len};
 
+use crate::by_interface::ByInterface;
 use crate::fault::{IntakeFault, IntakeFaultKind};
-use crate::rows::Rows;
 use crate::taking::{take_packet, take_packets};
 use audit_model::{Policy, SightId, Sighting};
 use audit_pcapng::BlockReader;
@@ -17,7 +17,7 @@ pub const MAX_FILES: usize = 16;
 pub struct Intake {
     policy: Policy,
     files: Vec<BlockReader>,
-    rows: Rows,
+    interfaces: ByInterface,
     /// The file whose feed failed.
     failed: Option<u32>,
     alloc: Global,
@@ -26,8 +26,8 @@ pub struct Intake {
 
 impl Intake {
     ghost use Rattle.std.specs.Prelude.{◌≡◌, ◌<◌, ◌+◌, ℕ, List, [], ◌∷◌, ◌++◌, length, vec_len, OnOk, OnErr, IfOk, IfErr, IfSome, IfNone, IsOkUnless, option_copied, Some, None, Err};
-    ghost use Rattle.audit_sightings.specs.Rows.{Grows, IsNumbered, count_of};
-    ghost use Rattle.audit_sightings.specs.Intake.{taken, sighting_at, interface_at};
+    ghost use Rattle.audit_sightings.specs.ByInterface.{Grows, IsNumbered, count_of};
+    ghost use Rattle.audit_sightings.specs.Intake.{taken, sighting_at, interface_at, AreNumbered};
     ghost use Rattle.audit_sightings.specs.Amid.{Amid};
     ghost use Rattle.audit_sightings.specs.Files.{Fed, not_fed, StandsFor, GoesOn, Refuses, FilesEnd};
 
@@ -39,7 +39,7 @@ impl Intake {
         Intake {
             policy,
             files: Vec::new(alloc),
-            rows: Rows::new(alloc),
+            interfaces: ByInterface::new(alloc),
             failed: None,
             alloc,
         }
@@ -90,11 +90,11 @@ impl Intake {
         requires { file < vec_len self.old.files }
         ensures ok { (files : List Fed) → StandsFor self.old files → OnOk result (GoesOn self.new files file piece.now) }
         ensures err { (files : List Fed) → StandsFor self.old files → IfErr result (λ fault.
-            (fault.file ≡ file) × Refuses self.new.policy self.new.rows files file piece.now fault.kind) }
+            (fault.file ≡ file) × Refuses self.new.policy self.new.interfaces files file piece.now fault.kind) }
         ensures failed { self.old.failed ≡ None → OnErr result (self.new.failed ≡ Some file) }
         ensures again { (failed : ℕ) → self.old.failed ≡ Some failed →
             (result ≡ Err (record { kind = IntakeFaultKind.Failed; file = failed })) × (self.new ≡ self.old) }
-        ensures grows { Grows self.old.rows self.new.rows }
+        ensures grows { Grows self.old.interfaces self.new.interfaces }
         ensures policy { self.new.policy ≡ self.old.policy }
         ensures files { vec_len self.new.files ≡ vec_len self.old.files }
     {
@@ -117,15 +117,15 @@ impl Intake {
         requires { file < vec_len self.old.files }
         ensures ok { (files : List Fed) → StandsFor self.old files → OnOk result (GoesOn self.new files file piece.now) }
         ensures err { (files : List Fed) → StandsFor self.old files →
-            IfErr result (Refuses self.old.policy self.new.rows files file piece.now) }
-        ensures grows { Grows self.old.rows self.new.rows }
+            IfErr result (Refuses self.old.policy self.new.interfaces files file piece.now) }
+        ensures grows { Grows self.old.interfaces self.new.interfaces }
         ensures policy { self.new.policy ≡ self.old.policy }
         ensures files { vec_len self.new.files ≡ vec_len self.old.files }
     {
         let mut held = Vec::new(self.alloc);
         let reader = &mut self.files[file as usize];
         let started = reader.start(piece, &mut held);
-        match take_packets(&self.policy, &mut self.rows, file, &held) {
+        match take_packets(&self.policy, &mut self.interfaces, file, &held) {
             Err(fault) => Err(fault),
             Ok(()) => match started {
                 Ok(rest) => self.take_rest(file, rest),
@@ -140,8 +140,8 @@ impl Intake {
         ensures ok { (files : List Fed) (piece : List ℕ) → Amid self.old files file piece rest.now →
             OnOk result (GoesOn self.new files file piece) }
         ensures err { (files : List Fed) (piece : List ℕ) → Amid self.old files file piece rest.now →
-            IfErr result (Refuses self.old.policy self.new.rows files file piece) }
-        ensures grows { Grows self.old.rows self.new.rows }
+            IfErr result (Refuses self.old.policy self.new.interfaces files file piece) }
+        ensures grows { Grows self.old.interfaces self.new.interfaces }
         ensures policy { self.new.policy ≡ self.old.policy }
         ensures files { vec_len self.new.files ≡ vec_len self.old.files }
     {
@@ -164,9 +164,9 @@ impl Intake {
         ensures none { (files : List Fed) (piece : List ℕ) → Amid self.old files file piece rest.now →
             IfOk result (λ step. IfNone step (GoesOn self.new files file piece)) }
         ensures err { (files : List Fed) (piece : List ℕ) → Amid self.old files file piece rest.now →
-            IfErr result (Refuses self.old.policy self.new.rows files file piece) }
+            IfErr result (Refuses self.old.policy self.new.interfaces files file piece) }
         ensures shorter { IfOk result (λ step. IfSome step (λ behind. length behind.now < length rest.now)) }
-        ensures grows { Grows self.old.rows self.new.rows }
+        ensures grows { Grows self.old.interfaces self.new.interfaces }
         ensures policy { self.new.policy ≡ self.old.policy }
         ensures files { vec_len self.new.files ≡ vec_len self.old.files }
     {
@@ -174,7 +174,7 @@ impl Intake {
         match reader.next(rest) {
             Ok(None) => Ok(None),
             Ok(Some((packet, behind))) => {
-                match take_packet(&self.policy, &mut self.rows, file, packet) {
+                match take_packet(&self.policy, &mut self.interfaces, file, packet) {
                     Ok(()) => Ok(Some(behind)),
                     Err(fault) => Err(fault),
                 }
@@ -210,7 +210,7 @@ impl Intake {
     pub fn sighting(&self, id: SightId) -> Option<&Sighting>
         ensures { option_copied result ≡ sighting_at (taken self.now) id }
     {
-        self.rows.sighting(id)
+        self.interfaces.sighting(id)
     }
 
     /// The sightings of the interface of that number, in block order; none where there is no such interface.
@@ -218,22 +218,23 @@ impl Intake {
         ensures exact { result.now ≡ interface_at (taken self.now) iface }
         ensures numbered { IsNumbered iface result.now }
     {
-        self.rows.row(iface)
+        self.interfaces.interface(iface)
     }
 
     /// How many interface numbers there are, the greatest that has a sighting and those below it.
     pub fn interfaces(&self) -> u32
         ensures { result ≡ length (taken self.now).interfaces }
     {
-        self.rows.len()
+        self.interfaces.len()
     }
 
     /// How many files there are, and how many sightings. It takes no memory.
     pub fn counts(&self) -> (u32, u32)
         ensures files { result.0 ≡ (taken self.now).files }
         ensures sightings { result.1 ≡ count_of (taken self.now).interfaces }
+        ensures numbered { AreNumbered (taken self.now) }
     {
-        (self.files.len() as u32, self.rows.count())
+        (self.files.len() as u32, self.interfaces.count())
     }
 
     /// The policy that it was made with. It takes no memory.

@@ -1,13 +1,14 @@
 //! The datagrams of the service that the captures hold, interface by interface.
 #![tactic(auto)]
 
+mod by_interface;
 mod fault;
 mod intake;
-mod kept;
-mod rows;
+pub mod laws;
+mod service_datagram;
 mod taking;
 
 pub use audit_model::{Side, SightId, Sighting};
+pub use by_interface::MAX_SIGHTINGS;
 pub use fault::{IntakeFault, IntakeFaultKind};
 pub use intake::{Intake, MAX_FILES};
-pub use rows::MAX_SIGHTINGS;

@@ -4,9 +4,9 @@ ghost use Rattle.std.specs.Prelude.{◌≡◌, ◌<◌, [], ◌∷◌, OnOk, OnE
 ghost use Rattle.audit_pcapng.specs.Packets.{packet_of};
 ghost use Rattle.audit_sightings.specs.Sightings.{TakesIn, IsRefused, Stops};
 
+use crate::by_interface::ByInterface;
 use crate::fault::IntakeFaultKind;
-use crate::kept::service_datagram;
-use crate::rows::Rows;
+use crate::service_datagram::service_datagram;
 use audit_model::Policy;
 use audit_pcapng::{Packet, PacketSlice};
 
@@ -16,14 +16,14 @@ const INTERFACES_OF_FILE: u32 = 64;
 /// Takes in a packet of a file. After a fault nothing is changed.
 pub fn take_packet(
     policy: &Policy,
-    rows: &mut Rows,
+    interfaces: &mut ByInterface,
     file: u32,
     packet: PacketSlice<'_>,
 ) -> Result<(), IntakeFaultKind>
     requires { file < 16 }
-    ensures ok { OnOk result (TakesIn policy.now rows.old file (packet_of packet.entry ∷ []) rows.new) }
-    ensures err { IfErr result (IsRefused policy.now rows.old (packet_of packet.entry)) }
-    ensures unchanged { OnErr result (rows.new ≡ rows.old) }
+    ensures ok { OnOk result (TakesIn policy.now interfaces.old file (packet_of packet.entry ∷ []) interfaces.new) }
+    ensures err { IfErr result (IsRefused policy.now interfaces.old (packet_of packet.entry)) }
+    ensures unchanged { OnErr result (interfaces.new ≡ interfaces.old) }
 {
     match service_datagram(policy, packet) {
         Err(fault) => Err(fault),
@@ -33,7 +33,7 @@ pub fn take_packet(
                 return Err(IntakeFaultKind::Limit);
             }
             let iface = INTERFACES_OF_FILE * file + packet.iface;
-            rows.push(iface, policy.skew, kept)
+            interfaces.push(iface, policy.skew, kept)
         }
     }
 }
@@ -41,16 +41,16 @@ pub fn take_packet(
 /// Takes in packets of a file, in order, up to the first that is refused.
 pub fn take_packets(
     policy: &Policy,
-    rows: &mut Rows,
+    interfaces: &mut ByInterface,
     file: u32,
     packets: &[Packet],
 ) -> Result<(), IntakeFaultKind>
     requires { file < 16 }
-    ensures ok { OnOk result (TakesIn policy.now rows.old file packets.now rows.new) }
-    ensures err { IfErr result (Stops policy.now rows.old file packets.now rows.new) }
+    ensures ok { OnOk result (TakesIn policy.now interfaces.old file packets.now interfaces.new) }
+    ensures err { IfErr result (Stops policy.now interfaces.old file packets.now interfaces.new) }
 {
     'packets: for packet in packets {
-        take_packet(policy, rows, file, packet.as_slice())?;
+        take_packet(policy, interfaces, file, packet.as_slice())?;
     }
     Ok(())
 }

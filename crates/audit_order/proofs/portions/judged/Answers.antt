@@ -1,6 +1,6 @@
 use Rattle.audit_sightings.specs.Intake.{taken}
-use Rattle.audit_order.specs.Keys.{key_at}
-use Rattle.audit_order.proofs.CleanSteps.{clean_shows_nothing}
+use Rattle.audit_placement.specs.Keys.{key_at}
+use Rattle.audit_placement.proofs.CleanSteps.{clean_shows_nothing}
 use Rattle.audit_order.proofs.StaySteps.{clean_named}
 use Rattle.audit_order.proofs.portions.judged.Goals as goal
 

@@ -8,8 +8,8 @@ use Rattle.audit_model.specs.Least.{IsLeast}
 use Rattle.audit_sightings.specs.Intake.{taken}
 use Rattle.audit_order.specs.Grown.{empty_lane, with_events}
 use Rattle.audit_order.specs.Kept.{AreOfLanes}
-use Rattle.audit_order.specs.Named.{AllNamed}
-use Rattle.audit_order.specs.Shows.{ShowsPlaced}
+use Rattle.audit_placement.specs.Named.{AllNamed}
+use Rattle.audit_placement.specs.Shows.{ShowsPlaced}
 use Rattle.audit_order.proofs.FittingSteps.{pairs_grown}
 use Rattle.audit_order.proofs.PortionSteps.{apart_with, with_length}
 use Rattle.audit_order.proofs.portions.Placing.add.Goals as goal

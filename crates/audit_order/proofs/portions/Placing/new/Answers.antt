@@ -2,7 +2,7 @@ use Rattle.std.proofs.Common.{◌≡◌, length, ap, sym, ◌∙◌, arith}
 use Rattle.audit_model.specs.EventCount.{event_count}
 use Rattle.audit_model.specs.Lanes.{has_pair}
 use Rattle.audit_order.proofs.KeptSteps.{nothing_kept, none_counted}
-use Rattle.audit_order.specs.Keys.{key_at}
+use Rattle.audit_placement.specs.Keys.{key_at}
 use Rattle.audit_order.proofs.portions.Placing.new.Goals as goal
 
 pub returns-clause-keeps : goal.returns-clause-keeps

@@ -1,4 +1,4 @@
-use Rattle.audit_order.specs.Entries.{entries}
+use Rattle.audit_placement.specs.Entries.{entries}
 use Rattle.audit_order.proofs.KeptSteps.{kept_knows}
 use Rattle.audit_order.proofs.portions.Placing.unplaced.Goals as goal
 

@@ -1,5 +1,0 @@
-use Rattle.audit_order.proofs.AmongSteps.{first_by_place, shown_by_place}
-use Rattle.audit_order.proofs.laws.by_lane_and_place.Goals as goal
-
-pub returns : goal.returns
-returns c = record { first = first_by_place; shown = shown_by_place }

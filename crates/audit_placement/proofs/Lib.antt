@@ -1,0 +1,13 @@
+pub mod LeastOfTwo
+pub mod LeastOfChecks
+pub mod FirstPush
+pub mod Turns
+pub mod NeighbourSteps
+pub mod UnplacedSteps
+pub mod Interfaces
+pub mod LeastOfWhole
+pub mod Tables
+pub mod TableGrowth
+pub mod InOrder
+pub mod AmongSteps
+pub mod CleanSteps

@@ -1,0 +1,11 @@
+pub mod Named
+pub mod Entries
+pub mod Table
+pub mod Keys
+pub mod Places
+pub mod Clean
+pub mod FirstPlace
+pub mod Checks
+pub mod Shows
+pub mod Neighbours
+pub mod Among

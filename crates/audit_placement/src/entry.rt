@@ -1,0 +1,61 @@
+//! What stands in a certificate: the events of its lanes, and the drops.
+
+ghost use Rattle.std.specs.Prelude.{◌≡◌};
+ghost use Rattle.audit_placement.specs.Entries.{at_of};
+
+use audit_model::{At, Certificate, Event, Key, Pair};
+
+/// The end of a lane, or of the drops, behind which an event stands.
+#[derive(Clone, Copy, Debug)]
+pub struct LaneEnd {
+    /// The lane's, and none of the drops.
+    pub pair: Option<Pair>,
+    /// The key of the last event.
+    pub last: Option<Key>,
+}
+
+/// An event of a lane, or a dropped arrival.
+#[derive(Clone, Copy, Debug)]
+pub struct Entry {
+    pub at: At,
+    /// Of a dropped arrival that it comes in.
+    pub event: Event,
+    /// Its lane's, and none of a dropped arrival.
+    pub pair: Option<Pair>,
+    /// The key of the one before it, in its lane or in the drops.
+    pub last: Option<Key>,
+}
+
+/// Which event of which lane of a certificate, or which of its drops, in 12 bytes.
+#[derive(Clone, Copy, Debug)]
+pub enum Spot {
+    Nowhere,
+    InLane { lane: u32, place: u32 },
+    Dropped { place: u32 },
+}
+
+/// Where the certificate's event or drop at the spot stands, with its key.
+pub fn at_spot(certificate: &Certificate, spot: Spot) -> Option<At>
+    ensures { result ≡ at_of certificate.now spot }
+{
+    match spot {
+        Spot::Nowhere => None,
+        Spot::InLane { lane, place } => {
+            let in_lane = certificate.lanes.as_slice().get(lane as usize)?;
+            let event = in_lane.events.as_slice().get(place as usize)?;
+            Some(At {
+                key: event.key(),
+                lane,
+                place,
+            })
+        }
+        Spot::Dropped { place } => {
+            let dropped = certificate.drops.as_slice().get(place as usize)?;
+            Some(At {
+                key: dropped.key,
+                lane: certificate.lanes.len() as u32,
+                place,
+            })
+        }
+    }
+}

@@ -1,0 +1,25 @@
+//! Placement: whether a certificate places each sighting once, in its window and in order.
+#![tactic(auto)]
+
+mod entry;
+mod events;
+mod first;
+mod keys;
+mod laws;
+mod neighbours;
+mod places;
+mod single;
+mod table;
+#[cfg(test)]
+mod tests;
+mod unplaced;
+mod whole;
+
+pub use entry::LaneEnd;
+pub use first::FirstPlaces;
+pub use keys::PlacedKeys;
+pub use laws::by_lane_and_place;
+pub use places::Places;
+pub use single::event_rule;
+pub use unplaced::unplaced_breach;
+pub use whole::{Placement, placed, placed_breach};

@@ -1,0 +1,108 @@
+//! Whether all is placed.
+
+ghost use Rattle.std.specs.Prelude.{◌≡◌, [], IfOk, IfErr, IfNone, OnOk, Some, None};
+ghost use Rattle.audit_model.specs.Least.{IsLeast};
+ghost use Rattle.audit_sightings.specs.Intake.{taken};
+ghost use Rattle.audit_sightings.specs.ByInterface.{count_of};
+ghost use Rattle.audit_placement.specs.Entries.{lanes_entries, entries};
+ghost use Rattle.audit_placement.specs.FirstPlace.{Notes};
+ghost use Rattle.audit_placement.specs.Named.{AllNamed};
+ghost use Rattle.audit_placement.specs.Shows.{Shows, ShowsFrom, ShowsPlaced};
+
+use crate::events::{drops_breach, lane_breach};
+use crate::first::FirstPlaces;
+use crate::neighbours::neighbours_breach;
+use crate::places::Places;
+use crate::unplaced::unplaced_breach;
+use audit_model::{Breach, Certificate};
+use audit_sightings::Intake;
+use std::alloc::{AllocError, Global};
+
+/// That a certificate places each sighting once, in its window and in order. Only `placed` makes one.
+#[derive(Debug, Drop)]
+pub struct Placement {
+    datagrams: u32,
+}
+
+impl Placement {
+    /// How many sightings are placed.
+    pub fn datagrams(&self) -> u32
+        ensures { result ≡ self.now.datagrams }
+    {
+        self.datagrams
+    }
+}
+
+/// The least breach that the lanes' events show. Where there is none, they name what is there.
+fn lanes_breach(
+    intake: &Intake,
+    first: &mut FirstPlaces,
+    certificate: &Certificate,
+) -> Result<Option<Breach>, AllocError>
+    ensures shown { Notes certificate.now first.old [] → IfOk result (IsLeast (ShowsFrom (taken intake.now) [] (lanes_entries 0 certificate.now.lanes))) }
+    ensures notes { Notes certificate.now first.old [] → OnOk result (Notes certificate.now first.new (lanes_entries 0 certificate.now.lanes)) }
+    ensures named { IfOk result (λ least. IfNone least (AllNamed (taken intake.now) certificate.now)) }
+{
+    let mut least = None;
+    'lanes: for (number, lane) in certificate.lanes.as_slice().iter().enumerate() {
+        let found = lane_breach(intake, certificate, first, number as u32, lane)?;
+        least = Breach::least(least, found);
+    }
+    Ok(least)
+}
+
+/// The least breach of what is placed, or none exactly where none is shown, and where each sighting is placed first.
+/// Where there is none, the events name what is there.
+pub fn placed_breach(
+    alloc: Global,
+    intake: &Intake,
+    certificate: &Certificate,
+) -> Result<(Option<Breach>, FirstPlaces), AllocError>
+    ensures shown { IfOk result (λ found. IsLeast (ShowsPlaced (taken intake.now) certificate.now) found.0) }
+    ensures notes { IfOk result (λ found. Notes certificate.now found.1 (entries certificate.now)) }
+    ensures named { IfOk result (λ found. IfNone found.0 (AllNamed (taken intake.now) certificate.now)) }
+{
+    let mut first = FirstPlaces::new(alloc, intake)?;
+    let of_lanes = lanes_breach(intake, &mut first, certificate)?;
+    let of_drops = drops_breach(intake, certificate, &mut first)?;
+    let of_entries = Breach::least(of_lanes, of_drops);
+    let of_neighbours = neighbours_breach(intake, certificate, &first);
+    Ok((Breach::least(of_entries, of_neighbours), first))
+}
+
+/// The least breach of placement, or none exactly where none is shown. Where there is none, the events name what is there.
+fn least_breach(
+    alloc: Global,
+    intake: &Intake,
+    certificate: &Certificate,
+) -> Result<Option<Breach>, AllocError>
+    ensures shown { IfOk result (IsLeast (Shows (taken intake.now) certificate.now)) }
+    ensures named { IfOk result (λ least. IfNone least (AllNamed (taken intake.now) certificate.now)) }
+{
+    let (of_placed, first) = placed_breach(alloc, intake, certificate)?;
+    let of_unplaced = unplaced_breach(intake, certificate, &Places::First(first));
+    Ok(Breach::least(of_placed, of_unplaced))
+}
+
+/// Whether the certificate places each sighting of the intake once, in its window and in order, or else the least breach.
+/// It goes once over the events and once over the sightings.
+pub fn placed(
+    alloc: Global,
+    intake: &Intake,
+    certificate: &Certificate,
+) -> Result<Result<Placement, Breach>, AllocError>
+    // It passes exactly where no breach is shown,
+    ensures passes { IfOk result (λ found. OnOk found (IsLeast (Shows (taken intake.now) certificate.now) None)) }
+    // and else the least one is told.
+    ensures breach { IfOk result (λ found. IfErr found (λ least. IsLeast (Shows (taken intake.now) certificate.now) (Some least))) }
+    ensures datagrams { IfOk result (λ found. IfOk found (λ placement. placement.datagrams ≡ count_of (taken intake.now).interfaces)) }
+    ensures named { IfOk result (λ found. OnOk found (AllNamed (taken intake.now) certificate.now)) }
+{
+    match least_breach(alloc, intake, certificate)? {
+        Some(breach) => Ok(Err(breach)),
+        None => {
+            let (_, datagrams) = intake.counts();
+            Ok(Ok(Placement { datagrams }))
+        }
+    }
+}

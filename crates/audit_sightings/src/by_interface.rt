@@ -1,0 +1,174 @@
+//! Sightings, interface by interface.
+
+ghost use Rattle.std.specs.Prelude.{◌≡◌, ◌<◌, ◌≤◌, ◌+◌, max, List, ℕ, [], ◌∷◌, ◌++◌, length, replicate, OnOk, OnErr};
+ghost use Rattle.audit_model.specs.declared.sighting.Sighting.{Sighting};
+ghost use Rattle.audit_sightings.specs.ByInterface.{Adds};
+
+use crate::fault::IntakeFaultKind;
+use crate::service_datagram::ServiceDatagram;
+use audit_model::{Listed, SightId, Sighting, window};
+use std::alloc::{AllocError, Global};
+use std::marker::Model;
+
+/// How many sightings there may be.
+pub const MAX_SIGHTINGS: u32 = 16_777_216;
+
+/// The sightings of each interface, by the interface's number.
+#[derive(Drop)]
+pub struct ByInterface {
+    interfaces: Vec<Listed<Sighting>>,
+    count: u32,
+    alloc: Global,
+}
+
+impl Model for ByInterface {
+    ghost use Rattle.std.specs.Prelude.{List};
+    ghost use Rattle.audit_model.specs.declared.sighting.Sighting.{Sighting};
+    ghost use Rattle.audit_sightings.specs.ByInterface.{AreByInterface};
+
+    ghost Value = { List (List Sighting) };
+
+    ghost view = { λ a. a.interfaces.items };
+
+    ghost invariant = { λ a. AreByInterface a.interfaces.items a.count };
+}
+
+impl ByInterface {
+    ghost use Rattle.std.specs.Prelude.{◌≡◌, ◌⊎◌, ◌<◌, ℕ, [], length, OnOk, OnErr, IfSome, IfErr, option_copied, option_and_then, slice_get};
+    ghost use Rattle.audit_sightings.specs.ByInterface.{of_interface, count_of, IsNumbered, Adds};
+    ghost use Rattle.audit_sightings.specs.View.{view};
+    ghost use Rattle.audit_sightings.specs.Sightings.{sighting_of};
+
+    /// No sightings. It takes no memory.
+    pub fn new(alloc: Global) -> ByInterface
+        ensures { result ≡ [] }
+    {
+        ByInterface {
+            interfaces: Vec::new(alloc),
+            count: 0,
+            alloc,
+        }
+    }
+
+    /// The sightings of an interface.
+    pub fn interface(&self, iface: u32) -> &[Sighting]
+        ensures exact { result.now ≡ of_interface self.now iface }
+        ensures numbered { IsNumbered iface result.now }
+    {
+        match self.interfaces.get(iface as usize) {
+            Some(interface) => interface.as_slice(),
+            None => &[],
+        }
+    }
+
+    /// The sighting of that name.
+    pub fn sighting(&self, id: SightId) -> Option<&Sighting>
+        ensures exact { option_copied result
+            ≡ option_and_then (λ interface. slice_get interface id.index) (slice_get self.now id.iface) }
+    {
+        let interface = self.interfaces.get(id.iface as usize)?;
+        interface.as_slice().get(id.index as usize)
+    }
+
+    /// How many interfaces there are.
+    pub fn len(&self) -> u32
+        ensures { result ≡ length self.now }
+    {
+        self.interfaces.len() as u32
+    }
+
+    /// How many sightings there are in all interfaces.
+    pub fn count(&self) -> u32
+        ensures count { result ≡ count_of self.now }
+        ensures numbered { (iface : ℕ) → IsNumbered iface (of_interface self.now iface) }
+    {
+        self.count
+    }
+
+    /// Adds a sighting behind those of its interface. After a fault nothing is changed.
+    pub fn push(
+        &mut self,
+        iface: u32,
+        skew: u64,
+        kept: ServiceDatagram<'_>,
+    ) -> Result<(), IntakeFaultKind>
+        requires { iface < 1024 }
+        ensures ok { OnOk result (Adds self.old iface
+            (sighting_of skew iface (length (of_interface self.old iface)) (view kept.entry)) self.new) }
+        ensures full { count_of self.old ≡ MAX_SIGHTINGS → result ≡ Err IntakeFaultKind.Limit }
+        ensures refused { IfErr result (λ fault. (fault ≡ IntakeFaultKind.Memory)
+            ⊎ ((fault ≡ IntakeFaultKind.Limit) × (count_of self.old ≡ MAX_SIGHTINGS))) }
+        ensures err { OnErr result (self.new ≡ self.old) }
+    {
+        if self.count >= MAX_SIGHTINGS {
+            return Err(IntakeFaultKind::Limit);
+        }
+        let index = self.interface(iface).len() as u32;
+        let payload = Vec::from_slice(self.alloc, kept.payload)?;
+        let (lo, hi) = window(kept.stamp, skew);
+        let sighting = Sighting {
+            payload: Listed::from(payload),
+            stamp: kept.stamp,
+            lo,
+            hi,
+            id: SightId { iface, index },
+            from: kept.from,
+            to: kept.to,
+            side: kept.side,
+        };
+        add(self.alloc, &mut self.interfaces, iface as usize, sighting)?;
+        self.count += 1;
+        Ok(())
+    }
+}
+
+/// Adds a sighting behind those of its interface. Without memory nothing is changed.
+fn add(
+    alloc: Global,
+    interfaces: &mut Vec<Listed<Sighting>>,
+    iface: usize,
+    sighting: Sighting,
+) -> Result<(), AllocError>
+    ensures ok { OnOk result (Adds interfaces.old.items iface sighting interfaces.new.items) }
+    ensures err { OnErr result (interfaces.new.items ≡ interfaces.old.items) }
+    ensures few { OnOk result (length interfaces.old.items ≤ 1024 → iface < 1024 → length interfaces.new.items ≤ 1024) }
+{
+    let before = interfaces.len();
+    let added = add_behind(alloc, interfaces, iface, sighting);
+    if added.is_err() {
+        interfaces.truncate(before);
+    }
+    added
+}
+
+/// Adds a sighting behind those of its interface. Without memory empty interfaces may stand behind the others.
+fn add_behind(
+    alloc: Global,
+    interfaces: &mut Vec<Listed<Sighting>>,
+    iface: usize,
+    sighting: Sighting,
+) -> Result<(), AllocError>
+    ensures ok { OnOk result (Adds interfaces.old.items iface sighting interfaces.new.items) }
+    ensures err { OnErr result ((more : ℕ) × (interfaces.new.items ≡ interfaces.old.items ++ replicate more [])) }
+    ensures few { OnOk result (length interfaces.new.items ≤ max (length interfaces.old.items) (iface + 1)) }
+{
+    add_interfaces(alloc, interfaces, iface)?;
+    interfaces[iface].push(sighting)?;
+    Ok(())
+}
+
+/// Adds empty interfaces until there is that of the interface.
+fn add_interfaces(
+    alloc: Global,
+    interfaces: &mut Vec<Listed<Sighting>>,
+    iface: usize,
+) -> Result<(), AllocError>
+    ensures room { OnOk result (iface < length interfaces.new.items) }
+    ensures few { length interfaces.new.items ≤ max (length interfaces.old.items) (iface + 1) }
+    ensures empty { (more : ℕ) × (interfaces.new.items ≡ interfaces.old.items ++ replicate more []) }
+{
+    'room: while interfaces.len() <= iface {
+        interfaces.push(Listed::new(alloc))?;
+    }
+    Ok(())
+}

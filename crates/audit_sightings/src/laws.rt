@@ -1,0 +1,12 @@
+//! What holds of every intake. No program calls these.
+
+ghost use Rattle.audit_sightings.specs.Intake.{AreNumbered, taken};
+
+use crate::intake::Intake;
+
+/// Each sighting has the name of its place: its interface's number, and its place among the sightings of that interface.
+pub fn sightings_are_numbered(intake: &Intake)
+    ensures { AreNumbered (taken intake.now) }
+{
+    let _sightings = intake.counts();
+}
