@@ -2,13 +2,13 @@
 
 ghost use Rattle.std.specs.Prelude.{vec_len, length, IfOk, ◌≡◌, ◌≤◌};
 ghost use Rattle.audit_model.specs.declared.certificate.TheConstants.{MAX_LANES};
-ghost use Rattle.audit_order.specs.Named.{AllNamed};
+ghost use Rattle.audit_placement.specs.Named.{AllNamed};
 ghost use Rattle.audit_sightings.specs.Intake.{taken};
 
 use audit_keys::Credentials;
 use audit_lane::{Finding, Job, judge, lane_input};
 use audit_model::Certificate;
-use audit_order::Placement;
+use audit_placement::Placement;
 use audit_sightings::Intake;
 use std::alloc::{AllocError, Global};
 

@@ -2,9 +2,6 @@
 #![tactic(auto)]
 
 mod lanes;
-pub mod rows;
-#[cfg(test)]
-mod tests;
 mod verdict;
 
 pub use lanes::job;

@@ -7,7 +7,7 @@ use crate::lanes::{job, judge_all};
 use audit_keys::Credentials;
 use audit_lane::{Finding, Outcome};
 use audit_model::{Breach, Certificate, Tenancy, Verdict};
-use audit_order::placed;
+use audit_placement::placed;
 use audit_sightings::Intake;
 use audit_tenancy::clash;
 use std::alloc::{AllocError, Global};

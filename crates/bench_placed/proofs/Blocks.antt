@@ -3,7 +3,7 @@ use Rattle.std.proofs.Common.{◌≡◌, ◌<◌, ℕ, ◌+◌, ◌-◌, ◌*◌
 use Rattle.std.specs.Int.{div_ceil}
 use Rattle.std.specs.List.{flat_map}
 use Rattle.std.proofs.lemmas.Grind.{flat_map-append}
-use Rattle.audit_glue.specs.Rows.{block_bytes}
+use Rattle.audit_samples.specs.Layout.{block_bytes}
 use Rattle.bench_placed.specs.Datagrams.{stamp_of}
 use Rattle.bench_placed.specs.Captures.{frame_of, block_of, at_interface}
 use Rattle.bench_placed.proofs.Numbers.{seen, seen_more, seen_all}

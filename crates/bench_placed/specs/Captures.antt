@@ -1,8 +1,8 @@
 -- The bytes of the captures.
 use Rattle.std.specs.Prelude.{ℕ, ◌%◌, ◌==◌, List, [], ◌∷◌, ◌++◌, filter}
 use Rattle.std.specs.List.{range_with_len}
-use Rattle.audit_glue.specs.Rows.{block_bytes, ipv4_bytes}
-use Rattle.audit_glue.specs.Frames.{ethernet_bytes, udp_bytes}
+use Rattle.audit_samples.specs.Layout.{block_bytes, ipv4_bytes}
+use Rattle.audit_samples.specs.Frames.{ethernet_bytes, udp_bytes}
 use Rattle.audit_model.specs.declared.address.Addr.{Addr}
 use Rattle.audit_model.specs.declared.sighting.Side.{Side}
 use Rattle.audit_model.specs.declared.sighting.Side.TheVariants.{Arrives, Leaves}

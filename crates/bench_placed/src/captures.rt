@@ -2,14 +2,14 @@
 
 ghost use Rattle.std.specs.Prelude.{◌≡◌, ◌<◌, ◌++◌, length, IfOk, IfErr};
 ghost use Rattle.std.specs.List.{flat_map};
-ghost use Rattle.audit_glue.specs.declared.rows.build_fault.BuildFault.TheVariants.{Memory};
-ghost use Rattle.audit_glue.specs.Rows.{heading};
-ghost use Rattle.audit_glue.specs.Frames.{frame_bytes, written};
+ghost use Rattle.audit_samples.specs.declared.build_fault.BuildFault.TheVariants.{Memory};
+ghost use Rattle.audit_samples.specs.Layout.{heading};
+ghost use Rattle.audit_samples.specs.Frames.{frame_bytes, written};
 ghost use Rattle.bench_placed.specs.Captures.{frame_of, block_of, at_interface};
 
 use crate::datagrams::{INTERFACES, SERVER, client, lane_of, side, stamp};
-use audit_glue::rows::{BuildFault, Capture, UdpDatagram};
 use audit_model::Side;
+use audit_samples::{BuildFault, Capture, UdpDatagram};
 use std::alloc::Global;
 
 /// What each datagram carries.

@@ -9,7 +9,7 @@ mod datagrams;
 mod tests;
 
 use audit_model::{Certificate, MAX_EVENTS, read_policy};
-use audit_order::placed;
+use audit_placement::placed;
 use audit_sightings::Intake;
 use captures::capture;
 use certificates::certificate;

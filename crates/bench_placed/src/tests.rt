@@ -1,5 +1,5 @@
 use super::inputs;
-use audit_order::placed;
+use audit_placement::placed;
 use std::alloc::AllocError;
 use std::test::Fail;
 

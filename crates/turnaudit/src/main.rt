@@ -1,18 +1,11 @@
 //! turnaudit judges captures of a TURN server.
 #![tactic(auto)]
 
-mod buffered;
-mod command_line;
 mod host;
-mod reading;
-mod running;
-mod source;
-mod stop;
-mod writing;
 
 use audit_model::{Sink, put_all};
+use audit_program::run;
 use host::{HostFiles, HostStream};
-use running::run;
 use std::process::ExitCode;
 use std::rt::Env;
 use std::{env, io};
@@ -47,6 +40,3 @@ fn main(rt: HostRuntime) -> ExitCode {
     };
     ExitCode::from(status)
 }
-
-#[cfg(test)]
-mod tests;

@@ -1,7 +1,7 @@
 use Rattle.std.proofs.Common.{◌≡◌, ◌∙◌, ap, arith}
 use Rattle.std.specs.Int.{div_ceil}
-use Rattle.audit_glue.specs.Rows.{heading}
-use Rattle.audit_glue.specs.Frames.{written, frame_bytes}
+use Rattle.audit_samples.specs.Layout.{heading}
+use Rattle.audit_samples.specs.Frames.{written, frame_bytes}
 use Rattle.bench_placed.proofs.Blocks.{block_more, all_blocks}
 use Rattle.bench_placed.proofs.captures.capture.Goals as goal
 

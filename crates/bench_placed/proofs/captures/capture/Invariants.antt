@@ -1,7 +1,7 @@
 use Rattle.std.proofs.Common.{◌≡◌, ◌++◌}
 use Rattle.std.specs.List.{flat_map}
-use Rattle.audit_glue.specs.Rows.{heading}
-use Rattle.audit_glue.specs.Frames.{written}
+use Rattle.audit_samples.specs.Layout.{heading}
+use Rattle.audit_samples.specs.Frames.{written}
 use Rattle.bench_placed.specs.Captures.{block_of}
 use Rattle.bench_placed.proofs.Numbers.{seen}
 use Rattle.bench_placed.proofs.captures.capture.Given as goal

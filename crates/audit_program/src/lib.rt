@@ -1,0 +1,13 @@
+//! The whole program as a function: words in, files by a source, the answer and what is said of a refusal by two sinks, and the exit status.
+#![tactic(auto)]
+
+mod buffered;
+mod command_line;
+mod reading;
+mod running;
+mod source;
+mod stop;
+mod writing;
+
+pub use running::run;
+pub use source::{ReadFailed, Source};

@@ -1,0 +1,23 @@
+//! What a run writes besides the report.
+
+use crate::stop::Stop;
+use audit_model::{Sink, put_all};
+use std::alloc::Global;
+
+/// Puts a text.
+pub fn put_text<W: Sink>(sink: &mut W, text: &str) -> Result<(), Stop> {
+    put_all(sink, text.as_bytes())?;
+    Ok(())
+}
+
+/// Puts the line that says why the run ended. Nothing more can be done where that fails.
+pub fn put_line<W: Sink>(alloc: Global, sink: &mut W, stop: &Stop) {
+    match format!(in alloc; "turnaudit: {stop}\n") {
+        Ok(line) => {
+            let _ = put_all(sink, line.as_bytes());
+        }
+        Err(_) => {
+            let _ = put_all(sink, b"turnaudit: out of memory\n");
+        }
+    }
+}

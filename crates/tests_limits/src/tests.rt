@@ -1,0 +1,4 @@
+//! Inputs as large as the limits allow, and one more. No contract tells a limit from want of memory, so that these do.
+
+mod captures;
+mod texts;

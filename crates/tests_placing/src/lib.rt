@@ -1,0 +1,5 @@
+//! Tests of placement in portions.
+#![tactic(auto)]
+
+#[cfg(test)]
+mod tests;

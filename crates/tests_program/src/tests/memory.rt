@@ -1,0 +1,124 @@
+//! Files and streams in memory.
+
+use audit_model::{Sink, SinkFailed};
+use audit_program::{ReadFailed, Source, run};
+use std::alloc::{AllocError, Global};
+
+/// The files of a run.
+#[derive(Drop)]
+pub struct Files<'a> {
+    pub policy: &'a [u8],
+    pub credentials: &'a [u8],
+    pub certificate: &'a [u8],
+    pub capture: &'a [u8],
+    /// Another capture.
+    pub second: &'a [u8],
+    /// How many bytes of a file are given at first.
+    pub first: usize,
+    /// How many are given at once after that.
+    pub step: usize,
+    /// The file whose second piece can't be read.
+    pub fails: Option<&'a str>,
+}
+
+impl<'a> Files<'a> {
+    /// Without credentials and a second capture. Each file is read at once, and can be.
+    pub fn new(policy: &'a str, certificate: &'a str, capture: &'a [u8]) -> Files<'a> {
+        Files {
+            policy: policy.as_bytes(),
+            credentials: &[],
+            certificate: certificate.as_bytes(),
+            capture,
+            second: &[],
+            first: 65_536,
+            step: 65_536,
+            fails: None,
+        }
+    }
+}
+
+impl Source for Files<'_> {
+    fn piece(&mut self, name: &str, at: u64, into: &mut [u8]) -> Result<usize, ReadFailed> {
+        if self.fails == Some(name) && at > 0 {
+            return Err(ReadFailed);
+        }
+        let file = match name {
+            "policy" => self.policy,
+            "creds" => self.credentials,
+            "cert" => self.certificate,
+            "capture" => self.capture,
+            "second" => self.second,
+            _ => return Err(ReadFailed),
+        };
+        let at = (at as usize).min(file.len());
+        let most = if at == 0 { self.first } else { self.step };
+        let count = most.min(into.len()).min(file.len() - at);
+        into[..count].copy_from_slice(&file[at..at + count]);
+        Ok(count)
+    }
+}
+
+/// A stream that keeps what it takes, and fails once it has no room.
+#[derive(Drop)]
+struct Stream {
+    bytes: Vec<u8>,
+    room: usize,
+}
+
+impl Sink for Stream {
+    ghost use Rattle.std.specs.Prelude.{Some, None};
+
+    ghost taken = { λ stream. Some stream.bytes.items };
+
+    ghost failures = { λ _. None };
+
+    fn put(&mut self, piece: &[u8]) -> Result<usize, SinkFailed> {
+        let count = piece.len().min(self.room);
+        if count == 0 && !piece.is_empty() {
+            return Err(SinkFailed);
+        }
+        match self.bytes.extend_from_slice(&piece[..count]) {
+            Ok(()) => {
+                self.room -= count;
+                Ok(count)
+            }
+            Err(_) => Err(SinkFailed),
+        }
+    }
+}
+
+/// What a run answers.
+#[derive(Drop)]
+pub struct Answer {
+    pub status: u8,
+    pub out: Vec<u8>,
+    pub err: Vec<u8>,
+}
+
+/// Runs the program on the words.
+pub fn ask(alloc: Global, words: &[&str], files: &mut Files<'_>) -> Result<Answer, AllocError> {
+    ask_within(alloc, words, files, 1_000_000)
+}
+
+/// Runs the program on the words, with room for so many bytes on standard output.
+pub fn ask_within(
+    alloc: Global,
+    words: &[&str],
+    files: &mut Files<'_>,
+    room: usize,
+) -> Result<Answer, AllocError> {
+    let mut out = Stream {
+        bytes: Vec::new(alloc),
+        room,
+    };
+    let mut err = Stream {
+        bytes: Vec::new(alloc),
+        room: 1_000_000,
+    };
+    let status = run(alloc, words, files, &mut out, &mut err);
+    Ok(Answer {
+        status,
+        out: out.bytes,
+        err: err.bytes,
+    })
+}
