@@ -1,6 +1,7 @@
 #!/bin/bash
 # no_memory.sh PROGRAM: each allocation of `audit`, `find` and `check` on a capture of a real server is refused in turn; the answer is status 3 and
-# one line each time, and nothing on standard output. It needs gcc.
+# one line each time, and nothing on standard output. Of a certificate larger than what `find` gathers before it writes (64 KiB), some allocations are refused, and a
+# front of it may be out: with status 3 it is no certificate. It needs gcc.
 program=$(realpath "$1") || exit 1
 cd "$(dirname "$0")" || exit 1
 scratch=$(mktemp -d)
@@ -30,5 +31,29 @@ refuse_each() { # NAME WORDS..
 refuse_each audit audit
 refuse_each find find
 refuse_each check check --cert certificate
+
+cd ../coturn-24-clients || exit 1
+find_all() { # NUMBER: `find` on the folder's capture, with the allocation of that number refused
+    FAIL_AT=$1 LD_PRELOAD="$scratch/failing_malloc.so" "$program" find --policy policy --creds creds cap.pcapng
+}
+
+find_all 1000000000 > "$scratch/whole" 2> "$scratch/told"
+count=$(sed -n 's/^allocations: //p' "$scratch/told")
+fronts=0
+for number in $(seq 1 97 "$count"); do
+    find_all "$number" > "$scratch/answer" 2> "$scratch/told"
+    status=$?
+    size=$(stat -c %s "$scratch/answer")
+    if [ "$status" != 3 ] || [ "$(cat "$scratch/told")" != "turnaudit: out of memory" ] || ! head -c "$size" "$scratch/whole" | cmp -s - "$scratch/answer"; then
+        failed=$((failed + 1))
+        echo "failed: find on 24 clients, allocation $number: status $status, $size bytes"
+    fi
+    if [ "$size" -gt 0 ]; then fronts=$((fronts + 1)); fi
+done
+if [ "$fronts" = 0 ]; then
+    failed=$((failed + 1))
+    echo "failed: no front of the certificate was ever out"
+fi
+echo "find on 24 clients: every 97th of $count allocations refused, a front of the certificate out $fronts times"
 echo "$failed failed"
 [ "$failed" = 0 ]

@@ -1,0 +1,219 @@
+#!/usr/bin/env python3
+"""Captures that strangers would make to keep the program busy, beside ordinary ones of as many datagrams of the same size.
+
+    python3 bench/attacks.py PROGRAM [--scale 1]
+
+Each is built at n and at 4n datagrams and timed by `audit`, `find`, and `check` with the certificate that `find` writes: processor
+seconds, the least of three runs. It prints, of each, the seconds, how many times those at n the ones at 4n are, and how many times
+the ordinary ones. It fails where 4n takes over 5 times as long as n, or an attack takes over 8 times as long as the ordinary capture.
+
+  users       one client with an allocation, and a Refresh by another user each time, answered by 441
+  clients     every request by another client, their addresses in order, and each answered
+  denied      64 Send indications of equal data to a peer without a permission, and departures that carry it all the same
+  unasked     departures with the data of the last Send indication, which was relayed already, so that no arrival explains them
+  silent      Allocate requests that nobody answers, all of one transaction, and at the end a success to it for each
+  copies      one datagram of a peer again and again, each relayed to the client
+"""
+
+import argparse
+import pathlib
+import resource
+import struct
+import subprocess
+import sys
+import tempfile
+
+import make_capture
+from make_capture import DATA, ERROR, ERROR_CODE, LIFETIME, MAPPED, NONCE, PEER, REALM, RELAYED, SERVER, SUCCESS, TRANSPORT
+from make_capture import BINDING_TYPES, Client, Side, address, message
+
+BINDING = 0x001
+START = 1_700_000_000_000_000
+POLICY = "turnaudit-policy 1\nlisten 192.0.2.1:3478\nrelay 192.0.2.1:49152-65535\n"
+USERNAME = make_capture.USERNAME
+
+
+class Capture:
+    """A folder with a policy, credentials and the captures of both sides."""
+
+    def __init__(self, folder, users):
+        folder.mkdir(parents=True)
+        self.folder = folder
+        (folder / "policy").write_text(POLICY)
+        (folder / "creds").write_text("".join(f"user{number}\texample.org\tsecret\n" for number in range(users)))
+        self.client, self.peer = Side(folder / "client.pcapng", 0), Side(folder / "peer.pcapng", 0)
+
+    def sides(self):
+        return self.client, self.peer
+
+    def close(self):
+        self.client.out.close()
+        self.peer.out.close()
+
+
+def ordinary(folder, datagrams, size):
+    """24 clients that exchange data of that size with their peers; one, where the data is large and the datagrams few."""
+    count = 24 if size < 1000 else 1
+    capture = Capture(folder, count)
+    clients = [Client(number, capture.sides()) for number in range(count)]
+    moment = START
+    for client in clients:
+        client.open(moment)
+        moment += 1000
+    for number in range((datagrams - 10 * count) // 2):
+        client = clients[number % count]
+        data = struct.pack(">I", number) + bytes(size)
+        if number % (2 * count) < count:
+            client.to_peer(moment, data)
+        else:
+            client.from_peer(moment, data, False)
+        moment += 40
+    capture.close()
+
+
+def users(folder, datagrams, size):
+    capture = Capture(folder, 65_536)
+    client = Client(0, capture.sides())
+    client.open(START)
+    moment = START + 1000
+    lifetime = struct.pack(">I", 600)
+    for number in range(1, min(datagrams // 2, 65_536)):
+        client.name = f"user{number}"
+        key = make_capture.hashlib.md5(f"user{number}:example.org:secret".encode()).digest()
+        id = client.transaction()
+        named = [(USERNAME, client.name.encode()), (REALM, b"example.org"), (NONCE, b"nonce")]
+        capture.client.put(moment, client.endpoint, SERVER, message(BINDING_TYPES["refresh"], id, [(LIFETIME, lifetime)] + named, key))
+        error = [(ERROR_CODE, bytes([0, 0, 4, 41]) + b"Wrong Credentials")]
+        capture.client.put(moment + 20, SERVER, client.endpoint, message(BINDING_TYPES["refresh"] | ERROR, id, error))
+        moment += 40
+    capture.close()
+
+
+def clients(folder, datagrams, size):
+    capture = Capture(folder, 0)
+    moment = START
+    for number in range(min(datagrams // 2, 65_536)):
+        source = (f"198.51.{number >> 8}.{number & 255}", 40000)
+        id = struct.pack(">III", 0, 0, number)
+        capture.client.put(moment, source, SERVER, message(BINDING, id, []))
+        capture.client.put(moment + 20, SERVER, source, message(BINDING | SUCCESS, id, [(MAPPED, address(source))]))
+        moment += 40
+    capture.close()
+
+
+def send(client, peer, data):
+    return message(BINDING_TYPES["send"], client.transaction(), [(PEER, address(peer)), (DATA, data)])
+
+
+def denied(folder, datagrams, size):
+    capture = Capture(folder, 1)
+    client = Client(0, capture.sides())
+    client.open(START)
+    stranger, data, moment = ("203.0.112.1", 9), bytes(size), START + 1000
+    for number in range(64):
+        capture.client.put(moment, client.endpoint, SERVER, send(client, stranger, data))
+        moment += 10
+    for number in range(datagrams - 64):
+        capture.peer.put(moment, client.relayed, stranger, data)
+        moment += 10
+    capture.close()
+
+
+def unasked(folder, datagrams, size):
+    capture = Capture(folder, 1)
+    client = Client(0, capture.sides())
+    client.open(START)
+    data, moment = bytes(size), START + 1000
+    for number in range(datagrams // 2):
+        capture.client.put(moment, client.endpoint, SERVER, send(client, client.peer, data))
+        capture.peer.put(moment + 10, client.relayed, client.peer, data)
+        if number % 64 == 63:
+            for copy in range(64):
+                capture.peer.put(moment + 11 + copy, client.relayed, client.peer, data)
+            moment += 64
+        moment += 40
+    capture.close()
+
+
+def silent(folder, datagrams, size):
+    capture = Capture(folder, 1)
+    client = Client(0, capture.sides())
+    id, moment = client.transaction(), START
+    named = [(TRANSPORT, bytes([17, 0, 0, 0])), (USERNAME, b"user0"), (REALM, b"example.org"), (NONCE, b"nonce")]
+    request = message(BINDING_TYPES["allocate"], id, named, client.key)
+    for number in range(datagrams // 2):
+        capture.client.put(moment, client.endpoint, SERVER, request)
+        moment += 4
+    gives = [(RELAYED, address(client.relayed)), (LIFETIME, struct.pack(">I", 600)), (MAPPED, address(client.endpoint))]
+    success = message(BINDING_TYPES["allocate"] | SUCCESS, id, gives, client.key)
+    for number in range(datagrams // 2):
+        capture.client.put(moment, SERVER, client.endpoint, success)
+        moment += 4
+    capture.close()
+
+
+def copies(folder, datagrams, size):
+    capture = Capture(folder, 1)
+    client = Client(0, capture.sides())
+    client.open(START)
+    moment = START + 1000
+    for number in range(datagrams // 2):
+        client.from_peer(moment, bytes(size), False)
+        moment += 40
+    capture.close()
+
+
+def seconds(words):
+    """The processor time of a command, and what it printed."""
+    before = resource.getrusage(resource.RUSAGE_CHILDREN)
+    run = subprocess.run(words, stdout=subprocess.PIPE, stderr=subprocess.PIPE, check=False)
+    after = resource.getrusage(resource.RUSAGE_CHILDREN)
+    if run.returncode not in (0, 1):
+        sys.exit(f"{' '.join(map(str, words))}: status {run.returncode}, {run.stderr.decode()}")
+    return after.ru_utime + after.ru_stime - before.ru_utime - before.ru_stime, run.stdout
+
+
+def timed(program, folder):
+    """The least seconds of three runs of each command on the folder."""
+    inputs = ["--policy", folder / "policy", "--creds", folder / "creds"]
+    captures = [folder / "client.pcapng", folder / "peer.pcapng"]
+    certificate = folder / "certificate"
+    certificate.write_bytes(seconds([program, "find", *inputs, *captures])[1])
+    commands = {"audit": [], "find": [], "check": ["--cert", certificate]}
+    return {name: min(seconds([program, name, *inputs, *words, *captures])[0] for _ in range(3)) for name, words in commands.items()}
+
+
+def main():
+    words = argparse.ArgumentParser(description="Times captures that strangers would make to keep the program busy.")
+    words.add_argument("program", type=pathlib.Path)
+    words.add_argument("--scale", type=float, default=1)
+    asked = words.parse_args()
+    program = asked.program.resolve()
+    # The datagrams at n, and how many bytes of data each has.
+    small, large = (int(32_768 * asked.scale), 60), (int(512 * asked.scale), 54_000)
+    attacks = {users: small, clients: small, silent: small, copies: small, denied: large, unasked: large}
+    failed = 0
+    with tempfile.TemporaryDirectory() as scratch:
+        scratch = pathlib.Path(scratch)
+        plain = {}
+        print(f"{'capture':12}{'datagrams':>10}{'command':>9}{'n':>9}{'4n':>9}{'4n to n':>9}{'to ordinary':>13}")
+        for build, (datagrams, size) in [(ordinary, small), (ordinary, large), *attacks.items()]:
+            times = []
+            for count in (datagrams, 4 * datagrams):
+                folder = scratch / f"{build.__name__}-{size}-{count}"
+                build(folder, count, size)
+                times.append(timed(program, folder))
+            if build is ordinary:
+                plain[datagrams] = times[1]
+            for name in times[0]:
+                one, four = (time[name] for time in times)
+                grows, worse = four / one, four / plain[datagrams][name]
+                print(f"{build.__name__:12}{datagrams:>10}{name:>9}{one:>9.2f}{four:>9.2f}{grows:>9.1f}{worse:>13.1f}", flush=True)
+                if build is not ordinary and (grows > 5 or worse > 8):
+                    failed += 1
+    print(f"{failed} failed")
+    return 1 if failed else 0
+
+
+if __name__ == "__main__":
+    sys.exit(main())
