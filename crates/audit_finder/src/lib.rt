@@ -18,6 +18,7 @@ mod lanes;
 mod leaving;
 mod matching;
 mod noting;
+mod pairs;
 mod portion;
 mod queues;
 mod rows;
