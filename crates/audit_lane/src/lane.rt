@@ -3,8 +3,8 @@
 ghost use Rattle.std.specs.Prelude.{◌<◌, vec_len};
 
 use crate::input::{LaneEvent, LaneInput};
-use audit_model::{At, Breach, Key, Listed, Rule, SightId, Sighting, Tenancy};
-use audit_rules::{ActFault, LaneTable, act};
+use audit_model::{At, Breach, Key, Listed, Policy, Rule, SightId, Sighting, Tenancy};
+use audit_rules::{ActFault, CredRow, LaneTable, act};
 use std::alloc::{AllocError, AllocFailed, Global};
 use std::collections::BTreeMap;
 
@@ -154,7 +154,8 @@ impl Lane {
 
     fn answer(
         &mut self,
-        input: &LaneInput<'_>,
+        policy: &Policy,
+        users: &[CredRow<'_>],
         at: At,
         arrives: &Sighting,
         leaves: &Sighting,
@@ -166,8 +167,8 @@ impl Lane {
         match act(
             self.alloc,
             &mut self.table,
-            input.users.as_slice(),
-            input.policy,
+            users,
+            policy,
             arrives,
             leaves,
             at,
@@ -200,10 +201,14 @@ impl Lane {
             LaneEvent::Act {
                 arrives,
                 leaves,
+                user,
                 key,
             } => {
                 let at = self.at(key, place);
-                self.answer(input, at, arrives, leaves)
+                match input.user(user) {
+                    Some(user) => self.answer(input.policy, &[user], at, arrives, leaves),
+                    None => self.answer(input.policy, &[], at, arrives, leaves),
+                }
             }
             LaneEvent::Out { sighting, key } => {
                 let at = self.at(key, place);
