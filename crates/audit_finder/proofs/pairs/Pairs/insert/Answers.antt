@@ -1,4 +1,4 @@
-use Rattle.std.proofs.Common.{rules, ◌≡◌, false, List, [], ◌∷◌, ◌++◌, length, ap, sym, subst, ◌∙◌}
+use Rattle.std.proofs.Common.{rules, ◌≡◌, List, [], ◌∷◌, ◌++◌, length, ap, sym, subst, ◌∙◌}
 use Rattle.indexmap.specs.IndexSet.{insert_key}
 use Rattle.audit_finder.specs.Clients.{Pair, same}
 use Rattle.audit_finder.specs.Pairs.{HasPlaces}
