@@ -1,0 +1,4 @@
+pub mod Listing
+pub mod Placement
+pub mod Conditions
+pub mod Conforming

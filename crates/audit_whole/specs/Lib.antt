@@ -1,0 +1,5 @@
+pub mod Glued
+pub mod CaptureRun
+pub mod LaneConditions
+pub mod Conforms
+pub mod Passes
