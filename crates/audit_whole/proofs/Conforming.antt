@@ -61,7 +61,7 @@ from_zero : (xs : List Placed) → AllByRecursion (λ (e : Placed). 0 ≤ e.at.k
 from_zero [] = tt
 from_zero (x ∷ xs) = (omega arith, from_zero xs)
 
-run_of_drops : (w : Rules) (certificate : Certificate) → Rises (the_drops certificate) → IsRun w (map step_of (the_drops certificate))
+pub run_of_drops : (w : Rules) (certificate : Certificate) → Rises (the_drops certificate) → IsRun w (map step_of (the_drops certificate))
 run_of_drops w certificate r =
     let k = drops_run w (length certificate.lanes) 0 None certificate.drops at_first r (from_zero (the_drops certificate)) in
     record { runs = k.0; nothing_owed = λ t. k.1 t }

@@ -2,3 +2,4 @@ pub mod Listing
 pub mod Placement
 pub mod Conditions
 pub mod Conforming
+pub mod Held

@@ -1,12 +1,32 @@
 //! What holds of every certificate, by the definitions alone. No program calls these.
 
-ghost use Rattle.std.specs.Prelude.{◌↔◌};
+ghost use Rattle.std.specs.Prelude.{◌≡◌, ◌≢◌, ◌↔◌, ◌++◌, ◌∷◌, ℕ, List, Some};
+ghost use Rattle.std.specs.List.{AllByRecursion};
+ghost use Rattle.audit_model.specs.declared.address.Addr.{Addr};
 ghost use Rattle.audit_model.specs.declared.certificate.Certificate.{Certificate};
+ghost use Rattle.audit_model.specs.declared.pair.Pair.{Pair};
 ghost use Rattle.audit_rules.specs.Keys.{KeyFor};
 ghost use Rattle.audit_sightings.specs.Intake.{Taken, AreNumbered};
+ghost use Rattle.audit_server.specs.Holding.{AnyOf, HoldsAt};
+ghost use Rattle.audit_server.specs.Placed.{Placed, Rises, state_after};
+ghost use Rattle.audit_server.specs.Run.{HasAddress};
+ghost use Rattle.audit_server.specs.Tenancies.{tenancies};
+ghost use Rattle.audit_server.specs.Whole.{EachRuns};
 ghost use Rattle.audit_whole.specs.CaptureRun.{rules_for};
 ghost use Rattle.audit_whole.specs.Conforms.{Conforms};
+ghost use Rattle.audit_whole.specs.Glued.{by_lane, glued, lanes_from, pairs_of};
 ghost use Rattle.audit_whole.specs.Passes.{Passes};
+
+/// At each move of the glued list, the client of another lane has a usable allocation with an address in the server's one
+/// table exactly where a tenancy of that lane, taken by its final end, holds the address there (RFC 8656, section 5).
+pub fn held()
+    ensures { (taken : Taken) (key_for : KeyFor) (certificate : Certificate) → let rules = rules_for taken key_for in
+        AllByRecursion Rises (by_lane certificate) → EachRuns rules (lanes_from 0 certificate.lanes) →
+        (before : List Placed) (event : Placed) (rest : List Placed) → before ++ event ∷ rest ≡ glued certificate →
+        (other : ℕ) (pair : Pair) → pairs_of certificate other ≡ Some pair → event.at.lane ≢ other → (relayed : Addr) →
+        HasAddress taken.policy.grace event.at.key.moment relayed ((state_after rules before).table pair)
+        ↔ AnyOf (HoldsAt event.at relayed) (tenancies rules other (glued certificate)) }
+{}
 
 /// What is checked part by part is what the whole has to be.
 pub fn parts_are_whole()
