@@ -3,3 +3,6 @@ pub mod Placement
 pub mod Conditions
 pub mod Conforming
 pub mod Held
+pub mod Saying
+pub mod Keeping
+pub mod Grounds

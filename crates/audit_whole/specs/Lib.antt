@@ -3,3 +3,9 @@ pub mod CaptureRun
 pub mod LaneConditions
 pub mod Conforms
 pub mod Passes
+pub mod Says
+pub mod Lasting
+pub mod Granted
+pub mod Relayed
+pub mod Grounded
+pub mod Headline

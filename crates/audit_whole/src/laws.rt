@@ -9,12 +9,15 @@ ghost use Rattle.audit_rules.specs.Keys.{KeyFor};
 ghost use Rattle.audit_sightings.specs.Intake.{Taken, AreNumbered};
 ghost use Rattle.audit_server.specs.Holding.{AnyOf, HoldsAt};
 ghost use Rattle.audit_server.specs.Placed.{Placed, Rises, state_after};
-ghost use Rattle.audit_server.specs.Run.{HasAddress};
+ghost use Rattle.audit_server.specs.Run.{HasAddress, RunFrom};
+ghost use Rattle.audit_server.specs.State.{at_first};
+ghost use Rattle.audit_server.specs.Step.{Step};
 ghost use Rattle.audit_server.specs.Tenancies.{tenancies};
 ghost use Rattle.audit_server.specs.Whole.{EachRuns};
 ghost use Rattle.audit_whole.specs.CaptureRun.{rules_for};
 ghost use Rattle.audit_whole.specs.Conforms.{Conforms};
 ghost use Rattle.audit_whole.specs.Glued.{by_lane, glued, lanes_from, pairs_of};
+ghost use Rattle.audit_whole.specs.Grounded.{IsGrounded};
 ghost use Rattle.audit_whole.specs.Passes.{Passes};
 
 /// At each move of the glued list, the client of another lane has a usable allocation with an address in the server's one
@@ -32,4 +35,10 @@ pub fn held()
 pub fn parts_are_whole()
     ensures { (taken : Taken) (key_for : KeyFor) (certificate : Certificate) → AreNumbered taken →
         Passes taken (rules_for taken key_for) certificate ↔ Conforms taken (rules_for taken key_for) certificate }
+{}
+
+/// Each datagram that a run relays had an allocation that lasted, and a permission or a channel that lasted, asked for by one
+/// user; and each departure was given by an act (RFC 8656, sections 7 to 12).
+pub fn grounded()
+    ensures { (taken : Taken) (key_for : KeyFor) (list : List Step) → RunFrom (rules_for taken key_for) at_first list → IsGrounded taken key_for list }
 {}
