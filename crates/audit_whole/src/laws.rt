@@ -18,6 +18,7 @@ ghost use Rattle.audit_whole.specs.CaptureRun.{rules_for};
 ghost use Rattle.audit_whole.specs.Conforms.{Conforms};
 ghost use Rattle.audit_whole.specs.Glued.{by_lane, glued, lanes_from, pairs_of};
 ghost use Rattle.audit_whole.specs.Grounded.{IsGrounded};
+ghost use Rattle.audit_whole.specs.Headline.{Headline};
 ghost use Rattle.audit_whole.specs.Passes.{Passes};
 
 /// At each move of the glued list, the client of another lane has a usable allocation with an address in the server's one
@@ -41,4 +42,10 @@ pub fn parts_are_whole()
 /// user; and each departure was given by an act (RFC 8656, sections 7 to 12).
 pub fn grounded()
     ensures { (taken : Taken) (key_for : KeyFor) (list : List Step) → RunFrom (rules_for taken key_for) at_first list → IsGrounded taken key_for list }
+{}
+
+/// Where all that is checked passes, the headline holds.
+pub fn headline()
+    ensures { (taken : Taken) (key_for : KeyFor) (certificate : Certificate) → AreNumbered taken →
+        Passes taken (rules_for taken key_for) certificate → Headline taken key_for certificate }
 {}
