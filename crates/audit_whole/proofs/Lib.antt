@@ -6,3 +6,6 @@ pub mod Held
 pub mod Saying
 pub mod Keeping
 pub mod Grounds
+pub mod Writing
+pub mod Paths
+pub mod Written

@@ -1,12 +1,15 @@
 //! What holds of every certificate, by the definitions alone. No program calls these.
 
-ghost use Rattle.std.specs.Prelude.{◌≡◌, ◌≢◌, ◌↔◌, ◌++◌, ◌∷◌, ℕ, List, Some};
+ghost use Rattle.std.specs.Prelude.{◌≡◌, ◌≢◌, ◌≤◌, ◌↔◌, ◌++◌, ◌∷◌, ℕ, List, Some, length};
 ghost use Rattle.std.specs.List.{AllByRecursion};
 ghost use Rattle.audit_model.specs.declared.address.Addr.{Addr};
 ghost use Rattle.audit_model.specs.declared.certificate.Certificate.{Certificate};
+ghost use Rattle.audit_model.specs.declared.certificate.TheConstants.{MAX_LANES, MAX_EVENTS};
 ghost use Rattle.audit_model.specs.declared.pair.Pair.{Pair};
+ghost use Rattle.audit_model.specs.Policy.{AreApart};
 ghost use Rattle.audit_rules.specs.Keys.{KeyFor};
 ghost use Rattle.audit_sightings.specs.Intake.{Taken, AreNumbered};
+ghost use Rattle.audit_server.specs.Acting.{acting_pairs};
 ghost use Rattle.audit_server.specs.Holding.{AnyOf, HoldsAt};
 ghost use Rattle.audit_server.specs.Placed.{Placed, Rises, state_after};
 ghost use Rattle.audit_server.specs.Run.{HasAddress, RunFrom};
@@ -14,11 +17,12 @@ ghost use Rattle.audit_server.specs.State.{at_first};
 ghost use Rattle.audit_server.specs.Step.{Step};
 ghost use Rattle.audit_server.specs.Tenancies.{tenancies};
 ghost use Rattle.audit_server.specs.Whole.{EachRuns};
-ghost use Rattle.audit_whole.specs.CaptureRun.{rules_for};
+ghost use Rattle.audit_whole.specs.CaptureRun.{rules_for, IsCaptureRun};
 ghost use Rattle.audit_whole.specs.Conforms.{Conforms};
-ghost use Rattle.audit_whole.specs.Glued.{by_lane, glued, lanes_from, pairs_of};
+ghost use Rattle.audit_whole.specs.Glued.{by_lane, glued, glued_steps, lanes_from, pairs_of};
 ghost use Rattle.audit_whole.specs.Grounded.{IsGrounded};
 ghost use Rattle.audit_whole.specs.Headline.{Headline};
+ghost use Rattle.audit_whole.specs.LaneConditions.{LaneConditions};
 ghost use Rattle.audit_whole.specs.Passes.{Passes};
 
 /// At each move of the glued list, the client of another lane has a usable allocation with an address in the server's one
@@ -48,4 +52,11 @@ pub fn grounded()
 pub fn headline()
     ensures { (taken : Taken) (key_for : KeyFor) (certificate : Certificate) → AreNumbered taken →
         Passes taken (rules_for taken key_for) certificate → Headline taken key_for certificate }
+{}
+
+/// Every run that explains the captures, of no more clients than a certificate has lanes, is the glued list of a certificate.
+pub fn written()
+    ensures { (taken : Taken) (key_for : KeyFor) (steps : List Step) → AreApart taken.policy →
+        IsCaptureRun taken (rules_for taken key_for) steps → length (acting_pairs steps) ≤ MAX_LANES → length steps ≤ MAX_EVENTS →
+        (certificate : Certificate) × LaneConditions taken certificate × (glued_steps certificate ≡ steps) }
 {}
