@@ -123,7 +123,7 @@ at_most : (b : Bool) → cond {A = ℕ} b 1 0 ≤ 1
 at_most true = omega arith
 at_most false = omega arith
 
-any_all : {A : Type 0} (P Q : A → Type 0) (xs : List A) → AnyOf P xs → AllByRecursion Q xs → (x : A) × P x × Q x
+pub any_all : {A : Type 0} (P Q : A → Type 0) (xs : List A) → AnyOf P xs → AllByRecursion Q xs → (x : A) × P x × Q x
 any_all P Q [] h a = absurd h
 any_all P Q (x ∷ xs) (inl h) a = (x, h, a.0)
 any_all P Q (x ∷ xs) (inr h) a = any_all P Q xs h a.1

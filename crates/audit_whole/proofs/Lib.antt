@@ -9,3 +9,7 @@ pub mod Grounds
 pub mod Writing
 pub mod Paths
 pub mod Written
+pub mod Sums
+pub mod Counting
+pub mod Fitting
+pub mod Explained

@@ -51,7 +51,7 @@ IsRelay None = ⊥
 IsRelay (Some Client) = ⊥
 IsRelay (Some Relay) = Unit {0}
 
-client_of_test : (same relay : Bool) → cond same (Some Client) (cond relay (Some Relay) None) ≡ Some Client → same ≡ true
+pub client_of_test : (same relay : Bool) → cond same (Some Client) (cond relay (Some Relay) None) ≡ Some Client → same ≡ true
 client_of_test true relay h = refl
 client_of_test false true h = absurd (subst IsClient (sym h) tt)
 client_of_test false false h = absurd (none-some Client h)
@@ -61,7 +61,7 @@ relay_of_test true relay h = absurd (subst IsRelay (sym h) tt)
 relay_of_test false true h = refl
 relay_of_test false false h = absurd (none-some Relay h)
 
-both_true : (a b : Bool) → (a && b) ≡ true → (a ≡ true) × (b ≡ true)
+pub both_true : (a b : Bool) → (a && b) ≡ true → (a ≡ true) × (b ≡ true)
 both_true true b h = (refl, h)
 both_true false b h = absurd (true≢false (sym h))
 

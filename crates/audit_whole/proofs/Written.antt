@@ -1,6 +1,5 @@
 -- Every run that explains the captures is the glued list of a certificate that meets the lane conditions.
-use Rattle.std.proofs.Common.{◌≡◌, ◌≤◌, ◌+◌, ◌⊎◌, inl, inr, ℕ, suc, Bool, true, false, ◌||◌, Option, Some, None, List, [], ◌∷◌, ◌++◌, cond, refl, sym, ◌∙◌, ap, subst, arith, map, length}
-use Rattle.std.specs.Prelude.{is_some}
+use Rattle.std.proofs.Common.{◌≡◌, ◌≤◌, ◌+◌, ◌⊎◌, inl, inr, ℕ, suc, true, false, ◌||◌, Option, Some, None, List, [], ◌∷◌, ◌++◌, cond, refl, sym, ◌∙◌, ap, subst, arith, map, length}
 use Rattle.std.specs.List.{fold, AllByRecursion, slice_get, IsDistinct, list_any}
 use Rattle.std.specs.Ordering.{is_lt}
 use Rattle.std.proofs.lemmas.Option.{none-some, same_Some, slice_get_past}
@@ -40,7 +39,7 @@ use Rattle.audit_whole.specs.Glued.{placed_of, lanes_from, by_lane, all_placed, 
 use Rattle.audit_whole.proofs.Listing.{joined_is}
 use Rattle.audit_whole.proofs.Writing.{lane_at, home_in, lane_of_move, tagged, placing, bump, count_from, event_by, event_of, arrival, drop_of, cert_lanes, distinct_acting, get_place, tagged_plain, tagged_all, all_placing, steps_placing, of_placing, placing_rises, both_all, follow_diag, follow_both, split_of_run_steps, any_split, named_at, there_at, Fine, gave_at, fine, parts, lists_are, sorted_parts, pairs_are, distinct_back}
 use Rattle.audit_rules.specs.Keys.{KeyFor}
-use Rattle.audit_whole.specs.CaptureRun.{rules_for, IsCaptureRun}
+use Rattle.audit_whole.specs.CaptureRun.{rules_for}
 use Rattle.audit_whole.specs.LaneConditions.{IsAtEnds, AreAtEnds, LaneConditions}
 use Rattle.audit_whole.proofs.Paths.{between_arrives, between_leaves}
 
@@ -285,15 +284,5 @@ module _ (taken : Taken) (apart : AreApart taken.policy) (key_for : KeyFor) wher
           }
 
       pub all_written : KeepOrder steps → (c : Certificate) × LaneConditions taken c × (glued_steps c ≡ steps)
-      all_written order = (the_certificate, conditions order, steps_are)
-
-at_most : (b : Bool) → cond {A = ℕ} b 1 0 ≤ 1
-at_most true = omega arith
-at_most false = omega arith
-
--- every run that explains the captures has a certificate
-pub written : (taken : Taken) (key_for : KeyFor) (steps : List Step) → AreApart taken.policy → IsCaptureRun taken (rules_for taken key_for) steps → length (acting_pairs steps) ≤ 65536 → length steps ≤ 50331648 →
-    (c : Certificate) × LaneConditions taken c × (glued_steps c ≡ steps)
-written taken key_for steps apart r few_clients few_steps =
-    let once : (s : SightId) → times_placed s steps ≤ 1 = λ s. subst (λ (n : ℕ). n ≤ 1) (sym (r.placed s)) (at_most (is_some (sighting_at taken s))) in
-    all_written taken apart key_for steps r.run once few_clients few_steps r.order
+          × (c.lanes ≡ cert_lanes 0 (acting_pairs steps) (tagged (lane_of_move steps) 0 steps)) × (c.drops ≡ map drop_of (of_lane (length (acting_pairs steps)) (tagged (lane_of_move steps) 0 steps)))
+      all_written order = (the_certificate, conditions order, steps_are, refl, refl)

@@ -9,3 +9,4 @@ pub mod Granted
 pub mod Relayed
 pub mod Grounded
 pub mod Headline
+pub mod Bounds

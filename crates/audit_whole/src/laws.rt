@@ -4,9 +4,10 @@ ghost use Rattle.std.specs.Prelude.{◌≡◌, ◌≢◌, ◌≤◌, ◌↔◌, 
 ghost use Rattle.std.specs.List.{AllByRecursion};
 ghost use Rattle.audit_model.specs.declared.address.Addr.{Addr};
 ghost use Rattle.audit_model.specs.declared.certificate.Certificate.{Certificate};
-ghost use Rattle.audit_model.specs.declared.certificate.TheConstants.{MAX_LANES, MAX_EVENTS};
+ghost use Rattle.audit_model.specs.declared.certificate.TheConstants.{MAX_LANES};
 ghost use Rattle.audit_model.specs.declared.pair.Pair.{Pair};
 ghost use Rattle.audit_model.specs.Policy.{AreApart};
+ghost use Rattle.audit_cert.specs.Fits.{IsCertificate};
 ghost use Rattle.audit_rules.specs.Keys.{KeyFor};
 ghost use Rattle.audit_sightings.specs.Intake.{Taken, AreNumbered};
 ghost use Rattle.audit_server.specs.Acting.{acting_pairs};
@@ -17,12 +18,12 @@ ghost use Rattle.audit_server.specs.State.{at_first};
 ghost use Rattle.audit_server.specs.Step.{Step};
 ghost use Rattle.audit_server.specs.Tenancies.{tenancies};
 ghost use Rattle.audit_server.specs.Whole.{EachRuns};
+ghost use Rattle.audit_whole.specs.Bounds.{IsBounded};
 ghost use Rattle.audit_whole.specs.CaptureRun.{rules_for, IsCaptureRun};
 ghost use Rattle.audit_whole.specs.Conforms.{Conforms};
 ghost use Rattle.audit_whole.specs.Glued.{by_lane, glued, glued_steps, lanes_from, pairs_of};
 ghost use Rattle.audit_whole.specs.Grounded.{IsGrounded};
 ghost use Rattle.audit_whole.specs.Headline.{Headline};
-ghost use Rattle.audit_whole.specs.LaneConditions.{LaneConditions};
 ghost use Rattle.audit_whole.specs.Passes.{Passes};
 
 /// At each move of the glued list, the client of another lane has a usable allocation with an address in the server's one
@@ -54,9 +55,12 @@ pub fn headline()
         Passes taken (rules_for taken key_for) certificate → Headline taken key_for certificate }
 {}
 
-/// Every run that explains the captures, of no more clients than a certificate has lanes, is the glued list of a certificate.
+/// Every run that explains the captures, of no more clients than a certificate has lanes, is the glued list of a certificate
+/// that conforms and has a spelling: that a certificate is asked for excludes no run. `read_policy` gives policies whose listen
+/// addresses are in no relay range.
 pub fn written()
-    ensures { (taken : Taken) (key_for : KeyFor) (steps : List Step) → AreApart taken.policy →
-        IsCaptureRun taken (rules_for taken key_for) steps → length (acting_pairs steps) ≤ MAX_LANES → length steps ≤ MAX_EVENTS →
-        (certificate : Certificate) × LaneConditions taken certificate × (glued_steps certificate ≡ steps) }
+    ensures { (taken : Taken) (key_for : KeyFor) (steps : List Step) → AreApart taken.policy → IsBounded taken →
+        IsCaptureRun taken (rules_for taken key_for) steps → length (acting_pairs steps) ≤ MAX_LANES →
+        (certificate : Certificate) × Conforms taken (rules_for taken key_for) certificate × (glued_steps certificate ≡ steps)
+        × IsCertificate (record { lanes = certificate.lanes; drops = certificate.drops }) }
 {}
