@@ -13,3 +13,5 @@ pub mod Sums
 pub mod Counting
 pub mod Fitting
 pub mod Explained
+pub mod BindingMessages
+pub mod BindingRun

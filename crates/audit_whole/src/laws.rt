@@ -18,6 +18,7 @@ ghost use Rattle.audit_server.specs.State.{at_first};
 ghost use Rattle.audit_server.specs.Step.{Step};
 ghost use Rattle.audit_server.specs.Tenancies.{tenancies};
 ghost use Rattle.audit_server.specs.Whole.{EachRuns};
+ghost use Rattle.audit_whole.specs.BindingCapture.{binding_capture, binding_steps};
 ghost use Rattle.audit_whole.specs.Bounds.{IsBounded};
 ghost use Rattle.audit_whole.specs.CaptureRun.{rules_for, IsCaptureRun};
 ghost use Rattle.audit_whole.specs.Conforms.{Conforms};
@@ -63,4 +64,12 @@ pub fn written()
         IsCaptureRun taken (rules_for taken key_for) steps → length (acting_pairs steps) ≤ MAX_LANES →
         (certificate : Certificate) × Conforms taken (rules_for taken key_for) certificate × (glued_steps certificate ≡ steps)
         × IsCertificate (record { lanes = certificate.lanes; drops = certificate.drops }) }
+{}
+
+/// There are captures that a run explains: a Binding request and its success, whoever the users are. And a certificate conforms
+/// to them, whose glued list is that run.
+pub fn binding_is_explained()
+    ensures run { (key_for : KeyFor) → IsCaptureRun binding_capture (rules_for binding_capture key_for) binding_steps }
+    ensures certificate { (key_for : KeyFor) →
+        (certificate : Certificate) × Conforms binding_capture (rules_for binding_capture key_for) certificate × (glued_steps certificate ≡ binding_steps) }
 {}
