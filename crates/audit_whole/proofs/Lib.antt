@@ -1,0 +1,17 @@
+pub mod Listing
+pub mod Placement
+pub mod Conditions
+pub mod Conforming
+pub mod Held
+pub mod Saying
+pub mod Keeping
+pub mod Grounds
+pub mod Writing
+pub mod Paths
+pub mod Written
+pub mod Sums
+pub mod Counting
+pub mod Fitting
+pub mod Explained
+pub mod BindingMessages
+pub mod BindingRun

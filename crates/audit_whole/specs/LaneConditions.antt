@@ -1,0 +1,40 @@
+-- What is asked of a certificate beside the run: in which lane each event stands, and in which order.
+use Rattle.std.specs.Prelude.{◌≡◌, Option, Some, None, IsTrue}
+use Rattle.std.specs.List.{AllByRecursion}
+use Rattle.audit_model.specs.declared.certificate.Certificate.{Certificate}
+use Rattle.audit_model.specs.declared.event.Event.{Event}
+use Rattle.audit_model.specs.declared.event.Event.TheVariants.{In, Act, Out}
+use Rattle.audit_model.specs.declared.pair.Pair.{Pair}
+use Rattle.audit_model.specs.declared.policy.Policy.{Policy}
+use Rattle.audit_model.specs.declared.sighting.Side.{Side}
+use Rattle.audit_model.specs.declared.sighting.Side.TheVariants.{Arrives, Leaves}
+use Rattle.audit_model.specs.declared.sighting.Sighting.{Sighting}
+use Rattle.audit_model.specs.Lanes.{same_pair}
+use Rattle.audit_model.specs.Policy.{listens}
+use Rattle.audit_sightings.specs.Intake.{Taken, sighting_at}
+use Rattle.audit_placement.specs.declared.entry.Entry.{Entry}
+use Rattle.audit_placement.specs.Entries.{entries}
+use Rattle.audit_server.specs.Homes.{MeetInLanes}
+use Rattle.audit_server.specs.Placed.{Rises}
+use Rattle.audit_server.specs.Placing.{KeysFollow}
+use Rattle.audit_whole.specs.Glued.{by_lane, all_placed, glued}
+
+-- a datagram of a listen address is between the lane's client and its listen address
+abbrev pub IsAtEnds : Policy → Pair → Side → Sighting → Type 0
+IsAtEnds policy pair Arrives s = IsTrue (listens policy s.to) → IsTrue (same_pair pair.client pair.listen s.from s.to)
+IsAtEnds policy pair Leaves s = IsTrue (listens policy s.from) → IsTrue (same_pair pair.client pair.listen s.to s.from)
+
+-- of an event of a lane of this pair, or of a drop
+abbrev pub AreAtEnds : Taken → Option Pair → Event → Type 0
+AreAtEnds taken None event = Unit {0}
+AreAtEnds taken (Some pair) (In sight key) = (s : Sighting) → sighting_at taken sight ≡ Some s → IsAtEnds taken.policy pair Arrives s
+AreAtEnds taken (Some pair) (Act sight gives key) = Unit {0}
+AreAtEnds taken (Some pair) (Out sight key) = (s : Sighting) → sighting_at taken sight ≡ Some s → IsAtEnds taken.policy pair Leaves s
+
+-- Keys rise along each interface, in each lane and in the drops; a lane's datagrams are its client's; an act stands in its
+-- arrival's lane, and a departure in the lane of its act.
+pub record LaneConditions (taken : Taken) (certificate : Certificate) : Type 0 where
+  pub along : KeysFollow (all_placed certificate)
+  pub rise : AllByRecursion Rises (by_lane certificate)
+  pub ends : AllByRecursion (λ (e : Entry). AreAtEnds taken e.pair e.event) (entries certificate)
+  pub meet : MeetInLanes (glued certificate)

@@ -1,0 +1,13 @@
+pub mod Glued
+pub mod CaptureRun
+pub mod LaneConditions
+pub mod Conforms
+pub mod Passes
+pub mod Says
+pub mod Lasting
+pub mod Granted
+pub mod Relayed
+pub mod Grounded
+pub mod Headline
+pub mod Bounds
+pub mod BindingCapture

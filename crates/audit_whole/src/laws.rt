@@ -1,0 +1,75 @@
+//! What holds of every certificate, by the definitions alone. No program calls these.
+
+ghost use Rattle.std.specs.Prelude.{◌≡◌, ◌≢◌, ◌≤◌, ◌↔◌, ◌++◌, ◌∷◌, ℕ, List, Some, length};
+ghost use Rattle.std.specs.List.{AllByRecursion};
+ghost use Rattle.audit_model.specs.declared.address.Addr.{Addr};
+ghost use Rattle.audit_model.specs.declared.certificate.Certificate.{Certificate};
+ghost use Rattle.audit_model.specs.declared.certificate.TheConstants.{MAX_LANES};
+ghost use Rattle.audit_model.specs.declared.pair.Pair.{Pair};
+ghost use Rattle.audit_model.specs.Policy.{AreApart};
+ghost use Rattle.audit_cert.specs.Fits.{IsCertificate};
+ghost use Rattle.audit_rules.specs.Keys.{KeyFor};
+ghost use Rattle.audit_sightings.specs.Intake.{Taken, AreNumbered};
+ghost use Rattle.audit_server.specs.Acting.{acting_pairs};
+ghost use Rattle.audit_server.specs.Holding.{AnyOf, HoldsAt};
+ghost use Rattle.audit_server.specs.Placed.{Placed, Rises, state_after};
+ghost use Rattle.audit_server.specs.Run.{HasAddress, RunFrom};
+ghost use Rattle.audit_server.specs.State.{at_first};
+ghost use Rattle.audit_server.specs.Step.{Step};
+ghost use Rattle.audit_server.specs.Tenancies.{tenancies};
+ghost use Rattle.audit_server.specs.Whole.{EachRuns};
+ghost use Rattle.audit_whole.specs.BindingCapture.{binding_capture, binding_steps};
+ghost use Rattle.audit_whole.specs.Bounds.{IsBounded};
+ghost use Rattle.audit_whole.specs.CaptureRun.{rules_for, IsCaptureRun};
+ghost use Rattle.audit_whole.specs.Conforms.{Conforms};
+ghost use Rattle.audit_whole.specs.Glued.{by_lane, glued, glued_steps, lanes_from, pairs_of};
+ghost use Rattle.audit_whole.specs.Grounded.{IsGrounded};
+ghost use Rattle.audit_whole.specs.Headline.{Headline};
+ghost use Rattle.audit_whole.specs.Passes.{Passes};
+
+/// At each move of the glued list, the client of another lane has a usable allocation with an address in the server's one
+/// table exactly where a tenancy of that lane, taken by its final end, holds the address there (RFC 8656, section 5).
+pub fn held()
+    ensures { (taken : Taken) (key_for : KeyFor) (certificate : Certificate) → let rules = rules_for taken key_for in
+        AllByRecursion Rises (by_lane certificate) → EachRuns rules (lanes_from 0 certificate.lanes) →
+        (before : List Placed) (event : Placed) (rest : List Placed) → before ++ event ∷ rest ≡ glued certificate →
+        (other : ℕ) (pair : Pair) → pairs_of certificate other ≡ Some pair → event.at.lane ≢ other → (relayed : Addr) →
+        HasAddress taken.policy.grace event.at.key.moment relayed ((state_after rules before).table pair)
+        ↔ AnyOf (HoldsAt event.at relayed) (tenancies rules other (glued certificate)) }
+{}
+
+/// What is checked part by part is what the whole has to be.
+pub fn parts_are_whole()
+    ensures { (taken : Taken) (key_for : KeyFor) (certificate : Certificate) → AreNumbered taken →
+        Passes taken (rules_for taken key_for) certificate ↔ Conforms taken (rules_for taken key_for) certificate }
+{}
+
+/// Each datagram that a run relays had an allocation that lasted, and a permission or a channel that lasted, asked for by one
+/// user; and each departure was given by an act (RFC 8656, sections 7 to 12).
+pub fn grounded()
+    ensures { (taken : Taken) (key_for : KeyFor) (list : List Step) → RunFrom (rules_for taken key_for) at_first list → IsGrounded taken key_for list }
+{}
+
+/// Where all that is checked passes, the headline holds.
+pub fn headline()
+    ensures { (taken : Taken) (key_for : KeyFor) (certificate : Certificate) → AreNumbered taken →
+        Passes taken (rules_for taken key_for) certificate → Headline taken key_for certificate }
+{}
+
+/// Every run that explains the captures, of no more clients than a certificate has lanes, is the glued list of a certificate
+/// that conforms and has a spelling: that a certificate is asked for excludes no run. `read_policy` gives policies whose listen
+/// addresses are in no relay range.
+pub fn written()
+    ensures { (taken : Taken) (key_for : KeyFor) (steps : List Step) → AreApart taken.policy → IsBounded taken →
+        IsCaptureRun taken (rules_for taken key_for) steps → length (acting_pairs steps) ≤ MAX_LANES →
+        (certificate : Certificate) × Conforms taken (rules_for taken key_for) certificate × (glued_steps certificate ≡ steps)
+        × IsCertificate (record { lanes = certificate.lanes; drops = certificate.drops }) }
+{}
+
+/// There are captures that a run explains: a Binding request and its success, whoever the users are. And a certificate conforms
+/// to them, whose glued list is that run.
+pub fn binding_is_explained()
+    ensures run { (key_for : KeyFor) → IsCaptureRun binding_capture (rules_for binding_capture key_for) binding_steps }
+    ensures certificate { (key_for : KeyFor) →
+        (certificate : Certificate) × Conforms binding_capture (rules_for binding_capture key_for) certificate × (glued_steps certificate ≡ binding_steps) }
+{}
