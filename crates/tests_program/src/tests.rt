@@ -6,6 +6,7 @@ mod credentials;
 mod errors;
 mod feeding;
 mod finding;
+mod lanes;
 mod memory;
 mod messages;
 mod no_memory;
