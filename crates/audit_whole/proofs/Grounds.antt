@@ -99,8 +99,8 @@ module _ (taken : Taken) (key_for : KeyFor) (c : Pair) (moment : ℕ) (arrives l
     up_case Refresh ch r h = absurd (not_up Success REFRESH r.response h)
     up_case Permission ch r h = absurd (not_up Success CREATE_PERMISSION r.response h)
     up_case ChannelBind ch r h = absurd (not_up Success CHANNEL_BIND r.response h)
-    up_case Send ch r h = inl (r.0.indication, r.0.peer, r.0.sends, live found kept leaves.from (λ a. PermitsNow (Y found) a leaves.to.ip) (HasPermission taken key_for c moment leaves.to.ip) r.0.relays (λ a k p. has_permission found leaves.to.ip a k p))
-    up_case ChannelUp ch r h = inr (r.0.number, r.0.past, r.0.says, live found kept leaves.from (λ a. Carries (Y found) a r.0.number leaves.to) (HasChannel taken key_for c moment r.0.number leaves.to) r.0.relays (λ a k p. has_channel found r.0.number leaves.to a k p))
+    up_case Send ch r h = (r.0.goes.0, inl (r.0.indication, r.0.peer, r.0.sends, live found kept leaves.from (λ a. PermitsNow (Y found) a leaves.to.ip) (HasPermission taken key_for c moment leaves.to.ip) r.0.relays (λ a k p. has_permission found leaves.to.ip a k p)))
+    up_case ChannelUp ch r h = (r.0.goes.0, inr (r.0.number, r.0.past, r.0.says, live found kept leaves.from (λ a. Carries (Y found) a r.0.number leaves.to) (HasChannel taken key_for c moment r.0.number leaves.to) r.0.relays (λ a k p. has_channel found r.0.number leaves.to a k p)))
     up_case Data ch r h = absurd (client_never (departure_path (Y found)) r.0.goes.1 h)
     up_case ChannelDown ch r h = absurd (client_never (departure_path (Y found)) r.0.goes.1 h)
 
@@ -117,15 +117,18 @@ module _ (taken : Taken) (key_for : KeyFor) (c : Pair) (moment : ℕ) (arrives l
     down_case ChannelBind ch r h = absurd (not_down Success CHANNEL_BIND r.response h)
     down_case Send ch r h = absurd (client_never (arrival_path (Y found)) r.0.goes.0 h)
     down_case ChannelUp ch r h = absurd (client_never (arrival_path (Y found)) r.0.goes.0 h)
-    down_case Data ch r h = inl (r.0.indication, r.0.peer, r.0.sends, live found kept arrives.to (λ a. PermitsNow (Y found) a arrives.from.ip) (HasPermission taken key_for c moment arrives.from.ip) r.0.relays (λ a k p. has_permission found arrives.from.ip a k p))
-    down_case ChannelDown ch r h = inr (
-      r.0.number,
-      r.0.past,
-      r.0.says,
-      live found kept arrives.to (λ a. PermitsNow (Y found) a arrives.from.ip × Carries (Y found) a r.0.number arrives.from)
-          (λ user since. HasPermission taken key_for c moment arrives.from.ip user since × HasChannel taken key_for c moment r.0.number arrives.from user since)
-          (nested found (λ a. UsableNow (Y found) a.until) (λ a. arrives.to ≡ a.relayed) (λ a. PermitsNow (Y found) a arrives.from.ip) (λ a. Carries (Y found) a r.0.number arrives.from) r.0.relays)
-          (λ a k p. (has_permission found arrives.from.ip a k p.0, has_channel found r.0.number arrives.from a k p.1)),
+    down_case Data ch r h = (r.0.goes.1, inl (r.0.indication, r.0.peer, r.0.sends, live found kept arrives.to (λ a. PermitsNow (Y found) a arrives.from.ip) (HasPermission taken key_for c moment arrives.from.ip) r.0.relays (λ a k p. has_permission found arrives.from.ip a k p)))
+    down_case ChannelDown ch r h = (
+      r.0.goes.1,
+      inr (
+        r.0.number,
+        r.0.past,
+        r.0.says,
+        live found kept arrives.to (λ a. PermitsNow (Y found) a arrives.from.ip × Carries (Y found) a r.0.number arrives.from)
+            (λ user since. HasPermission taken key_for c moment arrives.from.ip user since × HasChannel taken key_for c moment r.0.number arrives.from user since)
+            (nested found (λ a. UsableNow (Y found) a.until) (λ a. arrives.to ≡ a.relayed) (λ a. PermitsNow (Y found) a arrives.from.ip) (λ a. Carries (Y found) a r.0.number arrives.from) r.0.relays)
+            (λ a k p. (has_permission found arrives.from.ip a k p.0, has_channel found r.0.number arrives.from a k p.1)),
+      ),
     )
 
     response_kind : (class : Class) (method : ℕ) → IsResponse (Y found) class method → (class ≡ Success) ⊎ (class ≡ Error) → IsAResponse (Y None)
@@ -160,7 +163,7 @@ module _ (taken : Taken) (key_for : KeyFor) (list : List Step) (run : RunFrom (r
   abbrev W : Rules
   W = rules_for taken key_for
 
-  may_here : (before : List Step) (e : Step) (rest : List Step) → before ++ e ∷ rest ≡ list → (c : Pair) (arrives leaves : Sighting) (a : IsAct taken key_for c e arrives leaves) →
+  pub may_here : (before : List Step) (e : Step) (rest : List Step) → before ++ e ∷ rest ≡ list → (c : Pair) (arrives leaves : Sighting) (a : IsAct taken key_for c e arrives leaves) →
       MayBetween taken.policy key_for c e.moment ((fold (after W) at_first before).table c) (Some arrives) (Some leaves)
   may_here before e rest h c arrives leaves a =
       let r : RunFrom W at_first (before ++ e ∷ rest) = subst (λ (l : List Step). RunFrom W at_first l) (sym h) run in

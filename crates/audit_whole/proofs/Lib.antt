@@ -6,6 +6,7 @@ pub mod Held
 pub mod Saying
 pub mod Keeping
 pub mod Grounds
+pub mod Departures
 pub mod Writing
 pub mod Paths
 pub mod Written

@@ -8,6 +8,7 @@ pub mod Lasting
 pub mod Granted
 pub mod Relayed
 pub mod Grounded
+pub mod Departures
 pub mod Headline
 pub mod Bounds
 pub mod BindingCapture

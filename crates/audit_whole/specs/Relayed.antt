@@ -9,8 +9,9 @@ use Rattle.audit_stun.specs.declared.numbers.method.TheConstants.{SEND, DATA as 
 use Rattle.audit_stun.specs.declared.numbers.attribute.TheConstants.{XOR_PEER_ADDRESS, DATA}
 use Rattle.audit_stun.specs.ChannelData.{channel_data_of}
 use Rattle.audit_sightings.specs.Intake.{Taken}
+use Rattle.audit_rules.specs.declared.path.Path.TheVariants.{Client}
 use Rattle.audit_rules.specs.Keys.{KeyFor}
-use Rattle.audit_rules.specs.Situation.{asked, answered, IsOf}
+use Rattle.audit_rules.specs.Situation.{asked, answered, IsOf, arrival_path, departure_path}
 use Rattle.audit_rules.specs.Values.{Has, Names}
 use Rattle.audit_server.specs.Step.{Step}
 use Rattle.audit_whole.specs.Lasting.{situation_of, Given}
@@ -37,20 +38,22 @@ module _ (taken : Taken) (key_for : KeyFor) (c : Pair) where
   abbrev pub HasChannel : ℕ → ℕ → Addr → List ℕ → List Step → Type 0
   HasChannel moment number peer user since = (until : ℕ) × BoundTo taken key_for c user number peer until since × InTime moment until
 
-  -- from the client to a peer: the data of a Send indication under a permission, or that of ChannelData under its channel
+  -- from the client, by its listen address, to a peer: the data of a Send indication under a permission, or that of ChannelData under its channel
   abbrev pub GroundedUp : ℕ → Sighting → Sighting → List Step → Type 0
   GroundedUp moment arrives leaves before =
       let x = situation_of taken key_for c moment arrives leaves in
-      (IsOf arrives.payload Indication SEND × Names XOR_PEER_ADDRESS (asked x) leaves.to × Has DATA (asked x) leaves.payload
+      (arrival_path x ≡ Some Client)
+      × ((IsOf arrives.payload Indication SEND × Names XOR_PEER_ADDRESS (asked x) leaves.to × Has DATA (asked x) leaves.payload
       × Live moment leaves.from before (HasPermission moment leaves.to.ip))
       ⊎ ((number : ℕ) × (past : ℕ) × (channel_data_of arrives.payload ≡ Some (number, leaves.payload, past))
-      × Live moment leaves.from before (HasChannel moment number leaves.to))
+      × Live moment leaves.from before (HasChannel moment number leaves.to)))
 
-  -- from a peer to the client: in a Data indication that names the peer, or in ChannelData of its channel, each under a permission
+  -- from a peer to the client, by its listen address: in a Data indication that names the peer, or in ChannelData of its channel, each under a permission
   abbrev pub GroundedDown : ℕ → Sighting → Sighting → List Step → Type 0
   GroundedDown moment arrives leaves before =
       let x = situation_of taken key_for c moment arrives leaves in
-      (IsOf leaves.payload Indication DATA_METHOD × Names XOR_PEER_ADDRESS (answered x) arrives.from × Has DATA (answered x) arrives.payload
+      (departure_path x ≡ Some Client)
+      × ((IsOf leaves.payload Indication DATA_METHOD × Names XOR_PEER_ADDRESS (answered x) arrives.from × Has DATA (answered x) arrives.payload
       × Live moment arrives.to before (HasPermission moment arrives.from.ip))
       ⊎ ((number : ℕ) × (past : ℕ) × (channel_data_of leaves.payload ≡ Some (number, arrives.payload, past))
-      × Live moment arrives.to before (λ user since. HasPermission moment arrives.from.ip user since × HasChannel moment number arrives.from user since))
+      × Live moment arrives.to before (λ user since. HasPermission moment arrives.from.ip user since × HasChannel moment number arrives.from user since)))

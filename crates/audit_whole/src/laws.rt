@@ -1,27 +1,30 @@
 //! What holds of every certificate, by the definitions alone. No program calls these.
 
-ghost use Rattle.std.specs.Prelude.{◌≡◌, ◌≢◌, ◌≤◌, ◌↔◌, ◌++◌, ◌∷◌, ℕ, List, Some, length};
+ghost use Rattle.std.specs.Prelude.{◌≡◌, ◌≢◌, ◌≤◌, ◌↔◌, ◌++◌, ◌∷◌, ℕ, List, Some, IsTrue, length};
 ghost use Rattle.std.specs.List.{AllByRecursion};
 ghost use Rattle.audit_model.specs.declared.address.Addr.{Addr};
 ghost use Rattle.audit_model.specs.declared.certificate.Certificate.{Certificate};
 ghost use Rattle.audit_model.specs.declared.certificate.TheConstants.{MAX_LANES};
 ghost use Rattle.audit_model.specs.declared.pair.Pair.{Pair};
-ghost use Rattle.audit_model.specs.Policy.{AreApart};
+ghost use Rattle.audit_model.specs.declared.sighting.SightId.{SightId};
+ghost use Rattle.audit_model.specs.declared.sighting.Sighting.{Sighting};
+ghost use Rattle.audit_model.specs.Policy.{AreApart, relays};
 ghost use Rattle.audit_cert.specs.Fits.{IsCertificate};
 ghost use Rattle.audit_rules.specs.Keys.{KeyFor};
-ghost use Rattle.audit_sightings.specs.Intake.{Taken, AreNumbered};
+ghost use Rattle.audit_sightings.specs.Intake.{Taken, AreNumbered, sighting_at};
 ghost use Rattle.audit_server.specs.Acting.{acting_pairs};
 ghost use Rattle.audit_server.specs.Holding.{AnyOf, HoldsAt};
 ghost use Rattle.audit_server.specs.Placed.{Placed, Rises, state_after};
 ghost use Rattle.audit_server.specs.Run.{HasAddress, RunFrom};
 ghost use Rattle.audit_server.specs.State.{at_first};
-ghost use Rattle.audit_server.specs.Step.{Step};
+ghost use Rattle.audit_server.specs.Step.{Step, Out};
 ghost use Rattle.audit_server.specs.Tenancies.{tenancies};
 ghost use Rattle.audit_server.specs.Whole.{EachRuns};
 ghost use Rattle.audit_whole.specs.BindingCapture.{binding_capture, binding_steps};
 ghost use Rattle.audit_whole.specs.Bounds.{IsBounded};
 ghost use Rattle.audit_whole.specs.CaptureRun.{rules_for, IsCaptureRun};
 ghost use Rattle.audit_whole.specs.Conforms.{Conforms};
+ghost use Rattle.audit_whole.specs.Departures.{IsRelayedUp};
 ghost use Rattle.audit_whole.specs.Glued.{by_lane, glued, glued_steps, lanes_from, pairs_of};
 ghost use Rattle.audit_whole.specs.Grounded.{IsGrounded};
 ghost use Rattle.audit_whole.specs.Headline.{Headline};
@@ -48,6 +51,14 @@ pub fn parts_are_whole()
 /// user; and each departure was given by an act (RFC 8656, sections 7 to 12).
 pub fn grounded()
     ensures { (taken : Taken) (key_for : KeyFor) (list : List Step) → RunFrom (rules_for taken key_for) at_first list → IsGrounded taken key_for list }
+{}
+
+/// Whatever leaves from a relay address in a run was given by an act that has its reasons: it was sent by a client that has the
+/// address, under its permission or channel. `read_policy` gives policies whose listen addresses are in no relay range.
+pub fn relay_addresses()
+    ensures { (taken : Taken) (key_for : KeyFor) → AreApart taken.policy → (list : List Step) → RunFrom (rules_for taken key_for) at_first list →
+        (before : List Step) (e : Step) (rest : List Step) → before ++ e ∷ rest ≡ list → (t : SightId) → e.move ≡ Out t →
+        (leaves : Sighting) → sighting_at taken t ≡ Some leaves → IsTrue (relays taken.policy leaves.from) → IsRelayedUp taken key_for t leaves before }
 {}
 
 /// Where all that is checked passes, the headline holds.
