@@ -1,4 +1,4 @@
--- Users that grow: what an act told of them stays true.
+-- Users that grow: what an arrival told of them stays true.
 use Rattle.std.proofs.Common.{◌≤◌, ◌+◌, ℕ, zero, suc, List, [], ◌∷◌, ◌++◌, Option, Some, None, All, length, inl, inr, ap, arith, subst, sym}
 use Rattle.std.specs.Prelude.{IsSomeAnd, slice_get}
 use Rattle.std.proofs.lemmas.List.{length-append}
@@ -20,8 +20,8 @@ still_its key_for users more payload None nobody = nobody
 still_its key_for users more payload (Some n) holds = still_there users more n _ holds
 
 still_tells : (key_for : KeyFor) (users more : List CredRow) (event : LaneEvent) → TellsItsUser key_for users event → TellsItsUser key_for (users ++ more) event
-still_tells key_for users more (In sighting key) tells = tt
-still_tells key_for users more (Act arrives leaves user key) tells = still_its key_for users more arrives.now.payload user tells
+still_tells key_for users more (In sighting user key) tells = still_its key_for users more sighting.now.payload user tells
+still_tells key_for users more (Act arrives leaves key) tells = tt
 still_tells key_for users more (Out sighting key) tells = tt
 
 pub all_still_tell : (key_for : KeyFor) (old new : List CredRow) → GrowsByOne old new → (events : List LaneEvent) → All (TellsItsUser key_for old) events → All (TellsItsUser key_for new) events

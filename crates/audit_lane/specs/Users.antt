@@ -1,4 +1,4 @@
--- The user that an act's arrival names, among the users of its lane.
+-- The user that an arrival names, among the users of its lane.
 use Rattle.std.specs.Prelude.{◌≡◌, ◌⊎◌, ℕ, List, [], ◌∷◌, ◌++◌, Option, IsSomeAnd, MatchOption, slice_get}
 use Rattle.audit_lane.specs.declared.input.LaneEvent.{LaneEvent}
 use Rattle.audit_lane.specs.declared.input.LaneEvent.TheVariants.{In, Act, Out}
@@ -12,10 +12,10 @@ IsItsUser key_for users payload number =
     MatchOption number (NamesNobody key_for payload)
     (λ n. IsSomeAnd (slice_get users n) (λ row. Names key_for payload row.user.now row.realm.now row.key))
 
--- an act tells the user that its arrival names
+-- an arrival tells the user that it names
 abbrev pub TellsItsUser : KeyFor → List CredRow → LaneEvent → Type 0
-TellsItsUser key_for users (In sighting key) = Unit {0}
-TellsItsUser key_for users (Act arrives leaves user key) = IsItsUser key_for users arrives.now.payload user
+TellsItsUser key_for users (In sighting user key) = IsItsUser key_for users sighting.now.payload user
+TellsItsUser key_for users (Act arrives leaves key) = Unit {0}
 TellsItsUser key_for users (Out sighting key) = Unit {0}
 
 -- the same users, or one more behind them

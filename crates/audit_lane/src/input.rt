@@ -20,14 +20,14 @@ pub enum LaneEvent<'a> {
     /// A datagram arrives at the server.
     In {
         sighting: &'a Sighting,
+        /// The number of the user that it names, among the lane's users; None where it names nobody.
+        user: Option<u32>,
         key: Key,
     },
     /// The server answers an arrival by a departure.
     Act {
         arrives: &'a Sighting,
         leaves: &'a Sighting,
-        /// The number of the user that the arrival names, among the lane's users; None where it names nobody.
-        user: Option<u32>,
         key: Key,
     },
     /// A departure leaves the server.
@@ -44,7 +44,7 @@ pub struct LaneInput<'a> {
     pub client: Addr,
     pub listen: Addr,
     pub policy: &'a Policy,
-    /// The user of a realm, with their key, that the arrival of each act names, where the credentials have one, in the order of the acts.
+    /// The user of a realm, with their key, that each arrival names, where the credentials have one, in the order of the arrivals.
     pub users: Vec<CredRow<'a>>,
     pub events: Vec<LaneEvent<'a>>,
     pub ghost few: { vec_len events ≤ MAX_EVENTS },
@@ -59,7 +59,7 @@ impl<'a> LaneInput<'a> {
     }
 }
 
-/// The event with the sightings that it names. The user that an act's arrival names is added to the users.
+/// The event with the sightings that it names. The user that an arrival names is added to the users.
 fn with_sightings<'a>(
     intake: &'a Intake,
     credentials: &Credentials,
@@ -72,20 +72,20 @@ fn with_sightings<'a>(
     ensures grows { IfOk result (λ _. GrowsByOne users.old.items users.new.items) }
 {
     match event {
-        Event::In { sight, key } => Ok(LaneEvent::In {
-            sighting: intake.sighting(sight).unwrap(),
-            key,
-        }),
-        Event::Act { sight, gives, key } => {
-            let arrives = intake.sighting(sight).unwrap();
-            let user = add_user(users, credentials, arrives.payload.as_slice())?;
-            Ok(LaneEvent::Act {
-                arrives,
-                leaves: intake.sighting(gives).unwrap(),
+        Event::In { sight, key } => {
+            let sighting = intake.sighting(sight).unwrap();
+            let user = add_user(users, credentials, sighting.payload.as_slice())?;
+            Ok(LaneEvent::In {
+                sighting,
                 user,
                 key,
             })
         }
+        Event::Act { sight, gives, key } => Ok(LaneEvent::Act {
+            arrives: intake.sighting(sight).unwrap(),
+            leaves: intake.sighting(gives).unwrap(),
+            key,
+        }),
         Event::Out { sight, key } => Ok(LaneEvent::Out {
             sighting: intake.sighting(sight).unwrap(),
             key,
@@ -95,7 +95,8 @@ fn with_sightings<'a>(
 
 /// What the lane of that number is judged by. Its events have to name sightings that are there, with the right sides.
 ///
-/// Each act tells the user that its arrival names, so that judging it looks for nobody. It takes log n in the credentials for each act.
+/// Each arrival tells the user that it names, so that judging an act looks for nobody, and a certificate that names one arrival in many
+/// acts has it read once. It takes log n in the credentials for each arrival, and time in its length.
 pub fn lane_input<'a>(
     alloc: Global,
     number: u32,

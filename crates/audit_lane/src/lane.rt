@@ -12,6 +12,8 @@ use std::collections::BTreeMap;
 #[derive(Clone, Copy, Debug)]
 struct Arrival {
     moment: u64,
+    /// The number of the user that it names, among the lane's users.
+    user: Option<u32>,
     acted: bool,
 }
 
@@ -105,10 +107,16 @@ impl Lane {
         moment > arrived.saturating_add(self.hold)
     }
 
-    fn arrive(&mut self, sighting: &Sighting, key: Key) -> Result<(), LaneFault> {
+    fn arrive(
+        &mut self,
+        sighting: &Sighting,
+        user: Option<u32>,
+        key: Key,
+    ) -> Result<(), LaneFault> {
         if !self.arrivals.contains_key(&sighting.id) {
             let arrival = Arrival {
                 moment: key.moment,
+                user,
                 acted: false,
             };
             self.arrivals.insert(sighting.id, arrival)?;
@@ -116,9 +124,9 @@ impl Lane {
         Ok(())
     }
 
-    /// The moment at which an arrival came in that may be answered by the departure now.
-    fn answerable(&self, at: At, arrives: SightId, leaves: SightId) -> Result<u64, Rule> {
-        let Some(arrival) = self.arrivals.get(&arrives) else {
+    /// The arrival, if it may be answered by the departure now.
+    fn answerable(&self, at: At, arrives: SightId, leaves: SightId) -> Result<Arrival, Rule> {
+        let Some(arrival) = self.arrivals.get(&arrives).copied() else {
             return Err(Rule::ActBeforeArrival);
         };
         if arrival.acted || self.departures.contains_key(&leaves) {
@@ -127,7 +135,7 @@ impl Lane {
         if self.is_past(arrival.moment, at.key.moment) {
             return Err(Rule::HeldTooLong);
         }
-        Ok(arrival.moment)
+        Ok(arrival)
     }
 
     /// Notes that the arrival is acted on, and what is owed for it.
@@ -136,15 +144,15 @@ impl Lane {
         at: At,
         arrives: SightId,
         leaves: SightId,
-        arrived: u64,
+        arrival: Arrival,
     ) -> Result<(), LaneFault> {
         let acted = Arrival {
-            moment: arrived,
             acted: true,
+            ..arrival
         };
         self.arrivals.insert(arrives, acted)?;
         let departure = Departure {
-            arrived,
+            arrived: arrival.moment,
             place: at.place,
         };
         self.departures.insert(leaves, departure)?;
@@ -154,17 +162,38 @@ impl Lane {
 
     fn answer(
         &mut self,
+        input: &LaneInput<'_>,
+        at: At,
+        arrives: &Sighting,
+        leaves: &Sighting,
+    ) -> Result<(), LaneFault> {
+        let arrival = match self.answerable(at, arrives.id, leaves.id) {
+            Ok(arrival) => arrival,
+            Err(rule) => return Err(self.broken(at, arrives.id, rule)),
+        };
+        let judged = match input.user(arrival.user) {
+            Some(user) => self.judge(input.policy, &[user], at, arrives, leaves),
+            None => self.judge(input.policy, &[], at, arrives, leaves),
+        };
+        match judged {
+            Ok(None) => {}
+            Ok(Some(ended)) => self.tenancies.push(ended)?,
+            Err(ActFault::Broken(rule)) => return Err(self.broken(at, arrives.id, rule)),
+            Err(ActFault::Memory) => return Err(LaneFault::Memory),
+        }
+        self.give(at, arrives.id, leaves.id, arrival)
+    }
+
+    /// Answers by the rules of acts, and tells the tenancy that ended by it.
+    fn judge(
+        &mut self,
         policy: &Policy,
         users: &[CredRow<'_>],
         at: At,
         arrives: &Sighting,
         leaves: &Sighting,
-    ) -> Result<(), LaneFault> {
-        let arrived = match self.answerable(at, arrives.id, leaves.id) {
-            Ok(arrived) => arrived,
-            Err(rule) => return Err(self.broken(at, arrives.id, rule)),
-        };
-        match act(
+    ) -> Result<Option<Tenancy>, ActFault> {
+        act(
             self.alloc,
             &mut self.table,
             users,
@@ -172,13 +201,7 @@ impl Lane {
             arrives,
             leaves,
             at,
-        ) {
-            Ok(None) => {}
-            Ok(Some(ended)) => self.tenancies.push(ended)?,
-            Err(ActFault::Broken(rule)) => return Err(self.broken(at, arrives.id, rule)),
-            Err(ActFault::Memory) => return Err(LaneFault::Memory),
-        }
-        self.give(at, arrives.id, leaves.id, arrived)
+        )
     }
 
     fn leave(&mut self, at: At, sighting: &Sighting) -> Result<(), LaneFault> {
@@ -197,18 +220,18 @@ impl Lane {
         requires { place < vec_len input.now.events }
     {
         match input.events[place as usize] {
-            LaneEvent::In { sighting, key } => self.arrive(sighting, key),
+            LaneEvent::In {
+                sighting,
+                user,
+                key,
+            } => self.arrive(sighting, user, key),
             LaneEvent::Act {
                 arrives,
                 leaves,
-                user,
                 key,
             } => {
                 let at = self.at(key, place);
-                match input.user(user) {
-                    Some(user) => self.answer(input.policy, &[user], at, arrives, leaves),
-                    None => self.answer(input.policy, &[], at, arrives, leaves),
-                }
+                self.answer(input, at, arrives, leaves)
             }
             LaneEvent::Out { sighting, key } => {
                 let at = self.at(key, place);
