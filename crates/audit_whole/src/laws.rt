@@ -6,6 +6,7 @@ ghost use Rattle.audit_model.specs.declared.address.Addr.{Addr};
 ghost use Rattle.audit_model.specs.declared.certificate.Certificate.{Certificate};
 ghost use Rattle.audit_model.specs.declared.certificate.TheConstants.{MAX_LANES};
 ghost use Rattle.audit_model.specs.declared.pair.Pair.{Pair};
+ghost use Rattle.audit_model.specs.declared.sighting.Side.TheVariants as Side;
 ghost use Rattle.audit_model.specs.declared.sighting.SightId.{SightId};
 ghost use Rattle.audit_model.specs.declared.sighting.Sighting.{Sighting};
 ghost use Rattle.audit_model.specs.Policy.{AreApart, relays};
@@ -83,4 +84,10 @@ pub fn binding_is_explained()
     ensures run { (key_for : KeyFor) → IsCaptureRun binding_capture (rules_for binding_capture key_for) binding_steps }
     ensures certificate { (key_for : KeyFor) →
         (certificate : Certificate) × Conforms binding_capture (rules_for binding_capture key_for) certificate × (glued_steps certificate ≡ binding_steps) }
+{}
+
+/// And there are captures that none explains: those in which datagrams leave and none arrives.
+pub fn nothing_leaves_unasked()
+    ensures { (taken : Taken) (key_for : KeyFor) → ((id : SightId) (s : Sighting) → sighting_at taken id ≡ Some s → s.side ≡ Side.Leaves) →
+        (id : SightId) (s : Sighting) → sighting_at taken id ≡ Some s → (steps : List Step) → IsCaptureRun taken (rules_for taken key_for) steps → ⊥ }
 {}
