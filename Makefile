@@ -16,7 +16,7 @@ $(PROGRAM): $(SOURCES)
 	@touch $@
 
 # Proves every crate from nothing, tries the must-fail edits, and runs the tests and the program; then, with the program that this
-# built, judges the captures in examples.
+# built, judges the captures in examples and tries the examples of docs/REFUSALS.md.
 test:
 	rt ci
 	tests/captures.sh $(PROGRAM)

@@ -9,7 +9,8 @@ the ordinary ones. It fails where 4n takes over 5 times as long as n, or an atta
 
   users       one client with an allocation, and a Refresh by another user each time, answered by 441
   clients     every request by another client, their addresses in order, and each answered
-  denied      64 Send indications of equal data to a peer without a permission, and departures that carry it all the same
+  denied      64 Send indications of equal data to a peer without a permission, in messages of 54 kB that are all attributes, and departures
+              that carry it all the same, each with 7 requests of other clients about it, for which it waits
   unasked     departures with the data of the last Send indication, which was relayed already, so that no arrival explains them
   silent      Allocate requests that nobody answers, all of one transaction, and at the end a success to it for each
   copies      one datagram of a peer again and again, each relayed to the client
@@ -28,6 +29,7 @@ from make_capture import DATA, ERROR, ERROR_CODE, LIFETIME, MAPPED, NONCE, PEER,
 from make_capture import BINDING_TYPES, Client, Side, address, message
 
 BINDING = 0x001
+SOFTWARE = 0x8022
 START = 1_700_000_000_000_000
 POLICY = "turnaudit-policy 1\nlisten 192.0.2.1:3478\nrelay 192.0.2.1:49152-65535\n"
 USERNAME = make_capture.USERNAME
@@ -109,13 +111,18 @@ def denied(folder, datagrams, size):
     capture = Capture(folder, 1)
     client = Client(0, capture.sides())
     client.open(START)
-    stranger, data, moment = ("203.0.112.1", 9), bytes(size), START + 1000
+    stranger, data, moment = ("203.0.112.1", 9), b"asked by each", START + 1000
+    fillers = [(SOFTWARE, b"")] * 13_000
     for number in range(64):
-        capture.client.put(moment, client.endpoint, SERVER, send(client, stranger, data))
-        moment += 10
-    for number in range(datagrams - 64):
+        indication = message(BINDING_TYPES["send"], client.transaction(), fillers + [(PEER, address(stranger)), (DATA, data)])
+        capture.client.put(moment, client.endpoint, SERVER, indication)
+        moment += 1
+    for number in range(datagrams // 8):
         capture.peer.put(moment, client.relayed, stranger, data)
-        moment += 10
+        for other in range(7):
+            source = (f"198.51.{number >> 8 & 255}.{number & 255}", 40000 + other)
+            capture.client.put(moment + other, source, SERVER, message(BINDING, struct.pack(">III", 0, other, number), []))
+        moment += 8
     capture.close()
 
 
@@ -191,7 +198,7 @@ def main():
     program = asked.program.resolve()
     # The datagrams at n, and how many bytes of data each has.
     small, large = (int(32_768 * asked.scale), 60), (int(512 * asked.scale), 54_000)
-    attacks = {users: small, clients: small, silent: small, copies: small, denied: large, unasked: large}
+    attacks = {users: small, clients: small, silent: small, copies: small, denied: small, unasked: large}
     failed = 0
     with tempfile.TemporaryDirectory() as scratch:
         scratch = pathlib.Path(scratch)

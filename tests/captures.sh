@@ -1,5 +1,6 @@
 #!/bin/bash
-# captures.sh PROGRAM: judges the captures of real servers in examples/ and compares with what is expected.
+# captures.sh PROGRAM: judges the captures of real servers in examples/ and compares with what is expected; then tries the examples of
+# docs/REFUSALS.md, and the filter of docs/VERDICTS.md where tshark is installed.
 #
 # Of each folder: status and answer, but for the moment, which the certificate chooses, by `audit`, by `check` with the stored certificate, and by
 # `check` with the certificate that `find` writes; and the number of sightings of each interface, seen by placing one more than the last
@@ -63,5 +64,7 @@ for folder in */; do
     fi
     cd ..
 done
-echo "$passed passed, $failed failed"
+echo "captures: $passed passed, $failed failed"
+if ! ../tests/refusals.py "$program"; then failed=$((failed + 1)); fi
+if ! ../tests/wireshark_filter.sh; then failed=$((failed + 1)); fi
 [ "$failed" = 0 ]

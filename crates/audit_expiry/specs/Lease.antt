@@ -1,4 +1,4 @@
--- When a lease that ends at a moment may be used, and when it is over (RFC 8656, sections 5, 9 and 12). Between its end and its
+-- When a lease that ends at a moment may be used, and when it is over (RFC 8656, sections 6, 9 and 12). Between its end and its
 -- end plus the grace it is both.
 use Rattle.std.specs.Prelude.{ℕ, Bool, ◌≤◌, ◌<◌, nat_le, nat_lt}
 use Rattle.audit_model.specs.Window.{later}

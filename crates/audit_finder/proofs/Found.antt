@@ -15,7 +15,7 @@ use Rattle.audit_sightings.specs.Intake.{Taken, NamesWhatIsThere}
 use Rattle.audit_finder.specs.Clients.{Pair, same}
 use Rattle.audit_finder.specs.Found.{pair_of, empty_lane, AllNamed}
 
-same_equiv : IsEquivalence same
+pub same_equiv : IsEquivalence same
 same_equiv = and_equiv (on_equiv (λ (p : Pair). p.0) same_addr_equiv) (on_equiv (λ (p : Pair). p.1) same_addr_equiv)
 
 -- some of the pairs are apart where all are

@@ -2,3 +2,4 @@ mod Joining
 mod LaneEvents
 mod Found
 mod Places
+mod PairPlaces

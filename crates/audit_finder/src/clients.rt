@@ -6,15 +6,15 @@ ghost use Rattle.audit_model.specs.declared.certificate.TheConstants.{MAX_LANES}
 ghost use Rattle.audit_finder.specs.Clients.{same, asks, joined, pairs_of, unseen, with_new, row_lengths, lane_in};
 ghost use Rattle.audit_sightings.specs.Intake.{taken, interface_at};
 
+use crate::pairs::Pairs;
 use audit_model::{Addr, MAX_LANES, Policy, Side, Sighting};
 use audit_sightings::Intake;
-use indexmap::IndexSet;
 use std::alloc::{AllocError, Global};
 
 /// The pairs of a client and a listen address, each once, in the order of its first arrival.
 #[derive(Drop)]
 pub struct Clients {
-    pub(crate) pairs: IndexSet<(Addr, Addr)>,
+    pub(crate) pairs: Pairs,
     /// How many sightings of each interface were looked at.
     pub(crate) looked: Vec<usize>,
 }
@@ -30,16 +30,12 @@ fn arrives_at_listen(policy: &Policy, sighting: &Sighting) -> bool
 }
 
 /// Takes in the pairs of sightings, in order.
-fn join(
-    pairs: &mut IndexSet<(Addr, Addr)>,
-    policy: &Policy,
-    row: &[Sighting],
-) -> Result<(), AllocError>
-    ensures { OnOk result (pairs.new.keys ≡ joined pairs.old.keys (pairs_of policy.now row.now)) }
+fn join(pairs: &mut Pairs, policy: &Policy, row: &[Sighting]) -> Result<(), AllocError>
+    ensures { OnOk result (pairs.new ≡ joined pairs.old (pairs_of policy.now row.now)) }
 {
     for sighting in row {
         if arrives_at_listen(policy, sighting) {
-            pairs.insert((sighting.from, sighting.to))?;
+            pairs.insert(sighting.from, sighting.to)?;
         }
     }
     Ok(())
@@ -54,12 +50,8 @@ fn behind<'a>(intake: &'a Intake, looked: &[usize], iface: u32) -> &'a [Sighting
 }
 
 /// Takes in the pairs of the sightings that weren't looked at, interface by interface.
-fn join_unseen(
-    pairs: &mut IndexSet<(Addr, Addr)>,
-    looked: &[usize],
-    intake: &Intake,
-) -> Result<(), AllocError>
-    ensures { OnOk result (pairs.new.keys ≡ with_new looked.now (taken intake.now) pairs.old.keys) }
+fn join_unseen(pairs: &mut Pairs, looked: &[usize], intake: &Intake) -> Result<(), AllocError>
+    ensures { OnOk result (pairs.new ≡ with_new looked.now (taken intake.now) pairs.old) }
 {
     'interfaces: for iface in 0..intake.interfaces() {
         join(pairs, intake.policy(), behind(intake, looked, iface))?;
@@ -99,37 +91,37 @@ fn from(pairs: &[(Addr, Addr)], first: usize) -> &[(Addr, Addr)]
 impl Clients {
     /// No clients. It takes no memory.
     pub fn new(alloc: Global) -> Clients
-        ensures pairs { result.pairs.keys ≡ [] }
+        ensures pairs { result.pairs ≡ [] }
         ensures looked { result.looked.items ≡ [] }
     {
         Clients {
-            pairs: IndexSet::new(alloc),
+            pairs: Pairs::new(alloc),
             looked: Vec::new(alloc),
         }
     }
 
     /// How many there are.
     pub fn len(&self) -> usize
-        ensures { result ≡ length self.now.pairs.keys }
+        ensures { result ≡ length self.now.pairs }
     {
-        self.pairs.len()
+        self.pairs.as_slice().len()
     }
 
     /// The number of the lane of a client at a listen address, if it has one.
     pub fn lane_of(&self, client: Addr, listen: Addr) -> Option<u32>
-        ensures which { result ≡ lane_in self.now.pairs.keys (client, listen) }
+        ensures which { result ≡ lane_in self.now.pairs (client, listen) }
         ensures few { IfSome result (λ lane. lane < MAX_LANES) }
     {
-        let index = self.pairs.get_index_of(&(client, listen))?;
-        if index >= MAX_LANES {
+        let place = self.pairs.place_of(client, listen)?;
+        if place >= MAX_LANES {
             return None;
         }
-        Some(index as u32)
+        Some(place as u32)
     }
 
     /// The client and the listen address of each lane, from one of them on.
     pub fn lanes_from(&self, first: usize) -> &[(Addr, Addr)]
-        ensures which { result.now ≡ drop first (take MAX_LANES self.now.pairs.keys) }
+        ensures which { result.now ≡ drop first (take MAX_LANES self.now.pairs) }
         ensures apart { IsDistinct same result.now }
         ensures few { length result.now ≤ MAX_LANES }
     {
@@ -138,7 +130,7 @@ impl Clients {
 
     /// Takes in the clients of the sightings that the intake has gained.
     pub fn take_in(&mut self, alloc: Global, intake: &Intake) -> Result<(), AllocError>
-        ensures pairs { OnOk result (self.new.pairs.keys ≡ with_new self.old.looked.items (taken intake.now) self.old.pairs.keys) }
+        ensures pairs { OnOk result (self.new.pairs ≡ with_new self.old.looked.items (taken intake.now) self.old.pairs) }
         ensures looked { OnOk result (self.new.looked.items ≡ row_lengths (taken intake.now)) }
     {
         join_unseen(&mut self.pairs, &self.looked, intake)?;

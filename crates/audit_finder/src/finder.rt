@@ -28,7 +28,7 @@ pub struct Finder {
 impl Finder {
     /// Nothing was found yet. It takes no memory.
     pub fn new(alloc: Global) -> Finder
-        ensures clients { result.clients.pairs.keys ≡ [] }
+        ensures clients { result.clients.pairs ≡ [] }
         ensures looked { result.clients.looked.items ≡ [] }
         ensures horizon { result.search.given_to ≡ None }
     {
@@ -50,13 +50,13 @@ impl Finder {
         credentials: &Credentials,
         horizon: u64,
     ) -> Result<Extension, AllocError>
-        ensures lanes { IfOk result (λ found. found.lanes ≡ drop (length self.old.clients.pairs.keys)
-            (take MAX_LANES (with_new self.old.clients.looked.items (taken intake.now) self.old.clients.pairs.keys))) }
+        ensures lanes { IfOk result (λ found. found.lanes ≡ drop (length self.old.clients.pairs)
+            (take MAX_LANES (with_new self.old.clients.looked.items (taken intake.now) self.old.clients.pairs))) }
         ensures apart { IfOk result (λ found. IsDistinct same found.lanes) }
         ensures few { IfOk result (λ found. length found.lanes ≤ MAX_LANES) }
         ensures events { IfOk result (λ found. All (λ e. NamesWhatIsThere (taken intake.now) e.1) found.events) }
         ensures drops { IfOk result (λ found. AreThere (taken intake.now) found.drops) }
-        ensures clients { OnOk result (self.new.clients.pairs.keys ≡ with_new self.old.clients.looked.items (taken intake.now) self.old.clients.pairs.keys) }
+        ensures clients { OnOk result (self.new.clients.pairs ≡ with_new self.old.clients.looked.items (taken intake.now) self.old.clients.pairs) }
         ensures looked { OnOk result (self.new.clients.looked.items ≡ row_lengths (taken intake.now)) }
         // The next call gives events past this horizon.
         ensures horizon { OnOk result (self.new.search.given_to ≡ Some horizon) }

@@ -3,6 +3,7 @@
 //! Nothing rests on it. Whatever it finds is checked.
 #![tactic(auto)]
 
+mod acting;
 mod answers;
 mod arrivals;
 mod asking;
@@ -18,6 +19,8 @@ mod lanes;
 mod leaving;
 mod matching;
 mod noting;
+mod origins;
+mod pairs;
 mod portion;
 mod queues;
 mod rows;

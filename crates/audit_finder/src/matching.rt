@@ -1,13 +1,12 @@
 //! Data that leaves, and the data that arrived for it.
 
-use crate::causes::{Cause, digest_of};
+use crate::causes::Cause;
 use crate::clock::after;
 use crate::judge::Judge;
-use crate::lanes::{Holding, Lane};
 use crate::leaving::CANDIDATES;
+use crate::origins::Asked;
 use crate::portion::Portion;
 use crate::rows::Wait;
-use crate::said::{Given, data_given};
 use crate::search::Search;
 use audit_model::{Event, Key, Sighting};
 use std::alloc::AllocError;
@@ -34,15 +33,6 @@ impl Choice {
             }
         }
     }
-}
-
-/// What may have asked for a departure, with its lanes: of the lane that has the relayed address now, and of the one that had it
-/// before, each as it is and as it was before its last deletion.
-#[derive(Clone, Copy)]
-struct Asked {
-    /// The lane that it is most likely of.
-    lane: u32,
-    causes: [Option<(u32, Cause)>; 6],
 }
 
 impl Search {
@@ -97,101 +87,6 @@ impl Search {
         Ok(None)
     }
 
-    /// What may have asked for data that leaves; none where nobody has or had its relayed address.
-    fn asked_by(&self, judge: &Judge<'_>, leaves: &Sighting) -> Option<Asked> {
-        if judge.intake.policy().listens(leaves.from) {
-            let lane = judge.clients.lane_of(leaves.to, leaves.from)?;
-            return Some(self.asked_by_peer(lane, leaves));
-        }
-        let holders = *self.holders.get(&leaves.from)?;
-        let digest = digest_of(leaves.payload.as_slice());
-        let [send, channel, deleted] = self.asked_by_client(holders.last, leaves, digest);
-        let [send_before, channel_before, deleted_before] = match holders.before {
-            Some(lane) => self.asked_by_client(lane, leaves, digest),
-            None => [None; 3],
-        };
-        Some(Asked {
-            lane: holders.last,
-            causes: [
-                send,
-                channel,
-                deleted,
-                send_before,
-                channel_before,
-                deleted_before,
-            ],
-        })
-    }
-
-    /// What may have asked for data from an address that nobody has or had, of the last client that sent data.
-    fn asked_by_last(&self, judge: &Judge<'_>, leaves: &Sighting) -> Option<Asked> {
-        if judge.intake.policy().listens(leaves.from) {
-            return None;
-        }
-        let lane = self.lane_of_last()?;
-        let digest = digest_of(leaves.payload.as_slice());
-        let [send, channel, deleted] = self.asked_by_client(lane, leaves, digest);
-        Some(Asked {
-            lane,
-            causes: [send, channel, deleted, None, None, None],
-        })
-    }
-
-    /// What of a client asks for data that leaves to a peer.
-    fn asked_by_client(
-        &self,
-        lane: u32,
-        leaves: &Sighting,
-        digest: u64,
-    ) -> [Option<(u32, Cause)>; 3] {
-        let peer = leaves.to;
-        let send = Cause::Send { lane, peer, digest };
-        let Some(of) = self.lanes.get(lane as usize) else {
-            return [None; 3];
-        };
-        let number = of.current.number_of(peer);
-        let deleted = of.number_before(peer, number);
-        let by_channel = |number: u16| {
-            let channel = Cause::Channel {
-                lane,
-                number,
-                digest,
-            };
-            (lane, channel)
-        };
-        [
-            Some((lane, send)),
-            number.map(by_channel),
-            deleted.map(by_channel),
-        ]
-    }
-
-    /// What asks for data that a client is given.
-    fn asked_by_peer(&self, lane: u32, leaves: &Sighting) -> Asked {
-        let mut causes = [None; 6];
-        if let Some(of) = self.lanes.get(lane as usize) {
-            if let Some(given) = data_given(leaves.payload.as_slice()) {
-                let current = cause_of(&of.current, given);
-                causes[0] = current.map(|cause| (lane, cause));
-                causes[1] = cause_before(of, given, current).map(|cause| (lane, cause));
-            }
-        }
-        Asked { lane, causes }
-    }
-
-    /// The lane of the last data of a client, or else the first one.
-    fn lane_of_last(&self) -> Option<u32> {
-        let last = match self.last_sent {
-            Some(number) => self.arrivals.get(number),
-            None => None,
-        };
-        match last {
-            Some(arrival) if arrival.lane.is_some() => arrival.lane,
-            _ if self.lanes.is_empty() => None,
-            _ => Some(0),
-        }
-    }
-
     fn choose(
         &mut self,
         judge: &Judge<'_>,
@@ -224,11 +119,14 @@ impl Search {
             let Some(number) = next else {
                 return Ok(Choice::None);
             };
+            let Some(arrives) = self.sighting_of(judge, number) else {
+                return Ok(Choice::None);
+            };
             if self.may_come(judge, number, leaves) {
-                return Ok(match self.sighting_of(judge, number) {
-                    Some(arrives) => Choice::Waits(number, arrives.lo),
-                    None => Choice::None,
-                });
+                return Ok(Choice::Waits(number, arrives.lo));
+            }
+            if !self.count_try(judge, arrives, leaves) {
+                return Ok(Choice::None);
             }
             if let Some(key) = self.key_by(judge, lane, number, leaves)? {
                 return Ok(Choice::Acts(lane, number, key));
@@ -236,6 +134,20 @@ impl Search {
             next = self.arrivals.next(number);
         }
         Ok(Choice::None)
+    }
+
+    /// Counts an act that is tried for a departure, and tells whether it may be tried.
+    fn count_try(&mut self, judge: &Judge<'_>, arrives: &Sighting, leaves: &Sighting) -> bool {
+        let is_last_moment = !self.has_time(judge, leaves);
+        let bytes = arrives
+            .payload
+            .as_slice()
+            .len()
+            .saturating_add(leaves.payload.as_slice().len());
+        match self.rows.get_mut(leaves.id.iface as usize) {
+            Some(row) => row.count_try(is_last_moment, bytes),
+            None => false,
+        }
     }
 
     /// The key at which the server may give the departure by that arrival.
@@ -330,28 +242,4 @@ impl Search {
 /// Whether events may still be given at a key.
 fn is_open(given_to: Option<u64>, key: Key) -> bool {
     given_to.is_none_or(|given_to| key.moment > given_to)
-}
-
-/// What asks for data that a client with that allocation is given.
-fn cause_of(holding: &Holding, given: Given<'_>) -> Option<Cause> {
-    let (peer, data) = match given {
-        Given::Peer(peer, data) => (peer, data),
-        Given::Channel(number, data) => (holding.peer_of(number)?, data),
-    };
-    Some(Cause::Peer {
-        relayed: holding.relayed?,
-        peer,
-        digest: digest_of(data),
-    })
-}
-
-/// What asks for data that a client is given, by the last of its deleted allocations that had such a peer, unless it is this.
-fn cause_before(of: &Lane, given: Given<'_>, current: Option<Cause>) -> Option<Cause> {
-    for deleted in of.deleted.iter().rev() {
-        let cause = cause_of(&deleted.holding, given);
-        if cause.is_some() && cause != current {
-            return cause;
-        }
-    }
-    None
 }

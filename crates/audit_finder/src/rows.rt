@@ -23,6 +23,15 @@ pub enum Wait {
     Next,
 }
 
+/// How much may be tried for one departure: so many acts, of which each counts once more for every `UNIT` bytes of its datagrams.
+const TRIES: u32 = 64;
+
+/// How much of that may be spent before the departure's last moment.
+const EARLY_TRIES: u32 = 32;
+
+/// Bytes of an act's datagrams that count as one act more, since a judge reads them.
+const UNIT: usize = 1024;
+
 /// One interface.
 #[derive(Drop)]
 pub struct Row {
@@ -32,6 +41,8 @@ pub struct Row {
     placed: usize,
     /// How often the next one has waited.
     pub waits: u32,
+    /// How much was tried for the next one.
+    tried: u32,
     /// The moment at which it stands among the heads.
     pub queued: Option<u64>,
     /// What the next one waits for.
@@ -44,6 +55,7 @@ impl Row {
             roles: Vec::new(alloc),
             placed: 0,
             waits: 0,
+            tried: 0,
             queued: None,
             wait: None,
         }
@@ -71,5 +83,21 @@ impl Row {
     pub fn advance(&mut self) {
         self.placed = self.placed.saturating_add(1);
         self.waits = 0;
+        self.tried = 0;
+    }
+
+    /// Counts an act that is tried for the next one, whose datagrams have so many bytes, and tells whether it may be tried.
+    pub fn count_try(&mut self, is_last_moment: bool, bytes: usize) -> bool {
+        let limit = if is_last_moment { TRIES } else { EARLY_TRIES };
+        if self.tried >= limit {
+            return false;
+        }
+        let weight = u32::try_from(bytes / UNIT).unwrap_or(TRIES);
+        self.tried = self
+            .tried
+            .saturating_add(weight)
+            .saturating_add(1)
+            .min(limit);
+        true
     }
 }

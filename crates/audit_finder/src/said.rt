@@ -15,11 +15,11 @@ const ALLOCATION_MISMATCH: u16 = 437;
 pub enum Says {
     /// There is a new allocation, of that relayed address; or the one that is there was asked for again.
     Allocated(Addr),
-    /// The allocation is deleted: a success to a Refresh, of no seconds (RFC 8656, section 7).
+    /// The allocation is deleted: a success to a Refresh, of no seconds (RFC 8656, section 8.2).
     Deleted,
     /// A channel is bound.
     Bound,
-    /// There is no allocation: the error 437 to anything but an Allocate (RFC 8656, section 18).
+    /// There is no allocation: the error 437 to anything but an Allocate (RFC 8656, sections 5 and 19).
     NoAllocation,
     /// Something else, or an error.
     Other,

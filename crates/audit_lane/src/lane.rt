@@ -3,8 +3,8 @@
 ghost use Rattle.std.specs.Prelude.{◌<◌, vec_len};
 
 use crate::input::{LaneEvent, LaneInput};
-use audit_model::{At, Breach, Key, Listed, Rule, SightId, Sighting, Tenancy};
-use audit_rules::{ActFault, LaneTable, act};
+use audit_model::{At, Breach, Key, Listed, Policy, Rule, SightId, Sighting, Tenancy};
+use audit_rules::{ActFault, CredRow, LaneTable, act};
 use std::alloc::{AllocError, AllocFailed, Global};
 use std::collections::BTreeMap;
 
@@ -17,7 +17,7 @@ struct Arrival {
 
 /// A departure that an act gave.
 #[derive(Clone, Copy, Debug)]
-struct Given {
+struct Departure {
     /// When the act's arrival came in.
     arrived: u64,
     /// The act's place in the lane.
@@ -60,7 +60,7 @@ pub struct Lane {
     /// How long an arrival may be held, in nanoseconds.
     hold: u64,
     arrivals: BTreeMap<SightId, Arrival>,
-    departures: BTreeMap<SightId, Given>,
+    departures: BTreeMap<SightId, Departure>,
     /// By the place of the act.
     owed: BTreeMap<u32, Owed>,
     tenancies: Listed<Tenancy>,
@@ -143,18 +143,19 @@ impl Lane {
             acted: true,
         };
         self.arrivals.insert(arrives, acted)?;
-        let given = Given {
+        let departure = Departure {
             arrived,
             place: at.place,
         };
-        self.departures.insert(leaves, given)?;
+        self.departures.insert(leaves, departure)?;
         self.owed.insert(at.place, Owed { at, sight: arrives })?;
         Ok(())
     }
 
     fn answer(
         &mut self,
-        input: &LaneInput<'_>,
+        policy: &Policy,
+        users: &[CredRow<'_>],
         at: At,
         arrives: &Sighting,
         leaves: &Sighting,
@@ -166,8 +167,8 @@ impl Lane {
         match act(
             self.alloc,
             &mut self.table,
-            input.users.as_slice(),
-            input.policy,
+            users,
+            policy,
             arrives,
             leaves,
             at,
@@ -181,13 +182,13 @@ impl Lane {
     }
 
     fn leave(&mut self, at: At, sighting: &Sighting) -> Result<(), LaneFault> {
-        let Some(given) = self.departures.get(&sighting.id).copied() else {
+        let Some(departure) = self.departures.get(&sighting.id).copied() else {
             return Err(self.broken(at, sighting.id, Rule::LeftWithoutAct));
         };
-        if self.is_past(given.arrived, at.key.moment) {
+        if self.is_past(departure.arrived, at.key.moment) {
             return Err(self.broken(at, sighting.id, Rule::HeldTooLong));
         }
-        self.owed.remove(&given.place);
+        self.owed.remove(&departure.place);
         Ok(())
     }
 
@@ -200,10 +201,14 @@ impl Lane {
             LaneEvent::Act {
                 arrives,
                 leaves,
+                user,
                 key,
             } => {
                 let at = self.at(key, place);
-                self.answer(input, at, arrives, leaves)
+                match input.user(user) {
+                    Some(user) => self.answer(input.policy, &[user], at, arrives, leaves),
+                    None => self.answer(input.policy, &[], at, arrives, leaves),
+                }
             }
             LaneEvent::Out { sighting, key } => {
                 let at = self.at(key, place);

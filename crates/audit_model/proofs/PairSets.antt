@@ -13,7 +13,7 @@ same_number x y = unsigned_tied x y
 same_address : (a b : Addr) → is_eq (addr_cmp a b) ≡ same_addr a b
 same_address a b = sym (tied_then (nat_cmp a.ip b.ip) (nat_cmp a.port b.port)) ∙ ap (λ t. t && is_eq (nat_cmp a.port b.port)) (same_number a.ip b.ip) ∙ ap (λ t. eqb a.ip b.ip && t) (same_number a.port b.port)
 
-same : (client listen c l : Addr) → is_eq (pair_cmp (client, listen) (c, l)) ≡ same_pair client listen c l
+pub same : (client listen c l : Addr) → is_eq (pair_cmp (client, listen) (c, l)) ≡ same_pair client listen c l
 same client listen c l = sym (tied_then (addr_cmp client c) (addr_cmp listen l)) ∙ ap (λ t. t && is_eq (addr_cmp listen l)) (same_address client c) ∙ ap (λ t. same_addr client c && t) (same_address listen l)
 
 either : (t x : Bool) → cond t true x ≡ (t || x)

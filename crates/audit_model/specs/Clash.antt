@@ -1,4 +1,4 @@
--- Two clients that hold one relayed address at once. A relayed address is unique across all allocations (RFC 8656, section 5).
+-- Two clients that hold one relayed address at once. A relayed address is unique across all allocations (RFC 8656, section 6).
 use Rattle.std.specs.Prelude.{◌≡◌, ◌≢◌, ◌≤◌, ℕ, List, IfSome, Contains}
 use Rattle.std.specs.declared.cmp.Ordering.{Ordering}
 use Rattle.std.specs.declared.cmp.Ordering.TheVariants.{Less}

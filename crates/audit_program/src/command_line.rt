@@ -17,7 +17,7 @@ pub enum Request<'a> {
     Audit(Inputs<'a>),
     /// Find a certificate, and write it.
     Find(Inputs<'a>),
-    /// Tell how to use the program, on standard output.
+    /// Tell how to use the program, or its release, on standard output.
     Help(String),
     /// The words are no request; what clap says of it, for standard error.
     Usage(String),
@@ -32,8 +32,11 @@ pub struct Inputs<'a> {
     pub captures: Vec<&'a str>,
 }
 
+/// The release, and the line of `rt version` that names what it is proved with.
+const VERSION: &str = "0.1.0, proved with rattle-kit-13b logic dac8208d650f15bf";
+
 const ABOUT: &str =
-    "Judges captures of a TURN server by RFC 8656: did it relay anything without an allocation and a permission?";
+    "Judges captures of a TURN server by RFC 8656: did it relay anything without an allocation and a permission or channel?";
 
 const STATUSES: &str =
     "Exit status:\n  0  conforming, or a certificate is written\n  1  not shown\n  2  an input is refused; its number is told on standard error\n  3  out of memory\n  4  a file can't be read, or the answer can't be written\n  5  wrong words";
@@ -108,8 +111,11 @@ fn command<'a>(alloc: Global) -> Result<Command<'a>, AllocError> {
     );
     let check = command_of(alloc, "check", ABOUT_CHECK, EXAMPLE_CHECK)?;
     Command::new(alloc, "turnaudit")
+        .version(VERSION)
         .about(ABOUT)
         .after_help(STATUSES)
+        .arg_required_else_help(true)
+        .subcommand_required(true)
         .subcommand(command_of(alloc, "audit", ABOUT_AUDIT, EXAMPLE_AUDIT)?)?
         .subcommand(command_of(alloc, "find", ABOUT_FIND, EXAMPLE_FIND)?)?
         .subcommand(check.arg(certificate.required(true))?)

@@ -150,7 +150,7 @@ fn run_request<S: Source, O: Sink, E: Sink>(
     }
 }
 
-/// Runs the program on its words, the first of which is its name, and gives its exit status: 0 conforming, a certificate, or help; 1 not shown; 2 input refused;
+/// Runs the program on its words, the first of which is its name, and gives its exit status: 0 conforming, a certificate, help or the release; 1 not shown; 2 input refused;
 /// 3 out of memory; 4 a file that can't be read or an answer that can't be written; 5 words that are no request.
 /// What ended it before its answer is one line on `err`.
 pub fn run<N: AsStr, S: Source, O: Sink, E: Sink>(

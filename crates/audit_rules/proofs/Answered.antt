@@ -1,10 +1,9 @@
 -- Where all checks of a case hold, the departure may answer so.
 use Rattle.std.proofs.Common.{◌≡◌, ◌≢◌, ◌⊎◌, inl, inr, ◌↔◌, ℕ, ◌<◌, ◌≤◌, ◌==◌, if◌then◌else◌, List, Option, Some, None, true, false, refl, ap, subst, ◌∙◌, arith}
-use Rattle.std.specs.Prelude.{IsTrue, IsSome, IsSomeAnd, length}
+use Rattle.std.specs.Prelude.{IsSome, IsSomeAnd, length}
 use Rattle.std.proofs.lemmas.Bool.Decides.{nat_tests}
 use Rattle.std.proofs.lemmas.Slice.Eq.{bytes_eq-Decides}
 use Rattle.audit_model.specs.declared.address.Addr.{Addr}
-use Rattle.audit_model.specs.Policy.{listens}
 use Rattle.audit_stun.specs.declared.class.Class.TheVariants.{Indication, Success, Error}
 use Rattle.audit_stun.specs.declared.numbers.method.TheConstants.{BINDING, ALLOCATE, REFRESH, CREATE_PERMISSION, CHANNEL_BIND, SEND, DATA as DATA_METHOD}
 use Rattle.audit_stun.specs.declared.numbers.attribute.TheConstants.{USERNAME, XOR_RELAYED_ADDRESS, XOR_PEER_ADDRESS}
@@ -12,7 +11,7 @@ use Rattle.audit_stun.specs.Counted.{first_of}
 use Rattle.audit_stun.specs.ChannelData.{channel_data_of}
 use Rattle.audit_rules.specs.declared.table.Channel.{Channel}
 use Rattle.audit_rules.specs.Allocation.{Allocation, Same, Makes, Renews, Grants, Binds, Removes}
-use Rattle.audit_rules.specs.Situation.{Situation, asked, answered, IsOf}
+use Rattle.audit_rules.specs.Situation.{Situation, IsServed, asked, answered, IsOf}
 use Rattle.audit_rules.specs.Values.{Names, address_named, code_of, lifetime_of, channel_number_of, peer_ips_of}
 use Rattle.audit_rules.specs.Standing.{IsResponse, UsableNow, WithUsable, IsOwn, Permits, Carries}
 use Rattle.audit_rules.specs.Responses.{Fits}
@@ -25,14 +24,11 @@ use Rattle.audit_rules.specs.Checks.{WithAllocation, SaysChannel, binding_checks
 use Rattle.audit_rules.specs.FirstRule.{made_it}
 use Rattle.audit_rules.proofs.Facts.{some_and, has_some, both_some, authentic, authentic_as}
 
-abbrev pub Served : Situation → Type 0
-Served x = IsTrue (listens x.policy x.listen)
-
-pub binding_may : (x : Situation) → Served x → IsResponse x Success BINDING → AllHold (binding_checks x) → MayAnswer x Same
+pub binding_may : (x : Situation) → IsServed x → IsResponse x Success BINDING → AllHold (binding_checks x) → MayAnswer x Same
 unfolding MayAnswer
 binding_may x served response (tells, (mapped, end)) = (served, Binding, (record { response = response; mapped = mapped }, refl))
 
-pub error_may : (x : Situation) → Served x → IsResponse x Error (asked x).method → AllHold (error_checks x) → MayAnswer x Same
+pub error_may : (x : Situation) → IsServed x → IsResponse x Error (asked x).method → AllHold (error_checks x) → MayAnswer x Same
 unfolding MayAnswer
 error_may x served response (tells, (fits, end)) =
     let s = some_and (code_of (answered x)) (Fits x) fits in
@@ -51,7 +47,7 @@ is_some_time n time e not_zero =
     let h : n ≢ 0 = λ z. not_zero (e ∙ ap Some z) in
     omega (arith, h)
 
-pub new_may : (x : Situation) → Served x → IsResponse x Success ALLOCATE → made_it x x.allocation ≡ false → AllHold (new_checks x)
+pub new_may : (x : Situation) → IsServed x → IsResponse x Success ALLOCATE → made_it x x.allocation ≡ false → AllHold (new_checks x)
     → (user : List ℕ) (relayed : Addr) (seconds : ℕ) → first_of USERNAME (asked x).attributes ≡ Some user → address_named XOR_RELAYED_ADDRESS (answered x) ≡ Some relayed → lifetime_of (answered x) ≡ Some seconds
     → MayAnswer x (Makes (made_by x relayed user seconds))
 unfolding MayAnswer
@@ -81,7 +77,7 @@ same_again : (x : Situation) (found : Option Allocation) → IsSomeAnd found (λ
 same_again x (Some a) made own names = (made.0, (made.1, own, names))
 same_again x None made own names = absurd made
 
-pub again_may : (x : Situation) → Served x → IsResponse x Success ALLOCATE → made_it x x.allocation ≡ true → AllHold (again_checks x) → MayAnswer x Same
+pub again_may : (x : Situation) → IsServed x → IsResponse x Success ALLOCATE → made_it x x.allocation ≡ true → AllHold (again_checks x) → MayAnswer x Same
 unfolding MayAnswer
 again_may x served response again (by, (own, (tells_relayed, (tells_mapped, (relayed, (mapped, (signed, end))))))) =
     let user = authentic x by in (
@@ -108,7 +104,7 @@ allowed x (inr a) (inr b) (inl e) d = inl e
 allowed x (inr a) (inr b) (inr c) (inl e) = inl e
 allowed x (inr a) (inr b) (inr c) (inr d) = inr (both_some x.allocation (λ a. UsableNow x a.until) (IsOwn x) b c, d)
 
-pub refresh_may : (x : Situation) → Served x → IsResponse x Success REFRESH → AllHold (refresh_checks x) → (seconds : ℕ) → lifetime_of (answered x) ≡ Some seconds
+pub refresh_may : (x : Situation) → IsServed x → IsResponse x Success REFRESH → AllHold (refresh_checks x) → (seconds : ℕ) → lifetime_of (answered x) ≡ Some seconds
     → MayAnswer x (if seconds == 0 then Removes else Renews (seconds_after x.moment seconds))
 unfolding MayAnswer
 refresh_may x served response (by, (tells, (there, (usable, (own, (same_end, (signed, end))))))) seconds s =
@@ -127,7 +123,7 @@ refresh_may x served response (by, (tells, (there, (usable, (own, (same_end, (si
       },
     )
 
-pub permission_may : (x : Situation) → Served x → IsResponse x Success CREATE_PERMISSION → AllHold (permission_checks x) → (ips : List ℕ) → peer_ips_of (asked x) ≡ Some ips
+pub permission_may : (x : Situation) → IsServed x → IsResponse x Success CREATE_PERMISSION → AllHold (permission_checks x) → (ips : List ℕ) → peer_ips_of (asked x) ≡ Some ips
     → MayAnswer x (Grants ips (seconds_after x.moment 300))
 unfolding MayAnswer
 permission_may x served response (by, (there, (usable, (own, (some, (signed, end)))))) ips p =
@@ -152,7 +148,7 @@ own_and : (x : Situation) (found : Option Allocation) (P : Allocation → Type 0
 own_and x (Some a) P u own p = (u.0, (own, p))
 own_and x None P u own p = absurd u
 
-pub channel_bind_may : (x : Situation) → Served x → IsResponse x Success CHANNEL_BIND → AllHold (channel_bind_checks x) → (number : ℕ) (peer : Addr) → channel_number_of (asked x) ≡ Some number
+pub channel_bind_may : (x : Situation) → IsServed x → IsResponse x Success CHANNEL_BIND → AllHold (channel_bind_checks x) → (number : ℕ) (peer : Addr) → channel_number_of (asked x) ≡ Some number
     → address_named XOR_PEER_ADDRESS (asked x) ≡ Some peer → MayAnswer x (Binds number peer (seconds_after x.moment 600) (seconds_after x.moment 300))
 unfolding MayAnswer
 channel_bind_may x served response (by, (there, (usable, (own, (in_range, (names, (may_bind, (signed, end)))))))) number peer n p =
@@ -181,7 +177,7 @@ send_relays : (x : Situation) (found : Option Allocation) → IsSomeAnd found (�
 send_relays x (Some a) u r p = (u.0, (r, p))
 send_relays x None u r p = absurd u
 
-pub send_may : (x : Situation) → Served x → GoesUp x → IsOf x.arrives.payload Indication SEND → AllHold (send_checks x) → MayAnswer x Same
+pub send_may : (x : Situation) → IsServed x → GoesUp x → IsOf x.arrives.payload Indication SEND → AllHold (send_checks x) → MayAnswer x Same
 unfolding MayAnswer
 send_may x served goes is (there, (usable, (relayed, (peer, (granted, (permitted, (sends, end))))))) = (
   served,
@@ -203,7 +199,7 @@ data_relays : (x : Situation) (found : Option Allocation) → IsSomeAnd found (�
 data_relays x (Some a) u r p = (u.0, (r, p))
 data_relays x None u r p = absurd u
 
-pub data_may : (x : Situation) → Served x → GoesDown x → IsOf x.leaves.payload Indication DATA_METHOD → AllHold (data_checks x) → MayAnswer x Same
+pub data_may : (x : Situation) → IsServed x → GoesDown x → IsOf x.leaves.payload Indication DATA_METHOD → AllHold (data_checks x) → MayAnswer x Same
 unfolding MayAnswer
 data_may x served goes is (tells_peer, (tells_data, (there, (usable, (relayed, (granted, (permitted, (peer, (sends, end))))))))) = (
   served,
@@ -231,7 +227,7 @@ up_relays : (x : Situation) (found : Option Allocation) (number : ℕ) → IsSom
 up_relays x (Some a) number u r c p = (u.0, (r, carried x (a.channels number) x.leaves.to c p))
 up_relays x None number u r c p = absurd u
 
-pub channel_up_may : (x : Situation) → Served x → GoesUp x → AllHold (channel_up_checks x) → (number : ℕ) (bytes : List ℕ) (past : ℕ) → channel_data_of x.arrives.payload ≡ Some (number, bytes, past) → MayAnswer x Same
+pub channel_up_may : (x : Situation) → IsServed x → GoesUp x → AllHold (channel_up_checks x) → (number : ℕ) (bytes : List ℕ) (past : ℕ) → channel_data_of x.arrives.payload ≡ Some (number, bytes, past) → MayAnswer x Same
 unfolding MayAnswer
 channel_up_may x served goes (there, (usable, (relayed, (bound, (lasting, (to_peer, (sends, end))))))) number bytes past said =
     let at : (P : ℕ → List ℕ → ℕ → Type 0) → SaysChannel x.arrives.payload P → P number bytes past = λ P h. has_some (channel_data_of x.arrives.payload) (λ s. P s.0 s.1 s.2) (number, bytes, past) said h in
@@ -256,7 +252,7 @@ down_relays : (x : Situation) (found : Option Allocation) (number : ℕ) → IsS
 down_relays x (Some a) number u r q c p = (u.0, (r, q, carried x (a.channels number) x.arrives.from c p))
 down_relays x None number u r q c p = absurd u
 
-pub channel_down_may : (x : Situation) → Served x → GoesDown x → AllHold (channel_down_checks x) → (number : ℕ) (bytes : List ℕ) (past : ℕ) → channel_data_of x.leaves.payload ≡ Some (number, bytes, past) → MayAnswer x Same
+pub channel_down_may : (x : Situation) → IsServed x → GoesDown x → AllHold (channel_down_checks x) → (number : ℕ) (bytes : List ℕ) (past : ℕ) → channel_data_of x.leaves.payload ≡ Some (number, bytes, past) → MayAnswer x Same
 unfolding MayAnswer
 channel_down_may x served goes (padding, (there, (usable, (relayed, (granted, (permitted, (bound, (lasting, (of_peer, (sends, end)))))))))) number bytes past said =
     let at : (P : ℕ → List ℕ → ℕ → Type 0) → SaysChannel x.leaves.payload P → P number bytes past = λ P h. has_some (channel_data_of x.leaves.payload) (λ s. P s.0 s.1 s.2) (number, bytes, past) said h in

@@ -18,7 +18,7 @@ use Rattle.audit_stun.specs.ChannelData.{channel_data_of}
 use Rattle.audit_rules.specs.declared.path.Path.{Path}
 use Rattle.audit_rules.specs.declared.path.Path.TheVariants.{Client, Relay}
 use Rattle.audit_rules.specs.Allocation.{Allocation, Change, Same}
-use Rattle.audit_rules.specs.Situation.{Situation, asked, answered, IsOf, arrival_path, departure_path}
+use Rattle.audit_rules.specs.Situation.{Situation, IsServed, asked, answered, IsOf, arrival_path, departure_path}
 use Rattle.audit_rules.specs.Values.{AreBytes, Names, address_named, lifetime_of, channel_number_of, peer_ips_of}
 use Rattle.audit_rules.specs.Standing.{IsResponse, UsableNow, IsOwn}
 use Rattle.audit_rules.specs.Allocating.{IsAgain, AnswersAgain}
@@ -28,7 +28,7 @@ use Rattle.audit_rules.specs.Check.{Check, ask, AllHold, FirstFails}
 use Rattle.audit_rules.specs.Checks.{new_checks, again_checks, refresh_checks, permission_checks, channel_bind_checks, send_checks, channel_up_checks, data_checks, channel_down_checks}
 use Rattle.audit_rules.specs.FirstRule.{choose, made_it, success_checks, class_checks, is_channel, IsAnyChannelData, IsRequest, IsItsResponse, up_checks, down_checks, path_checks, checks_of}
 use Rattle.audit_rules.proofs.Facts.{some_and, some_has, map_some, authentic}
-use Rattle.audit_rules.proofs.Answered.{Served, made_is, binding_may, error_may, new_may, again_may, refresh_may, permission_may, channel_bind_may, send_may, channel_up_may, data_may, channel_down_may}
+use Rattle.audit_rules.proofs.Answered.{made_is, binding_may, error_may, new_may, again_may, refresh_may, permission_may, channel_bind_may, send_may, channel_up_may, data_may, channel_down_may}
 use Rattle.audit_rules.proofs.Held.{binding_held, error_held, new_held, again_held, refresh_held, permission_held, channel_bind_held, send_held, channel_up_held, data_held, channel_down_held}
 
 -- where a first check fails, not all hold
@@ -54,7 +54,7 @@ of_class : (c d : Class) → c ≡ d → (d ≡ Success) ⊎ (d ≡ Error) → (
 of_class c d e (inl s) = inl (e ∙ s)
 of_class c d e (inr s) = inr (e ∙ s)
 
-response_all : (x : Situation) (class : Class) (method : ℕ) → Served x → IsResponse x class method → (class ≡ Success) ⊎ (class ≡ Error) → AllHold (class_checks x class) → AllHold (checks_of x)
+response_all : (x : Situation) (class : Class) (method : ℕ) → IsServed x → IsResponse x class method → (class ≡ Success) ⊎ (class ≡ Error) → AllHold (class_checks x class) → AllHold (checks_of x)
 response_all x class method served r which all =
     let classes : AllHold (class_checks x (answered x).class) = subst (λ c. AllHold (class_checks x c)) (sym r.response.1) all in (
       served,
@@ -62,7 +62,7 @@ response_all x class method served r which all =
           (r.response.0, ((r.request.0, r.request.1), ((r.response.2 ∙ sym r.request.2, r.same_id, of_class (answered x).class class r.response.1 which), classes))),
     )
 
-success_all : (x : Situation) (method : ℕ) → Served x → IsResponse x Success method → AllHold (success_checks x method) → AllHold (checks_of x)
+success_all : (x : Situation) (method : ℕ) → IsServed x → IsResponse x Success method → AllHold (success_checks x method) → AllHold (checks_of x)
 success_all x method served r all = response_all x Success method served r (inl refl) (subst (λ m. AllHold (success_checks x m)) (sym r.response.2) all)
 
 pub made_true : (x : Situation) (found : Option Allocation) → IsSomeAnd found (λ a. UsableNow x a.until × (a.id ≡ (asked x).tid)) → made_it x found ≡ true
@@ -73,7 +73,7 @@ pub made_false : (x : Situation) (b : Bool) → made_it x x.allocation ≡ b →
 made_false x true e first = absurd (first (made_is x x.allocation e))
 made_false x false e first = refl
 
-allocate_all : (x : Situation) (made : Bool) → Served x → IsResponse x Success ALLOCATE → made_it x x.allocation ≡ made → AllHold (choose made (again_checks x) (new_checks x)) → AllHold (checks_of x)
+allocate_all : (x : Situation) (made : Bool) → IsServed x → IsResponse x Success ALLOCATE → made_it x x.allocation ≡ made → AllHold (choose made (again_checks x) (new_checks x)) → AllHold (checks_of x)
 allocate_all x made served r e all = success_all x ALLOCATE served r (subst (λ b. AllHold (choose b (again_checks x) (new_checks x))) (sym e) all)
 
 pub again_is : (x : Situation) → AnswersAgain x → IsAgain x
@@ -102,7 +102,7 @@ channel_is (a ∷ b ∷ c ∷ d ∷ rest) number bytes past fits e =
     let second : b < 256 = fits 1 in
     grind (arith, nat_tests, e, second)
 
-up_all : (x : Situation) (b : Bool) → Served x → arrival_path x ≡ Some Client → departure_path x ≡ Some Relay → is_channel x.arrives.payload ≡ b
+up_all : (x : Situation) (b : Bool) → IsServed x → arrival_path x ≡ Some Client → departure_path x ≡ Some Relay → is_channel x.arrives.payload ≡ b
     → AllHold (choose b (ask (IsAnyChannelData x.arrives.payload) NotAnAnswer ∷ channel_up_checks x) (ask (IsOf x.arrives.payload Indication SEND) NotAnAnswer ∷ send_checks x)) → AllHold (checks_of x)
 up_all x b served f g e all = (
   served,
@@ -110,7 +110,7 @@ up_all x b served f g e all = (
       (subst (λ t. AllHold (choose t (ask (IsAnyChannelData x.arrives.payload) NotAnAnswer ∷ channel_up_checks x) (ask (IsOf x.arrives.payload Indication SEND) NotAnAnswer ∷ send_checks x))) (sym e) all),
 )
 
-down_all : (x : Situation) (b : Bool) → Served x → arrival_path x ≡ Some Relay → departure_path x ≡ Some Client → is_channel x.leaves.payload ≡ b
+down_all : (x : Situation) (b : Bool) → IsServed x → arrival_path x ≡ Some Relay → departure_path x ≡ Some Client → is_channel x.leaves.payload ≡ b
     → AllHold (choose b (ask (IsAnyChannelData x.leaves.payload) Malformed ∷ channel_down_checks x) (ask (IsMessage x.leaves.payload (answered x)) Malformed ∷ ask (IsOf x.leaves.payload Indication DATA_METHOD) NotAnAnswer ∷ data_checks x)) → AllHold (checks_of x)
 down_all x b served f g e all = (
   served,
@@ -118,7 +118,7 @@ down_all x b served f g e all = (
       (subst (λ t. AllHold (choose t (ask (IsAnyChannelData x.leaves.payload) Malformed ∷ channel_down_checks x) (ask (IsMessage x.leaves.payload (answered x)) Malformed ∷ ask (IsOf x.leaves.payload Indication DATA_METHOD) NotAnAnswer ∷ data_checks x))) (sym e) all),
 )
 
-case_holds : (case : Case) (x : Situation) (change : Change) → AreBytes x.arrives.payload → AreBytes x.leaves.payload → Served x → Answers case x change → AllHold (checks_of x)
+case_holds : (case : Case) (x : Situation) (change : Change) → AreBytes x.arrives.payload → AreBytes x.leaves.payload → IsServed x → Answers case x change → AllHold (checks_of x)
 case_holds Binding x change up down served r = success_all x BINDING served r.0.response (binding_held x r.0)
 case_holds ErrorCase x change up down served r = response_all x Error (asked x).method served r.0.response (inr refl) (error_held x r.0)
 case_holds New x change up down served r = allocate_all x false served r.response (made_false x (made_it x x.allocation) refl r.first) (new_held x change r)
@@ -152,26 +152,26 @@ has None s = absurd cc
 abbrev May : Situation → Type 0
 May x = (change : Change) × MayAnswer x change
 
-new_change : (x : Situation) → Served x → IsResponse x Success ALLOCATE → made_it x x.allocation ≡ false → AllHold (new_checks x) → May x
+new_change : (x : Situation) → IsServed x → IsResponse x Success ALLOCATE → made_it x x.allocation ≡ false → AllHold (new_checks x) → May x
 new_change x served r e (by, (free, (asks, (tells_relayed, (tells_lifetime, rest))))) =
     let user = authentic x by in
     let relayed = has (address_named XOR_RELAYED_ADDRESS (answered x)) tells_relayed in
     let seconds = has (lifetime_of (answered x)) tells_lifetime in
     (_, new_may x served r e (by, (free, (asks, (tells_relayed, (tells_lifetime, rest))))) user.0 relayed.0 seconds.0 user.1 relayed.1 seconds.1)
 
-allocate_change : (x : Situation) (b : Bool) → made_it x x.allocation ≡ b → Served x → IsResponse x Success ALLOCATE → AllHold (choose b (again_checks x) (new_checks x)) → May x
+allocate_change : (x : Situation) (b : Bool) → made_it x x.allocation ≡ b → IsServed x → IsResponse x Success ALLOCATE → AllHold (choose b (again_checks x) (new_checks x)) → May x
 allocate_change x true e served r all = (Same, again_may x served r e all)
 allocate_change x false e served r all = new_change x served r e all
 
-refresh_change : (x : Situation) → Served x → IsResponse x Success REFRESH → AllHold (refresh_checks x) → May x
+refresh_change : (x : Situation) → IsServed x → IsResponse x Success REFRESH → AllHold (refresh_checks x) → May x
 refresh_change x served r (by, (tells, rest)) = let seconds = has (lifetime_of (answered x)) tells in (_, refresh_may x served r (by, (tells, rest)) seconds.0 seconds.1)
 
-permission_change : (x : Situation) → Served x → IsResponse x Success CREATE_PERMISSION → AllHold (permission_checks x) → May x
+permission_change : (x : Situation) → IsServed x → IsResponse x Success CREATE_PERMISSION → AllHold (permission_checks x) → May x
 permission_change x served r (by, (there, (usable, (own, (some, rest))))) =
     let ips = some_and (peer_ips_of (asked x)) (λ l. 0 < length l) some in
     (_, permission_may x served r (by, (there, (usable, (own, (some, rest))))) ips.0 ips.1)
 
-channel_bind_change : (x : Situation) → Served x → IsResponse x Success CHANNEL_BIND → AllHold (channel_bind_checks x) → May x
+channel_bind_change : (x : Situation) → IsServed x → IsResponse x Success CHANNEL_BIND → AllHold (channel_bind_checks x) → May x
 channel_bind_change x served r (by, (there, (usable, (own, (in_range, (names, rest)))))) =
     let number = some_and (channel_number_of (asked x)) IsChannelNumber in_range in
     let peer = has (address_named XOR_PEER_ADDRESS (asked x)) names in
@@ -183,7 +183,7 @@ Responds x method = IsResponse x Success method
 of_method : (x : Situation) (m n : ℕ) → Responds x m → (m == n) ≡ true → Responds x n
 of_method x m n r e = subst (Responds x) (eqb-true m n e) r
 
-success_change : (x : Situation) (m : ℕ) → Served x → Responds x m → AllHold (success_checks x m) → May x
+success_change : (x : Situation) (m : ℕ) → IsServed x → Responds x m → AllHold (success_checks x m) → May x
 success_change x m served r all = elim (chosen (m == BINDING) _ _ all) [
   | inl a ↦ (Same, binding_may x served (of_method x m BINDING r a.0) a.1)
   | inr b ↦ elim (chosen (m == ALLOCATE) _ _ b.1) [
@@ -201,7 +201,7 @@ success_change x m served r all = elim (chosen (m == BINDING) _ _ all) [
   ]
 ]
 
-class_change : (x : Situation) (c : Class) → (answered x).class ≡ c → Served x → arrival_path x ≡ Some Client → departure_path x ≡ Some Client
+class_change : (x : Situation) (c : Class) → (answered x).class ≡ c → IsServed x → arrival_path x ≡ Some Client → departure_path x ≡ Some Client
     → IsMessage x.leaves.payload (answered x) → IsRequest x → IsItsResponse x → AllHold (class_checks x c) → May x
 class_change x Success e served f g message request its all =
     success_change x (answered x).method served (record { forth = f; back = g; request = (request.0, request.1, sym its.0); response = (message, e, refl); same_id = its.1 }) all
@@ -210,19 +210,19 @@ class_change x Error e served f g message request its all =
 class_change x Request e served f g message request its all = absurd (elim its.2 [ inl s ↦ (let h : Request ≡ Success = sym e ∙ s in cc) | inr s ↦ (let h : Request ≡ Error = sym e ∙ s in cc) ])
 class_change x Indication e served f g message request its all = absurd (elim its.2 [ inl s ↦ (let h : Indication ≡ Success = sym e ∙ s in cc) | inr s ↦ (let h : Indication ≡ Error = sym e ∙ s in cc) ])
 
-up_change : (x : Situation) → Served x → arrival_path x ≡ Some Client → departure_path x ≡ Some Relay → AllHold (up_checks x) → May x
+up_change : (x : Situation) → IsServed x → arrival_path x ≡ Some Client → departure_path x ≡ Some Relay → AllHold (up_checks x) → May x
 up_change x served f g all = elim (chosen (is_channel x.arrives.payload) _ _ all) [
   | inl (is, (any, rest)) ↦ (let said = some_and (channel_data_of x.arrives.payload) (λ s. Unit {0}) any in (Same, channel_up_may x served (f, g) rest said.0.0 said.0.1 said.0.2 said.1))
   | inr (is, (indication, rest)) ↦ (Same, send_may x served (f, g) indication rest)
 ]
 
-down_change : (x : Situation) → Served x → arrival_path x ≡ Some Relay → departure_path x ≡ Some Client → AllHold (down_checks x) → May x
+down_change : (x : Situation) → IsServed x → arrival_path x ≡ Some Relay → departure_path x ≡ Some Client → AllHold (down_checks x) → May x
 down_change x served f g all = elim (chosen (is_channel x.leaves.payload) _ _ all) [
   | inl (is, (any, rest)) ↦ (let said = some_and (channel_data_of x.leaves.payload) (λ s. Unit {0}) any in (Same, channel_down_may x served (f, g) rest said.0.0 said.0.1 said.0.2 said.1))
   | inr (is, (message, (indication, rest))) ↦ (Same, data_may x served (f, g) indication rest)
 ]
 
-path_change : (x : Situation) (a d : Option Path) → arrival_path x ≡ a → departure_path x ≡ d → Served x → AllHold (path_checks x a d) → May x
+path_change : (x : Situation) (a d : Option Path) → arrival_path x ≡ a → departure_path x ≡ d → IsServed x → AllHold (path_checks x a d) → May x
 path_change x (Some Client) (Some Client) f g served (message, (request, (its, rest))) = class_change x (answered x).class refl served f g message request its rest
 path_change x (Some Client) (Some Relay) f g served h = up_change x served f g h
 path_change x (Some Relay) (Some Client) f g served h = down_change x served f g h

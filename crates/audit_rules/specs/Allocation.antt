@@ -1,4 +1,4 @@
--- What the server has for one client at one listen address, and how an answer changes it (RFC 8656, section 5).
+-- What the server has for one client at one listen address, and how an answer changes it (RFC 8656, section 6).
 use Rattle.std.specs.Prelude.{ℕ, ◌==◌, if◌then◌else◌, List, [], ◌∷◌, Option, Some, None, option_map}
 use Rattle.std.specs.List.{list_any}
 use Rattle.audit_model.specs.declared.address.Addr.{Addr}

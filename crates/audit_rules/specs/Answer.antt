@@ -1,8 +1,7 @@
 -- The answer of a TURN server (RFC 8656): when a departure may answer an arrival, and what it changes.
-use Rattle.std.specs.Prelude.{◌≡◌, IsTrue}
-use Rattle.audit_model.specs.Policy.{listens}
+use Rattle.std.specs.Prelude.{◌≡◌}
 use Rattle.audit_rules.specs.Allocation.{Change, Same}
-use Rattle.audit_rules.specs.Situation.{Situation}
+use Rattle.audit_rules.specs.Situation.{Situation, IsServed}
 use Rattle.audit_rules.specs.Responses.{AnswersBinding, AnswersError}
 use Rattle.audit_rules.specs.Allocating.{AnswersNew, AnswersAgain, AnswersRefresh}
 use Rattle.audit_rules.specs.Granting.{AnswersPermission, AnswersChannelBind}
@@ -38,4 +37,4 @@ Answers ChannelDown x change = AnswersChannelDown x × (change ≡ Same)
 
 -- the server may answer so: at a listen address of its policy, by one of the eleven
 unfoldable pub MayAnswer : Situation → Change → Type 0
-MayAnswer x change = IsTrue (listens x.policy x.listen) × (case : Case) × Answers case x change
+MayAnswer x change = IsServed x × (case : Case) × Answers case x change

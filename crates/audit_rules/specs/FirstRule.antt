@@ -1,10 +1,9 @@
 -- docs/RULES.md, Which answer.
 -- The first rule that an act breaks: which answer it is by its paths and its first bytes, and then that answer's checks.
-use Rattle.std.specs.Prelude.{◌≡◌, ◌⊎◌, ℕ, ◌/◌, Bool, true, false, ◌&&◌, ◌==◌, List, [], ◌∷◌, Option, Some, None, IsTrue}
+use Rattle.std.specs.Prelude.{◌≡◌, ◌⊎◌, ℕ, ◌/◌, Bool, true, false, ◌&&◌, ◌==◌, List, [], ◌∷◌, Option, Some, None}
 use Rattle.std.specs.Str.{bytes_eq}
 use Rattle.audit_model.specs.declared.rule.Rule.{Rule}
 use Rattle.audit_model.specs.declared.rule.Rule.TheVariants.{NotAnAnswer, Malformed}
-use Rattle.audit_model.specs.Policy.{listens}
 use Rattle.audit_stun.specs.declared.class.Class.{Class}
 use Rattle.audit_stun.specs.declared.class.Class.TheVariants.{Request, Indication, Success, Error}
 use Rattle.audit_stun.specs.declared.numbers.method.TheConstants.{BINDING, ALLOCATE, REFRESH, SEND, DATA, CREATE_PERMISSION, CHANNEL_BIND}
@@ -13,7 +12,7 @@ use Rattle.audit_expiry.specs.Lease.{is_usable}
 use Rattle.audit_rules.specs.declared.path.Path.{Path}
 use Rattle.audit_rules.specs.declared.path.Path.TheVariants.{Client, Relay}
 use Rattle.audit_rules.specs.Allocation.{Allocation}
-use Rattle.audit_rules.specs.Situation.{Situation, asked, answered, IsOf, arrival_path, departure_path}
+use Rattle.audit_rules.specs.Situation.{Situation, IsServed, asked, answered, IsOf, arrival_path, departure_path}
 use Rattle.audit_rules.specs.Check.{Check, ask, FirstFails}
 use Rattle.audit_rules.specs.Checks.{SaysChannel, binding_checks, error_checks, new_checks, again_checks, refresh_checks, permission_checks, channel_bind_checks, send_checks, channel_up_checks, data_checks, channel_down_checks}
 
@@ -88,7 +87,7 @@ path_checks x _ _ = is_none
 
 -- all checks of an act
 abbrev pub checks_of : Situation → List Check
-checks_of x = ask (IsTrue (listens x.policy x.listen)) NotAnAnswer ∷ path_checks x (arrival_path x) (departure_path x)
+checks_of x = ask (IsServed x) NotAnAnswer ∷ path_checks x (arrival_path x) (departure_path x)
 
 -- the rule of the first of them that fails
 abbrev pub FirstRule : Situation → Rule → Type 0

@@ -1,5 +1,5 @@
 -- docs/RULES.md, Binding and Error.
--- When a Binding success or an error may answer (RFC 8489, sections 6.3, 7.3 and 9.2.4; RFC 8656, sections 5, 7.2 and 8.2).
+-- When a Binding success or an error may answer (RFC 8489, sections 6.3 and 9.2.4; RFC 8656, sections 5, 7.2 and 8.2).
 use Rattle.std.specs.Prelude.{◌≡◌, ◌≢◌, ◌⊎◌, ℕ, Some, IsSome, IsSomeAnd}
 use Rattle.audit_stun.specs.declared.class.Class.TheVariants.{Success, Error}
 use Rattle.audit_stun.specs.declared.numbers.method.TheConstants.{BINDING, ALLOCATE}

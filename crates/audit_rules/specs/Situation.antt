@@ -1,10 +1,10 @@
 -- One act of the server, and what it goes by.
-use Rattle.std.specs.Prelude.{◌≡◌, ℕ, if◌then◌else◌, List, Option, Some, None}
+use Rattle.std.specs.Prelude.{◌≡◌, ℕ, if◌then◌else◌, IsTrue, List, Option, Some, None}
 use Rattle.audit_model.specs.declared.address.Addr.{Addr}
 use Rattle.audit_model.specs.declared.policy.Policy.{Policy}
 use Rattle.audit_model.specs.declared.sighting.Sighting.{Sighting}
 use Rattle.audit_model.specs.Lanes.{same_pair}
-use Rattle.audit_model.specs.Policy.{relays}
+use Rattle.audit_model.specs.Policy.{listens, relays}
 use Rattle.audit_stun.specs.declared.class.Class.{Class}
 use Rattle.audit_stun.specs.Message.{Parts, IsMessage}
 use Rattle.audit_stun.specs.Parts.{parts_of}
@@ -23,6 +23,10 @@ pub record Situation : Type 0 where
   pub arrives : Sighting
   pub leaves : Sighting
   pub moment : ℕ
+
+-- the policy listens at the lane's listen address
+abbrev pub IsServed : Situation → Type 0
+IsServed x = IsTrue (listens x.policy x.listen)
 
 -- what the arrival and the departure say, where they are STUN messages
 abbrev pub asked : Situation → Parts

@@ -1,4 +1,4 @@
--- What several answers ask for: who asks, and what is usable (RFC 8489, section 9.2; RFC 8656, sections 5, 9 and 12).
+-- What several answers ask for: who asks, and what is usable (RFC 8489, section 9.2; RFC 8656, sections 5, 6, 9 and 12).
 use Rattle.std.specs.Prelude.{◌≡◌, ℕ, List, Option, Some, IsSome, IsSomeAnd, MatchOption}
 use Rattle.std.specs.Option.{option_and_then}
 use Rattle.audit_model.specs.declared.address.Addr.{Addr}

@@ -21,9 +21,10 @@ use std::alloc::Global;
 /// Judges the act that answers an arrival by a departure, and changes the table as the server does (RFC 8656).
 ///
 /// It gives the tenancy that the act ended, if any. It fails by the first rule, R1 to R21, that the act breaks, or for
-/// want of memory; the table stays as it was then. It looks through the users, of whom those that the request names
-/// matter alone (of two of one user and realm the first counts), and, for a ChannelBind, through the channels; it hashes
-/// only what the case asks to be signed, and takes memory only for what the table gains.
+/// want of memory; the table stays as it was then. It looks through all users, of whom the one that the request names
+/// matters alone (of two of one user and realm the first counts): give it that one, by `CredRow::of`, and its time doesn't grow
+/// with the users. For a ChannelBind it looks through the channels; it hashes only what the case asks to be signed, and takes
+/// memory only for what the table gains.
 pub fn act(
     alloc: Global,
     table: &mut LaneTable,

@@ -26,7 +26,7 @@ impl<'a> CredRow<'a> {
     ghost use Rattle.audit_rules.specs.Named.{Names, NamesNobody};
 
     /// The row of the user and the realm that a message names in USERNAME and REALM, with their long-term key (RFC 8489, section 9.2). None where the
-    /// payload is no message, has no such attributes, or the credentials have no key for both. It takes no memory.
+    /// payload is no message, has no such attributes, or the credentials have no key for both. It takes log n in the credentials, and no memory.
     pub fn of(credentials: &Credentials, payload: &'a [u8]) -> Option<CredRow<'a>>
         ensures { MatchOption result (NamesNobody (key_for credentials.now) payload.now)
             (λ row. Names (key_for credentials.now) payload.now row.user.now row.realm.now row.key) }
@@ -46,7 +46,7 @@ pub struct Signer<'a> {
     pub key: [u8; 16],
 }
 
-/// The key of the first row of the user and the realm.
+/// The key of the first row of the user and the realm. It looks through the rows.
 fn key_of(users: &[CredRow<'_>], user: &[u8], realm: &[u8]) -> Option<[u8; 16]>
     ensures { result ≡ key_in users.now user.now realm.now }
 {

@@ -1,10 +1,9 @@
 //! One act, by its paths.
 
 ghost use Rattle.std.specs.Prelude.{◌≡◌, false, Some, IsTrue, MatchResult};
-ghost use Rattle.audit_model.specs.Policy.{listens};
 ghost use Rattle.audit_rules.specs.declared.path.Path.TheVariants as paths;
 ghost use Rattle.audit_rules.specs.Allocation.{Same};
-ghost use Rattle.audit_rules.specs.Situation.{arrival_path, departure_path};
+ghost use Rattle.audit_rules.specs.Situation.{IsServed, arrival_path, departure_path};
 ghost use Rattle.audit_rules.specs.Relaying.{GoesUp, GoesDown};
 ghost use Rattle.audit_rules.specs.Check.{FirstFails};
 ghost use Rattle.audit_rules.specs.FirstRule.{FirstRule, response_checks, up_checks, down_checks, is_channel};
@@ -29,7 +28,7 @@ use std::alloc::Global;
 /// A request of the client and what goes back to it: a success or an error with the request's method and transaction id
 /// (RFC 8489, section 6.3).
 fn response<'a>(alloc: Global, act: &Act<'_, 'a>) -> Result<Effect<'a>, ActFault>
-    requires served { IsTrue (listens (situation act.now).policy (situation act.now).listen) }
+    requires served { IsServed (situation act.now) }
     requires forth { arrival_path (situation act.now) ≡ Some paths.Client }
     requires back { departure_path (situation act.now) ≡ Some paths.Client }
     ensures { MatchResult result
@@ -68,7 +67,7 @@ fn begins_channel(payload: &[u8]) -> bool
 /// ChannelData of the client.
 #[tactic(auto, using(crate::proofs::Answered::channel_up_may))]
 fn sent_in_channel<'a>(act: &Act<'_, '_>) -> Result<Effect<'a>, Rule>
-    requires served { IsTrue (listens (situation act.now).policy (situation act.now).listen) }
+    requires served { IsServed (situation act.now) }
     requires goes { GoesUp (situation act.now) }
     requires channel { IsTrue (is_channel (situation act.now).arrives.payload) }
     ensures { MatchResult result
@@ -85,7 +84,7 @@ fn sent_in_channel<'a>(act: &Act<'_, '_>) -> Result<Effect<'a>, Rule>
 /// A Send indication.
 #[tactic(auto, using(crate::proofs::Answered::send_may))]
 fn sent_in_indication<'a>(act: &Act<'_, '_>) -> Result<Effect<'a>, Rule>
-    requires served { IsTrue (listens (situation act.now).policy (situation act.now).listen) }
+    requires served { IsServed (situation act.now) }
     requires goes { GoesUp (situation act.now) }
     requires channel { is_channel (situation act.now).arrives.payload ≡ false }
     ensures { MatchResult result
@@ -105,7 +104,7 @@ fn sent_in_indication<'a>(act: &Act<'_, '_>) -> Result<Effect<'a>, Rule>
 /// ChannelData to the client.
 #[tactic(auto, using(crate::proofs::Answered::channel_down_may))]
 fn told_in_channel<'a>(act: &Act<'_, '_>) -> Result<Effect<'a>, Rule>
-    requires served { IsTrue (listens (situation act.now).policy (situation act.now).listen) }
+    requires served { IsServed (situation act.now) }
     requires goes { GoesDown (situation act.now) }
     requires channel { IsTrue (is_channel (situation act.now).leaves.payload) }
     ensures { MatchResult result
@@ -122,7 +121,7 @@ fn told_in_channel<'a>(act: &Act<'_, '_>) -> Result<Effect<'a>, Rule>
 /// A Data indication.
 #[tactic(auto, using(crate::proofs::Answered::data_may))]
 fn told_in_indication<'a>(act: &Act<'_, '_>) -> Result<Effect<'a>, Rule>
-    requires served { IsTrue (listens (situation act.now).policy (situation act.now).listen) }
+    requires served { IsServed (situation act.now) }
     requires goes { GoesDown (situation act.now) }
     requires channel { is_channel (situation act.now).leaves.payload ≡ false }
     ensures { MatchResult result

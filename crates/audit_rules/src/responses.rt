@@ -1,11 +1,10 @@
 //! A response to a request of the client: which of the answers it is.
 
 ghost use Rattle.std.specs.Prelude.{◌≡◌, false, IsTrue, MatchResult};
-ghost use Rattle.audit_model.specs.Policy.{listens};
 ghost use Rattle.audit_stun.specs.declared.class.Class.TheVariants.{Success, Error};
 ghost use Rattle.audit_stun.specs.declared.numbers.method.TheConstants as methods;
 ghost use Rattle.audit_rules.specs.Allocation.{Same};
-ghost use Rattle.audit_rules.specs.Situation.{asked, answered};
+ghost use Rattle.audit_rules.specs.Situation.{IsServed, asked, answered};
 ghost use Rattle.audit_rules.specs.Standing.{IsResponse};
 ghost use Rattle.audit_rules.specs.Check.{FirstFails};
 ghost use Rattle.audit_rules.specs.Checks.{binding_checks, error_checks, new_checks, again_checks, refresh_checks, permission_checks, channel_bind_checks};
@@ -31,7 +30,7 @@ use std::alloc::Global;
 #[tactic(auto, using(crate::proofs::Answered::binding_may))]
 fn binding_success<'a>(act: &Act<'_, '_>, success: &Message<'_>) -> Result<Effect<'a>, Rule>
     requires success { success.now ≡ (situation act.now).leaves.payload }
-    requires served { IsTrue (listens (situation act.now).policy (situation act.now).listen) }
+    requires served { IsServed (situation act.now) }
     requires response { IsResponse (situation act.now) Success methods.BINDING }
     ensures { MatchResult result
         (MayTakeEffect act.now)
@@ -50,7 +49,7 @@ fn allocation_again<'a>(
 ) -> Result<Effect<'a>, Rule>
     requires request { request.now ≡ (situation act.now).arrives.payload }
     requires success { success.now ≡ (situation act.now).leaves.payload }
-    requires served { IsTrue (listens (situation act.now).policy (situation act.now).listen) }
+    requires served { IsServed (situation act.now) }
     requires response { IsResponse (situation act.now) Success methods.ALLOCATE }
     requires again { IsTrue (made_it (situation act.now) (situation act.now).allocation) }
     ensures { MatchResult result
@@ -72,7 +71,7 @@ fn allocation_made<'a>(
 ) -> Result<Effect<'a>, Rule>
     requires request { request.now ≡ (situation act.now).arrives.payload }
     requires success { success.now ≡ (situation act.now).leaves.payload }
-    requires served { IsTrue (listens (situation act.now).policy (situation act.now).listen) }
+    requires served { IsServed (situation act.now) }
     requires response { IsResponse (situation act.now) Success methods.ALLOCATE }
     requires first { made_it (situation act.now) (situation act.now).allocation ≡ false }
     ensures { MatchResult result
@@ -94,7 +93,7 @@ fn refresh_success<'a>(
 ) -> Result<Effect<'a>, Rule>
     requires request { request.now ≡ (situation act.now).arrives.payload }
     requires success { success.now ≡ (situation act.now).leaves.payload }
-    requires served { IsTrue (listens (situation act.now).policy (situation act.now).listen) }
+    requires served { IsServed (situation act.now) }
     requires response { IsResponse (situation act.now) Success methods.REFRESH }
     ensures { MatchResult result
         (MayTakeEffect act.now)
@@ -113,7 +112,7 @@ fn permission_success<'a>(
 ) -> Result<Effect<'a>, ActFault>
     requires request { request.now ≡ (situation act.now).arrives.payload }
     requires success { success.now ≡ (situation act.now).leaves.payload }
-    requires served { IsTrue (listens (situation act.now).policy (situation act.now).listen) }
+    requires served { IsServed (situation act.now) }
     requires response { IsResponse (situation act.now) Success methods.CREATE_PERMISSION }
     ensures { MatchResult result
         (MayTakeEffect act.now)
@@ -131,7 +130,7 @@ fn channel_bind_success<'a>(
 ) -> Result<Effect<'a>, Rule>
     requires request { request.now ≡ (situation act.now).arrives.payload }
     requires success { success.now ≡ (situation act.now).leaves.payload }
-    requires served { IsTrue (listens (situation act.now).policy (situation act.now).listen) }
+    requires served { IsServed (situation act.now) }
     requires response { IsResponse (situation act.now) Success methods.CHANNEL_BIND }
     ensures { MatchResult result
         (MayTakeEffect act.now)
@@ -150,7 +149,7 @@ pub fn error_response<'a>(
 ) -> Result<Effect<'a>, Rule>
     requires request { request.now ≡ (situation act.now).arrives.payload }
     requires error { response.now ≡ (situation act.now).leaves.payload }
-    requires served { IsTrue (listens (situation act.now).policy (situation act.now).listen) }
+    requires served { IsServed (situation act.now) }
     requires response { IsResponse (situation act.now) Error (asked (situation act.now)).method }
     ensures { MatchResult result
         (MayTakeEffect act.now)
@@ -169,7 +168,7 @@ pub fn success_response<'a>(
 ) -> Result<Effect<'a>, ActFault>
     requires request { request.now ≡ (situation act.now).arrives.payload }
     requires success { success.now ≡ (situation act.now).leaves.payload }
-    requires served { IsTrue (listens (situation act.now).policy (situation act.now).listen) }
+    requires served { IsServed (situation act.now) }
     requires response { IsResponse (situation act.now) Success (answered (situation act.now)).method }
     ensures { MatchResult result
         (MayTakeEffect act.now)

@@ -10,7 +10,7 @@ pub struct Channel {
     pub peer: Addr,
 }
 
-/// The allocation of a client (RFC 8656, section 5). Times are nanoseconds since 1970.
+/// The allocation of a client (RFC 8656, section 6). Times are nanoseconds since 1970.
 #[derive(Debug, Drop)]
 pub struct Allocation {
     pub permissions: Leases<u32>,

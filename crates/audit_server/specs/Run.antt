@@ -27,7 +27,7 @@ abbrev pub HasAddress : ℕ → ℕ → Addr → Option Allocation → Type 0
 HasAddress grace moment relayed None = ⊥
 HasAddress grace moment relayed (Some a) = (a.relayed ≡ relayed) × IsUsable a.until moment grace
 
--- no other client has a usable allocation with the address that is handed out (RFC 8656, section 5)
+-- no other client has a usable allocation with the address that is handed out (RFC 8656, section 6)
 abbrev pub IsFree : Rules → State → ℕ → Pair → Change → Type 0
 IsFree w st moment c Same = Unit {0}
 IsFree w st moment c (Makes made) = (other : Pair) → other ≢ c → HasAddress w.grace moment made.relayed (st.table other) → ⊥

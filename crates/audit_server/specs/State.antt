@@ -1,4 +1,4 @@
--- What one TURN server keeps (RFC 8656, section 5), with one table for all clients, and what a step leaves of it.
+-- What one TURN server keeps (RFC 8656, section 6), with one table for all clients, and what a step leaves of it.
 use Rattle.std.specs.Prelude.{ℕ, Bool, true, false, Option, Some, None, if◌then◌else◌}
 use Rattle.audit_model.specs.declared.pair.Pair.{Pair}
 use Rattle.audit_model.specs.declared.sighting.SightId.{SightId}

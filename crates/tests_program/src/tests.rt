@@ -6,6 +6,7 @@ mod credentials;
 mod errors;
 mod feeding;
 mod finding;
+mod lanes;
 mod memory;
 mod messages;
 mod no_memory;
@@ -13,6 +14,7 @@ mod openings;
 mod permissions;
 mod relays;
 mod sessions;
+mod words;
 
 use captures::{SECTION, binding_capture, binding_parts};
 use memory::{Answer, Files, ask, ask_within};
@@ -234,32 +236,6 @@ fn policies_are_refused_by_number_and_line(rt: HostRuntime) -> Result<(), Fail> 
     ] {
         assert_refused(&rt, policy, CERTIFICATE, expected)?;
     }
-    Ok(())
-}
-
-#[test]
-fn wrong_words_are_no_request(rt: HostRuntime) -> Result<(), Fail> {
-    let alloc = rt.alloc();
-    let mut files = Files::new(POLICY, CERTIFICATE, &SECTION);
-    let without_policy = ["turnaudit", "check", "--cert", "cert", "capture"];
-    let answer = ask(alloc, &without_policy, &mut files)?;
-    assert_eq!(rt; answer.status, 5);
-    assert_eq!(rt; answer.out.len(), 0);
-    let unknown = [
-        "turnaudit",
-        "check",
-        "--policy",
-        "policy",
-        "--cert",
-        "cert",
-        "--fast",
-        "capture",
-    ];
-    let answer = ask(alloc, &unknown, &mut files)?;
-    assert_eq!(rt; answer.status, 5);
-    let help = ask(alloc, &["turnaudit", "check", "--help"], &mut files)?;
-    assert_eq!(rt; help.status, 0);
-    assert_eq!(rt; help.err.len(), 0);
     Ok(())
 }
 

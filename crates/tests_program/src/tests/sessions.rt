@@ -79,7 +79,12 @@ impl Session {
         [(self.client_count % 255 + 1) as u8; 12]
     }
 
-    fn see_client(&mut self, stamp: u64, datagram: &UdpDatagram<'_>) -> Result<Seen, BuildFault> {
+    /// A datagram at the server's interface to clients.
+    pub fn see_client(
+        &mut self,
+        stamp: u64,
+        datagram: &UdpDatagram<'_>,
+    ) -> Result<Seen, BuildFault> {
         self.clients.add(self.alloc, stamp, datagram)?;
         let index = self.client_count;
         self.client_count = index.saturating_add(1);
@@ -154,6 +159,11 @@ impl Session {
                 payload,
             },
         )
+    }
+
+    /// Begins the lane of another client at a listen address, whose events come next.
+    pub fn next_lane(&mut self, pair: &str) -> Result<(), AllocError> {
+        writeln!(self.certificate, "lane {pair}")
     }
 
     /// Places an arrival at this moment, in nanoseconds.

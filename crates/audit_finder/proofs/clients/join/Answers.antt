@@ -11,10 +11,10 @@ loop-sighting-preserved c =
     let row = c.args.row.now in
     let i = c.loop-sighting.sighting-index in
     let s = c.sighting-item.result in
-    let known = c.args.pairs.now.keys in
+    let known = c.args.pairs.now in
     elim c.if-arrives_at_listen.branch [
       | then-arrives_at_listen+in_ok-insert w ↦
-          rw w.pairs-is (w.in_ok-insert.ensures.keys
+          rw w.pairs-is (w.in_ok-insert.ensures.ok
           ∙ ap (λ (ks : List Pair). insert_key same ks (s.from, s.to)) c.loop-sighting.invariant
           ∙ sym (joined_next policy row i s c.loop-sighting-test.true c.sighting-item.is known (sym c.arrives_at_listen.ensures ∙ w.if-arrives_at_listen.true)))
       | else-arrives_at_listen w ↦

@@ -4,14 +4,14 @@ use Rattle.audit_finder.specs.Clients.{same}
 use Rattle.audit_finder.proofs.Places.{nowhere, too_far, within}
 use Rattle.audit_finder.proofs.clients.Clients.lane_of.Goals as goal
 
-pub returns-in_err-index-clause-which : goal.returns-in_err-index-clause-which
-returns-in_err-index-clause-which c =
-    c.from_residual.ensures ∙ nowhere (same (c.args.client, c.args.listen)) MAX_LANES c.args.self.now.pairs.keys c.in_err-index.ensures.index
+pub returns-in_err-place-clause-which : goal.returns-in_err-place-clause-which
+returns-in_err-place-clause-which c =
+    c.from_residual.ensures ∙ nowhere (same (c.args.client, c.args.listen)) MAX_LANES c.args.self.now.pairs c.in_err-place.ensures
 
-pub returns-then-index-ge-MAX_LANES-clause-which : goal.returns-then-index-ge-MAX_LANES-clause-which
-returns-then-index-ge-MAX_LANES-clause-which c =
-    too_far (same (c.args.client, c.args.listen)) MAX_LANES c.args.self.now.pairs.keys c.in_ok-index.index c.in_ok-index.ensures.index c.if-index-ge-MAX_LANES.true
+pub returns-then-place-ge-MAX_LANES-clause-which : goal.returns-then-place-ge-MAX_LANES-clause-which
+returns-then-place-ge-MAX_LANES-clause-which c =
+    too_far (same (c.args.client, c.args.listen)) MAX_LANES c.args.self.now.pairs c.in_ok-place.place c.in_ok-place.ensures c.if-place-ge-MAX_LANES.true
 
 pub returns-clause-which : goal.returns-clause-which
 returns-clause-which c =
-    within (same (c.args.client, c.args.listen)) MAX_LANES c.args.self.now.pairs.keys c.in_ok-index.index c.in_ok-index.ensures.index c.if-index-ge-MAX_LANES.false
+    within (same (c.args.client, c.args.listen)) MAX_LANES c.args.self.now.pairs c.in_ok-place.place c.in_ok-place.ensures c.if-place-ge-MAX_LANES.false

@@ -6,14 +6,14 @@ use Rattle.audit_finder.proofs.Found.{kept_apart, kept_few}
 use Rattle.audit_finder.proofs.clients.Clients.lanes_from.Goals as goal
 
 pub returns-clause-which : goal.returns-clause-which
-returns-clause-which c = c.from.ensures ∙ ap (drop c.args.first) (c.with_lanes.ensures ∙ ap (take MAX_LANES) c.as_slice.ensures.keys)
+returns-clause-which c = c.from.ensures ∙ ap (drop c.args.first) (c.with_lanes.ensures ∙ ap (take MAX_LANES) c.as_slice.ensures.pairs)
 
 pub returns-clause-apart : goal.returns-clause-apart
 returns-clause-apart c =
-    subst (IsDistinct same) (sym (c.from.ensures ∙ ap (drop c.args.first) (c.with_lanes.ensures ∙ ap (take MAX_LANES) c.as_slice.ensures.keys)))
-    (kept_apart c.args.first MAX_LANES c.args.self.now.pairs.keys c.as_slice.ensures.unique)
+    subst (IsDistinct same) (sym (c.from.ensures ∙ ap (drop c.args.first) (c.with_lanes.ensures ∙ ap (take MAX_LANES) c.as_slice.ensures.pairs)))
+    (kept_apart c.args.first MAX_LANES c.args.self.now.pairs c.as_slice.ensures.apart)
 
 pub returns-clause-few : goal.returns-clause-few
 returns-clause-few c =
-    subst (λ (pairs : List Pair). length pairs ≤ MAX_LANES) (sym (c.from.ensures ∙ ap (drop c.args.first) (c.with_lanes.ensures ∙ ap (take MAX_LANES) c.as_slice.ensures.keys)))
-    (kept_few c.args.first MAX_LANES c.args.self.now.pairs.keys)
+    subst (λ (pairs : List Pair). length pairs ≤ MAX_LANES) (sym (c.from.ensures ∙ ap (drop c.args.first) (c.with_lanes.ensures ∙ ap (take MAX_LANES) c.as_slice.ensures.pairs)))
+    (kept_few c.args.first MAX_LANES c.args.self.now.pairs)
