@@ -32,7 +32,7 @@ ghost use Rattle.audit_whole.specs.Headline.{Headline};
 ghost use Rattle.audit_whole.specs.Passes.{Passes};
 
 /// At each move of the glued list, the client of another lane has a usable allocation with an address in the server's one
-/// table exactly where a tenancy of that lane, taken by its final end, holds the address there (RFC 8656, section 5).
+/// table exactly where a tenancy of that lane, taken by its final end, holds the address there (RFC 8656, section 6).
 pub fn held()
     ensures { (taken : Taken) (key_for : KeyFor) (certificate : Certificate) → let rules = rules_for taken key_for in
         AllByRecursion Rises (by_lane certificate) → EachRuns rules (lanes_from 0 certificate.lanes) →
