@@ -16,3 +16,4 @@ pub mod Fitting
 pub mod Explained
 pub mod BindingMessages
 pub mod BindingRun
+pub mod Unasked

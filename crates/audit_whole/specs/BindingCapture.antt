@@ -1,4 +1,4 @@
--- A capture of two datagrams: a Binding request, and the success that tells the client its address (RFC 8489, section 3).
+-- A capture of two datagrams: a Binding request, and the success that tells the client its address (RFC 8489, section 2).
 use Rattle.std.specs.Prelude.{ℕ, List, [], ◌∷◌}
 use Rattle.audit_model.specs.declared.address.Addr.{Addr}
 use Rattle.audit_model.specs.declared.pair.Pair.{Pair}

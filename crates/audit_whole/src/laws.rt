@@ -6,6 +6,7 @@ ghost use Rattle.audit_model.specs.declared.address.Addr.{Addr};
 ghost use Rattle.audit_model.specs.declared.certificate.Certificate.{Certificate};
 ghost use Rattle.audit_model.specs.declared.certificate.TheConstants.{MAX_LANES};
 ghost use Rattle.audit_model.specs.declared.pair.Pair.{Pair};
+ghost use Rattle.audit_model.specs.declared.sighting.Side.TheVariants as Side;
 ghost use Rattle.audit_model.specs.declared.sighting.SightId.{SightId};
 ghost use Rattle.audit_model.specs.declared.sighting.Sighting.{Sighting};
 ghost use Rattle.audit_model.specs.Policy.{AreApart, relays};
@@ -31,7 +32,7 @@ ghost use Rattle.audit_whole.specs.Headline.{Headline};
 ghost use Rattle.audit_whole.specs.Passes.{Passes};
 
 /// At each move of the glued list, the client of another lane has a usable allocation with an address in the server's one
-/// table exactly where a tenancy of that lane, taken by its final end, holds the address there (RFC 8656, section 5).
+/// table exactly where a tenancy of that lane, taken by its final end, holds the address there (RFC 8656, section 6).
 pub fn held()
     ensures { (taken : Taken) (key_for : KeyFor) (certificate : Certificate) → let rules = rules_for taken key_for in
         AllByRecursion Rises (by_lane certificate) → EachRuns rules (lanes_from 0 certificate.lanes) →
@@ -83,4 +84,10 @@ pub fn binding_is_explained()
     ensures run { (key_for : KeyFor) → IsCaptureRun binding_capture (rules_for binding_capture key_for) binding_steps }
     ensures certificate { (key_for : KeyFor) →
         (certificate : Certificate) × Conforms binding_capture (rules_for binding_capture key_for) certificate × (glued_steps certificate ≡ binding_steps) }
+{}
+
+/// And there are captures that none explains: those in which datagrams leave and none arrives.
+pub fn nothing_leaves_unasked()
+    ensures { (taken : Taken) (key_for : KeyFor) → ((id : SightId) (s : Sighting) → sighting_at taken id ≡ Some s → s.side ≡ Side.Leaves) →
+        (id : SightId) (s : Sighting) → sighting_at taken id ≡ Some s → (steps : List Step) → IsCaptureRun taken (rules_for taken key_for) steps → ⊥ }
 {}
