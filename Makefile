@@ -1,10 +1,11 @@
-# turnaudit: `make demo` audits a capture of a real server, `make test` runs the gate and judges the captures of real servers.
+# turnaudit: `make demo` audits a capture of a real server, `make test` runs the gate and judges the captures of real servers; `make format`
+# comes before a commit.
 
 PROGRAM = crates/turnaudit/out/turnaudit
 SOURCES = crates.txt $(shell find crates \( -path '*/src/*.rt' -o -path '*/specs/*.antt' -o -path '*/proofs/*.antt' \) -not -path '*/out/*')
 DEMO = examples/coturn-channels-two-files
 
-.PHONY: demo test
+.PHONY: demo format test
 
 # Prints the verdict on the captures of a call over coturn.
 demo: $(PROGRAM)
@@ -14,6 +15,10 @@ demo: $(PROGRAM)
 $(PROGRAM): $(SOURCES)
 	@tools/build.py
 	@touch $@
+
+# Lays out the code of every crate as the gate asks for it.
+format:
+	@for crate in crates/*/; do (cd $$crate && rt fmt) || exit 1; done
 
 # Proves every crate from nothing, tries the must-fail edits, and runs the tests and the program; then, with the program that this
 # built, judges the captures in examples and tries the examples of docs/REFUSALS.md.

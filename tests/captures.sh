@@ -44,6 +44,13 @@ rule_of_drop() { # SIGHT
     "$program" check --policy policy --cert "$scratch/drop" $(names_of) 2>&1 | sed -n 's/^rule \(S[0-9]*\) .*/\1/p'
 }
 
+# The release names the kit that it is proved with.
+if command -v rt > /dev/null; then
+    same=no
+    case $("$program" --version) in *", proved with $(rt version)") same=yes ;; esac
+    tell "release" "$same"
+fi
+
 for folder in */; do
     cd "$folder" || exit 1
     judge "${folder%/} by audit" audit

@@ -1,5 +1,5 @@
 -- What one piece after another leaves in a sink.
-use Rattle.std.proofs.Common.{◌≡◌, ℕ, zero, suc, ◌+◌, ◌<◌, List, [], ◌++◌, Option, Some, None, Ok, refl, ap, sym, ◌∙◌, append_assoc, append-nil, add_assoc, arith}
+use Rattle.std.proofs.Common.{◌≡◌, ℕ, zero, suc, ◌+◌, ◌<◌, List, [], ◌++◌, Option, Some, None, Ok, refl, ap, sym, ◌∙◌, append_assoc, append-nil, arith}
 use Rattle.audit_model.specs.declared.sink.SinkFailed.{SinkFailed}
 use Rattle.audit_model.specs.Sink.{failures_of, followed_by, raised_by}
 

@@ -9,7 +9,7 @@ use Rattle.audit_rules.specs.Situation.{Situation, asked, answered}
 use Rattle.audit_rules.specs.Values.{Names, code_of, transport_of}
 use Rattle.audit_rules.specs.Standing.{IsResponse, IsByUser, IsOwn, WithUsable, NothingLasts}
 
--- Binding (RFC 8489, section 3): the client is told its own address
+-- Binding (RFC 8489, section 2): the client is told its own address
 pub record AnswersBinding (x : Situation) : Type 0 where
   pub response : IsResponse x Success BINDING
   pub mapped : Names XOR_MAPPED_ADDRESS (answered x) x.client

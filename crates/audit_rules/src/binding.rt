@@ -1,4 +1,4 @@
-//! A Binding request and its success (RFC 8489, section 3). See docs/RULES.md, Binding.
+//! A Binding request and its success (RFC 8489, section 2). See docs/RULES.md, Binding.
 
 ghost use Rattle.std.specs.Prelude.{◌≡◌, MatchResult};
 ghost use Rattle.audit_stun.specs.declared.numbers.attribute.TheConstants.{XOR_MAPPED_ADDRESS};

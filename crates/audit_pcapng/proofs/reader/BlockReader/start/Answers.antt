@@ -1,4 +1,3 @@
-use Rattle.std.proofs.Common.{refl}
 use Rattle.audit_pcapng.proofs.Feeding.{refused}
 use Rattle.audit_pcapng.proofs.Stepping.{begun, begun_within}
 use Rattle.audit_pcapng.proofs.reader.BlockReader.start.Goals as goal
