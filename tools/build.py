@@ -31,7 +31,7 @@ def crates_below(program):
 
 def main():
     names = crates_below(PROGRAM)
-    print(f"Proving {len(names)} crates and building the program: from nothing this takes 15 to 25 minutes and 3 GB of memory.", flush=True)
+    print(f"Proving {len(names)} crates and building the program: from nothing this takes 20 to 30 minutes and 3 GB of memory.", flush=True)
     for number, name in enumerate(names, start=1):
         print(f"crate {number} of {len(names)}: {name} ", end="", flush=True)
         began = time.monotonic()
