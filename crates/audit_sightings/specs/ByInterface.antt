@@ -1,8 +1,8 @@
--- Sightings by interface: a interface for each interface's number.
+-- Sightings by interface: a list of them for each interface's number.
 use Rattle.std.specs.Prelude.{◌≡◌, ◌≢◌, ℕ, ◌+◌, ◌≤◌, List, [], ◌∷◌, ◌++◌, length, sum_by, Some, slice_get, slice_index_or}
 use Rattle.audit_model.specs.declared.sighting.Sighting.{Sighting}
 
--- the interface of an interface, empty where there is none
+-- the sightings of an interface, none where there is no such interface
 abbrev pub of_interface : List (List Sighting) → ℕ → List Sighting
 of_interface interfaces iface = slice_index_or interfaces iface []
 
