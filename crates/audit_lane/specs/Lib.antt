@@ -1,1 +1,12 @@
 pub mod Users
+pub mod Content
+pub mod Kept
+pub mod Faults
+pub mod After
+pub mod Walk
+pub mod Judged
+pub mod Told
+pub mod Named
+pub mod Run
+pub mod Concluded
+pub mod Seen

@@ -1,12 +1,15 @@
 //! What a lane shows.
 
-ghost use Rattle.std.specs.Prelude.{◌<◌, ◌≤◌, ◌^◌, vec_len};
-ghost use Rattle.audit_model.specs.declared.certificate.TheConstants.{MAX_LANES};
+ghost use Rattle.std.specs.Prelude.{◌≡◌, IfOk};
+ghost use Rattle.audit_lane.specs.Judged.{IsJudged};
+ghost use Rattle.audit_lane.specs.Seen.{judgement_of};
 
+use crate::fault::LaneFault;
 use crate::input::LaneInput;
-use crate::lane::{Lane, LaneFault};
+use crate::state::LaneState;
 use audit_model::{Breach, Listed, Tenancy};
 use std::alloc::{AllocError, Global};
+use std::marker::Model;
 use std::sync::Arc;
 
 /// What the walk of a lane ends with.
@@ -25,30 +28,49 @@ pub struct Finding<'a> {
     outcome: Outcome,
 }
 
+impl<'a> Model for Finding<'a> {
+    ghost use Rattle.audit_lane.specs.Content.{Found};
+    ghost use Rattle.audit_lane.specs.Judged.{IsJudged};
+    ghost use Rattle.audit_lane.specs.Seen.{judgement_of};
+
+    ghost Value = { Found };
+
+    ghost view = { λ f. record { input = f.input.value; outcome = judgement_of f.outcome } };
+
+    ghost invariant = { λ f. IsJudged f.input.value (judgement_of f.outcome) };
+}
+
 impl<'a> Finding<'a> {
-    pub fn input(&self) -> &LaneInput<'a> {
-        &self.input
+    /// What the lane was judged by.
+    pub fn input(&self) -> &LaneInput<'a>
+        ensures { result.now ≡ self.now.input }
+    {
+        &*self.input
     }
 
-    pub fn outcome(&self) -> &Outcome {
+    /// What it shows: the judgement of that input.
+    pub fn outcome(&self) -> &Outcome
+        ensures same { judgement_of result.now ≡ self.now.outcome }
+        ensures judged { IsJudged self.now.input self.now.outcome }
+    {
         &self.outcome
     }
 }
 
-/// The lanes that are to be judged, in the order of their numbers.
-#[derive(Drop)]
-pub struct Job<'a> {
-    pub inputs: Vec<Arc<LaneInput<'a>>>,
-    pub ghost few: { vec_len inputs ≤ MAX_LANES },
-}
-
 /// What the walk of the lane ends with.
 fn outcome_of(alloc: Global, input: &LaneInput<'_>) -> Result<Outcome, AllocError>
-    requires { vec_len input.now.events < 2 ^ 32 }
+    ensures { IfOk result (λ outcome. IsJudged input.now (judgement_of outcome)) }
 {
-    let mut lane = Lane::new(alloc, input);
-    for place in 0..input.events.len() {
-        match lane.step(input, place as u32) {
+    let mut lane = LaneState::new(alloc, input.number(), input.client(), input.listen());
+    let events = input.events();
+    'events: for place in 0..events.len() {
+        match lane.step(
+            input.number(),
+            input.users(),
+            input.policy(),
+            place as u32,
+            events[place],
+        ) {
             Ok(()) => {}
             Err(LaneFault::Broken(breach)) => return Ok(Outcome::Broken(breach)),
             Err(LaneFault::Memory) => return Err(AllocError),
@@ -57,17 +79,17 @@ fn outcome_of(alloc: Global, input: &LaneInput<'_>) -> Result<Outcome, AllocErro
     match lane.end() {
         Err(breach) => Ok(Outcome::Broken(breach)),
         Ok(()) => {
-            let mut tenancies = Vec::from_slice(alloc, lane.tenancies())?;
-            if let Some(running) = lane.running() {
-                tenancies.push(running)?;
-            }
-            Ok(Outcome::Passed(Listed::from(tenancies)))
+            let tenancies = lane.all_tenancies(alloc)?;
+            Ok(Outcome::Passed(tenancies))
         }
     }
 }
 
 /// Judges a lane alone. The cost is n log n in its events.
-pub fn judge<'a>(alloc: Global, input: Arc<LaneInput<'a>>) -> Result<Finding<'a>, AllocError> {
-    let outcome = outcome_of(alloc, &input)?;
+pub fn judge<'a>(alloc: Global, input: Arc<LaneInput<'a>>) -> Result<Finding<'a>, AllocError>
+    ensures input { IfOk result (λ f. f.input ≡ input.entry.value) }
+    ensures outcome { IfOk result (λ f. IsJudged input.entry.value f.outcome) }
+{
+    let outcome = outcome_of(alloc, &*input)?;
     Ok(Finding { input, outcome })
 }

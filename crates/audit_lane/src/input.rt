@@ -1,17 +1,22 @@
 //! What a lane is judged by.
 
-ghost use Rattle.std.specs.Prelude.{All, IfOk, length, option_and_then, slice_get, vec_len, ◌<◌, ◌≡◌, ◌≤◌, ◌^◌};
+ghost use Rattle.std.specs.Prelude.{◌<◌, ◌≡◌, ◌↔◌, ◌≤◌, ◌^◌, All, IfOk, IsTrue, length, map, vec_len};
 ghost use Rattle.audit_keys.specs.KeyFor.{key_for};
 ghost use Rattle.audit_model.specs.declared.certificate.TheConstants.{MAX_EVENTS};
 ghost use Rattle.audit_sightings.specs.Intake.{NamesWhatIsThere, taken};
+ghost use Rattle.audit_lane.specs.Content.{happening, user_of};
+ghost use Rattle.audit_lane.specs.Named.{IsFrom, IsInputOf};
+ghost use Rattle.audit_lane.specs.Told.{Tells};
 ghost use Rattle.audit_lane.specs.Users.{GrowsByOne, TellsItsUser};
 
+use crate::comparing::{same_events, same_policy, same_users};
 use crate::users::add_user;
 use audit_keys::Credentials;
 use audit_model::{Addr, CertLane, Event, Key, Policy};
 use audit_rules::CredRow;
 use audit_sightings::{Intake, Sighting};
 use std::alloc::{AllocError, Global};
+use std::marker::Model;
 use std::sync::Arc;
 
 /// An event of a lane, with the sightings that it names.
@@ -40,22 +45,83 @@ pub enum LaneEvent<'a> {
 /// All that a lane is judged by.
 #[derive(Drop)]
 pub struct LaneInput<'a> {
-    pub number: u32,
-    pub client: Addr,
-    pub listen: Addr,
-    pub policy: &'a Policy,
+    number: u32,
+    client: Addr,
+    listen: Addr,
+    policy: &'a Policy,
     /// The user of a realm, with their key, that each arrival names, where the credentials have one, in the order of the arrivals.
-    pub users: Vec<CredRow<'a>>,
-    pub events: Vec<LaneEvent<'a>>,
-    pub ghost few: { vec_len events ≤ MAX_EVENTS },
+    users: Vec<CredRow<'a>>,
+    events: Vec<LaneEvent<'a>>,
+}
+
+impl<'a> Model for LaneInput<'a> {
+    ghost use Rattle.std.specs.Prelude.{◌≤◌, length, map};
+    ghost use Rattle.audit_model.specs.declared.certificate.TheConstants.{MAX_EVENTS};
+    ghost use Rattle.audit_lane.specs.Content.{Content, happening, user_of};
+
+    ghost Value = { Content };
+
+    ghost view = { λ i. record {
+      number = i.number;
+      client = i.client;
+      listen = i.listen;
+      policy = i.policy.now;
+      users = map user_of i.users.items;
+      events = map happening i.events.items;
+    } };
+
+    ghost invariant = { λ i. length i.events.items ≤ MAX_EVENTS };
 }
 
 impl<'a> LaneInput<'a> {
-    /// The user of that number, if there is one. It takes no memory, and the same time whatever the users are.
-    pub fn user(&self, number: Option<u32>) -> Option<CredRow<'a>>
-        ensures { result ≡ option_and_then (slice_get self.now.users.items) number }
+    /// The lane's number in the certificate.
+    pub fn number(&self) -> u32
+        ensures { result ≡ self.now.number }
     {
-        self.users.get(number? as usize).copied()
+        self.number
+    }
+
+    pub fn client(&self) -> Addr
+        ensures { result ≡ self.now.client }
+    {
+        self.client
+    }
+
+    pub fn listen(&self) -> Addr
+        ensures { result ≡ self.now.listen }
+    {
+        self.listen
+    }
+
+    pub fn policy(&self) -> &Policy
+        ensures { result.now ≡ self.now.policy }
+    {
+        self.policy
+    }
+
+    pub fn users(&self) -> &[CredRow<'a>]
+        ensures { map user_of result.now ≡ self.now.users }
+    {
+        self.users.as_slice()
+    }
+
+    pub fn events(&self) -> &[LaneEvent<'a>]
+        ensures events { map happening result.now ≡ self.now.events }
+        ensures few { length result.now ≤ MAX_EVENTS }
+    {
+        self.events.as_slice()
+    }
+
+    /// Whether both say the same, wherever it stands in memory. It compares every payload.
+    pub fn equals(&self, other: &LaneInput<'_>) -> bool
+        ensures { IsTrue result ↔ (self.now ≡ other.now) }
+    {
+        self.number == other.number
+            && self.client == other.client
+            && self.listen == other.listen
+            && same_policy(self.policy, other.policy)
+            && same_users(self.users.as_slice(), other.users.as_slice())
+            && same_events(self.events.as_slice(), other.events.as_slice())
     }
 }
 
@@ -68,6 +134,7 @@ fn with_sightings<'a>(
 ) -> Result<LaneEvent<'a>, AllocError>
     requires named { NamesWhatIsThere (taken intake.now) event }
     requires few { vec_len users.now < 2 ^ 32 }
+    ensures from { IfOk result (λ found. IsFrom (taken intake.now) event (happening found)) }
     ensures user { IfOk result (TellsItsUser (key_for credentials.now) users.new.items) }
     ensures grows { IfOk result (λ _. GrowsByOne users.old.items users.new.items) }
 {
@@ -106,7 +173,8 @@ pub fn lane_input<'a>(
 ) -> Result<Arc<LaneInput<'a>>, AllocError>
     requires few { length lane.now.events ≤ MAX_EVENTS }
     requires named { All (NamesWhatIsThere (taken intake.now)) lane.now.events }
-    ensures users { IfOk result (λ input. All (TellsItsUser (key_for credentials.now) input.value.users.items) input.value.events.items) }
+    ensures of { IfOk result (λ input. IsInputOf (taken intake.now) number lane.now input.value) }
+    ensures users { IfOk result (λ input. All (Tells (key_for credentials.now) input.value.users) input.value.events) }
 {
     let mut users = Vec::new(alloc);
     let mut events = Vec::with_capacity(alloc, lane.events.len())?;

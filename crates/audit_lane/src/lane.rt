@@ -1,265 +1,74 @@
-//! A lane, walked event by event.
+//! A lane of an input, walked event by event.
 
-ghost use Rattle.std.specs.Prelude.{◌<◌, vec_len};
+ghost use Rattle.std.specs.Prelude.{◌≡◌, ◌<◌, IfErr, IfSome, MatchResult, None, OnOk, Some, length, slice_get};
+ghost use Rattle.audit_lane.specs.After.{after};
+ghost use Rattle.audit_lane.specs.Faults.{IsRight};
+ghost use Rattle.audit_lane.specs.Judged.{at_start, terms_of};
+ghost use Rattle.audit_lane.specs.Seen.{IsShown, SameKept, kept_of};
+ghost use Rattle.audit_lane.specs.Walk.{EndsWith, Shows};
 
-use crate::input::{LaneEvent, LaneInput};
-use audit_model::{At, Breach, Key, Listed, Policy, Rule, SightId, Sighting, Tenancy};
-use audit_rules::{ActFault, CredRow, LaneTable, act};
-use std::alloc::{AllocError, AllocFailed, Global};
-use std::collections::BTreeMap;
+use crate::fault::LaneFault;
+use crate::input::LaneInput;
+use crate::state::LaneState;
+use audit_model::{Breach, Tenancy};
+use std::alloc::Global;
 
-/// An arrival that came in.
-#[derive(Clone, Copy, Debug)]
-struct Arrival {
-    moment: u64,
-    /// The number of the user that it names, among the lane's users.
-    user: Option<u32>,
-    acted: bool,
-}
-
-/// A departure that an act gave.
-#[derive(Clone, Copy, Debug)]
-struct Departure {
-    /// When the act's arrival came in.
-    arrived: u64,
-    /// The act's place in the lane.
-    place: u32,
-}
-
-/// An act whose departure has not left.
-#[derive(Clone, Copy, Debug)]
-struct Owed {
-    at: At,
-    sight: SightId,
-}
-
-/// Why a step is refused.
-#[derive(Clone, Copy, Debug, PartialEq, Eq)]
-pub enum LaneFault {
-    /// The breach that the event shows.
-    Broken(Breach),
-    /// There was no memory to take it in.
-    Memory,
-}
-
-impl From<AllocError> for LaneFault {
-    fn from(_error: AllocError) -> LaneFault {
-        LaneFault::Memory
-    }
-}
-
-impl<T: Drop> From<AllocFailed<T>> for LaneFault {
-    fn from(_failed: AllocFailed<T>) -> LaneFault {
-        LaneFault::Memory
-    }
-}
-
-/// What the events so far leave: the client's table, what came in, and what was given.
+/// A lane of an input, as far as it is walked.
 #[derive(Drop)]
-pub struct Lane {
-    table: LaneTable,
-    number: u32,
-    /// How long an arrival may be held, in nanoseconds.
-    hold: u64,
-    arrivals: BTreeMap<SightId, Arrival>,
-    departures: BTreeMap<SightId, Departure>,
-    /// By the place of the act.
-    owed: BTreeMap<u32, Owed>,
-    tenancies: Listed<Tenancy>,
-    alloc: Global,
+pub struct Lane<'a> {
+    input: &'a LaneInput<'a>,
+    state: LaneState,
 }
 
-impl Lane {
+impl<'a> Lane<'a> {
     /// The lane before its first event. It takes no memory.
-    pub fn new(alloc: Global, input: &LaneInput<'_>) -> Lane {
+    pub fn new(alloc: Global, input: &'a LaneInput<'a>) -> Lane<'a>
+        ensures input { result.input.now ≡ input.now }
+        ensures start { SameKept (kept_of result.state) (at_start input.now) }
+    {
         Lane {
-            table: LaneTable::new(input.number, input.client, input.listen),
-            number: input.number,
-            hold: input.policy.hold,
-            arrivals: BTreeMap::new(alloc),
-            departures: BTreeMap::new(alloc),
-            owed: BTreeMap::new(alloc),
-            tenancies: Listed::new(alloc),
-            alloc,
+            input,
+            state: LaneState::new(alloc, input.number(), input.client(), input.listen()),
         }
     }
 
-    /// Where an event of the lane stands.
-    fn at(&self, key: Key, place: u32) -> At {
-        At {
-            key,
-            lane: self.number,
+    /// Takes in the event at a place, in turn from 0, or tells what it breaks; after a refusal the lane is not walked on.
+    pub fn step(&mut self, place: u32) -> Result<(), LaneFault>
+        requires { place < length self.old.input.now.events }
+        ensures input { self.new.input.now ≡ self.old.input.now }
+        ensures right { OnOk result (IfSome (slice_get self.old.input.now.events place) (IsRight (terms_of self.old.input.now) (kept_of self.old.state))) }
+        ensures after { OnOk result (IfSome (slice_get self.old.input.now.events place) (λ event. SameKept (kept_of self.new.state) (after (terms_of self.old.input.now) place (kept_of self.old.state) event))) }
+        ensures shows { IfErr result (λ fault. IsShown fault (λ breach. IfSome (slice_get self.old.input.now.events place) (λ event. Shows (terms_of self.old.input.now) place (kept_of self.old.state) event breach))) }
+    {
+        let input = self.input;
+        let events = input.events();
+        self.state.step(
+            input.number(),
+            input.users(),
+            input.policy(),
             place,
-        }
-    }
-
-    fn broken(&self, at: At, sight: SightId, rule: Rule) -> LaneFault {
-        LaneFault::Broken(Breach {
-            at,
-            sight,
-            rule,
-            phase: 2,
-        })
-    }
-
-    /// Whether the moment is past the time for which an arrival may be held.
-    fn is_past(&self, arrived: u64, moment: u64) -> bool {
-        moment > arrived.saturating_add(self.hold)
-    }
-
-    fn arrive(
-        &mut self,
-        sighting: &Sighting,
-        user: Option<u32>,
-        key: Key,
-    ) -> Result<(), LaneFault> {
-        if !self.arrivals.contains_key(&sighting.id) {
-            let arrival = Arrival {
-                moment: key.moment,
-                user,
-                acted: false,
-            };
-            self.arrivals.insert(sighting.id, arrival)?;
-        }
-        Ok(())
-    }
-
-    /// The arrival, if it may be answered by the departure now.
-    fn answerable(&self, at: At, arrives: SightId, leaves: SightId) -> Result<Arrival, Rule> {
-        let Some(arrival) = self.arrivals.get(&arrives).copied() else {
-            return Err(Rule::ActBeforeArrival);
-        };
-        if arrival.acted || self.departures.contains_key(&leaves) {
-            return Err(Rule::ActedTwice);
-        }
-        if self.is_past(arrival.moment, at.key.moment) {
-            return Err(Rule::HeldTooLong);
-        }
-        Ok(arrival)
-    }
-
-    /// Notes that the arrival is acted on, and what is owed for it.
-    fn give(
-        &mut self,
-        at: At,
-        arrives: SightId,
-        leaves: SightId,
-        arrival: Arrival,
-    ) -> Result<(), LaneFault> {
-        let acted = Arrival {
-            acted: true,
-            ..arrival
-        };
-        self.arrivals.insert(arrives, acted)?;
-        let departure = Departure {
-            arrived: arrival.moment,
-            place: at.place,
-        };
-        self.departures.insert(leaves, departure)?;
-        self.owed.insert(at.place, Owed { at, sight: arrives })?;
-        Ok(())
-    }
-
-    fn answer(
-        &mut self,
-        input: &LaneInput<'_>,
-        at: At,
-        arrives: &Sighting,
-        leaves: &Sighting,
-    ) -> Result<(), LaneFault> {
-        let arrival = match self.answerable(at, arrives.id, leaves.id) {
-            Ok(arrival) => arrival,
-            Err(rule) => return Err(self.broken(at, arrives.id, rule)),
-        };
-        let judged = match input.user(arrival.user) {
-            Some(user) => self.judge(input.policy, &[user], at, arrives, leaves),
-            None => self.judge(input.policy, &[], at, arrives, leaves),
-        };
-        match judged {
-            Ok(None) => {}
-            Ok(Some(ended)) => self.tenancies.push(ended)?,
-            Err(ActFault::Broken(rule)) => return Err(self.broken(at, arrives.id, rule)),
-            Err(ActFault::Memory) => return Err(LaneFault::Memory),
-        }
-        self.give(at, arrives.id, leaves.id, arrival)
-    }
-
-    /// Answers by the rules of acts, and tells the tenancy that ended by it.
-    fn judge(
-        &mut self,
-        policy: &Policy,
-        users: &[CredRow<'_>],
-        at: At,
-        arrives: &Sighting,
-        leaves: &Sighting,
-    ) -> Result<Option<Tenancy>, ActFault> {
-        act(
-            self.alloc,
-            &mut self.table,
-            users,
-            policy,
-            arrives,
-            leaves,
-            at,
+            events[place as usize],
         )
     }
 
-    fn leave(&mut self, at: At, sighting: &Sighting) -> Result<(), LaneFault> {
-        let Some(departure) = self.departures.get(&sighting.id).copied() else {
-            return Err(self.broken(at, sighting.id, Rule::LeftWithoutAct));
-        };
-        if self.is_past(departure.arrived, at.key.moment) {
-            return Err(self.broken(at, sighting.id, Rule::HeldTooLong));
-        }
-        self.owed.remove(&departure.place);
-        Ok(())
-    }
-
-    /// Takes in the event at a place, in turn from 0, or tells what it breaks.
-    pub fn step(&mut self, input: &LaneInput<'_>, place: u32) -> Result<(), LaneFault>
-        requires { place < vec_len input.now.events }
-    {
-        match input.events[place as usize] {
-            LaneEvent::In {
-                sighting,
-                user,
-                key,
-            } => self.arrive(sighting, user, key),
-            LaneEvent::Act {
-                arrives,
-                leaves,
-                key,
-            } => {
-                let at = self.at(key, place);
-                self.answer(input, at, arrives, leaves)
-            }
-            LaneEvent::Out { sighting, key } => {
-                let at = self.at(key, place);
-                self.leave(at, sighting)
-            }
-        }
-    }
-
     /// Whether the lane may end here: the first act whose departure has not left is a breach. It takes no memory.
-    pub fn end(&self) -> Result<(), Breach> {
-        match self.owed.first_key_value() {
-            None => Ok(()),
-            Some((_, owed)) => Err(Breach {
-                at: owed.at,
-                sight: owed.sight,
-                rule: Rule::ActWithoutDeparture,
-                phase: 2,
-            }),
-        }
+    pub fn end(&self) -> Result<(), Breach>
+        ensures { MatchResult result (λ _. EndsWith (kept_of self.now.state) None) (λ breach. EndsWith (kept_of self.now.state) (Some breach)) }
+    {
+        self.state.end()
     }
 
     /// The tenancies that acts of the lane ended, in order of birth. It takes no memory.
-    pub fn tenancies(&self) -> &[Tenancy] {
-        self.tenancies.as_slice()
+    pub fn tenancies(&self) -> &[Tenancy]
+        ensures { result.now ≡ (kept_of self.now.state).ended }
+    {
+        self.state.tenancies()
     }
 
-    /// The tenancy that runs on after the events so far. It takes no memory.
-    pub fn running(&self) -> Option<Tenancy> {
-        self.table.running()
+    /// The tenancy that runs on after the events so far, born after those that ended. It takes no memory.
+    pub fn running(&self) -> Option<Tenancy>
+        ensures { result ≡ (kept_of self.now.state).standing.tenancy }
+    {
+        self.state.running()
     }
 }

@@ -1,11 +1,23 @@
 //! One lane alone: what its client sent, and what the server answered.
 #![tactic(auto)]
 
+mod comparing;
+mod concluding;
+mod fault;
 mod finding;
 mod input;
+mod job;
+mod judging;
 mod lane;
+pub mod laws;
+mod noted;
+mod state;
 mod users;
 
-pub use finding::{Finding, Job, Outcome, judge};
+pub use concluding::{all_tenancies, count_broken, least_breach};
+pub use fault::LaneFault;
+pub use finding::{Finding, Outcome, judge};
 pub use input::{LaneEvent, LaneInput, lane_input};
-pub use lane::{Lane, LaneFault};
+pub use job::Job;
+pub use lane::Lane;
+pub use state::LaneState;

@@ -1,0 +1,60 @@
+-- The walk of a lane, event by event, to what it ends with.
+use Rattle.std.specs.Prelude.{ℕ, ◌+◌, ◌≡◌, ◌≤◌, ◌⊎◌, Option, Some, None, List, [], ◌∷◌, ◌++◌, IsSome, option_to_list}
+use Rattle.audit_model.specs.declared.event.At.{At}
+use Rattle.audit_model.specs.declared.event.Key.{Key}
+use Rattle.audit_model.specs.declared.rule.Rule.{Rule}
+use Rattle.audit_model.specs.declared.rule.Rule.TheVariants.{ActWithoutDeparture}
+use Rattle.audit_model.specs.declared.sighting.SightId.{SightId}
+use Rattle.audit_model.specs.declared.verdict.Breach.{Breach}
+use Rattle.audit_model.specs.declared.verdict.Tenancy.{Tenancy}
+use Rattle.audit_lane.specs.declared.noted.Owed.{Owed}
+use Rattle.audit_lane.specs.After.{after}
+use Rattle.audit_lane.specs.Content.{Happening, Came, Acted, Went, Judgement, Passes, Breaks}
+use Rattle.audit_lane.specs.Faults.{BreaksRule, IsRight}
+use Rattle.audit_lane.specs.Kept.{Terms, Kept, place_at}
+
+abbrev pub key_at : Happening → Key
+key_at (Came sighting user key) = key
+key_at (Acted arrives leaves key) = key
+key_at (Went sighting key) = key
+
+-- of an act, its arrival
+abbrev pub sight_at : Happening → SightId
+sight_at (Came sighting user key) = sighting.id
+sight_at (Acted arrives leaves key) = arrives.id
+sight_at (Went sighting key) = sighting.id
+
+abbrev pub breach_by : At → SightId → Rule → Breach
+breach_by at sight rule = record { at = at; sight = sight; rule = rule; phase = 2 }
+
+-- the event at a place shows this breach
+pub record Shows (terms : Terms) (place : ℕ) (kept : Kept) (event : Happening) (breach : Breach) : Type 0 where
+  pub rule : Rule
+  pub breaks : BreaksRule terms kept event rule
+  pub is : breach ≡ breach_by (place_at terms (key_at event) place) (sight_at event) rule
+
+-- the first act whose departure has not left
+pub record IsFirst (owed : ℕ → Option Owed) (one : Owed) : Type 0 where
+  pub place : ℕ
+  pub there : owed place ≡ Some one
+  pub least : (other : ℕ) → IsSome (owed other) → place ≤ other
+
+-- the breach at the end of a lane (S13), or none
+abbrev pub EndsWith : Kept → Option Breach → Type 0
+EndsWith kept None = (place : ℕ) → kept.owed place ≡ None
+EndsWith kept (Some breach) = (one : Owed) × IsFirst kept.owed one × (breach ≡ breach_by one.at one.sight ActWithoutDeparture)
+
+-- those that acts ended and the one that runs on, in order of birth
+abbrev pub tenancies_of : Kept → List Tenancy
+tenancies_of kept = kept.ended ++ option_to_list kept.standing.tenancy
+
+abbrev pub EndsIn : Kept → Judgement → Type 0
+EndsIn kept (Breaks breach) = EndsWith kept (Some breach)
+EndsIn kept (Passes tenancies) = EndsWith kept None × (tenancies ≡ tenancies_of kept)
+
+-- The events from a place on, from what those before them left: the breach of the first that shows one, or else what the end says.
+abbrev pub WalksTo : Terms → ℕ → Kept → List Happening → Judgement → Type 0
+WalksTo terms place kept [] judgement = EndsIn kept judgement
+WalksTo terms place kept (event ∷ events) judgement =
+    ((breach : Breach) × Shows terms place kept event breach × (judgement ≡ Breaks breach))
+    ⊎ (IsRight terms kept event × WalksTo terms (place + 1) (after terms place kept event) events judgement)

@@ -1,0 +1,84 @@
+//! What the walk of a lane notes of its events.
+
+ghost use Rattle.std.specs.Prelude.{◌≡◌, ◌++◌, ℕ, None, OnOk, Some, nat_eq, option_to_list};
+ghost use Rattle.std.specs.BTreeMap.{get};
+ghost use Rattle.std.specs.Ordering.{nat_cmp};
+ghost use Rattle.audit_model.specs.declared.sighting.SightId.{SightId as SightName};
+ghost use Rattle.audit_model.specs.Breach.{sight_cmp};
+ghost use Rattle.audit_model.specs.Sames.{same_sight};
+ghost use Rattle.audit_server.specs.State.{put};
+
+use audit_model::{At, Listed, SightId, Tenancy};
+use std::alloc::AllocError;
+use std::collections::BTreeMap;
+
+/// An arrival that came in.
+#[derive(Clone, Copy, Debug)]
+pub struct Arrival {
+    /// When it came in, in nanoseconds since 1970.
+    pub moment: u64,
+    /// The number of the user that it names, among the lane's users.
+    pub user: Option<u32>,
+    pub acted: bool,
+}
+
+/// A departure that an act gave.
+#[derive(Clone, Copy, Debug)]
+pub struct Departure {
+    /// When the act's arrival came in, in nanoseconds since 1970.
+    pub arrived: u64,
+    /// The act's place in the lane.
+    pub place: u32,
+}
+
+/// An act whose departure has not left.
+#[derive(Clone, Copy, Debug)]
+pub struct Owed {
+    pub at: At,
+    /// The act's arrival.
+    pub sight: SightId,
+}
+
+pub fn note_arrival(
+    arrivals: &mut BTreeMap<SightId, Arrival>,
+    sight: SightId,
+    arrival: Arrival,
+) -> Result<(), AllocError>
+    ensures { OnOk result ((q : SightName) → get sight_cmp arrivals.new q ≡ put same_sight (get sight_cmp arrivals.old) sight (Some arrival) q) }
+{
+    arrivals.insert(sight, arrival)?;
+    Ok(())
+}
+
+pub fn note_departure(
+    departures: &mut BTreeMap<SightId, Departure>,
+    sight: SightId,
+    departure: Departure,
+) -> Result<(), AllocError>
+    ensures { OnOk result ((q : SightName) → get sight_cmp departures.new q ≡ put same_sight (get sight_cmp departures.old) sight (Some departure) q) }
+{
+    departures.insert(sight, departure)?;
+    Ok(())
+}
+
+pub fn note_owed(owed: &mut BTreeMap<u32, Owed>, place: u32, one: Owed) -> Result<(), AllocError>
+    ensures { OnOk result ((q : ℕ) → get nat_cmp owed.new q ≡ put nat_eq (get nat_cmp owed.old) place (Some one) q) }
+{
+    owed.insert(place, one)?;
+    Ok(())
+}
+
+pub fn forget_owed(owed: &mut BTreeMap<u32, Owed>, place: u32)
+    ensures { (q : ℕ) → get nat_cmp owed.new q ≡ put nat_eq (get nat_cmp owed.old) place None q }
+{
+    owed.remove(&place);
+}
+
+pub fn add_ended(tenancies: &mut Listed<Tenancy>, ended: Option<Tenancy>) -> Result<(), AllocError>
+    ensures { OnOk result (tenancies.new ≡ tenancies.old ++ option_to_list ended) }
+{
+    if let Some(tenancy) = ended {
+        tenancies.push(tenancy)?;
+    }
+    Ok(())
+}
