@@ -1,7 +1,9 @@
 //! The lanes of a certificate, as they are judged.
 
-ghost use Rattle.std.specs.Prelude.{vec_len, length, IfOk, ◌≡◌, ◌≤◌};
-ghost use Rattle.audit_model.specs.declared.certificate.TheConstants.{MAX_LANES};
+ghost use Rattle.std.specs.Prelude.{IfOk};
+ghost use Rattle.audit_glue.specs.Verdicts.{IsJobOf};
+ghost use Rattle.audit_keys.specs.KeyFor.{key_for};
+ghost use Rattle.audit_lane.specs.Concluded.{InOrder};
 ghost use Rattle.audit_placement.specs.Named.{AllNamed};
 ghost use Rattle.audit_sightings.specs.Intake.{taken};
 
@@ -11,6 +13,7 @@ use audit_model::Certificate;
 use audit_placement::Placement;
 use audit_sightings::Intake;
 use std::alloc::{AllocError, Global};
+use std::sync::Arc;
 
 /// What each lane of a certificate is judged by, where placement has no breach.
 pub fn job<'a>(
@@ -21,22 +24,22 @@ pub fn job<'a>(
     _placement: &Placement,
 ) -> Result<Job<'a>, AllocError>
     requires { AllNamed (taken intake.now) certificate.now }
-    ensures { IfOk result (λ job. vec_len job.inputs ≡ length certificate.now.lanes) }
+    ensures { IfOk result (IsJobOf (taken intake.now) (key_for credentials.now) certificate.now) }
 {
-    let mut inputs = Vec::with_capacity(alloc, certificate.lanes.len())?;
+    let mut job = Job::new(alloc);
     'lanes: for (number, lane) in certificate.lanes.as_slice().iter().enumerate() {
-        inputs.push(lane_input(alloc, number as u32, lane, intake, credentials)?)?;
+        job.push(lane_input(alloc, number as u32, lane, intake, credentials)?)?;
     }
-    Ok(Job { inputs })
+    Ok(job)
 }
 
 /// What each lane shows, in the order of the lanes.
-pub fn judge_all<'a>(alloc: Global, job: Job<'a>) -> Result<Vec<Finding<'a>>, AllocError>
-    ensures { IfOk result (λ findings. vec_len findings ≤ MAX_LANES) }
+pub fn judge_all<'a>(alloc: Global, job: &Job<'a>) -> Result<Vec<Finding<'a>>, AllocError>
+    ensures { IfOk result (λ findings. InOrder job.now findings.items) }
 {
-    let mut inputs = job.inputs;
-    let mut findings = Vec::with_capacity(alloc, inputs.len())?;
-    'lanes: while let Some(input) = inputs.pop() {
+    let mut findings = Vec::with_capacity(alloc, job.len() as usize)?;
+    'lanes: for lane in 0..job.len() {
+        let input = Arc::try_clone(job.input(lane))?;
         findings.push(judge(alloc, input)?)?;
     }
     Ok(findings)

@@ -1,38 +1,20 @@
 //! The verdict.
 
-ghost use Rattle.std.specs.Prelude.{length, ◌≤◌};
+ghost use Rattle.std.specs.Prelude.{length, ◌≤◌, IfOk};
+ghost use Rattle.audit_keys.specs.KeyFor.{key_for};
+ghost use Rattle.audit_lane.specs.Concluded.{ConcludesTo};
+ghost use Rattle.audit_glue.specs.Verdicts.{IsVerdict};
+ghost use Rattle.audit_sightings.specs.Intake.{taken};
 ghost use Rattle.audit_model.specs.declared.certificate.TheConstants.{MAX_LANES};
 
 use crate::lanes::{job, judge_all};
 use audit_keys::Credentials;
-use audit_lane::{Finding, Outcome};
-use audit_model::{Breach, Certificate, Tenancy, Verdict};
+use audit_lane::{Finding, all_tenancies, least_breach};
+use audit_model::{Certificate, Verdict};
 use audit_placement::placed;
 use audit_sightings::Intake;
 use audit_tenancy::clash;
 use std::alloc::{AllocError, Global};
-
-/// The least breach that the lanes show.
-fn least_of_lanes(findings: &[Finding<'_>]) -> Option<Breach> {
-    let mut least = None;
-    for finding in findings {
-        if let Outcome::Broken(breach) = finding.outcome() {
-            least = Breach::least(least, Some(*breach));
-        }
-    }
-    least
-}
-
-/// The tenancies of all lanes.
-fn tenancies_of(alloc: Global, findings: &[Finding<'_>]) -> Result<Vec<Tenancy>, AllocError> {
-    let mut tenancies = Vec::new(alloc);
-    for finding in findings {
-        if let Outcome::Passed(of_lane) = finding.outcome() {
-            tenancies.extend_from_slice(of_lane.as_slice())?;
-        }
-    }
-    Ok(tenancies)
-}
 
 /// The verdict that one finding for each lane, in any order, comes to, where placement has no breach: the least breach of the lanes, or else
 /// of their tenancies. It takes n log n in the tenancies.
@@ -42,11 +24,12 @@ pub fn conclude(
     findings: &[Finding<'_>],
 ) -> Result<Verdict, AllocError>
     requires { length findings.now ≤ MAX_LANES }
+    ensures { IfOk result (ConcludesTo datagrams findings.now) }
 {
-    if let Some(breach) = least_of_lanes(findings) {
+    if let Some(breach) = least_breach(findings) {
         return Ok(Verdict::NotShown(breach));
     }
-    if let Some(breach) = clash(alloc, tenancies_of(alloc, findings)?.as_slice())? {
+    if let Some(breach) = clash(alloc, all_tenancies(alloc, findings)?.as_slice())? {
         return Ok(Verdict::NotShown(breach));
     }
     Ok(Verdict::Conforming {
@@ -61,12 +44,14 @@ pub fn check(
     intake: &Intake,
     credentials: &Credentials,
     certificate: &Certificate,
-) -> Result<Verdict, AllocError> {
+) -> Result<Verdict, AllocError>
+    ensures { IfOk result (IsVerdict (taken intake.now) (key_for credentials.now) certificate.now) }
+{
     let placement = match placed(alloc, intake, certificate)? {
         Ok(placement) => placement,
         Err(breach) => return Ok(Verdict::NotShown(breach)),
     };
     let job = job(alloc, intake, credentials, certificate, &placement)?;
-    let findings = judge_all(alloc, job)?;
+    let findings = judge_all(alloc, &job)?;
     conclude(alloc, placement.datagrams(), findings.as_slice())
 }
