@@ -1,0 +1,40 @@
+-- Where the payload of an act's arrival is a message, the keys for the user that it names are all that the act goes by.
+use Rattle.std.proofs.Common.{ℕ, List, subst}
+use Rattle.audit_stun.specs.Message.{IsMessage}
+use Rattle.audit_stun.specs.Parts.{parts_of}
+use Rattle.audit_rules.specs.Allocation.{Change}
+use Rattle.audit_rules.specs.Answer.{MayAnswer, Answers, Case, Binding, Error as ErrorCase, New, Again, Refresh, Permission, ChannelBind, Send, ChannelUp, Data, ChannelDown}
+use Rattle.audit_rules.specs.Keys.{KeyFor, AgreeOn, with_keys}
+use Rattle.audit_rules.specs.Said.{change_in}
+use Rattle.audit_rules.specs.Situation.{Situation}
+use Rattle.audit_rules.proofs.Keys.{may_keyed, change_keyed}
+
+-- both have the same key for the user and the realm that a message names
+abbrev pub AgreeInMessage : KeyFor → KeyFor → List ℕ → Type 0
+AgreeInMessage one other payload = IsMessage payload (parts_of payload) → AgreeOn one other payload
+
+module _ (key_for : KeyFor) (x : Situation) (agree : AgreeInMessage x.key_for key_for x.arrives.payload) where
+  by_message : IsMessage x.arrives.payload (parts_of x.arrives.payload) → (change : Change) → MayAnswer x change → MayAnswer (with_keys key_for x) change
+  by_message message change may = may_keyed key_for x (agree message) change may
+
+  may_case : (change : Change) (may : MayAnswer x change) (case : Case) → Answers case x change → MayAnswer (with_keys key_for x) change
+  unfolding MayAnswer
+  may_case change may Binding r = by_message r.0.response.request.0 change may
+  may_case change may ErrorCase r = by_message r.0.response.request.0 change may
+  may_case change may New r = by_message r.response.request.0 change may
+  may_case change may Again r = by_message r.0.response.request.0 change may
+  may_case change may Refresh r = by_message r.response.request.0 change may
+  may_case change may Permission r = by_message r.response.request.0 change may
+  may_case change may ChannelBind r = by_message r.response.request.0 change may
+  may_case change may Send r = (may.0, Send, (record { goes = r.0.goes; indication = r.0.indication; relays = r.0.relays; peer = r.0.peer; sends = r.0.sends }, r.1))
+  may_case change may ChannelUp r = (may.0, ChannelUp, (record { goes = r.0.goes; number = r.0.number; past = r.0.past; says = r.0.says; relays = r.0.relays }, r.1))
+  may_case change may Data r = (may.0, Data, (record { goes = r.0.goes; indication = r.0.indication; relays = r.0.relays; peer = r.0.peer; sends = r.0.sends }, r.1))
+  may_case change may ChannelDown r = (may.0, ChannelDown, (record { goes = r.0.goes; number = r.0.number; past = r.0.past; says = r.0.says; padding = r.0.padding; relays = r.0.relays }, r.1))
+
+  may_told : (change : Change) → MayAnswer x change → MayAnswer (with_keys key_for x) change
+  unfolding MayAnswer
+  may_told change may = may_case change may may.1 may.2
+
+  -- by what it says itself
+  pub may_said : MayAnswer x (change_in x) → MayAnswer (with_keys key_for x) (change_in (with_keys key_for x))
+  may_said may = subst (λ (change : Change). MayAnswer (with_keys key_for x) change) (change_keyed key_for x) (may_told (change_in x) may)
