@@ -1,0 +1,8 @@
+//! A value for each of the sightings of one lane.
+#![tactic(auto)]
+
+mod interface;
+mod map;
+mod rising;
+
+pub use map::SightMap;
