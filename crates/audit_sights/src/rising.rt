@@ -1,8 +1,8 @@
 //! Values by index, in a list whose indices rise.
 
-ghost use Rattle.std.specs.Prelude.{◌≡◌, ◌<◌, ◌+◌, ℕ, [], Some, None, if◌then◌else◌, length, nat_eq, ◌↔◌, IsTrue, IfOk, OnErr, MatchOption};
+ghost use Rattle.std.specs.Prelude.{◌≡◌, ◌<◌, ◌≤◌, ◌+◌, ◌*◌, ℕ, [], Some, None, if◌then◌else◌, length, nat_eq, ◌↔◌, IsTrue, IfOk, OnErr, MatchOption};
 ghost use Rattle.std.specs.Bool.{OnTrue, OnFalse};
-ghost use Rattle.audit_sights.specs.Pairs.{value_at, Rises, IsWithin, IsAt, IsNowhere, IsPast};
+ghost use Rattle.audit_sights.specs.Pairs.{value_at, index_at, Rises, IsWithin, IsAt, IsNowhere, IsPast};
 
 use std::alloc::{AllocError, Global};
 use std::marker::Model;
@@ -26,16 +26,34 @@ fn start<V: Copy>(pairs: &[(u32, V)], index: u32) -> usize
     0
 }
 
-/// The one place from `low` on at which a pair may have the index.
-fn place_from<V: Copy>(pairs: &[(u32, V)], index: u32, start: usize) -> usize
-    requires bound { start < length pairs.now }
+/// The last of four places, a quarter apart from `low` on, that is `low` or has no index above this one. It has
+/// no branch, since a processor could not foretell it.
+fn quarters_on<V: Copy>(pairs: &[(u32, V)], index: u32, low: usize, quarter: usize) -> usize
+    requires some { 0 < quarter }
+    requires bound { low + 3 * quarter < length pairs.now }
     requires rises { Rises pairs.now }
-    requires within { IsWithin pairs.now index start (length pairs.now) }
+    ensures from { low ≤ result }
+    ensures to { result ≤ low + 3 * quarter }
+    ensures here { low < result → index_at pairs.now result ≤ index }
+    ensures next { result < low + 3 * quarter → index < index_at pairs.now (result + quarter) }
+{
+    let first = usize::from(pairs[low + quarter].0 <= index);
+    let second = usize::from(pairs[low + 2 * quarter].0 <= index);
+    let third = usize::from(pairs[low + 3 * quarter].0 <= index);
+    low + quarter * (first + second + third)
+}
+
+/// The one place of `size` from `start` on at which a pair may have the index.
+fn place_within<V: Copy>(pairs: &[(u32, V)], index: u32, start: usize, size: usize) -> usize
+    requires some { 0 < size }
+    requires bound { start + size ≤ length pairs.now }
+    requires rises { Rises pairs.now }
+    requires within { IsWithin pairs.now index start (start + size) }
     ensures bound { result < length pairs.now }
     ensures within { IsWithin pairs.now index result (result + 1) }
 {
     let mut low = start;
-    let mut size = pairs.len() - start;
+    let mut size = size;
     'halving: while size > 1 {
         let half = size / 2;
         let middle = low + half;
@@ -45,6 +63,24 @@ fn place_from<V: Copy>(pairs: &[(u32, V)], index: u32, start: usize) -> usize
         size -= half;
     }
     low
+}
+
+/// The one place from `start` on at which a pair may have the index.
+fn place_from<V: Copy>(pairs: &[(u32, V)], index: u32, start: usize) -> usize
+    requires bound { start < length pairs.now }
+    requires rises { Rises pairs.now }
+    requires within { IsWithin pairs.now index start (length pairs.now) }
+    ensures bound { result < length pairs.now }
+    ensures within { IsWithin pairs.now index result (result + 1) }
+{
+    let mut low = start;
+    let mut size = pairs.len() - start;
+    'quartering: while size > 3 {
+        let quarter = size / 4;
+        low = quarters_on(pairs, index, low, quarter);
+        size -= 3 * quarter;
+    }
+    place_within(pairs, index, low, size)
 }
 
 /// The place of the pair with the index. It takes logarithmic time in the number of pairs from there on.

@@ -1,8 +1,8 @@
 use Rattle.std.proofs.Common.{◌≤◌, ◌<◌, ◌+◌, ◌/◌, length, arith}
 use Rattle.audit_sights.specs.Pairs.{index_at}
 use Rattle.audit_sights.proofs.Places.{index_is, within_above, within_below}
-use Rattle.audit_sights.proofs.rising.place_from.Goals.{then-pairs-middle, else-pairs-middle}
-use Rattle.audit_sights.proofs.rising.place_from.Goals as goal
+use Rattle.audit_sights.proofs.rising.place_within.Goals.{then-pairs-middle, else-pairs-middle}
+use Rattle.audit_sights.proofs.rising.place_within.Goals as goal
 
 pub halving-preserved : goal.halving-preserved
 halving-preserved g c =
