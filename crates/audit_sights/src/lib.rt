@@ -4,5 +4,9 @@
 mod interface;
 mod map;
 mod rising;
+#[cfg(test)]
+mod tests;
+#[cfg(test)]
+mod usage;
 
 pub use map::SightMap;

@@ -47,9 +47,9 @@ impl<V: Copy> SightMap<V> {
             values.put(sight.index, value)?;
             return Ok(());
         }
-        let mut values = InterfaceMap::new(self.alloc);
-        values.put(sight.index, value)?;
-        self.by_interface.insert(sight.iface, values)?;
+        let mut first = InterfaceMap::new(self.alloc);
+        first.put(sight.index, value)?;
+        self.by_interface.insert(sight.iface, first)?;
         Ok(())
     }
 }
