@@ -1,0 +1,45 @@
+use super::*;
+use crate::usage::{Seen, note};
+use audit_model::SightId;
+use std::test::Fail;
+
+fn sight(iface: u32, index: u32) -> SightId {
+    SightId { iface, index }
+}
+
+#[test]
+fn finds_what_rose_and_what_did_not(rt: HostRuntime) -> Result<(), Fail> {
+    let mut map: SightMap<u64> = SightMap::new(rt.alloc());
+    for index in 10..30 {
+        map.put(sight(64, index), u64::from(index))?;
+    }
+    map.put(sight(64, 4), 4)?;
+    map.put(sight(64, 2), 2)?;
+    map.put(sight(0, 20), 7)?;
+    map.put(sight(64, 12), 8)?;
+    map.put(sight(64, 4), 9)?;
+    for index in 13..30 {
+        assert_eq!(rt; map.get(sight(64, index)), Some(u64::from(index)));
+    }
+    assert_eq!(rt; map.get(sight(64, 12)), Some(8));
+    assert_eq!(rt; map.get(sight(64, 4)), Some(9));
+    assert_eq!(rt; map.get(sight(64, 2)), Some(2));
+    assert_eq!(rt; map.get(sight(0, 20)), Some(7));
+    assert_eq!(rt; map.get(sight(64, 3)), None);
+    assert_eq!(rt; map.get(sight(64, 30)), None);
+    assert_eq!(rt; map.get(sight(1, 20)), None);
+    Ok(())
+}
+
+#[test]
+fn notes_the_first_alone(rt: HostRuntime) -> Result<(), Fail> {
+    let mut map = SightMap::new(rt.alloc());
+    note(&mut map, sight(0, 1), 5)?;
+    note(&mut map, sight(0, 1), 6)?;
+    let seen = Seen {
+        moment: 5,
+        acted: false,
+    };
+    assert_eq!(rt; map.get(sight(0, 1)), Some(seen));
+    Ok(())
+}
