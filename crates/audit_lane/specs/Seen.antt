@@ -5,10 +5,10 @@ use Rattle.std.specs.Ordering.{nat_cmp}
 use Rattle.audit_model.specs.declared.policy.Policy.{Policy}
 use Rattle.audit_model.specs.declared.sighting.SightId.{SightId}
 use Rattle.audit_model.specs.declared.verdict.Breach.{Breach}
-use Rattle.audit_model.specs.Breach.{sight_cmp}
 use Rattle.audit_rules.specs.declared.credentials.CredRow.{CredRow}
 use Rattle.audit_rules.specs.Effect.{standing}
 use Rattle.audit_rules.specs.Seen.{key_in}
+use Rattle.audit_sights.specs.Found.{found}
 use Rattle.audit_lane.specs.declared.finding.Outcome.{Outcome}
 use Rattle.audit_lane.specs.declared.finding.Outcome.TheVariants.{Passed, Broken as BrokenLane}
 use Rattle.audit_lane.specs.declared.fault.LaneFault.{LaneFault}
@@ -20,8 +20,8 @@ use Rattle.audit_lane.specs.Kept.{Terms, Kept}
 abbrev pub kept_of : LaneState → Kept
 kept_of lane = record {
   standing = standing lane.table;
-  came = get sight_cmp lane.arrivals;
-  gave = get sight_cmp lane.departures;
+  came = found lane.arrivals;
+  gave = found lane.departures;
   owed = get nat_cmp lane.owed;
   ended = lane.tenancies;
 }

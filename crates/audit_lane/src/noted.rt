@@ -4,11 +4,12 @@ ghost use Rattle.std.specs.Prelude.{◌≡◌, ◌++◌, ℕ, None, OnOk, Some, 
 ghost use Rattle.std.specs.BTreeMap.{get};
 ghost use Rattle.std.specs.Ordering.{nat_cmp};
 ghost use Rattle.audit_model.specs.declared.sighting.SightId.{SightId as SightName};
-ghost use Rattle.audit_model.specs.Breach.{sight_cmp};
 ghost use Rattle.audit_model.specs.Sames.{same_sight};
 ghost use Rattle.audit_server.specs.State.{put};
+ghost use Rattle.audit_sights.specs.Found.{found};
 
 use audit_model::{At, Listed, SightId, Tenancy};
+use audit_sights::SightMap;
 use std::alloc::AllocError;
 use std::collections::BTreeMap;
 
@@ -40,24 +41,24 @@ pub struct Owed {
 }
 
 pub fn note_arrival(
-    arrivals: &mut BTreeMap<SightId, Arrival>,
+    arrivals: &mut SightMap<Arrival>,
     sight: SightId,
     arrival: Arrival,
 ) -> Result<(), AllocError>
-    ensures { OnOk result ((q : SightName) → get sight_cmp arrivals.new q ≡ put same_sight (get sight_cmp arrivals.old) sight (Some arrival) q) }
+    ensures { OnOk result ((q : SightName) → found arrivals.new q ≡ put same_sight (found arrivals.old) sight (Some arrival) q) }
 {
-    arrivals.insert(sight, arrival)?;
+    arrivals.put(sight, arrival)?;
     Ok(())
 }
 
 pub fn note_departure(
-    departures: &mut BTreeMap<SightId, Departure>,
+    departures: &mut SightMap<Departure>,
     sight: SightId,
     departure: Departure,
 ) -> Result<(), AllocError>
-    ensures { OnOk result ((q : SightName) → get sight_cmp departures.new q ≡ put same_sight (get sight_cmp departures.old) sight (Some departure) q) }
+    ensures { OnOk result ((q : SightName) → found departures.new q ≡ put same_sight (found departures.old) sight (Some departure) q) }
 {
-    departures.insert(sight, departure)?;
+    departures.put(sight, departure)?;
     Ok(())
 }
 

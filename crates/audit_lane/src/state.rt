@@ -4,11 +4,11 @@ ghost use Rattle.std.specs.Prelude.{◌≡◌, ◌++◌, ℕ, IfErr, IfOk, List,
 ghost use Rattle.std.specs.BTreeMap.{get};
 ghost use Rattle.std.specs.Ordering.{nat_cmp};
 ghost use Rattle.audit_model.specs.declared.sighting.SightId.{SightId as SightName};
-ghost use Rattle.audit_model.specs.Breach.{sight_cmp};
 ghost use Rattle.audit_model.specs.Sames.{same_sight};
 ghost use Rattle.audit_rules.specs.declared.credentials.CredRow.{CredRow as Row};
 ghost use Rattle.audit_rules.specs.Effect.{standing};
 ghost use Rattle.audit_server.specs.State.{put};
+ghost use Rattle.audit_sights.specs.Found.{found};
 ghost use Rattle.audit_lane.specs.After.{after, new_arrival};
 ghost use Rattle.audit_lane.specs.Content.{Acted, Came, Went, happening};
 ghost use Rattle.audit_lane.specs.Faults.{IsRight, act_fault, out_fault};
@@ -24,6 +24,7 @@ use crate::noted::{
 };
 use audit_model::{Addr, At, Breach, Key, Listed, Policy, Rule, SightId, Sighting, Tenancy};
 use audit_rules::{ActFault, CredRow, LaneTable};
+use audit_sights::SightMap;
 use std::alloc::{AllocError, Global};
 use std::collections::BTreeMap;
 
@@ -31,8 +32,8 @@ use std::collections::BTreeMap;
 #[derive(Drop)]
 pub struct LaneState {
     table: LaneTable,
-    arrivals: BTreeMap<SightId, Arrival>,
-    departures: BTreeMap<SightId, Departure>,
+    arrivals: SightMap<Arrival>,
+    departures: SightMap<Departure>,
     /// By the place of the act.
     owed: BTreeMap<u32, Owed>,
     tenancies: Listed<Tenancy>,
@@ -46,8 +47,8 @@ impl LaneState {
     {
         LaneState {
             table: LaneTable::new(number, client, listen),
-            arrivals: BTreeMap::new(alloc),
-            departures: BTreeMap::new(alloc),
+            arrivals: SightMap::new(alloc),
+            departures: SightMap::new(alloc),
             owed: BTreeMap::new(alloc),
             tenancies: Listed::new(alloc),
             alloc,
@@ -57,7 +58,7 @@ impl LaneState {
     fn arrive(&mut self, sighting: &Sighting, user: Option<u32>, key: Key) -> Result<(), AllocError>
         ensures { OnOk result ((terms : Terms) (place : ℕ) → SameKept (kept_of self.new) (after terms place (kept_of self.old) (Came sighting.now user key))) }
     {
-        if !self.arrivals.contains_key(&sighting.id) {
+        if self.arrivals.get(sighting.id).is_none() {
             let arrival = Arrival {
                 moment: key.moment,
                 user,
@@ -77,14 +78,14 @@ impl LaneState {
         leaves: SightId,
     ) -> Result<Arrival, Rule>
         ensures { MatchResult result
-            (λ arrival. (act_fault hold (get sight_cmp self.now.arrivals arrives) (get sight_cmp self.now.departures leaves) moment ≡ None)
-            × (get sight_cmp self.now.arrivals arrives ≡ Some arrival))
-            (λ rule. act_fault hold (get sight_cmp self.now.arrivals arrives) (get sight_cmp self.now.departures leaves) moment ≡ Some rule) }
+            (λ arrival. (act_fault hold (found self.now.arrivals arrives) (found self.now.departures leaves) moment ≡ None)
+            × (found self.now.arrivals arrives ≡ Some arrival))
+            (λ rule. act_fault hold (found self.now.arrivals arrives) (found self.now.departures leaves) moment ≡ Some rule) }
     {
-        let Some(arrival) = self.arrivals.get(&arrives).copied() else {
+        let Some(arrival) = self.arrivals.get(arrives) else {
             return Err(Rule::ActBeforeArrival);
         };
-        if arrival.acted || self.departures.contains_key(&leaves) {
+        if arrival.acted || self.departures.get(leaves).is_some() {
             return Err(Rule::ActedTwice);
         }
         if is_past(hold, arrival.moment, moment) {
@@ -103,10 +104,10 @@ impl LaneState {
     ) -> Result<(), AllocError>
         ensures table { standing self.new.table ≡ standing self.old.table }
         ensures ended { self.new.tenancies ≡ self.old.tenancies }
-        ensures came { OnOk result ((q : SightName) → get sight_cmp self.new.arrivals q
-            ≡ put same_sight (get sight_cmp self.old.arrivals) arrives (Some (record { moment = arrival.moment; user = arrival.user; acted = true })) q) }
-        ensures gave { OnOk result ((q : SightName) → get sight_cmp self.new.departures q
-            ≡ put same_sight (get sight_cmp self.old.departures) leaves (Some (record { arrived = arrival.moment; place = at.place })) q) }
+        ensures came { OnOk result ((q : SightName) → found self.new.arrivals q
+            ≡ put same_sight (found self.old.arrivals) arrives (Some (record { moment = arrival.moment; user = arrival.user; acted = true })) q) }
+        ensures gave { OnOk result ((q : SightName) → found self.new.departures q
+            ≡ put same_sight (found self.old.departures) leaves (Some (record { arrived = arrival.moment; place = at.place })) q) }
         ensures owed { OnOk result ((q : ℕ) → get nat_cmp self.new.owed q
             ≡ put nat_eq (get nat_cmp self.old.owed) at.place (Some (record { at = at; sight = arrives })) q) }
     {
@@ -162,10 +163,10 @@ impl LaneState {
     /// The act that gave the departure, which may leave now.
     fn leavable(&self, hold: u64, moment: u64, leaves: SightId) -> Result<Departure, Rule>
         ensures { MatchResult result
-            (λ given. (out_fault hold (get sight_cmp self.now.departures leaves) moment ≡ None) × (get sight_cmp self.now.departures leaves ≡ Some given))
-            (λ rule. out_fault hold (get sight_cmp self.now.departures leaves) moment ≡ Some rule) }
+            (λ given. (out_fault hold (found self.now.departures leaves) moment ≡ None) × (found self.now.departures leaves ≡ Some given))
+            (λ rule. out_fault hold (found self.now.departures leaves) moment ≡ Some rule) }
     {
-        let Some(given) = self.departures.get(&leaves).copied() else {
+        let Some(given) = self.departures.get(leaves) else {
             return Err(Rule::LeftWithoutAct);
         };
         if is_past(hold, given.arrived, moment) {
