@@ -2,6 +2,7 @@
 
 use crate::judge::Judge;
 use crate::lanes::ACTS_BEFORE;
+use crate::numbers::{AnswerNumber, ArrivalNumber, LaneNumber};
 use crate::portion::Portion;
 use crate::said::{Says, asked_channel};
 use crate::search::{Holders, Search};
@@ -17,9 +18,9 @@ impl Search {
     pub(crate) fn act_on(
         &mut self,
         judge: &Judge<'_>,
-        lane: u32,
-        number: u32,
-        answer: u32,
+        lane: LaneNumber,
+        number: ArrivalNumber,
+        answer: AnswerNumber,
         portion: &mut Portion,
     ) -> Result<bool, AllocError> {
         let (Some(arrives), Some(leaves)) = (
@@ -29,7 +30,7 @@ impl Search {
             return Ok(false);
         };
         let is_deletion = self.answers.says(answer) == Some(Says::Deleted);
-        let Some(of) = self.lanes.get_mut(lane as usize) else {
+        let Some(of) = self.lanes.get_mut(lane.index()) else {
             return Ok(false);
         };
         if is_deletion && of.current.table.running().is_some() {
@@ -52,8 +53,8 @@ impl Search {
     pub(crate) fn give_pending(
         &mut self,
         judge: &Judge<'_>,
-        lane: u32,
-        but: u32,
+        lane: LaneNumber,
+        but: AnswerNumber,
         portion: &mut Portion,
     ) -> Result<bool, AllocError> {
         let Some(other) = self.first_change(lane, but) else {
@@ -66,8 +67,8 @@ impl Search {
     }
 
     /// The first answer of a lane that is kept back and changes what allocation there is, other than this one.
-    fn first_change(&self, lane: u32, but: u32) -> Option<u32> {
-        let of = self.lanes.get(lane as usize)?;
+    fn first_change(&self, lane: LaneNumber, but: AnswerNumber) -> Option<AnswerNumber> {
+        let of = self.lanes.get(lane.index())?;
         for (_, answer) in of.pending.iter().take(LOOKED_AT) {
             if *answer != but {
                 if self
@@ -86,10 +87,10 @@ impl Search {
     pub(crate) fn end_now(
         &mut self,
         judge: &Judge<'_>,
-        lane: u32,
+        lane: LaneNumber,
         portion: &mut Portion,
     ) -> Result<(), AllocError> {
-        let ending = match self.lanes.get(lane as usize) {
+        let ending = match self.lanes.get(lane.index()) {
             Some(of) => of.ending,
             None => None,
         };
@@ -104,11 +105,11 @@ impl Search {
     }
 
     /// Another lane that holds a relayed address now.
-    pub(crate) fn other_holder(&self, lane: u32, relayed: Addr) -> Option<u32> {
+    pub(crate) fn other_holder(&self, lane: LaneNumber, relayed: Addr) -> Option<LaneNumber> {
         let holder = self.holders.get(&relayed)?.last;
         let holds = self
             .lanes
-            .get(holder as usize)?
+            .get(holder.index())?
             .holds(relayed, self.clock.moment());
         if holds && holder != lane {
             Some(holder)
@@ -118,7 +119,7 @@ impl Search {
     }
 
     /// Notes that a lane has a relayed address from now on.
-    fn note_holder(&mut self, lane: u32, relayed: Addr) -> Result<(), AllocError> {
+    fn note_holder(&mut self, lane: LaneNumber, relayed: Addr) -> Result<(), AllocError> {
         let before = match self.holders.get(&relayed) {
             Some(holders) if holders.last != lane => Some(holders.last),
             Some(holders) => holders.before,
@@ -133,9 +134,9 @@ impl Search {
     pub(crate) fn commit_answer(
         &mut self,
         judge: &Judge<'_>,
-        lane: u32,
-        number: u32,
-        answer: u32,
+        lane: LaneNumber,
+        number: ArrivalNumber,
+        answer: AnswerNumber,
         key: Key,
         portion: &mut Portion,
     ) -> Result<(), AllocError> {
@@ -154,7 +155,7 @@ impl Search {
             }
         }
         let arrives = self.sighting_of(judge, number);
-        if let Some(of) = self.lanes.get_mut(lane as usize) {
+        if let Some(of) = self.lanes.get_mut(lane.index()) {
             match says {
                 Says::Allocated(relayed) => of.current.relayed = Some(relayed),
                 Says::Bound => {
@@ -179,8 +180,8 @@ impl Search {
     /// Writes the act of an arrival and a departure, behind the arrival's own event if that isn't there yet.
     pub(crate) fn write_act(
         &mut self,
-        lane: u32,
-        number: u32,
+        lane: LaneNumber,
+        number: ArrivalNumber,
         gives: SightId,
         key: Key,
         portion: &mut Portion,

@@ -1,5 +1,6 @@
 //! The successes and errors that leave.
 
+use crate::numbers::{AnswerNumber, ArrivalNumber, LaneNumber};
 use crate::queues::Queues;
 use crate::said::Says;
 use audit_model::SightId;
@@ -14,11 +15,11 @@ pub struct Answer {
     pub sight: SightId,
     pub says: Says,
     /// The request that it answers, once that is known.
-    pub arrival: Option<u32>,
-    pub lane: u32,
+    pub arrival: Option<ArrivalNumber>,
+    pub lane: LaneNumber,
     /// The answers to the same client before and behind it.
-    pub before: Option<u32>,
-    pub behind: Option<u32>,
+    pub before: Option<AnswerNumber>,
+    pub behind: Option<AnswerNumber>,
     /// Of a new allocation, the least moment at which the answer leaves that says that it is deleted.
     pub deleted_from: Option<u64>,
     pub is_acted: bool,
@@ -27,7 +28,7 @@ pub struct Answer {
 /// The lane and the transaction id of a response.
 #[derive(Clone, Copy, Debug, PartialEq, Eq, PartialOrd, Ord)]
 pub struct Transaction {
-    pub lane: u32,
+    pub lane: LaneNumber,
     pub id: [u8; 12],
 }
 
@@ -51,10 +52,10 @@ impl Answers {
         &mut self,
         sight: SightId,
         says: Says,
-        arrival: Option<u32>,
-        before: Option<u32>,
+        arrival: Option<ArrivalNumber>,
+        before: Option<AnswerNumber>,
         of: Transaction,
-    ) -> Result<u32, AllocError> {
+    ) -> Result<AnswerNumber, AllocError> {
         self.list.push(Answer {
             sight,
             says,
@@ -65,9 +66,10 @@ impl Answers {
             deleted_from: None,
             is_acted: false,
         })?;
-        let number = self
-            .queues
-            .add(if arrival.is_none() { Some(of) } else { None })?;
+        let number = AnswerNumber(
+            self.queues
+                .add(if arrival.is_none() { Some(of) } else { None })?,
+        );
         if let Some(before) = before {
             if let Some(before) = self.get_mut(before) {
                 before.behind = Some(number);
@@ -76,21 +78,21 @@ impl Answers {
         Ok(number)
     }
 
-    pub fn get(&self, number: u32) -> Option<&Answer> {
-        self.list.get(number as usize)
+    pub fn get(&self, number: AnswerNumber) -> Option<&Answer> {
+        self.list.get(number.index())
     }
 
     /// Whether one of the last answers to the same client before it wasn't given yet.
-    pub fn is_behind_another(&self, number: u32) -> bool {
+    pub fn is_behind_another(&self, number: AnswerNumber) -> bool {
         self.is_behind(number, false)
     }
 
     /// Whether one of the last answers to the same client before it wasn't given yet, and makes or deletes an allocation.
-    pub fn is_behind_change(&self, number: u32) -> bool {
+    pub fn is_behind_change(&self, number: AnswerNumber) -> bool {
         self.is_behind(number, true)
     }
 
-    fn is_behind(&self, number: u32, only_changes: bool) -> bool {
+    fn is_behind(&self, number: AnswerNumber, only_changes: bool) -> bool {
         let mut before = self.before(number);
         for _ in 0..NEIGHBOURS {
             let Some(one) = before else {
@@ -108,7 +110,7 @@ impl Answers {
     }
 
     /// Whether one of the next answers to the same client behind it says that there is no allocation, with no deletion between.
-    pub fn is_before_refusal(&self, number: u32) -> bool {
+    pub fn is_before_refusal(&self, number: AnswerNumber) -> bool {
         let mut behind = self.behind(number);
         for _ in 0..NEIGHBOURS {
             let Some(one) = behind else {
@@ -123,26 +125,26 @@ impl Answers {
         false
     }
 
-    fn before(&self, number: u32) -> Option<u32> {
+    fn before(&self, number: AnswerNumber) -> Option<AnswerNumber> {
         self.get(number)?.before
     }
 
-    fn behind(&self, number: u32) -> Option<u32> {
+    fn behind(&self, number: AnswerNumber) -> Option<AnswerNumber> {
         self.get(number)?.behind
     }
 
     /// What an answer says.
-    pub fn says(&self, number: u32) -> Option<Says> {
+    pub fn says(&self, number: AnswerNumber) -> Option<Says> {
         Some(self.get(number)?.says)
     }
 
-    pub fn get_mut(&mut self, number: u32) -> Option<&mut Answer> {
-        self.list.get_mut(number as usize)
+    pub fn get_mut(&mut self, number: AnswerNumber) -> Option<&mut Answer> {
+        self.list.get_mut(number.index())
     }
 
     /// The first of the transaction that no request has.
-    pub fn first(&self, of: &Transaction) -> Option<u32> {
-        self.queues.first(of)
+    pub fn first(&self, of: &Transaction) -> Option<AnswerNumber> {
+        Some(AnswerNumber(self.queues.first(of)?))
     }
 
     /// Takes the first of the transaction out.

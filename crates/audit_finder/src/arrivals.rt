@@ -1,6 +1,7 @@
 //! The datagrams that arrive.
 
 use crate::causes::Cause;
+use crate::numbers::{AnswerNumber, ArrivalNumber, LaneNumber};
 use crate::queues::Queues;
 use audit_model::{Key, SightId};
 use std::alloc::{AllocError, Global};
@@ -12,9 +13,9 @@ pub struct Arrival {
     /// Where it is placed, once it is.
     pub key: Option<Key>,
     /// The client's lane; none of a peer's datagram.
-    pub lane: Option<u32>,
+    pub lane: Option<LaneNumber>,
     /// The answer to it, of a request for which one is captured.
-    pub answer: Option<u32>,
+    pub answer: Option<AnswerNumber>,
     pub is_acted: bool,
     /// Its event stands in a lane, or it is dropped.
     pub is_given: bool,
@@ -39,9 +40,9 @@ impl Arrivals {
     pub fn add(
         &mut self,
         sight: SightId,
-        lane: Option<u32>,
+        lane: Option<LaneNumber>,
         cause: Option<Cause>,
-    ) -> Result<u32, AllocError> {
+    ) -> Result<ArrivalNumber, AllocError> {
         self.list.push(Arrival {
             sight,
             key: None,
@@ -50,21 +51,21 @@ impl Arrivals {
             is_acted: false,
             is_given: false,
         })?;
-        self.queues.add(cause)
+        Ok(ArrivalNumber(self.queues.add(cause)?))
     }
 
-    pub fn get(&self, number: u32) -> Option<&Arrival> {
-        self.list.get(number as usize)
+    pub fn get(&self, number: ArrivalNumber) -> Option<&Arrival> {
+        self.list.get(number.index())
     }
 
-    pub fn get_mut(&mut self, number: u32) -> Option<&mut Arrival> {
-        self.list.get_mut(number as usize)
+    pub fn get_mut(&mut self, number: ArrivalNumber) -> Option<&mut Arrival> {
+        self.list.get_mut(number.index())
     }
 
     /// The first that asks for this, those left out that were acted on or came too long ago.
-    pub fn first(&mut self, cause: &Cause, earliest: u64) -> Option<u32> {
+    pub fn first(&mut self, cause: &Cause, earliest: u64) -> Option<ArrivalNumber> {
         for _ in 0..self.list.len() {
-            let first = self.queues.first(cause)?;
+            let first = ArrivalNumber(self.queues.first(cause)?);
             match self.get(first) {
                 Some(arrival) if is_past(arrival, earliest) => self.queues.skip(cause),
                 _ => return Some(first),
@@ -74,8 +75,8 @@ impl Arrivals {
     }
 
     /// The last that asked for this and was acted on, unless it came too long ago.
-    pub fn past(&self, cause: &Cause, earliest: u64) -> Option<u32> {
-        let past = self.queues.past(cause)?;
+    pub fn past(&self, cause: &Cause, earliest: u64) -> Option<ArrivalNumber> {
+        let past = ArrivalNumber(self.queues.past(cause)?);
         if self.get(past)?.key?.moment < earliest {
             return None;
         }
@@ -83,13 +84,13 @@ impl Arrivals {
     }
 
     /// The last that asks for this, of all that were added.
-    pub fn last(&self, cause: &Cause) -> Option<u32> {
-        self.queues.last(cause)
+    pub fn last(&self, cause: &Cause) -> Option<ArrivalNumber> {
+        Some(ArrivalNumber(self.queues.last(cause)?))
     }
 
     /// The next that asks for the same.
-    pub fn next(&self, number: u32) -> Option<u32> {
-        self.queues.behind(number)
+    pub fn next(&self, number: ArrivalNumber) -> Option<ArrivalNumber> {
+        Some(ArrivalNumber(self.queues.behind(number.0)?))
     }
 }
 

@@ -6,6 +6,7 @@
 use crate::answers::Transaction;
 use crate::clock::Clock;
 use crate::judge::Judge;
+use crate::numbers::{AnswerNumber, ArrivalNumber, LaneNumber};
 use crate::portion::Portion;
 use crate::said::{Says, is_request};
 use crate::search::Search;
@@ -17,7 +18,7 @@ impl Search {
     pub(crate) fn place_arrival(
         &mut self,
         judge: &Judge<'_>,
-        number: u32,
+        number: ArrivalNumber,
         sighting: &Sighting,
         portion: &mut Portion,
     ) -> Result<(), AllocError> {
@@ -41,9 +42,9 @@ impl Search {
     }
 
     /// Notes a peer's datagram with the lane that holds its relayed address.
-    fn note_received(&mut self, number: u32, sighting: &Sighting) {
+    fn note_received(&mut self, number: ArrivalNumber, sighting: &Sighting) {
         if let Some(holder) = self.holders.get(&sighting.to) {
-            if let Some(lane) = self.lanes.get_mut(holder.last as usize) {
+            if let Some(lane) = self.lanes.get_mut(holder.last.index()) {
                 lane.last.received = Some(number);
             }
         }
@@ -52,13 +53,13 @@ impl Search {
     fn place_of_client(
         &mut self,
         judge: &Judge<'_>,
-        lane: u32,
-        number: u32,
+        lane: LaneNumber,
+        number: ArrivalNumber,
         sighting: &Sighting,
         portion: &mut Portion,
     ) -> Result<(), AllocError> {
         let asks = is_request(sighting);
-        if let Some(lane) = self.lanes.get_mut(lane as usize) {
+        if let Some(lane) = self.lanes.get_mut(lane.index()) {
             if asks {
                 lane.last.request = Some(number);
             } else {
@@ -76,8 +77,8 @@ impl Search {
     fn ask(
         &mut self,
         judge: &Judge<'_>,
-        lane: u32,
-        number: u32,
+        lane: LaneNumber,
+        number: ArrivalNumber,
         sighting: &Sighting,
         portion: &mut Portion,
     ) -> Result<(), AllocError> {
@@ -104,8 +105,8 @@ impl Search {
     /// Whether an answer is best given as it leaves: it leaves behind another that is kept back; or it deletes an allocation; or it
     /// makes one, and another client has or is to have its address, or another answer near it speaks against it. That there is no
     /// allocation is best said at once.
-    fn is_kept_back(&self, judge: &Judge<'_>, lane: u32, answer: u32) -> bool {
-        let (Some(of), Some(known)) = (self.lanes.get(lane as usize), self.answers.get(answer))
+    fn is_kept_back(&self, judge: &Judge<'_>, lane: LaneNumber, answer: AnswerNumber) -> bool {
+        let (Some(of), Some(known)) = (self.lanes.get(lane.index()), self.answers.get(answer))
         else {
             return false;
         };
@@ -132,12 +133,12 @@ impl Search {
     /// Notes an answer that is given as it leaves.
     fn keep_back(
         &mut self,
-        lane: u32,
-        answer: u32,
+        lane: LaneNumber,
+        answer: AnswerNumber,
         sight: SightId,
         says: Says,
     ) -> Result<(), AllocError> {
-        if let Some(of) = self.lanes.get_mut(lane as usize) {
+        if let Some(of) = self.lanes.get_mut(lane.index()) {
             of.pending.insert(sight, answer)?;
             if says == Says::Deleted {
                 of.ending = Some(answer);
@@ -147,12 +148,16 @@ impl Search {
     }
 
     /// The departure of an answer.
-    pub(crate) fn departure<'a>(&self, judge: &Judge<'a>, answer: u32) -> Option<&'a Sighting> {
+    pub(crate) fn departure<'a>(
+        &self,
+        judge: &Judge<'a>,
+        answer: AnswerNumber,
+    ) -> Option<&'a Sighting> {
         judge.intake.sighting(self.answers.get(answer)?.sight)
     }
 
     /// The answer that was noted with a request.
-    fn noted_answer(&self, number: u32) -> Option<u32> {
+    fn noted_answer(&self, number: ArrivalNumber) -> Option<AnswerNumber> {
         self.arrivals.get(number)?.answer
     }
 
@@ -161,10 +166,10 @@ impl Search {
     fn reserve(
         &mut self,
         judge: &Judge<'_>,
-        lane: u32,
-        number: u32,
+        lane: LaneNumber,
+        number: ArrivalNumber,
         sighting: &Sighting,
-    ) -> Option<u32> {
+    ) -> Option<AnswerNumber> {
         let of = Transaction {
             lane,
             id: request_id(sighting)?,
@@ -181,7 +186,7 @@ impl Search {
     }
 
     /// The first answer of a transaction that can leave from now on.
-    fn first_behind(&mut self, judge: &Judge<'_>, of: &Transaction) -> Option<u32> {
+    fn first_behind(&mut self, judge: &Judge<'_>, of: &Transaction) -> Option<AnswerNumber> {
         for _ in 0..crate::leaving::CANDIDATES {
             let answer = self.answers.first(of)?;
             if self.departure(judge, answer)?.hi >= self.clock.moment() {

@@ -1,5 +1,6 @@
 //! What a datagram that arrives asks for, by which the departure that answers it is found.
 
+use crate::numbers::LaneNumber;
 use audit_model::{Addr, Sighting};
 use audit_stun::numbers::attribute::{DATA, XOR_PEER_ADDRESS};
 use audit_stun::numbers::method;
@@ -11,18 +12,18 @@ use std::hash::{DefaultHasher, Hasher};
 pub enum Cause {
     /// A request of that transaction id.
     Request {
-        lane: u32,
+        lane: LaneNumber,
         id: [u8; 12],
     },
     /// A Send indication (RFC 8656, section 11).
     Send {
-        lane: u32,
+        lane: LaneNumber,
         peer: Addr,
         digest: u64,
     },
     /// ChannelData to the server (RFC 8656, section 12).
     Channel {
-        lane: u32,
+        lane: LaneNumber,
         number: u16,
         digest: u64,
     },
@@ -42,7 +43,7 @@ pub fn digest_of(data: &[u8]) -> u64 {
 }
 
 /// What a client's datagram asks for, if anything is answered to it.
-pub fn cause_of_client(lane: u32, payload: &[u8]) -> Option<Cause> {
+pub fn cause_of_client(lane: LaneNumber, payload: &[u8]) -> Option<Cause> {
     if let Some((number, data, _)) = channel_data(payload) {
         return Some(Cause::Channel {
             lane,

@@ -1,6 +1,7 @@
 //! Arrivals that nothing answered.
 
 use crate::judge::Judge;
+use crate::numbers::ArrivalNumber;
 use crate::portion::Portion;
 use crate::search::Search;
 use audit_model::Event;
@@ -27,7 +28,7 @@ impl Search {
         &mut self,
         intake: &Intake,
         is_last: bool,
-        number: u32,
+        number: ArrivalNumber,
         portion: &mut Portion,
     ) -> Result<(), AllocError> {
         let Some(arrival) = self.arrivals.get_mut(number) else {

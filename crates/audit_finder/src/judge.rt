@@ -1,8 +1,12 @@
 //! Whether the server may act so, by the rules.
 
+ghost use Rattle.std.specs.Prelude.{◌≡◌, option_map};
+ghost use Rattle.audit_finder.specs.Clients.{lane_in};
+
 use crate::clients::Clients;
+use crate::numbers::LaneNumber;
 use audit_keys::Credentials;
-use audit_model::{At, Key, Sighting};
+use audit_model::{Addr, At, Key, Sighting};
 use audit_rules::{ActFault, CredRow, LaneTable, act};
 use audit_sightings::Intake;
 use std::alloc::{AllocError, Global};
@@ -17,10 +21,17 @@ pub struct Judge<'a> {
 }
 
 impl<'a> Judge<'a> {
+    /// The lane of a client at a listen address, if it has one.
+    pub fn lane_of(&self, client: Addr, listen: Addr) -> Option<LaneNumber>
+        ensures { option_map (λ lane. lane.0) result ≡ lane_in self.now.clients.now.pairs (client, listen) }
+    {
+        Some(LaneNumber(self.clients.lane_of(client, listen)?))
+    }
+
     /// Answers a request, and tells whether the server may. Where it may not, the table stays.
     pub fn answers(
         &self,
-        lane: u32,
+        lane: LaneNumber,
         table: &mut LaneTable,
         arrives: &'a Sighting,
         leaves: &Sighting,
@@ -35,7 +46,7 @@ impl<'a> Judge<'a> {
     /// Relays data, and tells whether the server may. The table stays.
     pub fn relays(
         &self,
-        lane: u32,
+        lane: LaneNumber,
         table: &mut LaneTable,
         arrives: &Sighting,
         leaves: &Sighting,
@@ -46,7 +57,7 @@ impl<'a> Judge<'a> {
 
     fn acts(
         &self,
-        lane: u32,
+        lane: LaneNumber,
         table: &mut LaneTable,
         users: &[CredRow<'_>],
         arrives: &Sighting,
@@ -55,7 +66,7 @@ impl<'a> Judge<'a> {
     ) -> Result<bool, AllocError> {
         let at = At {
             key,
-            lane,
+            lane: lane.0,
             place: 0,
         };
         let policy = self.intake.policy();

@@ -1,6 +1,7 @@
 //! What the finder keeps of one client at one listen address.
 
 use crate::clock::after;
+use crate::numbers::{AnswerNumber, ArrivalNumber, LaneNumber};
 use audit_model::{Addr, Key, SightId};
 use audit_rules::LaneTable;
 use std::alloc::{AllocError, Global};
@@ -25,9 +26,9 @@ pub struct Holding {
 }
 
 impl Holding {
-    fn new(alloc: Global, number: u32, client: Addr, listen: Addr) -> Holding {
+    fn new(alloc: Global, number: LaneNumber, client: Addr, listen: Addr) -> Holding {
         Holding {
-            table: LaneTable::new(number, client, listen),
+            table: LaneTable::new(number.0, client, listen),
             relayed: None,
             peers: BTreeMap::new(alloc),
             numbers: BTreeMap::new(alloc),
@@ -81,8 +82,8 @@ impl Deleted {
 
 /// One lane, as it stands.
 #[derive(Drop)]
-pub struct Lane {
-    number: u32,
+pub struct FoundLane {
+    number: LaneNumber,
     client: Addr,
     listen: Addr,
     /// The allocation that is there now.
@@ -92,26 +93,26 @@ pub struct Lane {
     /// The last arrivals that nothing has answered yet.
     pub last: Last,
     /// The last answer to the client that was noted.
-    pub noted: Option<u32>,
+    pub noted: Option<AnswerNumber>,
     /// The last of them that makes an allocation, if none deletes it.
-    pub noted_allocation: Option<u32>,
+    pub noted_allocation: Option<AnswerNumber>,
     /// The answer that says that the allocation is deleted, while that is not done yet.
-    pub ending: Option<u32>,
+    pub ending: Option<AnswerNumber>,
     /// The answers that were not given when their requests arrived, and haven't left yet, with their numbers.
-    pub pending: BTreeMap<SightId, u32>,
+    pub pending: BTreeMap<SightId, AnswerNumber>,
 }
 
 /// The last arrival of each kind.
 #[derive(Clone, Copy)]
 pub struct Last {
-    pub request: Option<u32>,
-    pub sent: Option<u32>,
-    pub received: Option<u32>,
+    pub request: Option<ArrivalNumber>,
+    pub sent: Option<ArrivalNumber>,
+    pub received: Option<ArrivalNumber>,
 }
 
-impl Lane {
-    pub fn new(alloc: Global, number: u32, client: Addr, listen: Addr) -> Lane {
-        Lane {
+impl FoundLane {
+    pub fn new(alloc: Global, number: LaneNumber, client: Addr, listen: Addr) -> FoundLane {
+        FoundLane {
             number,
             client,
             listen,

@@ -3,6 +3,7 @@
 use crate::answers::Answer;
 use crate::causes::Cause;
 use crate::judge::Judge;
+use crate::numbers::{AnswerNumber, ArrivalNumber, LaneNumber};
 use crate::portion::Portion;
 use crate::rows::Wait;
 use crate::said::Says;
@@ -24,11 +25,11 @@ impl Search {
     pub(crate) fn place_answer(
         &mut self,
         judge: &Judge<'_>,
-        answer: u32,
+        answer: AnswerNumber,
         leaves: &Sighting,
         portion: &mut Portion,
     ) -> Result<Option<Wait>, AllocError> {
-        let Some(lane) = judge.clients.lane_of(leaves.to, leaves.from) else {
+        let Some(lane) = judge.lane_of(leaves.to, leaves.from) else {
             return Ok(None);
         };
         let Some(known) = self.answers.get(answer).copied() else {
@@ -57,7 +58,7 @@ impl Search {
 
     /// Whether an answer makes an allocation whose address another client holds and hasn't asked to give up yet, or has to have
     /// had before.
-    fn is_held_elsewhere(&self, judge: &Judge<'_>, answer: u32) -> bool {
+    fn is_held_elsewhere(&self, judge: &Judge<'_>, answer: AnswerNumber) -> bool {
         let Some(known) = self.answers.get(answer) else {
             return false;
         };
@@ -65,7 +66,7 @@ impl Search {
             return false;
         };
         let is_held = match self.other_holder(known.lane, relayed) {
-            Some(holder) => match self.lanes.get(holder as usize) {
+            Some(holder) => match self.lanes.get(holder.index()) {
                 Some(of) => of.ending.is_none(),
                 None => false,
             },
@@ -81,7 +82,7 @@ impl Search {
             return false;
         };
         let until = latest(judge, leaves);
-        let from = (relayed, self.earliest(judge), 0);
+        let from = (relayed, self.earliest(judge), AnswerNumber(0));
         for (address, moment, other) in self.allocations.range(from..).take(GIVEN_BEFORE) {
             if *address != relayed || *moment >= until {
                 return false;
@@ -104,7 +105,12 @@ impl Search {
     }
 
     /// Whether an arrival has no key yet, and can have one before the departure.
-    pub(crate) fn may_come(&self, judge: &Judge<'_>, number: u32, leaves: &Sighting) -> bool {
+    pub(crate) fn may_come(
+        &self,
+        judge: &Judge<'_>,
+        number: ArrivalNumber,
+        leaves: &Sighting,
+    ) -> bool {
         match self.arrivals.get(number) {
             Some(arrival) if arrival.key.is_none() => {
                 match judge.intake.sighting(arrival.sight) {
@@ -119,11 +125,16 @@ impl Search {
     }
 
     /// The request that an answer is most likely to: one of its transaction, or else the client's last one.
-    fn request_for(&mut self, judge: &Judge<'_>, lane: u32, leaves: &Sighting) -> Option<u32> {
+    fn request_for(
+        &mut self,
+        judge: &Judge<'_>,
+        lane: LaneNumber,
+        leaves: &Sighting,
+    ) -> Option<ArrivalNumber> {
         let (id, _) = crate::said::answer_of(leaves.payload.as_slice())?;
         let cause = Cause::Request { lane, id };
         let earliest = self.earliest(judge);
-        let last = match self.lanes.get(lane as usize) {
+        let last = match self.lanes.get(lane.index()) {
             Some(lane) => lane.last.request,
             None => None,
         };
@@ -145,9 +156,9 @@ impl Search {
     fn answer_late(
         &mut self,
         judge: &Judge<'_>,
-        lane: u32,
-        number: u32,
-        answer: u32,
+        lane: LaneNumber,
+        number: ArrivalNumber,
+        answer: AnswerNumber,
         portion: &mut Portion,
     ) -> Result<(), AllocError> {
         if self
@@ -175,7 +186,11 @@ impl Search {
     }
 
     /// The sighting of an arrival.
-    pub(crate) fn sighting_of<'a>(&self, judge: &Judge<'a>, number: u32) -> Option<&'a Sighting> {
+    pub(crate) fn sighting_of<'a>(
+        &self,
+        judge: &Judge<'a>,
+        number: ArrivalNumber,
+    ) -> Option<&'a Sighting> {
         judge.intake.sighting(self.arrivals.get(number)?.sight)
     }
 }

@@ -19,6 +19,7 @@ mod lanes;
 mod leaving;
 mod matching;
 mod noting;
+mod numbers;
 mod origins;
 mod pairs;
 mod portion;

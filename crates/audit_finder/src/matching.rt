@@ -4,6 +4,7 @@ use crate::causes::Cause;
 use crate::clock::after;
 use crate::judge::Judge;
 use crate::leaving::CANDIDATES;
+use crate::numbers::{ArrivalNumber, LaneNumber};
 use crate::origins::Asked;
 use crate::portion::Portion;
 use crate::rows::Wait;
@@ -15,9 +16,9 @@ use std::alloc::AllocError;
 #[derive(Clone, Copy, Debug)]
 enum Choice {
     /// The server may give it in this lane by this one, at this key.
-    Acts(u32, u32, Key),
+    Acts(LaneNumber, ArrivalNumber, Key),
     /// It may be one that has no key yet, and has this least moment.
-    Waits(u32, u64),
+    Waits(ArrivalNumber, u64),
     /// None of those that ask for it.
     None,
 }
@@ -77,7 +78,7 @@ impl Search {
     /// Writes that data leaves.
     fn leave(
         &mut self,
-        lane: u32,
+        lane: LaneNumber,
         leaves: &Sighting,
         portion: &mut Portion,
     ) -> Result<Option<Wait>, AllocError> {
@@ -109,7 +110,7 @@ impl Search {
     fn choose_of(
         &mut self,
         judge: &Judge<'_>,
-        lane: u32,
+        lane: LaneNumber,
         cause: &Cause,
         leaves: &Sighting,
     ) -> Result<Choice, AllocError> {
@@ -154,8 +155,8 @@ impl Search {
     fn key_by(
         &mut self,
         judge: &Judge<'_>,
-        lane: u32,
-        number: u32,
+        lane: LaneNumber,
+        number: ArrivalNumber,
         leaves: &Sighting,
     ) -> Result<Option<Key>, AllocError> {
         let Some(came) = self.waiting_since(number) else {
@@ -166,7 +167,7 @@ impl Search {
         };
         let now = self.clock.tick();
         let given_to = self.given_to;
-        let Some(of) = self.lanes.get_mut(lane as usize) else {
+        let Some(of) = self.lanes.get_mut(lane.index()) else {
             return Ok(None);
         };
         if judge.relays(lane, &mut of.current.table, arrives, leaves, now)? {
@@ -197,7 +198,7 @@ impl Search {
     }
 
     /// The key of an arrival that wasn't acted on yet.
-    fn waiting_since(&self, number: u32) -> Option<Key> {
+    fn waiting_since(&self, number: ArrivalNumber) -> Option<Key> {
         let arrival = self.arrivals.get(number)?;
         if arrival.is_acted {
             return None;
@@ -212,7 +213,7 @@ impl Search {
         judge: &Judge<'_>,
         asked: &Asked,
         leaves: &Sighting,
-    ) -> Option<(u32, u32)> {
+    ) -> Option<(LaneNumber, ArrivalNumber)> {
         let earliest = self.earliest(judge);
         for cause in &asked.causes {
             if let Some((lane, cause)) = cause {
@@ -226,7 +227,7 @@ impl Search {
                 }
             }
         }
-        let last = self.lanes.get(asked.lane as usize)?.last;
+        let last = self.lanes.get(asked.lane.index())?.last;
         let number = if judge.intake.policy().listens(leaves.from) {
             last.received?
         } else {

@@ -4,7 +4,8 @@ use crate::answers::Transaction;
 use crate::causes::{Cause, cause_of_client, cause_of_peer};
 use crate::clients::Clients;
 use crate::judge::Judge;
-use crate::lanes::Lane;
+use crate::lanes::FoundLane;
+use crate::numbers::{AnswerNumber, ArrivalNumber, LaneNumber};
 use crate::rows::{Role, Row};
 use crate::said::{Says, answer_of};
 use crate::search::Search;
@@ -38,7 +39,7 @@ impl Search {
             let Ok(number) = u32::try_from(self.lanes.len()) else {
                 return Ok(());
             };
-            let lane = Lane::new(self.alloc, number, *client, *listen);
+            let lane = FoundLane::new(self.alloc, LaneNumber(number), *client, *listen);
             self.lanes.push(lane)?;
         }
         Ok(())
@@ -63,12 +64,16 @@ impl Search {
         }
     }
 
-    fn note_arrival(&mut self, judge: &Judge<'_>, sighting: &Sighting) -> Result<u32, AllocError> {
+    fn note_arrival(
+        &mut self,
+        judge: &Judge<'_>,
+        sighting: &Sighting,
+    ) -> Result<ArrivalNumber, AllocError> {
         if !judge.intake.policy().listens(sighting.to) {
             let cause = cause_of_peer(sighting);
             return self.arrivals.add(sighting.id, None, Some(cause));
         }
-        let lane = judge.clients.lane_of(sighting.from, sighting.to);
+        let lane = judge.lane_of(sighting.from, sighting.to);
         let cause = match lane {
             Some(lane) => cause_of_client(lane, sighting.payload.as_slice()),
             None => None,
@@ -84,7 +89,7 @@ impl Search {
         if !judge.intake.policy().listens(sighting.from) {
             return Ok(Role::Data);
         }
-        let lane = judge.clients.lane_of(sighting.to, sighting.from);
+        let lane = judge.lane_of(sighting.to, sighting.from);
         let (Some(lane), Some(answer)) = (lane, answer_of(sighting.payload.as_slice())) else {
             return Ok(Role::Data);
         };
@@ -100,14 +105,14 @@ impl Search {
         sighting: &Sighting,
         says: Says,
         of: Transaction,
-    ) -> Result<u32, AllocError> {
+    ) -> Result<AnswerNumber, AllocError> {
         let request = self.request_before(judge, sighting, of);
-        let before = match self.lanes.get(of.lane as usize) {
+        let before = match self.lanes.get(of.lane.index()) {
             Some(lane) => lane.noted,
             None => None,
         };
         let answer = self.answers.add(sighting.id, says, request, before, of)?;
-        if let Some(lane) = self.lanes.get_mut(of.lane as usize) {
+        if let Some(lane) = self.lanes.get_mut(of.lane.index()) {
             lane.noted = Some(answer);
             match says {
                 Says::Allocated(relayed) => {
@@ -135,7 +140,12 @@ impl Search {
 
     /// The last request of a transaction that came before an answer by the same interface, no longer ago than `hold`, if it has
     /// no other answer.
-    fn request_before(&self, judge: &Judge<'_>, answer: &Sighting, of: Transaction) -> Option<u32> {
+    fn request_before(
+        &self,
+        judge: &Judge<'_>,
+        answer: &Sighting,
+        of: Transaction,
+    ) -> Option<ArrivalNumber> {
         let Transaction { lane, id } = of;
         let number = self.arrivals.last(&Cause::Request { lane, id })?;
         let arrival = self.arrivals.get(number)?;

@@ -2,7 +2,8 @@
 
 use crate::causes::{Cause, digest_of};
 use crate::judge::Judge;
-use crate::lanes::{Holding, Lane};
+use crate::lanes::{FoundLane, Holding};
+use crate::numbers::LaneNumber;
 use crate::said::{Given, data_given};
 use crate::search::Search;
 use audit_model::Sighting;
@@ -12,15 +13,15 @@ use audit_model::Sighting;
 #[derive(Clone, Copy)]
 pub(crate) struct Asked {
     /// The lane that it is most likely of.
-    pub(crate) lane: u32,
-    pub(crate) causes: [Option<(u32, Cause)>; 6],
+    pub(crate) lane: LaneNumber,
+    pub(crate) causes: [Option<(LaneNumber, Cause)>; 6],
 }
 
 impl Search {
     /// What may have asked for data that leaves; none where nobody has or had its relayed address.
     pub(crate) fn asked_by(&self, judge: &Judge<'_>, leaves: &Sighting) -> Option<Asked> {
         if judge.intake.policy().listens(leaves.from) {
-            let lane = judge.clients.lane_of(leaves.to, leaves.from)?;
+            let lane = judge.lane_of(leaves.to, leaves.from)?;
             return Some(self.asked_by_peer(lane, leaves));
         }
         let holders = *self.holders.get(&leaves.from)?;
@@ -60,13 +61,13 @@ impl Search {
     /// What of a client asks for data that leaves to a peer.
     fn asked_by_client(
         &self,
-        lane: u32,
+        lane: LaneNumber,
         leaves: &Sighting,
         digest: u64,
-    ) -> [Option<(u32, Cause)>; 3] {
+    ) -> [Option<(LaneNumber, Cause)>; 3] {
         let peer = leaves.to;
         let send = Cause::Send { lane, peer, digest };
-        let Some(of) = self.lanes.get(lane as usize) else {
+        let Some(of) = self.lanes.get(lane.index()) else {
             return [None; 3];
         };
         let number = of.current.number_of(peer);
@@ -87,9 +88,9 @@ impl Search {
     }
 
     /// What asks for data that a client is given.
-    fn asked_by_peer(&self, lane: u32, leaves: &Sighting) -> Asked {
+    fn asked_by_peer(&self, lane: LaneNumber, leaves: &Sighting) -> Asked {
         let mut causes = [None; 6];
-        if let Some(of) = self.lanes.get(lane as usize) {
+        if let Some(of) = self.lanes.get(lane.index()) {
             if let Some(given) = data_given(leaves.payload.as_slice()) {
                 let current = cause_of(&of.current, given);
                 causes[0] = current.map(|cause| (lane, cause));
@@ -100,7 +101,7 @@ impl Search {
     }
 
     /// The lane of the last data of a client, or else the first one.
-    fn lane_of_last(&self) -> Option<u32> {
+    fn lane_of_last(&self) -> Option<LaneNumber> {
         let last = match self.last_sent {
             Some(number) => self.arrivals.get(number),
             None => None,
@@ -108,7 +109,7 @@ impl Search {
         match last {
             Some(arrival) if arrival.lane.is_some() => arrival.lane,
             _ if self.lanes.is_empty() => None,
-            _ => Some(0),
+            _ => Some(LaneNumber(0)),
         }
     }
 }
@@ -127,7 +128,7 @@ fn cause_of(holding: &Holding, given: Given<'_>) -> Option<Cause> {
 }
 
 /// What asks for data that a client is given, by the last of its deleted allocations that had such a peer, unless it is this.
-fn cause_before(of: &Lane, given: Given<'_>, current: Option<Cause>) -> Option<Cause> {
+fn cause_before(of: &FoundLane, given: Given<'_>, current: Option<Cause>) -> Option<Cause> {
     for deleted in of.deleted.iter().rev() {
         let cause = cause_of(&deleted.holding, given);
         if cause.is_some() && cause != current {

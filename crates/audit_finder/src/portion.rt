@@ -1,5 +1,6 @@
 //! The events that are found.
 
+use crate::numbers::LaneNumber;
 use audit_model::{CertDrop, Event, Key, SightId};
 use std::alloc::{AllocError, Global};
 
@@ -18,8 +19,8 @@ impl Portion {
         }
     }
 
-    pub fn push(&mut self, lane: u32, event: Event) -> Result<(), AllocError> {
-        self.events.push((lane, event))?;
+    pub fn push(&mut self, lane: LaneNumber, event: Event) -> Result<(), AllocError> {
+        self.events.push((lane.0, event))?;
         Ok(())
     }
 

@@ -1,15 +1,16 @@
 //! How far each interface has got.
 
+use crate::numbers::{AnswerNumber, ArrivalNumber};
 use audit_model::SightId;
 use std::alloc::{AllocError, Global};
 
 /// What a sighting is to the finder.
 #[derive(Clone, Copy, Debug, PartialEq, Eq)]
 pub enum Role {
-    /// A datagram that arrives, by its number among the arrivals.
-    Arrival(u32),
-    /// A success or an error, by its number among the answers.
-    Answer(u32),
+    /// A datagram that arrives.
+    Arrival(ArrivalNumber),
+    /// A success or an error.
+    Answer(AnswerNumber),
     /// Data that leaves.
     Data,
 }
@@ -18,7 +19,7 @@ pub enum Role {
 #[derive(Clone, Copy, Debug, PartialEq, Eq)]
 pub enum Wait {
     /// An arrival.
-    Arrival(u32),
+    Arrival(ArrivalNumber),
     /// Whatever comes next on another interface.
     Next,
 }

@@ -7,8 +7,9 @@ use crate::arrivals::Arrivals;
 use crate::clock::Clock;
 use crate::heads::Heads;
 use crate::judge::Judge;
-use crate::lanes::Lane;
+use crate::lanes::FoundLane;
 use crate::leaving::{CANDIDATES, latest};
+use crate::numbers::{AnswerNumber, ArrivalNumber, LaneNumber};
 use crate::portion::Portion;
 use crate::rows::{Role, Row, Wait};
 use audit_model::{Addr, Sighting};
@@ -19,30 +20,30 @@ use std::collections::{BTreeMap, BTreeSet};
 /// The lanes whose allocations had a relayed address: the last one, and another one before that.
 #[derive(Clone, Copy)]
 pub(crate) struct Holders {
-    pub(crate) last: u32,
-    pub(crate) before: Option<u32>,
+    pub(crate) last: LaneNumber,
+    pub(crate) before: Option<LaneNumber>,
 }
 
 /// What was found so far.
 #[derive(Drop)]
 pub(crate) struct Search {
-    pub(crate) lanes: Vec<Lane>,
+    pub(crate) lanes: Vec<FoundLane>,
     pub(crate) rows: Vec<Row>,
     pub(crate) arrivals: Arrivals,
     pub(crate) answers: Answers,
     pub(crate) heads: Heads,
     /// Interfaces whose next departure waits for an arrival, by the arrival.
-    pub(crate) waiting: BTreeMap<u32, u32>,
+    pub(crate) waiting: BTreeMap<ArrivalNumber, u32>,
     /// Interfaces whose next departure waits for whatever comes next.
     pub(crate) expecting: Vec<u32>,
     /// Answers that make allocations and weren't given yet, by the relayed address and the least moment at which they leave.
-    pub(crate) allocations: BTreeSet<(Addr, u64, u32)>,
+    pub(crate) allocations: BTreeSet<(Addr, u64, AnswerNumber)>,
     /// Whose each relayed address is.
     pub(crate) holders: BTreeMap<Addr, Holders>,
     /// Arrivals that have a key, and no event yet.
-    pub(crate) undecided: Vec<u32>,
+    pub(crate) undecided: Vec<ArrivalNumber>,
     /// The last data of a client that arrived, of all lanes.
-    pub(crate) last_sent: Option<u32>,
+    pub(crate) last_sent: Option<ArrivalNumber>,
     pub(crate) clock: Clock,
     /// Events are given past this moment.
     pub(crate) given_to: Option<u64>,
@@ -218,7 +219,7 @@ impl Search {
     }
 
     /// Queues the interface whose next departure waits for an arrival, if there is one.
-    pub(crate) fn wake(&mut self, number: u32) -> Result<(), AllocError> {
+    pub(crate) fn wake(&mut self, number: ArrivalNumber) -> Result<(), AllocError> {
         match self.waiting.remove(&number) {
             Some(iface) => self.wake_row(iface, Wait::Arrival(number)),
             None => Ok(()),

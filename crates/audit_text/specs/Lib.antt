@@ -2,3 +2,4 @@ pub mod Token
 pub mod Lines
 pub mod Reading
 pub mod Readers
+pub mod FaultText
