@@ -2,4 +2,3 @@ pub mod Token
 pub mod Lines
 pub mod Reading
 pub mod Readers
-pub mod FaultText

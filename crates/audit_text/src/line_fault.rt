@@ -12,10 +12,6 @@ pub struct LineFault<K> {
 
 /// As `P1 line in line 3`.
 impl<K: fmt::Display> fmt::Display for LineFault<K> {
-    ghost use Rattle.audit_text.specs.FaultText.{fault_text};
-
-    ghost output = { λ fault. fault_text (K.output fault.kind) fault.line };
-
     fn fmt<W: fmt::Write>(&self, f: &mut fmt::Formatter<W>) -> fmt::Result {
         let kind = &self.kind;
         let line = self.line;
