@@ -6,9 +6,3 @@ pub mod Founds
 pub mod InOrder
 pub mod Walking
 pub mod OneWay
-pub mod KeysTold
-pub mod Agreeing
-pub mod Running
-pub mod RunSteps
-pub mod RunTold
-pub mod RunWhole

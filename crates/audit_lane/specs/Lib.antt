@@ -7,6 +7,5 @@ pub mod Walk
 pub mod Judged
 pub mod Told
 pub mod Named
-pub mod Run
 pub mod Concluded
 pub mod Seen

@@ -3,7 +3,6 @@
 ghost use Rattle.std.specs.Prelude.{◌≡◌};
 ghost use Rattle.audit_lane.specs.Content.{Content, Judgement};
 ghost use Rattle.audit_lane.specs.Judged.{IsJudged, OneOutcome};
-ghost use Rattle.audit_lane.specs.Run.{PassesAsRun};
 
 use crate::job::Job;
 
@@ -18,8 +17,3 @@ pub fn one_outcome(job: &Job<'_>)
 {
     let _lanes = job.len();
 }
-
-/// Where placement passes, a lane passes just where it is a run of a server that has its client alone, with the tenancies of that run.
-pub fn passed_is_run()
-    ensures { (content : Content) → PassesAsRun content }
-{}

@@ -81,5 +81,7 @@ fn main(rt: HostRuntime) -> io::Result<()> {
     let events = judged.events;
     let passed = judged.passed;
     let each = took / (events as u64).max(1);
-    println!(rt; "{passed} lanes passed, {events} events: {made} ns to make the job, {took} ns to judge it, {each} ns an event")
+    println!(rt;
+        "{passed} lanes passed, {events} events: {made} ns to make the job, {took} ns to judge it, {each} ns an event"
+    )
 }
