@@ -11,8 +11,8 @@ use Rattle.audit_model.specs.declared.verdict.Breach.{Breach}
 use Rattle.audit_lane.specs.Content.{Content, Found, Judgement, Passes, Breaks}
 use Rattle.audit_lane.specs.Judged.{IsJudged, IsOf, OneOutcome}
 use Rattle.audit_lane.specs.Concluded.{Has, ShowsBreach, breach_in, breaches_of}
-use Rattle.audit_book.specs.declared.laws.Receipt.{Receipt}
-use Rattle.audit_book.specs.declared.laws.View.{View}
+use Rattle.audit_book.specs.declared.seat.Receipt.{Receipt}
+use Rattle.audit_book.specs.declared.state.View.{View}
 use Rattle.audit_book.specs.Machine.{State, Entry, lane_of, IsState}
 use Rattle.audit_book.specs.Seats.{Place, receipt, receipts_from, receipts_of, findings_of, IsSeen}
 use Rattle.audit_book.specs.Fair.{BreaksAt, IsLowest, IsFair}
