@@ -1,11 +1,9 @@
 -- What a look shows is fair to the seat.
 use Rattle.std.proofs.Common.{◌≡◌, ℕ, zero, suc, ◌+◌, ◌≤◌, List, [], ◌∷◌, length, Some, None, Option, Bool, true, false, cond, nat_eq, slice_get, count_by, refl, sym, ap, ◌∙◌, subst, inl, inr, arith}
-use Rattle.std.specs.Prelude.{◌↔◌, IfSome, Result, Ok, Err, IfOk}
-use Rattle.std.specs.Ordering.{is_gt}
+use Rattle.std.specs.Prelude.{IfSome, Result, Ok, Err, IfOk}
 use Rattle.std.proofs.lemmas.List.{length-map}
 use Rattle.std.proofs.lemmas.List.Sums.{sum_by-cons}
-use Rattle.std.proofs.lemmas.Bool.{cases_Bool, eqb-true, true≢false}
-use Rattle.audit_model.specs.Breach.{breach_cmp}
+use Rattle.std.proofs.lemmas.Bool.{cases_Bool, eqb-true}
 use Rattle.audit_model.specs.Least.{IsLeast}
 use Rattle.audit_model.specs.declared.verdict.Breach.{Breach}
 use Rattle.audit_lane.specs.Content.{Content, Found, Judgement, Passes, Breaks}

@@ -21,13 +21,15 @@ pub struct Receipt {
 #[derive(Drop)]
 pub struct Seat<E: Audit> {
     pub(crate) number: u32,
+    /// How many lanes it claimed.
     pub(crate) claims: u32,
     pub(crate) receipts: Vec<Receipt>,
+    /// Its share of the ledger: as much as it has receipts.
     pub(crate) share: Share<E>,
 }
 
 impl<E: Audit> Model for Seat<E> {
-    ghost use Rattle.audit_book.specs.Seats.{IsTold, IsHistory, IsAt, claims_of, Place, IsSeated};
+    ghost use Rattle.audit_book.specs.Seats.{IsSeated, Place};
 
     ghost Value = { Place };
 
@@ -57,7 +59,7 @@ impl<E: Audit> Seat<E> {
         self.claims += 1;
     }
 
-    /// The receipts of its entries.
+    /// The receipts of its entries, in order.
     pub fn receipts(&self) -> &[Receipt]
         ensures { result.now ≡ self.now.receipts }
     {

@@ -32,16 +32,19 @@ pub struct View {
     pub least: Option<Breach>,
 }
 
-/// The value behind the lock.
+/// The history of a book: who claimed each lane, and what was entered by whom, after how many claims. It stands behind the lock.
 #[derive(Drop)]
 pub struct BookState<'a, E: Audit> {
     lanes: u32,
-    /// Of each lane the place of its entry.
+    /// Of each lane the place of its entry, so that it is found in constant time.
     places: Vec<Option<u32>>,
+    /// Of each claimed lane its seat, with room for all lanes.
     claimants: Vec<u32>,
+    /// Of each entry its seat, its finding, and how many claims came before it.
     seats: Vec<u32>,
     findings: Vec<Finding<'a>>,
     befores: Vec<u32>,
+    /// The ledger, whose total is the number of entries.
     entries: ledger::Book<E>,
 }
 
@@ -58,6 +61,7 @@ impl<'a, E: Audit> Model for BookState<'a, E> {
 }
 
 impl<'a, E: Audit> BookState<'a, E> {
+    /// The history without events. It takes time and memory in the lanes.
     pub(crate) fn open(
         alloc: Global,
         lanes: u32,
@@ -80,7 +84,7 @@ impl<'a, E: Audit> BookState<'a, E> {
         })
     }
 
-    /// Enters a finding of the job.
+    /// Enters a finding of the job where its lane has no entry: the event `enter`, or `refused` without memory. It takes constant time.
     pub fn enter(
         &mut self,
         seat: &mut Seat<E>,
@@ -120,7 +124,7 @@ impl<'a, E: Audit> BookState<'a, E> {
         Ok(receipt)
     }
 
-    /// Looks at the entries.
+    /// What the entries show: the event `look`. It takes time in the entries, and no memory.
     pub fn look(&self, seat: &Seat<E>) -> Result<View, Astray>
         ensures kept { IsState E.inputs E.parts self.now }
         ensures ok { IfOk result (λ v. (seat.now.receipts ≡ receipts_of seat.now.number self.now.entries) × IsSeen seat.now.number self.now.entries v) }
@@ -142,7 +146,7 @@ impl<'a, E: Audit> BookState<'a, E> {
         })
     }
 
-    // Whether the history has just these receipts and claims of the seat.
+    /// Whether the history has just the receipts and the claims of the seat. It takes time in the entries and claims.
     pub(crate) fn has(&self, seat: &Seat<E>) -> bool
         ensures { IsTrue result → IsTold self.now seat.now }
     {
@@ -154,7 +158,7 @@ impl<'a, E: Audit> BookState<'a, E> {
         ) && count_claims(self.claimants.as_slice(), seat.number) == seat.claims as usize
     }
 
-    // Whether it has so of all these seats.
+    /// The same of all these seats.
     pub(crate) fn has_all(&self, seats: &[Seat<E>]) -> bool
         ensures { IsTrue result → (i : ℕ) (p : Place) → slice_get seats.now i ≡ Some p → IsTold self.now p }
     {
@@ -166,7 +170,7 @@ impl<'a, E: Audit> BookState<'a, E> {
         true
     }
 
-    // The history by its columns. The whole ledger counts its entries.
+    /// The lists of the history. The whole ledger counts its entries.
     pub(crate) fn into_closed(mut self, whole: Share<E>) -> Closed<'a>
         requires { whole.parts ≡ E.parts }
         ensures history { IsHistory E.inputs E.parts self.entry result.claimants.items result.seats.items result.entries.items }
@@ -191,7 +195,7 @@ impl<'a, E: Audit> BookState<'a, E> {
         }
     }
 
-    /// Claims the next lane.
+    /// The next lane that no seat claimed: the event `claim`. It takes constant time, and no memory.
     pub fn claim(&mut self, seat: u32) -> Option<u32>
         requires { seat < E.parts }
         ensures state { self.new ≡ after_claim E.inputs self.old seat }
