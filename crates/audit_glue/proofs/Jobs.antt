@@ -6,7 +6,7 @@ use Rattle.audit_rules.specs.Keys.{KeyFor}
 use Rattle.audit_sightings.specs.Intake.{Taken}
 use Rattle.audit_lane.specs.Content.{Content}
 use Rattle.audit_lane.proofs.Lists.{get_push}
-use Rattle.audit_glue.specs.Verdicts.{IsLaneInput}
+use Rattle.audit_verdict.specs.Verdicts.{IsLaneInput}
 
 -- the inputs of the lanes below a number
 pub record IsJobTo (taken : Taken) (key_for : KeyFor) (lanes : List CertLane) (number : ℕ) (job : List Content) : Type 0 where

@@ -1,7 +1,7 @@
 //! The lanes of a certificate, as they are judged.
 
 ghost use Rattle.std.specs.Prelude.{IfOk};
-ghost use Rattle.audit_glue.specs.Verdicts.{IsJobOf};
+ghost use Rattle.audit_verdict.specs.Verdicts.{IsJobOf};
 ghost use Rattle.audit_keys.specs.KeyFor.{key_for};
 ghost use Rattle.audit_lane.specs.Concluded.{InOrder};
 ghost use Rattle.audit_placement.specs.Named.{AllNamed};

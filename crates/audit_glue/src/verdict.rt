@@ -1,9 +1,12 @@
 //! The verdict.
 
-ghost use Rattle.std.specs.Prelude.{length, ◌≤◌, IfOk};
+ghost use Rattle.std.specs.Prelude.{length, ◌≤◌, ◌↔◌, IfOk};
 ghost use Rattle.audit_keys.specs.KeyFor.{key_for};
 ghost use Rattle.audit_lane.specs.Concluded.{ConcludesTo};
-ghost use Rattle.audit_glue.specs.Verdicts.{IsVerdict};
+ghost use Rattle.audit_verdict.specs.Verdicts.{IsConforming, IsVerdict};
+ghost use Rattle.audit_whole.specs.CaptureRun.{rules_for};
+ghost use Rattle.audit_whole.specs.Conforms.{Conforms};
+ghost use Rattle.audit_whole.specs.Headline.{Headline};
 ghost use Rattle.audit_sightings.specs.Intake.{taken};
 ghost use Rattle.audit_model.specs.declared.certificate.TheConstants.{MAX_LANES};
 
@@ -13,6 +16,7 @@ use audit_lane::{Finding, all_tenancies, least_breach};
 use audit_model::{Certificate, Verdict};
 use audit_placement::placed;
 use audit_sightings::Intake;
+use audit_sightings::laws::sightings_are_numbered;
 use audit_tenancy::clash;
 use std::alloc::{AllocError, Global};
 
@@ -38,8 +42,8 @@ pub fn conclude(
     })
 }
 
-/// The verdict on an intake by a certificate: placement first, then each lane alone, then which of them hold one address at once.
-pub fn check(
+/// The verdict that the parts come to: placement first, then each lane alone, then which of them hold one address at once.
+fn verdict_of_parts(
     alloc: Global,
     intake: &Intake,
     credentials: &Credentials,
@@ -54,4 +58,24 @@ pub fn check(
     let job = job(alloc, intake, credentials, certificate, &placement)?;
     let findings = judge_all(alloc, &job)?;
     conclude(alloc, placement.datagrams(), findings.as_slice())
+}
+
+/// The verdict on an intake by a certificate (RFC 8656): it conforms just where the certificate stands for one run of the server that
+/// explains the captures. It takes n log n in the events and tenancies, and reads each payload a bounded number of times.
+pub fn check(
+    alloc: Global,
+    intake: &Intake,
+    credentials: &Credentials,
+    certificate: &Certificate,
+) -> Result<Verdict, AllocError>
+    // The least breach of placement, or what the lanes come to.
+    ensures verdict { IfOk result (IsVerdict (taken intake.now) (key_for credentials.now) certificate.now) }
+    // It conforms exactly where the certificate's one list of moves is a run of the server that explains the captures,
+    ensures conforming { IfOk result (λ verdict. IsConforming verdict ↔ Conforms (taken intake.now) (rules_for (taken intake.now) (key_for credentials.now)) certificate.now) }
+    // and then the headline holds.
+    ensures headline { IfOk result (λ verdict. IsConforming verdict → Headline (taken intake.now) (key_for credentials.now) certificate.now) }
+{
+    sightings_are_numbered(intake);
+    let verdict = verdict_of_parts(alloc, intake, credentials, certificate)?;
+    Ok(verdict)
 }

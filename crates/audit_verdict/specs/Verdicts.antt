@@ -5,7 +5,7 @@ use Rattle.audit_model.specs.declared.certificate.CertLane.{CertLane}
 use Rattle.audit_model.specs.declared.certificate.Certificate.{Certificate}
 use Rattle.audit_model.specs.declared.verdict.Breach.{Breach}
 use Rattle.audit_model.specs.declared.verdict.Verdict.{Verdict}
-use Rattle.audit_model.specs.declared.verdict.Verdict.TheVariants.{NotShown}
+use Rattle.audit_model.specs.declared.verdict.Verdict.TheVariants.{Conforming, NotShown}
 use Rattle.audit_lane.specs.Content.{Content}
 use Rattle.audit_lane.specs.Concluded.{IsConcluded}
 use Rattle.audit_lane.specs.Named.{IsInputOf}
@@ -37,3 +37,8 @@ pub record IsOfLanes (taken : Taken) (key_for : KeyFor) (certificate : Certifica
 abbrev pub IsVerdict : Taken → KeyFor → Certificate → Verdict → Type 0
 IsVerdict taken key_for certificate verdict =
     ((breach : Breach) × IsLeast (Shows taken certificate) (Some breach) × (verdict ≡ NotShown breach)) ⊎ IsOfLanes taken key_for certificate verdict
+
+-- nothing is broken
+abbrev pub IsConforming : Verdict → Type 0
+IsConforming (Conforming datagrams lanes) = Unit {0}
+IsConforming (NotShown breach) = ⊥
