@@ -1,5 +1,7 @@
 -- The walk of a lane, event by event, to what it ends with.
-use Rattle.std.specs.Prelude.{ℕ, ◌+◌, ◌≡◌, ◌≤◌, ◌⊎◌, Option, Some, None, List, [], ◌∷◌, ◌++◌, IsSome, option_to_list}
+use Rattle.std.specs.Prelude.{ℕ, ◌+◌, ◌≡◌, ◌≤◌, ◌⊎◌, ◌↔◌, Option, Some, None, List, [], ◌∷◌, ◌++◌, IsSome, Contains, length, option_to_list}
+use Rattle.std.specs.List.Sorted.{IsStrictlySortedBy}
+use Rattle.std.specs.Ordering.{nat_cmp}
 use Rattle.audit_model.specs.declared.event.At.{At}
 use Rattle.audit_model.specs.declared.event.Key.{Key}
 use Rattle.audit_model.specs.declared.rule.Rule.{Rule}
@@ -38,6 +40,13 @@ pub record IsFirst (owed : ℕ → Option Owed) (one : Owed) : Type 0 where
   pub place : ℕ
   pub there : owed place ≡ Some one
   pub least : (other : ℕ) → IsSome (owed other) → place ≤ other
+
+-- how many acts there are whose departure has not left: their places, in rising order, are as many
+pub record AreOwed (owed : ℕ → Option Owed) (count : ℕ) : Type 0 where
+  pub places : List ℕ
+  pub rising : IsStrictlySortedBy nat_cmp places
+  pub all : (place : ℕ) → IsSome (owed place) ↔ Contains places place
+  pub many : length places ≡ count
 
 -- the breach at the end of a lane (S13), or none
 abbrev pub EndsWith : Kept → Option Breach → Type 0

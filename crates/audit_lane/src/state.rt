@@ -14,7 +14,7 @@ ghost use Rattle.audit_lane.specs.Content.{Acted, Came, Went, happening};
 ghost use Rattle.audit_lane.specs.Faults.{IsRight, act_fault, out_fault};
 ghost use Rattle.audit_lane.specs.Kept.{Terms, at_first};
 ghost use Rattle.audit_lane.specs.Seen.{IsShown, SameKept, kept_of, terms_by};
-ghost use Rattle.audit_lane.specs.Walk.{EndsWith, Shows, tenancies_of};
+ghost use Rattle.audit_lane.specs.Walk.{AreOwed, EndsWith, Shows, tenancies_of};
 
 use crate::fault::{LaneFault, breach, broken};
 use crate::input::LaneEvent;
@@ -242,6 +242,13 @@ impl LaneState {
             None => Ok(()),
             Some((_, owed)) => Err(breach(owed.at, owed.sight, Rule::ActWithoutDeparture)),
         }
+    }
+
+    /// How many acts there are whose departure has not left.
+    pub fn owed(&self) -> usize
+        ensures { AreOwed (kept_of self.now).owed result }
+    {
+        self.owed.len()
     }
 
     /// The tenancies that acts of the lane ended, in order of birth. It takes no memory.

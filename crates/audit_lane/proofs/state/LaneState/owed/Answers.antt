@@ -1,0 +1,17 @@
+use Rattle.std.proofs.Common.{◌∙◌, sym}
+use Rattle.std.specs.BTreeMap.{keys}
+use Rattle.std.specs.Cmp.{nat_cmp_total}
+use Rattle.std.proofs.lemmas.Map.Lookups.{exact_unsigned}
+use Rattle.std.proofs.lemmas.Map.Views.{btree_map_contains_key_iff}
+use Rattle.std.proofs.lemmas.Map.Entries.{length-keys_of}
+use Rattle.audit_lane.proofs.state.LaneState.owed.Goals as goal
+
+pub returns : goal.returns
+returns c =
+    let owed = c.args.self.now.owed in
+    record {
+      places = keys owed;
+      rising = c.len.ensures.ordered;
+      all = λ place. btree_map_contains_key_iff nat_cmp_total exact_unsigned owed place;
+      many = length-keys_of owed.entries ∙ sym c.len.ensures.len;
+    }
