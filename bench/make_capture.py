@@ -3,7 +3,8 @@
 
     python3 bench/make_capture.py FOLDER [--clients 24] [--datagrams 1000000] [--offset-us 0] [--loss 0]
 
-It writes FOLDER/client.pcapng and FOLDER/peer.pcapng, one interface each, with FOLDER/policy and FOLDER/creds. Each client
+It writes FOLDER/client.pcapng and FOLDER/peer.pcapng, one interface each, with FOLDER/policy and FOLDER/creds, and where the clocks agree
+FOLDER/certificate, the certificate of what the server did, for the captures in that order. Each client
 allocates (challenged by a 401 first), asks for a permission or binds a channel, exchanges data with its peer, refreshes, and
 deletes its allocation. The clock of the peer side is OFFSET-US microseconds ahead of the other one's, LOSS of a thousand
 datagrams from a peer reach the server and go no further.
@@ -51,13 +52,15 @@ def message(kind, transaction, attributes, key=None):
 class Side:
     """One interface's capture."""
 
-    def __init__(self, path, offset):
+    def __init__(self, path, offset, interface):
         self.out = path.open("wb")
         self.out.write(SECTION + INTERFACE)
         self.offset = offset
+        self.interface = interface
+        self.count = 0
 
     def put(self, moment, source, target, payload):
-        """A datagram at a moment in microseconds."""
+        """A datagram at a moment in microseconds; its name in certificates."""
         udp = struct.pack(">HHHH", source[1], target[1], 8 + len(payload), 0) + payload
         ip = struct.pack(">BBHHHBBH", 0x45, 0, 20 + len(udp), 0, 0, 64, 17, 0) + ip_bytes(source[0]) + ip_bytes(target[0])
         frame = bytes([2, 0, 0, 0, 0, 1, 2, 0, 0, 0, 0, 2, 8, 0]) + ip + udp
@@ -65,6 +68,9 @@ class Side:
         size = 32 + len(frame) + -len(frame) % 4
         head = struct.pack("<IIIIIII", 6, size, 0, stamp >> 32, stamp & 0xFFFFFFFF, len(frame), len(frame))
         self.out.write(head + frame + bytes(-len(frame) % 4) + struct.pack("<I", size))
+        name = f"{self.interface}.{self.count}"
+        self.count += 1
+        return name
 
 
 class Client:
@@ -80,6 +86,12 @@ class Client:
         self.channel = 0x4000 + number % 0x1000 if number % 2 else None
         self.count = 0
         self.number = number
+        self.events = []
+        self.drops = []
+
+    def answered(self, came, arrives, left, leaves):
+        """The server answered one datagram by another, as that left."""
+        self.events.append(f"in {arrives} {came}000 0\nact {arrives} {leaves} {left}000 0\nout {leaves} {left}000 1\n")
 
     def transaction(self):
         self.count += 1
@@ -91,13 +103,15 @@ class Client:
         id = self.transaction()
         kind = BINDING_TYPES[name]
         if challenged:
-            client.put(moment, self.endpoint, SERVER, message(kind, id, attributes))
+            arrives = client.put(moment, self.endpoint, SERVER, message(kind, id, attributes))
             error = [(ERROR_CODE, bytes([0, 0, 4, 1]) + b"Unauthorized"), (REALM, b"example.org"), (NONCE, b"nonce")]
-            client.put(moment + 20, SERVER, self.endpoint, message(kind | ERROR, id, error))
+            leaves = client.put(moment + 20, SERVER, self.endpoint, message(kind | ERROR, id, error))
+            self.answered(moment, arrives, moment + 20, leaves)
             return
         named = [(USERNAME, self.name.encode()), (REALM, b"example.org"), (NONCE, b"nonce")]
-        client.put(moment, self.endpoint, SERVER, message(kind, id, attributes + named, self.key))
-        client.put(moment + 20, SERVER, self.endpoint, message(kind | SUCCESS, id, answer, self.key))
+        arrives = client.put(moment, self.endpoint, SERVER, message(kind, id, attributes + named, self.key))
+        leaves = client.put(moment + 20, SERVER, self.endpoint, message(kind | SUCCESS, id, answer, self.key))
+        self.answered(moment, arrives, moment + 20, leaves)
 
     def open(self, moment):
         asks = [(TRANSPORT, bytes([17, 0, 0, 0]))]
@@ -123,19 +137,34 @@ class Client:
             sent = message(BINDING_TYPES["send"], self.transaction(), [(PEER, address(self.peer)), (DATA, data)])
         else:
             sent = struct.pack(">HH", self.channel, len(data)) + data + bytes(-len(data) % 4)
-        client.put(moment, self.endpoint, SERVER, sent)
-        peer.put(moment + 10, self.relayed, self.peer, data)
+        arrives = client.put(moment, self.endpoint, SERVER, sent)
+        leaves = peer.put(moment + 10, self.relayed, self.peer, data)
+        self.answered(moment, arrives, moment + 10, leaves)
 
     def from_peer(self, moment, data, lost):
         client, peer = self.sides
-        peer.put(moment, self.peer, self.relayed, data)
+        arrives = peer.put(moment, self.peer, self.relayed, data)
         if lost:
+            self.drops.append(f"drop {arrives} {moment}000 0\n")
             return
         if self.channel is None:
             given = message(BINDING_TYPES["data"], self.transaction(), [(PEER, address(self.peer)), (DATA, data)])
         else:
             given = struct.pack(">HH", self.channel, len(data)) + data
-        client.put(moment + 10, SERVER, self.endpoint, given)
+        leaves = client.put(moment + 10, SERVER, self.endpoint, given)
+        self.answered(moment, arrives, moment + 10, leaves)
+
+
+def write_certificate(path, clients):
+    """Each client's lane, as the server went about it."""
+    with path.open("w") as out:
+        out.write("turnaudit-certificate 1\n")
+        for client in clients:
+            ip, port = client.endpoint
+            out.write(f"lane {ip}:{port} {SERVER[0]}:{SERVER[1]}\n")
+            out.writelines(client.events)
+        out.writelines(line for client in clients for line in client.drops)
+        out.write("end\n")
 
 
 def main():
@@ -151,7 +180,7 @@ def main():
     (asked.folder / "policy").write_text("turnaudit-policy 1\nlisten 192.0.2.1:3478\nrelay 192.0.2.1:49152-65535\n")
     users = (f"user{number}\texample.org\tsecret\n" for number in range(asked.clients))
     (asked.folder / "creds").write_text("".join(users))
-    sides = (Side(asked.folder / "client.pcapng", 0), Side(asked.folder / "peer.pcapng", asked.offset_us))
+    sides = (Side(asked.folder / "client.pcapng", 0, 0), Side(asked.folder / "peer.pcapng", asked.offset_us, 64))
     clients = [Client(number, sides) for number in range(asked.clients)]
     moment = 1_700_000_000_000_000
     for client in clients:
@@ -175,6 +204,8 @@ def main():
     for client in clients:
         client.refresh(moment, 0)
         moment += 1000
+    if asked.offset_us == 0:
+        write_certificate(asked.folder / "certificate", clients)
 
 
 if __name__ == "__main__":
