@@ -3,11 +3,7 @@
 
 mod buffered;
 mod command_line;
-mod reading;
 mod running;
-mod source;
-mod stop;
 mod writing;
 
-pub use running::run;
-pub use source::{ReadFailed, Source};
+pub use running::{audit_captures, run};

@@ -1,112 +1,38 @@
 //! The whole program as a function.
 
+ghost use Rattle.std.specs.Prelude.{◌≡◌, [], ℕ, IfNone, IfOk, IfSome, List, Some};
+ghost use Rattle.std.specs.List.{AllZip};
+ghost use Rattle.audit_files.specs.Judged.{IsAudited};
+ghost use Rattle.audit_model.specs.declared.certificate.Certificate.{Certificate as Found};
+
 use crate::buffered::Buffered;
 use crate::command_line::{Inputs, Request, read as read_words};
-use crate::reading::{feed_capture, read_text};
-use crate::source::Source;
-use crate::stop::Stop;
 use crate::writing::{put_line, put_text};
-use audit_cert::CertificateReader;
+use audit_files::{Source, Stop, check_files, judge, read_files};
 use audit_finder::find;
-use audit_glue::check;
-use audit_keys::{Credentials, CredentialsReader};
-use audit_model::{Certificate, Policy, PolicyReader, Sink, Verdict};
-use audit_report::report;
-use audit_sightings::Intake;
+use audit_model::Sink;
 use std::alloc::Global;
 use std::convert::AsStr;
 
-/// The captures, each fed from its first byte to its last, and then asked for its end.
-fn take_in<S: Source>(
+/// Judges captures by a certificate that is found, and writes the report. Files are read in this order: policy, users, captures; each is
+/// judged before the next is read. It gives 0 where they conform, and 1 where that isn't shown.
+pub fn audit_captures<S: Source, O: Sink>(
     alloc: Global,
     source: &mut S,
-    names: &[&str],
-    mut intake: Intake,
-) -> Result<Intake, Stop> {
-    for name in names {
-        let file = intake.add_file()?;
-        feed_capture(alloc, source, name, &mut intake, file)?;
-    }
-    intake.finish()?;
-    Ok(intake)
-}
-
-fn read_policy<S: Source>(alloc: Global, source: &mut S, name: &str) -> Result<Policy, Stop> {
-    read_text(alloc, source, name, PolicyReader::new(alloc))
-}
-
-/// The users that a file has; none where no file is named.
-fn read_users<S: Source>(
-    alloc: Global,
-    source: &mut S,
-    name: Option<&str>,
-) -> Result<Credentials, Stop> {
-    match name {
-        Some(name) => read_text(alloc, source, name, CredentialsReader::new(alloc)),
-        None => Ok(Credentials::read(alloc, b"")?),
-    }
-}
-
-/// What every command reads but a certificate.
-#[derive(Drop)]
-struct Read {
-    intake: Intake,
-    users: Credentials,
-}
-
-/// Reads the policy and the users, and takes in the captures. Files are read in this order, and each is judged before the next is read.
-fn read_inputs<S: Source>(
-    alloc: Global,
-    inputs: &Inputs<'_>,
-    source: &mut S,
-) -> Result<Read, Stop> {
-    let policy = read_policy(alloc, source, inputs.policy)?;
-    let users = read_users(alloc, source, inputs.credentials)?;
-    let intake = take_in(alloc, source, &inputs.captures, Intake::new(alloc, policy))?;
-    Ok(Read { intake, users })
-}
-
-/// Judges the captures by the certificate, and writes the report.
-fn judge<O: Sink>(
-    alloc: Global,
-    read: &Read,
-    certificate: &Certificate,
+    policy: &str,
+    users: Option<&str>,
+    captures: &[&str],
     out: &mut O,
-) -> Result<u8, Stop> {
-    let verdict = check(alloc, &read.intake, &read.users, certificate)?;
-    report(alloc, &verdict, &read.intake, out)?;
-    match verdict {
-        Verdict::Conforming { .. } => Ok(0),
-        Verdict::NotShown(_) => Ok(1),
-    }
-}
-
-/// Judges the captures by the certificate of a file, which is read before they are.
-fn run_check<S: Source, O: Sink>(
-    alloc: Global,
-    inputs: &Inputs<'_>,
-    certificate: &str,
-    source: &mut S,
-    out: &mut O,
-) -> Result<u8, Stop> {
-    let policy = read_policy(alloc, source, inputs.policy)?;
-    let users = read_users(alloc, source, inputs.credentials)?;
-    let reader = CertificateReader::new(alloc);
-    let certificate = read_text(alloc, source, certificate, reader)?;
-    let intake = take_in(alloc, source, &inputs.captures, Intake::new(alloc, policy))?;
-    judge(alloc, &Read { intake, users }, &certificate, out)
-}
-
-/// Judges the captures by a certificate that is found.
-fn run_audit<S: Source, O: Sink>(
-    alloc: Global,
-    inputs: &Inputs<'_>,
-    source: &mut S,
-    out: &mut O,
-) -> Result<u8, Stop> {
-    let read = read_inputs(alloc, inputs, source)?;
-    let certificate = find(alloc, &read.intake, &read.users)?;
-    judge(alloc, &read, &certificate, out)
+) -> Result<u8, Stop>
+    ensures { (policy_text users_text : List ℕ) (texts : List (List ℕ)) →
+        S.holds source.old policy.now ≡ Some policy_text →
+        IfSome users.entry (λ name. S.holds source.old name.now ≡ Some users_text) → IfNone users.entry (users_text ≡ []) →
+        AllZip (λ name text. S.holds source.old name.now ≡ Some text) captures.now texts →
+        IfOk result (λ status. (found : Found) × IsAudited policy_text users_text texts found (O.taken out.old) (O.taken out.new) status) }
+{
+    let files = read_files(alloc, source, policy, users, captures)?;
+    let certificate = find(alloc, &files.intake, &files.users)?;
+    judge(alloc, &files.intake, &files.users, &certificate, out)
 }
 
 /// Finds a certificate, and writes it.
@@ -116,8 +42,14 @@ fn run_find<S: Source, O: Sink>(
     source: &mut S,
     out: &mut O,
 ) -> Result<u8, Stop> {
-    let read = read_inputs(alloc, inputs, source)?;
-    let certificate = find(alloc, &read.intake, &read.users)?;
+    let files = read_files(
+        alloc,
+        source,
+        inputs.policy,
+        inputs.credentials,
+        &inputs.captures,
+    )?;
+    let certificate = find(alloc, &files.intake, &files.users)?;
     let mut buffered = Buffered::new(alloc, out)?;
     audit_cert::write(alloc, &certificate, &mut buffered)?;
     buffered.flush()?;
@@ -136,8 +68,23 @@ fn run_request<S: Source, O: Sink, E: Sink>(
         Request::Check {
             inputs,
             certificate,
-        } => run_check(alloc, inputs, certificate, source, out),
-        Request::Audit(inputs) => run_audit(alloc, inputs, source, out),
+        } => check_files(
+            alloc,
+            source,
+            inputs.policy,
+            inputs.credentials,
+            certificate,
+            &inputs.captures,
+            out,
+        ),
+        Request::Audit(inputs) => audit_captures(
+            alloc,
+            source,
+            inputs.policy,
+            inputs.credentials,
+            &inputs.captures,
+            out,
+        ),
         Request::Find(inputs) => run_find(alloc, inputs, source, out),
         Request::Help(text) => {
             put_text(out, text.as_str())?;

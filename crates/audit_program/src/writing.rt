@@ -1,6 +1,6 @@
 //! What a run writes besides the report.
 
-use crate::stop::Stop;
+use audit_files::Stop;
 use audit_model::{Sink, put_all};
 use std::alloc::Global;
 

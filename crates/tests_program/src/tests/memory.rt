@@ -1,7 +1,8 @@
 //! Files and streams in memory.
 
+use audit_files::{ReadFailed, Source};
 use audit_model::{Sink, SinkFailed};
-use audit_program::{ReadFailed, Source, run};
+use audit_program::run;
 use std::alloc::{AllocError, Global};
 
 /// The files of a run.
@@ -38,6 +39,10 @@ impl<'a> Files<'a> {
 }
 
 impl Source for Files<'_> {
+    ghost use Rattle.std.specs.Prelude.{None};
+
+    ghost holds = { λ _ _. None };
+
     fn piece(&mut self, name: &str, at: u64, into: &mut [u8]) -> Result<usize, ReadFailed> {
         if self.fails == Some(name) && at > 0 {
             return Err(ReadFailed);

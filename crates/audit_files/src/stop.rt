@@ -1,6 +1,7 @@
 //! Why a run ends before its answer.
 
 ghost use Rattle.std.specs.Prelude.{◌≡◌};
+ghost use Rattle.audit_files.specs.Stops.{status_of_stop};
 
 use crate::source::ReadFailed;
 use audit_cert::{CertFault, CertFaultKind};
@@ -34,7 +35,9 @@ pub enum Stop {
 
 impl Stop {
     /// The exit status that says so.
-    pub fn status(&self) -> u8 {
+    pub fn status(&self) -> u8
+        ensures { result ≡ status_of_stop self.now }
+    {
         match self {
             Stop::Refused { .. } => 2,
             Stop::Memory => 3,

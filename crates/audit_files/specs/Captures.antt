@@ -1,0 +1,15 @@
+-- The sightings of some captures' bytes.
+use Rattle.std.specs.Prelude.{◌≡◌, ◌<◌, ℕ, List, length, map}
+use Rattle.audit_sightings.specs.Files.{Fed, MayEnd, fed_at, packets_of}
+use Rattle.audit_sightings.specs.Intake.{Taken}
+use Rattle.audit_sightings.specs.Sightings.{AreSightings, AreSound}
+
+-- Each capture is blocks to its end (pcapng, section 3.1), which give its packets; no packet is refused; and each interface has the
+-- sightings of its packets.
+pub record AreTakenIn (texts : List (List ℕ)) (taken : Taken) : Type 0 where
+  pub files : List Fed
+  pub of_texts : map (λ file. file.text) files ≡ texts
+  pub ended : (file : ℕ) → file < length files → MayEnd (fed_at files file)
+  pub sound : (file : ℕ) → AreSound taken.policy (packets_of files file)
+  pub sightings : AreSightings taken.policy taken.interfaces (packets_of files)
+  pub count : taken.files ≡ length files

@@ -1,0 +1,4 @@
+pub mod Captures
+pub mod Judged
+pub mod Pieces
+pub mod Stops

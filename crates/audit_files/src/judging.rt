@@ -1,0 +1,120 @@
+//! The verdict on what the files of a run hold.
+
+ghost use Rattle.std.specs.Prelude.{◌≡◌, [], ℕ, IfNone, IfOk, IfSome, List, Ok, Some};
+ghost use Rattle.std.specs.List.{AllZip};
+ghost use Rattle.audit_cert.specs.CertText.{cert_of};
+ghost use Rattle.audit_cert.specs.Spelling.{said_by};
+ghost use Rattle.audit_keys.specs.KeyFor.{key_for};
+ghost use Rattle.audit_model.specs.declared.certificate.Certificate.{Certificate as Written};
+ghost use Rattle.audit_model.specs.PolicyText.{policy_of};
+ghost use Rattle.audit_sightings.specs.Intake.{taken};
+ghost use Rattle.audit_files.specs.Judged.{AreRead, AreUsers, IsAudited, IsJudged};
+
+use crate::captures::take_in;
+use crate::source::Source;
+use crate::stop::Stop;
+use crate::text::read_text;
+use audit_cert::CertificateReader;
+use audit_glue::check;
+use audit_keys::{Credentials, CredentialsReader};
+use audit_model::{Certificate, Policy, PolicyReader, Sink, Verdict};
+use audit_report::report;
+use audit_sightings::Intake;
+use std::alloc::Global;
+
+/// The policy that a file has.
+pub fn read_policy<S: Source>(alloc: Global, source: &mut S, name: &str) -> Result<Policy, Stop>
+    ensures kept { S.holds source.new ≡ S.holds source.old }
+    ensures says { (text : List ℕ) → S.holds source.old name.now ≡ Some text → IfOk result (λ policy. policy_of text ≡ Ok policy) }
+{
+    read_text(alloc, source, name, PolicyReader::new(alloc))
+}
+
+/// The users that a file has; none where no file is named.
+pub fn read_users<S: Source>(
+    alloc: Global,
+    source: &mut S,
+    name: Option<&str>,
+) -> Result<Credentials, Stop>
+    ensures kept { S.holds source.new ≡ S.holds source.old }
+    ensures says { (text : List ℕ) → IfSome name.entry (λ name. S.holds source.old name.now ≡ Some text) → IfNone name.entry (text ≡ [])
+        → IfOk result (λ users. AreUsers text (key_for users)) }
+{
+    match name {
+        Some(name) => read_text(alloc, source, name, CredentialsReader::new(alloc)),
+        None => Ok(Credentials::read(alloc, b"")?),
+    }
+}
+
+/// What every command reads but a certificate.
+#[derive(Drop)]
+pub struct Files {
+    pub intake: Intake,
+    pub users: Credentials,
+}
+
+/// The users and the captures of a run, by its policy. Files are read in this order: policy, users, captures; each is judged before the
+/// next is read.
+pub fn read_files<S: Source>(
+    alloc: Global,
+    source: &mut S,
+    policy: &str,
+    users: Option<&str>,
+    captures: &[&str],
+) -> Result<Files, Stop>
+    ensures { (policy_text users_text : List ℕ) (texts : List (List ℕ)) →
+        S.holds source.old policy.now ≡ Some policy_text →
+        IfSome users.entry (λ name. S.holds source.old name.now ≡ Some users_text) → IfNone users.entry (users_text ≡ []) →
+        AllZip (λ name text. S.holds source.old name.now ≡ Some text) captures.now texts →
+        IfOk result (λ files. AreRead policy_text users_text texts (taken files.intake) (key_for files.users)) }
+{
+    let policy = read_policy(alloc, source, policy)?;
+    let users = read_users(alloc, source, users)?;
+    let intake = take_in(alloc, source, captures, Intake::new(alloc, policy))?;
+    Ok(Files { intake, users })
+}
+
+/// Judges the captures by the certificate, and writes the report. It gives 0 where they conform, and 1 where that isn't shown.
+pub fn judge<O: Sink>(
+    alloc: Global,
+    intake: &Intake,
+    users: &Credentials,
+    certificate: &Certificate,
+    out: &mut O,
+) -> Result<u8, Stop>
+    ensures { IfOk result (IsJudged (taken intake.now) (key_for users.now) certificate.now (O.taken out.old) (O.taken out.new)) }
+{
+    let verdict = check(alloc, intake, users, certificate)?;
+    report(alloc, &verdict, intake, out)?;
+    match verdict {
+        Verdict::Conforming { .. } => Ok(0),
+        Verdict::NotShown(_) => Ok(1),
+    }
+}
+
+/// Judges captures by the certificate of a file, and writes the report. Files are read in this order: policy, credentials, certificate,
+/// captures; each is judged before the next is read. It gives 0 where they conform, and 1 where that isn't shown.
+pub fn check_files<S: Source, O: Sink>(
+    alloc: Global,
+    source: &mut S,
+    policy: &str,
+    users: Option<&str>,
+    certificate: &str,
+    captures: &[&str],
+    out: &mut O,
+) -> Result<u8, Stop>
+    ensures { (policy_text users_text certificate_text : List ℕ) (texts : List (List ℕ)) →
+        S.holds source.old policy.now ≡ Some policy_text →
+        IfSome users.entry (λ name. S.holds source.old name.now ≡ Some users_text) → IfNone users.entry (users_text ≡ []) →
+        S.holds source.old certificate.now ≡ Some certificate_text →
+        AllZip (λ name text. S.holds source.old name.now ≡ Some text) captures.now texts →
+        IfOk result (λ status. (written : Written) × (cert_of certificate_text ≡ Ok (said_by written))
+        × IsAudited policy_text users_text texts written (O.taken out.old) (O.taken out.new) status) }
+{
+    let policy = read_policy(alloc, source, policy)?;
+    let users = read_users(alloc, source, users)?;
+    let reader = CertificateReader::new(alloc);
+    let certificate = read_text(alloc, source, certificate, reader)?;
+    let intake = take_in(alloc, source, captures, Intake::new(alloc, policy))?;
+    judge(alloc, &intake, &users, &certificate, out)
+}

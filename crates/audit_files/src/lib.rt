@@ -1,0 +1,14 @@
+//! The files of a run, from their bytes to the verdict on them.
+#![tactic(auto)]
+
+mod captures;
+mod judging;
+mod source;
+mod stop;
+mod text;
+
+pub use captures::take_in;
+pub use judging::{Files, check_files, judge, read_files, read_policy, read_users};
+pub use source::{ReadFailed, Source};
+pub use stop::Stop;
+pub use text::{TextReading, read_text};

@@ -1,0 +1,119 @@
+//! The texts of a run, read piece by piece.
+
+ghost use Rattle.std.specs.Prelude.{◌≡◌, ◌++◌, ℕ, [], IfOk, List, Some};
+
+use crate::source::{PIECE, Source};
+use crate::stop::Stop;
+use audit_cert::CertificateReader;
+use audit_keys::{Credentials, CredentialsReader};
+use audit_model::{Certificate, Policy, PolicyReader};
+use std::alloc::Global;
+
+/// What a text is read by.
+pub trait TextReading {
+    ghost use Rattle.std.specs.Prelude.{ℕ, List};
+
+    /// What the text says.
+    type Whole;
+
+    /// It was fed this text, which has no fault so far.
+    ghost stands: { Self → List ℕ → Type 0 };
+
+    /// The text that ends here says this.
+    ghost says: { List ℕ → Self.Whole → Type 0 };
+
+    /// Takes the next piece of the text.
+    fn feed(self, piece: &[u8]) -> Result<Self, Stop>
+        ensures { (text : List ℕ) → stands self text → IfOk result (λ fed. stands fed (text ++ piece.now)) };
+
+    /// What the text says that ends here.
+    fn finish(self) -> Result<Self::Whole, Stop>
+        ensures { (text : List ℕ) → stands self text → IfOk result (says text) };
+}
+
+impl TextReading for PolicyReader {
+    ghost use Rattle.std.specs.Prelude.{◌≡◌, Ok};
+    ghost use Rattle.audit_model.specs.PolicyText.{policy_of, StandsFor};
+
+    type Whole = Policy;
+
+    ghost stands = { StandsFor };
+
+    ghost says = { λ text policy. policy_of text ≡ Ok policy };
+
+    fn feed(self, piece: &[u8]) -> Result<Self, Stop> {
+        Ok(PolicyReader::feed(self, piece)?)
+    }
+
+    fn finish(self) -> Result<Policy, Stop> {
+        Ok(PolicyReader::finish(self)?)
+    }
+}
+
+impl TextReading for CredentialsReader {
+    ghost use Rattle.audit_text.specs.Readers.{Took};
+    ghost use Rattle.audit_keys.specs.CredText.{credentials_of};
+    ghost use Rattle.audit_keys.specs.CredentialsReader.{StandsFor};
+    ghost use Rattle.audit_keys.specs.KeyFor.{HasKeysOf};
+
+    type Whole = Credentials;
+
+    ghost stands = { StandsFor };
+
+    ghost says = { λ text credentials. Took HasKeysOf (credentials_of text) credentials };
+
+    fn feed(self, piece: &[u8]) -> Result<Self, Stop> {
+        Ok(CredentialsReader::feed(self, piece)?)
+    }
+
+    fn finish(self) -> Result<Credentials, Stop> {
+        Ok(CredentialsReader::finish(self)?)
+    }
+}
+
+impl TextReading for CertificateReader {
+    ghost use Rattle.std.specs.Prelude.{◌≡◌, Ok};
+    ghost use Rattle.audit_cert.specs.CertText.{cert_of, StandsFor};
+    ghost use Rattle.audit_cert.specs.Spelling.{said_by};
+
+    type Whole = Certificate;
+
+    ghost stands = { StandsFor };
+
+    ghost says = { λ text certificate. cert_of text ≡ Ok (said_by certificate) };
+
+    fn feed(self, piece: &[u8]) -> Result<Self, Stop> {
+        Ok(CertificateReader::feed(self, piece)?)
+    }
+
+    fn finish(self) -> Result<Certificate, Stop> {
+        Ok(CertificateReader::finish(self)?)
+    }
+}
+
+/// What the text of a file says. It is read to its end, or to the piece in which it is refused.
+pub fn read_text<S: Source, R: TextReading + Drop>(
+    alloc: Global,
+    source: &mut S,
+    name: &str,
+    reader: R,
+) -> Result<R::Whole, Stop>
+    ensures kept { S.holds source.new ≡ S.holds source.old }
+    ensures says { (bytes : List ℕ) → S.holds source.old name.now ≡ Some bytes → R.stands reader [] → IfOk result (R.says bytes) }
+{
+    let mut piece = vec![in alloc; 0u8; PIECE]?;
+    let mut reader = reader;
+    let mut at = 0u64;
+    'pieces: for _ in 0..u64::MAX {
+        let read = source.piece(name, at, &mut piece)?;
+        if read == 0 {
+            return reader.finish();
+        }
+        reader = reader.feed(&piece[..read])?;
+        let Some(next) = at.checked_add(read as u64) else {
+            return Err(Stop::Read);
+        };
+        at = next;
+    }
+    Err(Stop::Read)
+}
