@@ -3,4 +3,5 @@
 mod books;
 mod closing;
 mod lanes;
+mod memory;
 mod threads;
