@@ -1,6 +1,6 @@
 //! Jobs of lanes of one event, and what they show.
 
-ghost use Rattle.std.specs.Prelude.{◌≡◌, ◌<◌, ◌↔◌, IfOk, IsTrue, length};
+ghost use Rattle.std.specs.Prelude.{◌≡◌, ◌↔◌, IfOk, IsTrue};
 ghost use Rattle.audit_sightings.specs.Intake.{IsThere, NamesWhatIsThere, taken};
 
 use audit_keys::Credentials;
