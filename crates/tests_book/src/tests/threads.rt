@@ -1,0 +1,147 @@
+//! Four threads fill a book of 40 lanes.
+
+ghost use Rattle.std.specs.Prelude.{◌≡◌};
+
+use super::lanes::{breach_of, finding, intake, is_of_lane, job};
+use audit_book::{Audit, Book, Closed, Receipt, Seat};
+use audit_lane::{Job, Outcome};
+use std::alloc::Global;
+use std::marker::Brand;
+use std::sync::ledger::Blank;
+use std::sync::{Arc, Wait};
+use std::test::Fail;
+use std::thread;
+use std::thread::Threads;
+
+const LANES: u32 = 40;
+
+const BROKEN: [u32; 3] = [3, 17, 38];
+
+/// What the threads share.
+#[derive(Drop)]
+struct Work<'r, 'w, 'a, E: Audit, R> {
+    rt: &'r R,
+    alloc: Global,
+    book: &'w Book<'a, E>,
+    job: &'r Job<'a>,
+}
+
+/// A seat, and how many entries of its own it saw when it last looked.
+#[derive(Drop)]
+struct Worked<E: Audit> {
+    seat: Seat<E>,
+    mine: u32,
+}
+
+impl<'r, 'w, 'a, E: Audit, R: Wait> Work<'r, 'w, 'a, E, R> {
+    /// Claims, enters and looks until no lane is left, or a call is refused.
+    fn run(&self, mut seat: Seat<E>) -> Worked<E> {
+        let mut mine = 0;
+        for _ in 0..LANES {
+            let Some(seen) = self.enter_next(&mut seat) else {
+                break;
+            };
+            mine = seen;
+        }
+        Worked { seat, mine }
+    }
+
+    /// Enters the next lane. It tells how many entries of its own the seat sees then.
+    fn enter_next(&self, seat: &mut Seat<E>) -> Option<u32> {
+        let lane = self.book.claim(self.rt, seat)?;
+        let finding = finding(self.alloc, self.job, lane).ok()?;
+        self.book.enter(self.rt, seat, finding).ok()?;
+        let view = self.book.look(self.rt, seat).ok()?;
+        Some(view.mine)
+    }
+}
+
+/// What four threads leave.
+#[derive(Drop)]
+struct Filled<'a> {
+    closed: Closed<'a>,
+    receipts: Vec<Receipt>,
+    /// Of each seat how many entries of its own it saw last, and how many receipts it has.
+    counts: Vec<(u32, usize)>,
+}
+
+fn fill<'r, 'a, E: Audit + Send + Sync, R: Threads + Wait + Sync>(
+    rt: &'r R,
+    alloc: Global,
+    job: &'r Arc<Job<'a>>,
+    blank: Blank,
+) -> Result<Filled<'a>, Fail>
+    requires blank { (blank.name ≡ E.name) × (blank.parts ≡ E.parts) × (E.parts ≡ 4) }
+    requires named { E.inputs ≡ job.now.value }
+{
+    let shared = Arc::try_clone(job)?;
+    let (book, seats) = Book::<E>::open(alloc, shared, 4, blank)?;
+    let work = Work {
+        rt,
+        alloc,
+        book: &book,
+        job: &**job,
+    };
+    let worked = thread::map_vec(rt, seats, &|seat| work.run(seat))?;
+    let mut seats = Vec::new(alloc);
+    let mut receipts = Vec::new(alloc);
+    let mut counts = Vec::new(alloc);
+    for Worked { seat, mine } in worked {
+        receipts.extend_from_slice(seat.receipts())?;
+        counts.push((mine, seat.receipts().len()))?;
+        if seats.push(seat).is_err() {
+            return Err(Fail::new("memory"));
+        }
+    }
+    let Ok(closed) = book.close(seats) else {
+        return Err(Fail::new("not closed with all seats"));
+    };
+    Ok(Filled {
+        closed,
+        receipts,
+        counts,
+    })
+}
+
+#[test]
+fn four_threads_enter_each_lane_once(rt: HostRuntime) -> Result<(), Fail> {
+    let alloc = rt.alloc();
+    let intake = intake(alloc)?;
+    let job = job(alloc, LANES, 40000, &BROKEN, &intake)?;
+    let filled = fill::<Brand, _>(&rt, alloc, &job, Blank::new(4))?;
+    assert_eq!(rt; filled.closed.entries.len(), 40);
+    let mut times = [0u32; 40];
+    for entry in filled.closed.entries.as_slice() {
+        let lane = entry.input().number() as usize;
+        assert!(rt; lane < 40);
+        times[lane] = times[lane].saturating_add(1);
+    }
+    assert_eq!(rt; times, [1; 40]);
+    assert_eq!(rt; filled.counts.len(), 4);
+    for (mine, receipts) in filled.counts {
+        assert_eq!(rt; mine as usize, receipts);
+    }
+    Ok(())
+}
+
+#[test]
+fn each_receipt_of_four_threads_has_its_finding(rt: HostRuntime) -> Result<(), Fail> {
+    let alloc = rt.alloc();
+    let intake = intake(alloc)?;
+    let job = job(alloc, LANES, 40000, &BROKEN, &intake)?;
+    let filled = fill::<Brand, _>(&rt, alloc, &job, Blank::new(4))?;
+    assert_eq!(rt; filled.receipts.len(), 40);
+    for receipt in filled.receipts {
+        let entry = filled.closed.at(&receipt).ok_or("an entry at its place")?;
+        assert!(rt; is_of_lane(entry, &job, receipt.lane));
+        let is_broken = BROKEN.contains(&receipt.lane);
+        match entry.outcome() {
+            Outcome::Broken(breach) => assert_eq!(rt;
+                (is_broken, *breach),
+                (true, breach_of(receipt.lane))
+            ),
+            Outcome::Passed(_) => assert!(rt; !is_broken),
+        }
+    }
+    Ok(())
+}
