@@ -1,0 +1,112 @@
+//! The workers, and the book that they fill.
+
+ghost use Rattle.std.specs.Prelude.{length, ◌≡◌, ◌<◌, ◌≤◌, IfOk, IfSome};
+ghost use Rattle.audit_model.specs.declared.certificate.TheConstants.{MAX_LANES};
+ghost use Rattle.audit_pool.specs.Full.{IsFull, IsHistoryOf};
+
+use crate::gate::Gate;
+use audit_book::{Audit, Book, Closed, Seat};
+use audit_lane::{Job, judge};
+use std::alloc::{AllocError, Global};
+use std::marker::Brand;
+use std::sync::ledger::Blank;
+use std::sync::{Arc, Wait};
+use std::thread;
+use std::thread::Threads;
+
+/// What the workers share.
+#[derive(Drop)]
+struct Work<'r, 'w, 'a, E: Audit, R, G> {
+    rt: &'r R,
+    alloc: Global,
+    book: &'w Book<'a, E>,
+    job: &'r Job<'a>,
+    gate: &'r G,
+    ghost job_is: { job.now ≡ E.inputs },
+}
+
+impl<'r, 'w, 'a, E: Audit, R: Wait, G: Gate> Work<'r, 'w, 'a, E, R, G> {
+    /// Claims, judges and enters until no lane is left, or memory runs out.
+    fn run(&self, mut seat: Seat<E>) -> Seat<E> {
+        for _ in 0..self.job.len() {
+            let Some(lane) = self.book.claim(self.rt, &mut seat) else {
+                break;
+            };
+            if !self.judge(lane, &mut seat) {
+                break;
+            }
+        }
+        seat
+    }
+
+    /// Judges a lane without the lock and enters its finding; false for want of memory.
+    fn judge(&self, lane: u32, seat: &mut Seat<E>) -> bool
+        requires { lane < length E.inputs }
+    {
+        let Ok(input) = Arc::try_clone(self.job.input(lane)) else {
+            return false;
+        };
+        self.gate.before(lane);
+        let finding = judge(self.alloc, input);
+        self.gate.after(lane);
+        let Ok(finding) = finding else {
+            return false;
+        };
+        self.book.enter_own(self.rt, seat, finding).is_ok()
+    }
+}
+
+/// The closed book of this many workers; none where it can't be closed. Without memory for the book it fails.
+fn closed_book<'r, 'a, E: Audit + Send + Sync, R: Threads + Wait + Sync, G: Gate + Sync>(
+    rt: &'r R,
+    alloc: Global,
+    job: &'r Arc<Job<'a>>,
+    workers: u32,
+    gate: &'r G,
+    blank: Blank,
+) -> Result<Option<Closed<'a>>, AllocError>
+    requires workers { (0 < workers) × (workers ≤ 256) }
+    requires blank { (blank.name ≡ E.name) × (blank.parts ≡ E.parts) × (E.parts ≡ workers) }
+    requires named { (E.inputs ≡ job.now.value) × (E.parts ≡ workers) }
+    ensures { IfOk result (λ closed. IfSome closed (λ c. IsHistoryOf E.inputs E.parts c.claimants.items c.seats.items c.entries.items)) }
+{
+    let shared = Arc::try_clone(job)?;
+    let Ok((book, seats)) = Book::<E>::open(alloc, shared, workers, blank) else {
+        return Err(AllocError);
+    };
+    let work = Work {
+        rt,
+        alloc,
+        book: &book,
+        job: &**job,
+        gate,
+    };
+    let Ok(seats) = thread::map_vec(rt, seats, &|seat| work.run(seat)) else {
+        return Ok(None);
+    };
+    Ok(book.close(seats).ok())
+}
+
+/// The closed book that 1 to 256 workers filled, each lane judged by one of them; none where a lane has no entry, since a worker had
+/// no memory for it. It fails without memory for the book, which takes some 40 bytes a lane.
+pub fn full_book<'a, R: Threads + Wait + Sync, G: Gate + Sync>(
+    rt: &R,
+    alloc: Global,
+    job: &Arc<Job<'a>>,
+    workers: u32,
+    gate: &G,
+) -> Result<Option<Closed<'a>>, AllocError>
+    requires { (0 < workers) × (workers ≤ 256) }
+    ensures full { IfOk result (λ closed. IfSome closed (λ c. IsFull job.now.value workers c.claimants.items c.seats.items c.entries.items)) }
+    ensures limit { IfOk result (λ closed. IfSome closed (λ c. length c.entries.items ≤ MAX_LANES)) }
+{
+    let lanes = job.len() as usize;
+    let seats = Blank::new(u64::from(workers));
+    let Some(closed) = closed_book::<Brand, R, G>(rt, alloc, job, workers, gate, seats)? else {
+        return Ok(None);
+    };
+    if closed.entries.len() != lanes {
+        return Ok(None);
+    }
+    Ok(Some(closed))
+}
