@@ -1,11 +1,12 @@
 //! The workers, and the book that they fill.
 
-ghost use Rattle.std.specs.Prelude.{length, ◌≡◌, ◌<◌, ◌≤◌, IfOk, IfSome};
+ghost use Rattle.std.specs.Prelude.{length, ◌≡◌, ◌+◌, ◌<◌, ◌≤◌, IfNone, IfOk, IfSome};
 ghost use Rattle.audit_model.specs.declared.certificate.TheConstants.{MAX_LANES};
+ghost use Rattle.audit_book.specs.Seats.{with_receipt};
 ghost use Rattle.audit_pool.specs.Full.{IsFull, IsHistoryOf};
 
 use crate::gate::Gate;
-use audit_book::{Audit, Book, Closed, Seat};
+use audit_book::{Audit, Book, Closed, Receipt, Seat};
 use audit_lane::{Job, judge};
 use std::alloc::{AllocError, Global};
 use std::marker::Brand;
@@ -26,33 +27,38 @@ struct Work<'r, 'w, 'a, E: Audit, R, G> {
 }
 
 impl<'r, 'w, 'a, E: Audit, R: Wait, G: Gate> Work<'r, 'w, 'a, E, R, G> {
-    /// Claims, judges and enters until no lane is left, or memory runs out.
-    fn run(&self, mut seat: Seat<E>) -> Seat<E> {
-        for _ in 0..self.job.len() {
+    /// Claims, judges and enters until no lane is left, or memory runs out: of the lanes that it claims, at most the last has no entry of its own.
+    fn run(&self, mut seat: Seat<E>) -> Seat<E>
+        ensures number { result.number ≡ seat.number }
+        ensures entered { result.claims + length seat.receipts ≤ length result.receipts + seat.claims + 1 }
+    {
+        'lanes: for _ in 0..self.job.len() {
             let Some(lane) = self.book.claim(self.rt, &mut seat) else {
-                break;
+                return seat;
             };
-            if !self.judge(lane, &mut seat) {
-                break;
+            if self.judge(lane, &mut seat).is_none() {
+                return seat;
             }
         }
         seat
     }
 
-    /// Judges a lane without the lock and enters its finding; false for want of memory.
-    fn judge(&self, lane: u32, seat: &mut Seat<E>) -> bool
+    /// Judges a lane without the lock and enters its finding; none for want of memory.
+    fn judge(&self, lane: u32, seat: &mut Seat<E>) -> Option<Receipt>
         requires { lane < length E.inputs }
+        ensures some { IfSome result (λ r. (seat.new ≡ with_receipt seat.old r) × (r.lane ≡ lane)) }
+        ensures none { IfNone result (seat.new ≡ seat.old) }
     {
         let Ok(input) = Arc::try_clone(self.job.input(lane)) else {
-            return false;
+            return None;
         };
         self.gate.before(lane);
         let finding = judge(self.alloc, input);
         self.gate.after(lane);
         let Ok(finding) = finding else {
-            return false;
+            return None;
         };
-        self.book.enter_own(self.rt, seat, finding).is_ok()
+        self.book.enter_own(self.rt, seat, finding).ok()
     }
 }
 
@@ -88,7 +94,7 @@ fn closed_book<'r, 'a, E: Audit + Send + Sync, R: Threads + Wait + Sync, G: Gate
 }
 
 /// The closed book that 1 to 256 workers filled, each lane judged by one of them; none where a lane has no entry, since a worker had
-/// no memory for it. It fails without memory for the book, which takes some 40 bytes a lane.
+/// no memory for it. It fails without memory for the book.
 pub fn full_book<'a, R: Threads + Wait + Sync, G: Gate + Sync>(
     rt: &R,
     alloc: Global,
