@@ -2,20 +2,18 @@
 
 ghost use Rattle.std.specs.Prelude.{◌≡◌, ◌<◌, ◌≤◌, ◌↔◌, IfOk, IfSome};
 ghost use Rattle.audit_keys.specs.KeyFor.{key_for};
-ghost use Rattle.audit_lane.specs.Concluded.{ConcludesTo};
 ghost use Rattle.audit_sightings.specs.Intake.{taken};
 ghost use Rattle.audit_verdict.specs.Verdicts.{IsConforming, IsVerdict};
 ghost use Rattle.audit_whole.specs.CaptureRun.{rules_for};
 ghost use Rattle.audit_whole.specs.Conforms.{Conforms};
 ghost use Rattle.audit_whole.specs.Headline.{Headline};
-ghost use Rattle.audit_pool.specs.Full.{IsFull, IsFullOf};
+ghost use Rattle.audit_pool.specs.Full.{IsFullOf};
 
 use crate::gate::Gate;
 use crate::workers::full_book;
 use audit_book::Closed;
 use audit_glue::{check, conclude, job};
 use audit_keys::Credentials;
-use audit_lane::Job;
 use audit_model::{Certificate, Verdict};
 use audit_placement::placed;
 use audit_sightings::Intake;
@@ -28,31 +26,11 @@ use std::thread::Threads;
 #[derive(Drop)]
 pub struct Judged<'a> {
     pub verdict: Verdict,
-    /// None where placement has a breach, and where the workers left a lane without an entry.
+    /// None where placement has a breach, and where the workers had no memory.
     pub closed: Option<Closed<'a>>,
 }
 
-/// What the findings of the workers come to, and their book; none where they left a lane without an entry.
-fn judge_lanes<'a, R: Threads + Wait + Sync, G: Gate + Sync>(
-    rt: &R,
-    alloc: Global,
-    job: &Arc<Job<'a>>,
-    datagrams: u32,
-    workers: u32,
-    gate: &G,
-) -> Result<Option<(Verdict, Closed<'a>)>, AllocError>
-    requires { (0 < workers) × (workers ≤ 256) }
-    ensures full { IfOk result (λ found. IfSome found (λ f. IsFull job.now.value workers f.1.claimants.items f.1.seats.items f.1.entries.items)) }
-    ensures concludes { IfOk result (λ found. IfSome found (λ f. ConcludesTo datagrams f.1.entries.items f.0)) }
-{
-    let Some(closed) = full_book(rt, alloc, job, workers, gate)? else {
-        return Ok(None);
-    };
-    let verdict = conclude(alloc, datagrams, closed.entries.as_slice())?;
-    Ok(Some((verdict, closed)))
-}
-
-/// The verdict that the parts come to: placement first, then the lanes by the workers, or by this thread where they left one out.
+/// The verdict that the parts come to: placement first, then the lanes by the workers, or by this thread where they had no memory.
 fn verdict_of_parts<'a, R: Threads + Wait + Sync, G: Gate + Sync>(
     rt: &R,
     alloc: Global,
@@ -77,27 +55,28 @@ fn verdict_of_parts<'a, R: Threads + Wait + Sync, G: Gate + Sync>(
     };
     let job = job(alloc, intake, credentials, certificate, &placement)?;
     let job = Arc::new(alloc, job)?;
-    let found = judge_lanes(rt, alloc, &job, placement.datagrams(), workers, gate)?;
-    if let Some((verdict, closed)) = found {
+    let filled = full_book(rt, alloc, &job, workers, gate);
+    // The memory of the job may be wanted.
+    drop(job);
+    let Ok(closed) = filled else {
+        let verdict = check(alloc, intake, credentials, certificate)?;
         return Ok(Judged {
             verdict,
-            closed: Some(closed),
+            closed: None,
         });
-    }
-    // Its memory is wanted now.
-    drop(job);
-    let verdict = check(alloc, intake, credentials, certificate)?;
+    };
+    let verdict = conclude(alloc, placement.datagrams(), closed.entries.as_slice())?;
     Ok(Judged {
         verdict,
-        closed: None,
+        closed: Some(closed),
     })
 }
 
 /// The verdict of `check`, by 1 to 256 workers: each lane is judged by one of them, whichever claims it, and the verdict doesn't depend
 /// on which. Round each judging the worker calls the gate.
 ///
-/// Its `closed` has one entry for each lane. Where a worker has no memory for a lane, this thread judges every lane in its place; where
-/// that has none either, or there is none for the job or the book, it fails. A worker whose thread can't be started is run by another.
+/// Its `closed` has one entry for each lane. Where there is no memory for the book, or a worker has none for a lane, this thread judges
+/// every lane alone, and it fails where it has none either. A worker whose thread can't be started is run by another.
 pub fn check_parallel<'a, R: Threads + Wait + Sync, G: Gate + Sync>(
     rt: &R,
     alloc: Global,

@@ -62,7 +62,7 @@ impl<'r, 'w, 'a, E: Audit, R: Wait, G: Gate> Work<'r, 'w, 'a, E, R, G> {
     }
 }
 
-/// The closed book of this many workers; none where it can't be closed. Without memory for the book it fails.
+/// The closed book of this many workers. It fails without memory for the book, or for the workers' threads.
 fn closed_book<'r, 'a, E: Audit + Send + Sync, R: Threads + Wait + Sync, G: Gate + Sync>(
     rt: &'r R,
     alloc: Global,
@@ -70,11 +70,11 @@ fn closed_book<'r, 'a, E: Audit + Send + Sync, R: Threads + Wait + Sync, G: Gate
     workers: u32,
     gate: &'r G,
     blank: Blank,
-) -> Result<Option<Closed<'a>>, AllocError>
+) -> Result<Closed<'a>, AllocError>
     requires workers { (0 < workers) × (workers ≤ 256) }
     requires blank { (blank.name ≡ E.name) × (blank.parts ≡ E.parts) × (E.parts ≡ workers) }
     requires named { (E.inputs ≡ job.now.value) × (E.parts ≡ workers) }
-    ensures { IfOk result (λ closed. IfSome closed (λ c. IsHistoryOf E.inputs E.parts c.claimants.items c.seats.items c.entries.items)) }
+    ensures { IfOk result (λ c. IsHistoryOf E.inputs E.parts c.claimants.items c.seats.items c.entries.items) }
 {
     let shared = Arc::try_clone(job)?;
     let Ok((book, seats)) = Book::<E>::open(alloc, shared, workers, blank) else {
@@ -87,32 +87,30 @@ fn closed_book<'r, 'a, E: Audit + Send + Sync, R: Threads + Wait + Sync, G: Gate
         job: &**job,
         gate,
     };
-    let Ok(seats) = thread::map_vec(rt, seats, &|seat| work.run(seat)) else {
-        return Ok(None);
+    let seats = thread::map_vec(rt, seats, &|seat| work.run(seat))?;
+    let Ok(closed) = book.close(seats) else {
+        return Err(AllocError);
     };
-    Ok(book.close(seats).ok())
+    Ok(closed)
 }
 
-/// The closed book that 1 to 256 workers filled, each lane judged by one of them; none where a lane has no entry, since a worker had
-/// no memory for it. It fails without memory for the book.
+/// The closed book that 1 to 256 workers filled, each lane judged by one of them. It fails without memory for the book or for a lane.
 pub fn full_book<'a, R: Threads + Wait + Sync, G: Gate + Sync>(
     rt: &R,
     alloc: Global,
     job: &Arc<Job<'a>>,
     workers: u32,
     gate: &G,
-) -> Result<Option<Closed<'a>>, AllocError>
+) -> Result<Closed<'a>, AllocError>
     requires { (0 < workers) × (workers ≤ 256) }
-    ensures full { IfOk result (λ closed. IfSome closed (λ c. IsFull job.now.value workers c.claimants.items c.seats.items c.entries.items)) }
-    ensures limit { IfOk result (λ closed. IfSome closed (λ c. length c.entries.items ≤ MAX_LANES)) }
+    ensures full { IfOk result (λ c. IsFull job.now.value workers c.claimants.items c.seats.items c.entries.items) }
+    ensures limit { IfOk result (λ c. length c.entries.items ≤ MAX_LANES) }
 {
     let lanes = job.len() as usize;
     let seats = Blank::new(u64::from(workers));
-    let Some(closed) = closed_book::<Brand, R, G>(rt, alloc, job, workers, gate, seats)? else {
-        return Ok(None);
-    };
+    let closed = closed_book::<Brand, R, G>(rt, alloc, job, workers, gate, seats)?;
     if closed.entries.len() != lanes {
-        return Ok(None);
+        return Err(AllocError);
     }
-    Ok(Some(closed))
+    Ok(closed)
 }
