@@ -1,7 +1,7 @@
 //! What a caller may do round each judging.
 
 /// Called by the worker that judges a lane, without the book's lock: other workers may be inside it at the same time. Its functions
-/// have to return, since the worker waits for them.
+/// have to return, also where no thread can be started and the workers run one after another.
 pub trait Gate {
     /// Called before the lane of this number is judged.
     fn before(&self, lane: u32);

@@ -76,7 +76,7 @@ fn verdict_of_parts<'a, R: Threads + Wait + Sync, G: Gate + Sync>(
 /// on which. Round each judging the worker calls the gate.
 ///
 /// Its `closed` has one entry for each lane. Where there is no memory for the book, or a worker has none for a lane, this thread judges
-/// every lane alone, and it fails where it has none either. A worker whose thread can't be started is run by another.
+/// every lane alone, and it fails where it has none either. Where no thread can be started, the workers run one after another.
 pub fn check_parallel<'a, R: Threads + Wait + Sync, G: Gate + Sync>(
     rt: &R,
     alloc: Global,

@@ -41,7 +41,7 @@ const PASSING: &[u8] =
 const BROKEN: &[u8] =
     b"turnaudit-certificate 1\nlane 198.51.100.7:40000 192.0.2.1:3478\nin 0.1 3000000000 0\nact 0.1 0.2 3000000000 1\nout 0.2 3000500000 0\nlane 198.51.100.8:40000 192.0.2.1:3478\nin 0.0 2000000000 0\nact 0.0 0.3 2000000000 1\nout 0.3 3000500000 1\nend\n";
 
-/// A worker waits before its lane until the other lane has begun too, 10 seconds at the most.
+/// A worker waits before its lane until the other lane has begun too, for 100,000 turns of 100 microseconds at the most.
 #[derive(Drop)]
 struct Meeting<'r, R> {
     rt: &'r R,
@@ -61,11 +61,11 @@ impl<'r, R: Clock> Meeting<'r, R> {
     }
 
     fn wait_for(&self, other: &AtomicU64) {
-        for _ in 0..1_000_000u32 {
+        for _ in 0..100_000u32 {
             if other.load(Ordering::SeqCst) == 1 {
                 return;
             }
-            thread::sleep(self.rt, Duration::from_micros(10));
+            thread::sleep(self.rt, Duration::from_micros(100));
         }
         self.missed.store(1, Ordering::SeqCst);
     }
