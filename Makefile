@@ -25,3 +25,4 @@ format:
 test:
 	rt ci
 	tests/captures.sh $(PROGRAM)
+	python3 tests/beside_plain.py $(PROGRAM) examples/*
