@@ -7,6 +7,7 @@ use Rattle.audit_files.proofs.captures.feed_capture.Goals as goal
 
 pub pieces-init : goal.pieces-init
 pieces-init g c = record {
+  room = omega (arith, c.in_ok-piece.ensures.len);
   same = refl;
   count = refl;
   policy = refl;
@@ -20,11 +21,12 @@ pub returns-then-read-eq0-clause-fed : goal.returns-then-read-eq0-clause-fed
 returns-then-read-eq0-clause-fed g c = λ bytes files holds stands.
     let now : g.S.Source.holds c.pieces.source c.args.name.now ≡ Some bytes = ap (λ (h : List ℕ → Option (List ℕ)). h c.args.name.now) c.pieces.invariant.same ∙ holds in
     let piece : IsPieceAt bytes c.pieces.at c.in_ok-read.read c.piece.new.into = c.in_ok-read.ensures.bytes bytes now in
-    subst (λ (text : List ℕ). GoesOn c.pieces.intake files c.args.file text) (take_all c.pieces.at bytes (piece.last c.if-read-eq0.true))
+    subst (λ (text : List ℕ). GoesOn c.pieces.intake files c.args.file text) (take_all c.pieces.at bytes (piece.last c.if-read-eq0.true (omega (arith, c.pieces.invariant.room, c.piece.auto.into, c.deref_mut.ensures.len))))
     (c.pieces.invariant.fed bytes files holds stands)
 
 pub pieces-preserved : goal.pieces-preserved
 pieces-preserved g c = record {
+  room = c.pieces.invariant.room;
   same = c.piece.ensures.kept ∙ c.pieces.invariant.same;
   count = c.feed.ensures.files ∙ c.pieces.invariant.count;
   policy = c.feed.ensures.policy ∙ c.pieces.invariant.policy;

@@ -1,10 +1,11 @@
-use Rattle.std.proofs.Common.{◌≡◌, ℕ, List, Some, take, vec_len}
+use Rattle.std.proofs.Common.{◌≡◌, ◌<◌, ℕ, List, Some, take, vec_len}
 use Rattle.audit_sightings.specs.Files.{Fed, GoesOn, StandsFor}
 use Rattle.audit_files.proofs.captures.feed_capture.Given as goal
 
 -- the intake was fed the bytes up to the offset
 abbrev pub invariant-pieces : goal.invariant-pieces
 invariant-pieces g l = record {
+  room : 0 < l.piece.len;
   same : g.S.Source.holds l.source ≡ g.S.Source.holds l.fn.source;
   count : vec_len l.intake.files ≡ vec_len l.fn.intake.files;
   policy : l.intake.policy ≡ l.fn.intake.policy;

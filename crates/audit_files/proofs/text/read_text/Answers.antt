@@ -1,18 +1,22 @@
-use Rattle.std.proofs.Common.{◌≡◌, ◌++◌, ◌≤◌, ◌∙◌, ℕ, List, Option, Some, IfOk, take, ap, sym, subst, length, arith}
+use Rattle.std.proofs.Common.{◌≡◌, ◌++◌, ◌≤◌, ◌∙◌, ℕ, List, Option, Some, IfOk, take, ap, sym, subst, refl, length, arith}
 use Rattle.std.proofs.lemmas.List.{take_all}
 use Rattle.audit_files.specs.Pieces.{IsPieceAt}
 use Rattle.audit_files.proofs.Fed.{read_of, fed_more}
 use Rattle.audit_files.proofs.text.read_text.Goals as goal
 
+pub pieces-init : goal.pieces-init
+pieces-init g c = record { room = omega (arith, c.in_ok-piece.ensures.len); same = refl; fed = λ bytes holds fresh. fresh }
+
 pub returns-then-read-eq0-clause-says : goal.returns-then-read-eq0-clause-says
 returns-then-read-eq0-clause-says g c = λ bytes holds fresh.
     let now : g.S.Source.holds c.pieces.source c.args.name.now ≡ Some bytes = ap (λ (h : List ℕ → Option (List ℕ)). h c.args.name.now) c.pieces.invariant.same ∙ holds in
     let piece : IsPieceAt bytes c.pieces.at c.in_ok-read.read c.piece.new.into = c.in_ok-read.ensures.bytes bytes now in
-    subst (λ (text : List ℕ). IfOk c.finish.result (g.R.TextReading.says text)) (take_all c.pieces.at bytes (piece.last c.if-read-eq0.true))
+    subst (λ (text : List ℕ). IfOk c.finish.result (g.R.TextReading.says text)) (take_all c.pieces.at bytes (piece.last c.if-read-eq0.true (omega (arith, c.pieces.invariant.room, c.piece.auto.into, c.deref_mut.ensures.len))))
     (c.finish.ensures (take c.pieces.at bytes) (c.pieces.invariant.fed bytes holds fresh))
 
 pub pieces-preserved : goal.pieces-preserved
 pieces-preserved g c = record {
+  room = c.pieces.invariant.room;
   same = c.piece.ensures.kept ∙ c.pieces.invariant.same;
   fed = λ bytes holds fresh.
       let at = c.pieces.at in
