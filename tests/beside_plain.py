@@ -1,7 +1,7 @@
 #!/usr/bin/env python3
 """Runs `turnaudit check` beside the plain slow checker of tests/plain, which shares no code with it, and compares the reports.
 
-    python3 tests/beside_plain.py PROGRAM [--cases 20] [--seed 1] FOLDER..
+    python3 tests/beside_plain.py PROGRAM [--cases 20] [--seed 1] [--workers 1] FOLDER..
 
 A folder has policy, certificate or cert (else `turnaudit find` writes one), perhaps creds, and captures: those that its file args
 names, or else client.pcapng and peer.pcapng, or each *.pcapng. It is judged as it stands, and then with CASES changes of the certificate, of tolerances, of a
@@ -138,9 +138,9 @@ def case_of(program, folder):
     return Case(policy, users, certificate, [path.read_bytes() for path in captures]) if certificate else None
 
 
-def compare(program, case, folder):
+def compare(program, workers, case, folder):
     """None where the program refuses the input; else its report and the plain checker's, each with the status."""
-    words = case.write(folder)
+    words = case.write(folder) + ["--workers", str(workers)]
     ran = subprocess.run([program, *words], cwd=folder, capture_output=True, text=True)
     if ran.returncode not in (0, 1):
         return None
@@ -157,6 +157,7 @@ def main():
     words.add_argument("folders", type=pathlib.Path, nargs="+")
     words.add_argument("--cases", type=int, default=20)
     words.add_argument("--seed", type=int, default=1)
+    words.add_argument("--workers", type=int, default=1)
     asked = words.parse_args()
     program, rules, refused, differ = asked.program.resolve(), {}, 0, 0
     for folder in asked.folders:
@@ -171,7 +172,7 @@ def main():
                     (place / "policy").write_text(case.policy)
                     policy = read_policy(place / "policy")
                 tried = changed(chance, case, policy) if number else case
-                both = compare(program, tried, place)
+                both = compare(program, asked.workers, tried, place)
                 if both is None:
                     refused += 1
                     if number == 0:

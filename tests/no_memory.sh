@@ -1,7 +1,8 @@
 #!/bin/bash
 # no_memory.sh PROGRAM: each allocation of `audit`, `find` and `check` on a capture of a real server is refused in turn; the answer is status 3 and
 # one line each time, and nothing on standard output. Of a certificate larger than what `find` gathers before it writes (64 KiB), some allocations are refused, and a
-# front of it may be out: with status 3 it is no certificate. It needs gcc.
+# front of it may be out: with status 3 it is no certificate. With several workers each allocation is refused in turn too, and then the threads from each
+# number on: the answer is that of one thread, or status 3. It needs gcc.
 program=$(realpath "$1") || exit 1
 cd "$(dirname "$0")" || exit 1
 scratch=$(mktemp -d)
@@ -33,6 +34,38 @@ refuse_each find find
 refuse_each check check --cert certificate
 
 cd ../coturn-24-clients || exit 1
+"$program" find --policy policy --creds creds cap.pcapng > "$scratch/certificate" || exit 1
+check_all() { # WORKERS: the answer and the status of `check` on the folder's capture
+    LD_PRELOAD="$scratch/failing_malloc.so" "$program" check --policy policy --creds creds --cert "$scratch/certificate" --workers "$1" cap.pcapng \
+        > "$scratch/answer" 2> "$scratch/told"
+    echo "status $?" >> "$scratch/answer"
+}
+
+check_all 1
+cp "$scratch/answer" "$scratch/of_one"
+FAIL_AT=1000000000 check_all 2
+count=$(sed -n 's/^allocations: //p' "$scratch/told")
+same=0
+for number in $(seq "$((count - 400))" "$count"); do
+    FAIL_AT=$number check_all 2
+    if cmp -s "$scratch/of_one" "$scratch/answer"; then
+        same=$((same + 1))
+    elif [ "$(cat "$scratch/answer")" != "status 3" ] || [ "$(cat "$scratch/told")" != "turnaudit: out of memory" ]; then
+        failed=$((failed + 1))
+        echo "failed: two workers, allocation $number: $(head -c 200 "$scratch/answer" "$scratch/told")"
+    fi
+done
+echo "two workers: the last 401 of $count allocations refused in turn, $same times the answer of one thread"
+for workers in 2 7 256; do
+    for number in 1 2 3; do
+        THREADS_FAIL_AT=$number check_all "$workers"
+        if ! cmp -s "$scratch/of_one" "$scratch/answer"; then
+            failed=$((failed + 1))
+            echo "failed: $workers workers, no thread from number $number on"
+        fi
+    done
+done
+
 find_all() { # NUMBER: `find` on the folder's capture, with the allocation of that number refused
     FAIL_AT=$1 LD_PRELOAD="$scratch/failing_malloc.so" "$program" find --policy policy --creds creds cap.pcapng
 }

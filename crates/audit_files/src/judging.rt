@@ -1,6 +1,6 @@
 //! The verdict on what the files of a run hold.
 
-ghost use Rattle.std.specs.Prelude.{◌≡◌, [], ℕ, IfNone, IfOk, IfSome, List, Ok, Some};
+ghost use Rattle.std.specs.Prelude.{◌≡◌, ◌↔◌, [], ℕ, IfNone, IfOk, IfSome, List, Ok, Some};
 ghost use Rattle.std.specs.List.{AllZip};
 ghost use Rattle.audit_cert.specs.CertText.{cert_of};
 ghost use Rattle.audit_cert.specs.Spelling.{said_by};
@@ -8,19 +8,27 @@ ghost use Rattle.audit_keys.specs.KeyFor.{key_for};
 ghost use Rattle.audit_model.specs.declared.certificate.Certificate.{Certificate as Written};
 ghost use Rattle.audit_model.specs.PolicyText.{policy_of};
 ghost use Rattle.audit_sightings.specs.Intake.{taken};
+ghost use Rattle.audit_verdict.specs.Verdicts.{IsConforming};
+ghost use Rattle.audit_whole.specs.CaptureRun.{rules_for};
+ghost use Rattle.audit_whole.specs.Conforms.{Conforms};
+ghost use Rattle.audit_whole.specs.Headline.{Headline};
 ghost use Rattle.audit_files.specs.Judged.{AreRead, AreUsers, IsAudited, IsJudged};
 
 use crate::captures::take_in;
 use crate::source::Source;
 use crate::stop::Stop;
 use crate::text::read_text;
+use crate::workers::Workers;
 use audit_cert::CertificateReader;
 use audit_glue::check;
 use audit_keys::{Credentials, CredentialsReader};
 use audit_model::{Certificate, Policy, PolicyReader, Sink, Verdict};
+use audit_pool::check_parallel;
 use audit_report::report;
 use audit_sightings::Intake;
-use std::alloc::Global;
+use std::alloc::{AllocError, Global};
+use std::sync::Wait;
+use std::thread::Threads;
 
 /// The policy that a file has.
 pub fn read_policy<S: Source>(alloc: Global, source: &mut S, name: &str) -> Result<Policy, Stop>
@@ -74,17 +82,39 @@ pub fn read_files<S: Source>(
     Ok(Files { intake, users })
 }
 
-/// Judges the captures by the certificate, and writes the report. It gives 0 where they conform, and 1 where that isn't shown.
-pub fn judge<O: Sink>(
+/// The verdict by one worker, or by more of them.
+fn verdict_of<R: Threads + Wait + Sync>(
+    rt: &R,
     alloc: Global,
     intake: &Intake,
     users: &Credentials,
     certificate: &Certificate,
+    workers: Workers,
+) -> Result<Verdict, AllocError>
+    ensures conforming { IfOk result (λ verdict. IsConforming verdict ↔ Conforms (taken intake.now) (rules_for (taken intake.now) (key_for users.now)) certificate.now) }
+    ensures headline { IfOk result (λ verdict. IsConforming verdict → Headline (taken intake.now) (key_for users.now) certificate.now) }
+{
+    if workers.count == 1 {
+        return check(alloc, intake, users, certificate);
+    }
+    let judged = check_parallel(rt, alloc, intake, users, certificate, workers.count, &())?;
+    Ok(judged.verdict)
+}
+
+/// Judges the captures by the certificate, and writes the report. It gives 0 where they conform, and 1 where that isn't shown, whatever
+/// the number of workers.
+pub fn judge<R: Threads + Wait + Sync, O: Sink>(
+    rt: &R,
+    alloc: Global,
+    intake: &Intake,
+    users: &Credentials,
+    certificate: &Certificate,
+    workers: Workers,
     out: &mut O,
 ) -> Result<u8, Stop>
     ensures { IfOk result (IsJudged (taken intake.now) (key_for users.now) certificate.now (O.taken out.old) (O.taken out.new)) }
 {
-    let verdict = check(alloc, intake, users, certificate)?;
+    let verdict = verdict_of(rt, alloc, intake, users, certificate, workers)?;
     report(alloc, &verdict, intake, out)?;
     match verdict {
         Verdict::Conforming { .. } => Ok(0),
@@ -94,13 +124,15 @@ pub fn judge<O: Sink>(
 
 /// Judges captures by the certificate of a file, and writes the report. Files are read in this order: policy, credentials, certificate,
 /// captures; each is judged before the next is read. It gives 0 where they conform, and 1 where that isn't shown.
-pub fn check_files<S: Source, O: Sink>(
+pub fn check_files<R: Threads + Wait + Sync, S: Source, O: Sink>(
+    rt: &R,
     alloc: Global,
     source: &mut S,
     policy: &str,
     users: Option<&str>,
     certificate: &str,
     captures: &[&str],
+    workers: Workers,
     out: &mut O,
 ) -> Result<u8, Stop>
     ensures { (policy_text users_text certificate_text : List ℕ) (texts : List (List ℕ)) →
@@ -116,5 +148,5 @@ pub fn check_files<S: Source, O: Sink>(
     let reader = CertificateReader::new(alloc);
     let certificate = read_text(alloc, source, certificate, reader)?;
     let intake = take_in(alloc, source, captures, Intake::new(alloc, policy))?;
-    judge(alloc, &intake, &users, &certificate, out)
+    judge(rt, alloc, &intake, &users, &certificate, workers, out)
 }

@@ -6,9 +6,11 @@ mod judging;
 mod source;
 mod stop;
 mod text;
+mod workers;
 
 pub use captures::take_in;
 pub use judging::{Files, check_files, judge, read_files, read_policy, read_users};
 pub use source::{ReadFailed, Source};
 pub use stop::Stop;
 pub use text::{TextReading, read_text};
+pub use workers::Workers;

@@ -1,5 +1,6 @@
 //! The command line, as clap reads it. No other file knows clap.
 
+use audit_files::Workers;
 use clap::error::ErrorKind;
 use clap::{Arg, ArgAction, ArgMatches, Command, Error};
 use std::alloc::{AllocError, Global};
@@ -12,9 +13,13 @@ pub enum Request<'a> {
     Check {
         inputs: Inputs<'a>,
         certificate: &'a str,
+        workers: Workers,
     },
     /// Find a certificate, and judge captures by it.
-    Audit(Inputs<'a>),
+    Audit {
+        inputs: Inputs<'a>,
+        workers: Workers,
+    },
     /// Find a certificate, and write it.
     Find(Inputs<'a>),
     /// Tell how to use the program, or its release, on standard output.
@@ -102,6 +107,17 @@ fn command_of<'a>(
         .arg(captures)
 }
 
+/// The option with the number of workers.
+fn workers_option<'a>(alloc: Global) -> Arg<'a> {
+    Arg::new(alloc, "workers")
+        .long("workers")
+        .value_name("N")
+        .help("How many threads judge the clients, 1 to 256; the answer is the same")
+        .default_value("1")
+        .action(ArgAction::Set)
+        .value_parser(clap::value_parser!(u32).range(1..=256))
+}
+
 fn command<'a>(alloc: Global) -> Result<Command<'a>, AllocError> {
     let certificate = file_option(
         alloc,
@@ -109,16 +125,19 @@ fn command<'a>(alloc: Global) -> Result<Command<'a>, AllocError> {
         "CERTIFICATE",
         "Where each datagram is placed",
     );
-    let check = command_of(alloc, "check", ABOUT_CHECK, EXAMPLE_CHECK)?;
+    let check = command_of(alloc, "check", ABOUT_CHECK, EXAMPLE_CHECK)?
+        .arg(certificate.required(true))?
+        .arg(workers_option(alloc))?;
+    let audit = command_of(alloc, "audit", ABOUT_AUDIT, EXAMPLE_AUDIT)?.arg(workers_option(alloc))?;
     Command::new(alloc, "turnaudit")
         .version(VERSION)
         .about(ABOUT)
         .after_help(STATUSES)
         .arg_required_else_help(true)
         .subcommand_required(true)
-        .subcommand(command_of(alloc, "audit", ABOUT_AUDIT, EXAMPLE_AUDIT)?)?
+        .subcommand(audit)?
         .subcommand(command_of(alloc, "find", ABOUT_FIND, EXAMPLE_FIND)?)?
-        .subcommand(check.arg(certificate.required(true))?)
+        .subcommand(check)
 }
 
 /// The request that an error of clap stands for.
@@ -152,25 +171,35 @@ fn inputs_of<'a>(
     }))
 }
 
+/// How many workers the words of a command ask for.
+fn workers_of(matches: &ArgMatches<'_>) -> Option<Workers> {
+    Workers::of(matches.get_one::<u32>("workers")?)
+}
+
 /// The request that the words of a command are.
 fn request_of<'a>(
     alloc: Global,
     matches: &ArgMatches<'a>,
 ) -> Result<Option<Request<'a>>, AllocError> {
     if let Some(audit) = matches.subcommand_matches("audit") {
-        return Ok(inputs_of(alloc, audit)?.map(|inputs| Request::Audit(inputs)));
+        let (Some(inputs), Some(workers)) = (inputs_of(alloc, audit)?, workers_of(audit)) else {
+            return Ok(None);
+        };
+        return Ok(Some(Request::Audit { inputs, workers }));
     }
     if let Some(find) = matches.subcommand_matches("find") {
         return Ok(inputs_of(alloc, find)?.map(|inputs| Request::Find(inputs)));
     }
     if let Some(check) = matches.subcommand_matches("check") {
-        if let (Some(inputs), Some(certificate)) = (
+        if let (Some(inputs), Some(certificate), Some(workers)) = (
             inputs_of(alloc, check)?,
             check.get_str("cert"),
+            workers_of(check),
         ) {
             return Ok(Some(Request::Check {
                 inputs,
                 certificate,
+                workers,
             }));
         }
     }

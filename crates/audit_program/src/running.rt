@@ -8,20 +8,24 @@ ghost use Rattle.audit_model.specs.declared.certificate.Certificate.{Certificate
 use crate::buffered::Buffered;
 use crate::command_line::{Inputs, Request, read as read_words};
 use crate::writing::{put_line, put_text};
-use audit_files::{Source, Stop, check_files, judge, read_files};
+use audit_files::{Source, Stop, Workers, check_files, judge, read_files};
 use audit_finder::find;
 use audit_model::Sink;
 use std::alloc::Global;
 use std::convert::AsStr;
+use std::sync::Wait;
+use std::thread::Threads;
 
 /// Judges captures by a certificate that is found, and writes the report. Files are read in this order: policy, users, captures; each is
 /// judged before the next is read. It gives 0 where they conform, and 1 where that isn't shown.
-pub fn audit_captures<S: Source, O: Sink>(
+pub fn audit_captures<R: Threads + Wait + Sync, S: Source, O: Sink>(
+    rt: &R,
     alloc: Global,
     source: &mut S,
     policy: &str,
     users: Option<&str>,
     captures: &[&str],
+    workers: Workers,
     out: &mut O,
 ) -> Result<u8, Stop>
     ensures { (policy_text users_text : List ℕ) (texts : List (List ℕ)) →
@@ -32,7 +36,15 @@ pub fn audit_captures<S: Source, O: Sink>(
 {
     let files = read_files(alloc, source, policy, users, captures)?;
     let certificate = find(alloc, &files.intake, &files.users)?;
-    judge(alloc, &files.intake, &files.users, &certificate, out)
+    judge(
+        rt,
+        alloc,
+        &files.intake,
+        &files.users,
+        &certificate,
+        workers,
+        out,
+    )
 }
 
 /// Finds a certificate, and writes it.
@@ -57,7 +69,8 @@ fn run_find<S: Source, O: Sink>(
 }
 
 /// Does what is asked for, and gives the exit status.
-fn run_request<S: Source, O: Sink, E: Sink>(
+fn run_request<R: Threads + Wait + Sync, S: Source, O: Sink, E: Sink>(
+    rt: &R,
     alloc: Global,
     request: &Request<'_>,
     source: &mut S,
@@ -68,21 +81,26 @@ fn run_request<S: Source, O: Sink, E: Sink>(
         Request::Check {
             inputs,
             certificate,
+            workers,
         } => check_files(
+            rt,
             alloc,
             source,
             inputs.policy,
             inputs.credentials,
             certificate,
             &inputs.captures,
+            *workers,
             out,
         ),
-        Request::Audit(inputs) => audit_captures(
+        Request::Audit { inputs, workers } => audit_captures(
+            rt,
             alloc,
             source,
             inputs.policy,
             inputs.credentials,
             &inputs.captures,
+            *workers,
             out,
         ),
         Request::Find(inputs) => run_find(alloc, inputs, source, out),
@@ -100,7 +118,8 @@ fn run_request<S: Source, O: Sink, E: Sink>(
 /// Runs the program on its words, the first of which is its name, and gives its exit status: 0 conforming, a certificate, help or the release; 1 not shown; 2 input refused;
 /// 3 out of memory; 4 a file that can't be read or an answer that can't be written; 5 words that are no request.
 /// What ended it before its answer is one line on `err`.
-pub fn run<N: AsStr, S: Source, O: Sink, E: Sink>(
+pub fn run<R: Threads + Wait + Sync, N: AsStr, S: Source, O: Sink, E: Sink>(
+    rt: &R,
     alloc: Global,
     words: &[N],
     source: &mut S,
@@ -108,7 +127,7 @@ pub fn run<N: AsStr, S: Source, O: Sink, E: Sink>(
     err: &mut E,
 ) -> u8 {
     let done = match read_words(alloc, words) {
-        Ok(request) => run_request(alloc, &request, source, out, err),
+        Ok(request) => run_request(rt, alloc, &request, source, out, err),
         Err(error) => Err(Stop::from(error)),
     };
     match done {

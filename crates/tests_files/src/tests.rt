@@ -1,9 +1,11 @@
 //! What is told of files in memory: the report and its status, or why there is none.
 
 use crate::memory::{Files, Kept};
-use audit_files::{Stop, check_files};
+use audit_files::{Stop, Workers, check_files};
 use std::alloc::Global;
+use std::sync::Wait;
 use std::test::*;
+use std::thread::Threads;
 
 const POLICY: &[u8] = b"turnaudit-policy 1\nlisten 192.0.2.1:3478\nrelay 192.0.2.1:49152-65535\n";
 
@@ -16,17 +18,23 @@ const NOTHING: &[u8] = &[
 ];
 
 /// What is told of these files: the status and the report.
-fn told(alloc: Global, mut files: Files<'_>) -> Result<(u8, Kept), Stop> {
+fn told(
+    rt: &(impl Threads + Wait + Sync),
+    alloc: Global,
+    mut files: Files<'_>,
+) -> Result<(u8, Kept), Stop> {
     let mut out = Kept {
         bytes: Vec::new(alloc),
     };
     let status = check_files(
+        rt,
         alloc,
         &mut files,
         "policy",
         None,
         "certificate",
         &["capture"],
+        Workers::one(),
         &mut out,
     )?;
     Ok((status, out))
@@ -39,7 +47,7 @@ fn captures_without_a_datagram_conform(rt: HostRuntime) -> Result<(), Fail> {
         certificate: EMPTY,
         capture: NOTHING,
     };
-    let Ok((status, out)) = told(rt.alloc(), files) else {
+    let Ok((status, out)) = told(&rt, rt.alloc(), files) else {
         return Err(Fail::new("no report"));
     };
     assert_eq!(rt; status, 0);
@@ -57,7 +65,7 @@ fn a_policy_without_a_line_is_refused(rt: HostRuntime) -> Result<(), Fail> {
         certificate: EMPTY,
         capture: NOTHING,
     };
-    let refused = told(rt.alloc(), files).err().map(|stop| stop.status());
+    let refused = told(&rt, rt.alloc(), files).err().map(|stop| stop.status());
     assert_eq!(rt; refused, Some(2));
     Ok(())
 }

@@ -20,7 +20,9 @@ use captures::{SECTION, binding_capture, binding_parts};
 use memory::{Answer, Files, ask, ask_within};
 use std::alloc::{AllocError, Global};
 use std::process::Abort;
+use std::sync::Wait;
 use std::test::Fail;
+use std::thread::Threads;
 
 const WORDS: [&str; 7] = [
     "turnaudit",
@@ -57,7 +59,7 @@ fn binding_and_its_success_conform(rt: HostRuntime) -> Result<(), Fail> {
     for (first, step) in cuttings(alloc, capture.len())? {
         files.first = first;
         files.step = step;
-        let Answer { status, out, err } = ask(alloc, &WORDS, &mut files)?;
+        let Answer { status, out, err } = ask(&rt, alloc, &WORDS, &mut files)?;
         assert_eq!(rt; status, 0, "{first} bytes, then {step}");
         assert_eq!(rt; out.as_slice(), CONFORMING.as_bytes());
         assert_eq!(rt; err.len(), 0);
@@ -74,6 +76,7 @@ fn a_tagged_frame_conforms(rt: HostRuntime) -> Result<(), Fail> {
     parts.first_frame = 0x42;
     let capture = binding_capture(alloc, &parts)?;
     let answer = ask(
+        &rt,
         alloc,
         &WORDS,
         &mut Files::new(POLICY, CERTIFICATE, &capture),
@@ -90,6 +93,7 @@ fn another_mapped_address_is_r17(rt: HostRuntime) -> Result<(), Fail> {
     parts.mapped_port = [0xbd, 0x53];
     let capture = binding_capture(alloc, &parts)?;
     let answer = ask(
+        &rt,
         alloc,
         &WORDS,
         &mut Files::new(POLICY, CERTIFICATE, &capture),
@@ -108,6 +112,7 @@ fn a_section_alone_conforms_to_an_empty_certificate(rt: HostRuntime) -> Result<(
     let alloc = rt.alloc();
     let certificate = "turnaudit-certificate 1\nend\n";
     let answer = ask(
+        &rt,
         alloc,
         &WORDS,
         &mut Files::new(POLICY, certificate, &SECTION),
@@ -128,7 +133,7 @@ fn a_capture_without_its_last_byte_is_torn(rt: HostRuntime) -> Result<(), Fail> 
     for (first, step) in cuttings(alloc, 251)? {
         files.first = first;
         files.step = step;
-        let Answer { status, out, err } = ask(alloc, &WORDS, &mut files)?;
+        let Answer { status, out, err } = ask(&rt, alloc, &WORDS, &mut files)?;
         assert_eq!(rt; status, 2, "{first} bytes, then {step}");
         assert_eq!(rt; out.len(), 0);
         assert_eq!(rt;
@@ -142,7 +147,12 @@ fn a_capture_without_its_last_byte_is_torn(rt: HostRuntime) -> Result<(), Fail> 
 #[test]
 fn captures_are_refused_by_number(rt: HostRuntime) -> Result<(), Fail> {
     let alloc = rt.alloc();
-    let answer = ask(alloc, &WORDS, &mut Files::new(POLICY, CERTIFICATE, &[]))?;
+    let answer = ask(
+        &rt,
+        alloc,
+        &WORDS,
+        &mut Files::new(POLICY, CERTIFICATE, &[]),
+    )?;
     assert_eq!(rt; answer.status, 2);
     assert_eq!(rt;
         answer.err.as_slice(),
@@ -153,6 +163,7 @@ fn captures_are_refused_by_number(rt: HostRuntime) -> Result<(), Fail> {
     parts.first_flags = [0x20, 0x00];
     let fragment = binding_capture(alloc, &parts)?;
     let answer = ask(
+        &rt,
         alloc,
         &WORDS,
         &mut Files::new(POLICY, CERTIFICATE, &fragment),
@@ -167,12 +178,13 @@ fn captures_are_refused_by_number(rt: HostRuntime) -> Result<(), Fail> {
 
 /// That the texts are refused by one line on standard error.
 fn assert_refused(
-    rt: &(impl Abort + AllocGlobal),
+    rt: &(impl Abort + AllocGlobal + Threads + Wait + Sync),
     policy: &str,
     certificate: &str,
     expected: &str,
 ) -> Result<(), Fail> {
     let answer = ask(
+        rt,
         rt.alloc(),
         &WORDS,
         &mut Files::new(policy, certificate, &SECTION),
@@ -246,7 +258,7 @@ fn a_file_that_cannot_be_read_is_said(rt: HostRuntime) -> Result<(), Fail> {
         let mut files = Files::new(POLICY, CERTIFICATE, &SECTION);
         files.first = 10;
         files.fails = Some(name);
-        let answer = ask(alloc, &WORDS, &mut files)?;
+        let answer = ask(&rt, alloc, &WORDS, &mut files)?;
         assert_eq!(rt; answer.status, 4, "{name}");
         assert_eq!(rt;
             answer.err.as_slice(),
@@ -264,7 +276,7 @@ fn an_answer_that_cannot_be_written_is_said(rt: HostRuntime) -> Result<(), Fail>
     let mut files = Files::new(POLICY, CERTIFICATE, &capture);
     let report = CONFORMING.as_bytes();
     for room in 0..report.len() {
-        let answer = ask_within(alloc, &WORDS, &mut files, room)?;
+        let answer = ask_within(&rt, alloc, &WORDS, &mut files, room)?;
         assert_eq!(rt; answer.status, 4, "{room} bytes");
         assert_eq!(rt;
             answer.err.as_slice(),

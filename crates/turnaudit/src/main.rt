@@ -35,7 +35,7 @@ fn main(rt: HostRuntime) -> ExitCode {
     let mut err = HostStream::new(rt.stderr());
     let mut files = HostFiles::new(&rt);
     let status = match words_of(&rt) {
-        Ok(words) => run(alloc, &words, &mut files, &mut out, &mut err),
+        Ok(words) => run(&rt, alloc, &words, &mut files, &mut out, &mut err),
         Err(error) => refuse_words(&mut err, &error),
     };
     ExitCode::from(status)

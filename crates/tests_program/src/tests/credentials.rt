@@ -211,7 +211,7 @@ fn credentials_are_refused_by_number_and_line(rt: HostRuntime) -> Result<(), Fai
         ),
     ] {
         session.credentials = credentials;
-        let answer = session.answer()?;
+        let answer = session.answer(&rt)?;
         assert_eq!(rt; answer.err.as_slice(), refusal.as_bytes());
         assert_eq!(rt; answer.status, 2);
         assert_eq!(rt; answer.out.len(), 0);

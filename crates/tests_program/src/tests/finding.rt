@@ -8,27 +8,33 @@ use super::sessions::{PEER, Session};
 use super::{CONFORMING, POLICY};
 use audit_samples::channel_data;
 use std::process::Abort;
+use std::sync::Wait;
 use std::test::Fail;
+use std::thread::Threads;
 
 const AUDIT: [&str; 5] = ["turnaudit", "audit", "--policy", "policy", "capture"];
 
 const FIND: [&str; 5] = ["turnaudit", "find", "--policy", "policy", "capture"];
 
 /// That `audit` finds this many datagrams conforming, and `check` by the certificate that `find` writes does too.
-fn assert_found(session: &Session, rt: &impl Abort, datagrams: u32) -> Result<(), Fail> {
+fn assert_found(
+    session: &Session,
+    rt: &(impl Abort + Threads + Wait + Sync),
+    datagrams: u32,
+) -> Result<(), Fail> {
     let report = format!(in session.alloc;
         "turnaudit-report 1\nconforming {datagrams} datagrams 1 lanes\n"
     )?;
-    let audited = session.answer_to("audit")?;
+    let audited = session.answer_to(rt, "audit")?;
     assert_eq!(rt; audited.out.as_slice(), report.as_bytes());
     assert_eq!(rt; audited.status, 0);
-    let found = session.answer_to("find")?;
+    let found = session.answer_to(rt, "find")?;
     assert_eq!(rt; found.status, 0);
     assert_eq!(rt; found.err.len(), 0);
     let Ok(certificate) = str::from_utf8(&found.out) else {
         return Err(Fail::from("a certificate is text"));
     };
-    let checked = session.answer_by(certificate)?;
+    let checked = session.answer_by(rt, certificate)?;
     assert_eq!(rt; checked.out.as_slice(), report.as_bytes());
     Ok(())
 }
@@ -36,11 +42,11 @@ fn assert_found(session: &Session, rt: &impl Abort, datagrams: u32) -> Result<()
 /// That `audit` names the rule and the datagram.
 fn assert_shown(
     session: &Session,
-    rt: &impl Abort,
+    rt: &(impl Abort + Threads + Wait + Sync),
     rule: &str,
     datagram: &str,
 ) -> Result<(), Fail> {
-    let Answer { status, out, err } = session.answer_to("audit")?;
+    let Answer { status, out, err } = session.answer_to(rt, "audit")?;
     let begin = format!(in session.alloc; "turnaudit-report 1\nnot shown\nrule {rule}\nphase 2 ")?;
     let end = format!(in session.alloc; "\ndatagram {datagram}\n")?;
     assert!(rt; out.starts_with(begin.as_bytes()));
@@ -54,16 +60,43 @@ fn assert_shown(
 fn a_binding_is_found(rt: HostRuntime) -> Result<(), Fail> {
     let alloc = rt.alloc();
     let capture = binding_capture(alloc, &binding_parts())?;
-    let Answer { status, out, .. } = ask(alloc, &AUDIT, &mut Files::new(POLICY, "", &capture))?;
+    let Answer { status, out, .. } = ask(
+        &rt,
+        alloc,
+        &AUDIT,
+        &mut Files::new(POLICY, "", &capture),
+    )?;
     assert_eq!(rt; out.as_slice(), CONFORMING.as_bytes());
     assert_eq!(rt; status, 0);
     Ok(())
 }
 
 #[test]
+fn any_number_of_workers_answers_alike(rt: HostRuntime) -> Result<(), Fail> {
+    let alloc = rt.alloc();
+    let capture = binding_capture(alloc, &binding_parts())?;
+    let mut files = Files::new(POLICY, "", &capture);
+    for count in ["1", "2", "256"] {
+        let words = [
+            "turnaudit",
+            "audit",
+            "--policy",
+            "policy",
+            "--workers",
+            count,
+            "capture",
+        ];
+        let answer = ask(&rt, alloc, &words, &mut files)?;
+        assert_eq!(rt; answer.out.as_slice(), CONFORMING.as_bytes(), "{count}");
+        assert_eq!(rt; answer.status, 0);
+    }
+    Ok(())
+}
+
+#[test]
 fn no_datagrams_have_an_empty_certificate(rt: HostRuntime) -> Result<(), Fail> {
     let alloc = rt.alloc();
-    let Answer { status, out, .. } = ask(alloc, &FIND, &mut Files::new(POLICY, "", &SECTION))?;
+    let Answer { status, out, .. } = ask(&rt, alloc, &FIND, &mut Files::new(POLICY, "", &SECTION))?;
     assert_eq!(rt;
         out.as_slice(),
         b"turnaudit-certificate 1\nend\n".as_slice()

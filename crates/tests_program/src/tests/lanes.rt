@@ -11,7 +11,9 @@ use audit_samples::{BuildFault, UdpDatagram};
 use audit_stun::numbers::{attribute, method};
 use std::alloc::Global;
 use std::process::Abort;
+use std::sync::Wait;
 use std::test::Fail;
+use std::thread::Threads;
 
 const OTHER_CLIENT: Addr = Addr {
     ip: 0xC633_6408,
@@ -26,7 +28,7 @@ const SHORT_HOLD: &str =
 
 /// That `check` answers this to a Binding request at 1,000 microseconds and its success at 1,500, placed by these lines.
 fn assert_judged(
-    rt: &(impl Abort + AllocGlobal),
+    rt: &(impl Abort + AllocGlobal + Threads + Wait + Sync),
     policy: &str,
     lines: &str,
     expected: &str,
@@ -37,6 +39,7 @@ fn assert_judged(
         "turnaudit-certificate 1\nlane 198.51.100.7:40000 192.0.2.1:3478\n{lines}end\n"
     )?;
     let answer = ask(
+        rt,
         alloc,
         &WORDS,
         &mut Files::new(policy, certificate.as_str(), &capture),
@@ -169,7 +172,7 @@ fn two_allocations(alloc: Global, relayed: Addr) -> Result<Session, BuildFault> 
 
 #[test]
 fn an_address_that_another_client_holds_is_r22(rt: HostRuntime) -> Result<(), Fail> {
-    let answer = two_allocations(rt.alloc(), RELAYED)?.answer()?;
+    let answer = two_allocations(rt.alloc(), RELAYED)?.answer(&rt)?;
     assert_eq!(rt;
         answer.out.as_slice(),
         "turnaudit-report 1\nnot shown\nrule R22 address held\nphase 3 lane 1 event 1 moment 1021000000 tie 0\ndatagram 0.2 198.51.100.8:40001 to 192.0.2.1:3478 80 bytes\n".as_bytes()
@@ -184,7 +187,7 @@ fn two_clients_with_addresses_of_their_own_conform(rt: HostRuntime) -> Result<()
         port: 50001,
         ..RELAYED
     };
-    let answer = two_allocations(rt.alloc(), other)?.answer()?;
+    let answer = two_allocations(rt.alloc(), other)?.answer(&rt)?;
     assert_eq!(rt;
         answer.out.as_slice(),
         "turnaudit-report 1\nconforming 4 datagrams 2 lanes\n".as_bytes()

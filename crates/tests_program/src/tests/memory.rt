@@ -4,6 +4,8 @@ use audit_files::{ReadFailed, Source};
 use audit_model::{Sink, SinkFailed};
 use audit_program::run;
 use std::alloc::{AllocError, Global};
+use std::sync::Wait;
+use std::thread::Threads;
 
 /// The files of a run.
 #[derive(Drop)]
@@ -101,12 +103,18 @@ pub struct Answer {
 }
 
 /// Runs the program on the words.
-pub fn ask(alloc: Global, words: &[&str], files: &mut Files<'_>) -> Result<Answer, AllocError> {
-    ask_within(alloc, words, files, 1_000_000)
+pub fn ask(
+    rt: &(impl Threads + Wait + Sync),
+    alloc: Global,
+    words: &[&str],
+    files: &mut Files<'_>,
+) -> Result<Answer, AllocError> {
+    ask_within(rt, alloc, words, files, 1_000_000)
 }
 
 /// Runs the program on the words, with room for so many bytes on standard output.
 pub fn ask_within(
+    rt: &(impl Threads + Wait + Sync),
     alloc: Global,
     words: &[&str],
     files: &mut Files<'_>,
@@ -120,7 +128,7 @@ pub fn ask_within(
         bytes: Vec::new(alloc),
         room: 1_000_000,
     };
-    let status = run(alloc, words, files, &mut out, &mut err);
+    let status = run(rt, alloc, words, files, &mut out, &mut err);
     Ok(Answer {
         status,
         out: out.bytes,

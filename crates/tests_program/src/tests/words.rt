@@ -12,7 +12,7 @@ fn wrong_words_are_no_request(rt: HostRuntime) -> Result<(), Fail> {
     let alloc = rt.alloc();
     let mut files = Files::new(POLICY, CERTIFICATE, &SECTION);
     let without_policy = ["turnaudit", "check", "--cert", "cert", "capture"];
-    let answer = ask(alloc, &without_policy, &mut files)?;
+    let answer = ask(&rt, alloc, &without_policy, &mut files)?;
     assert_eq!(rt; answer.status, 5);
     assert_eq!(rt; answer.out.len(), 0);
     let unknown = [
@@ -25,9 +25,9 @@ fn wrong_words_are_no_request(rt: HostRuntime) -> Result<(), Fail> {
         "--fast",
         "capture",
     ];
-    let answer = ask(alloc, &unknown, &mut files)?;
+    let answer = ask(&rt, alloc, &unknown, &mut files)?;
     assert_eq!(rt; answer.status, 5);
-    let help = ask(alloc, &["turnaudit", "check", "--help"], &mut files)?;
+    let help = ask(&rt, alloc, &["turnaudit", "check", "--help"], &mut files)?;
     assert_eq!(rt; help.status, 0);
     assert_eq!(rt; help.err.len(), 0);
     Ok(())
@@ -37,10 +37,10 @@ fn wrong_words_are_no_request(rt: HostRuntime) -> Result<(), Fail> {
 fn no_words_tell_the_commands(rt: HostRuntime) -> Result<(), Fail> {
     let alloc = rt.alloc();
     let mut files = Files::new(POLICY, CERTIFICATE, &SECTION);
-    let answer = ask(alloc, &["turnaudit"], &mut files)?;
+    let answer = ask(&rt, alloc, &["turnaudit"], &mut files)?;
     assert_eq!(rt; answer.status, 5);
     assert_eq!(rt; answer.out.len(), 0);
-    let help = ask(alloc, &["turnaudit", "--help"], &mut files)?;
+    let help = ask(&rt, alloc, &["turnaudit", "--help"], &mut files)?;
     assert_eq!(rt; help.status, 0);
     assert_eq!(rt; answer.err, help.out);
     Ok(())
@@ -50,9 +50,30 @@ fn no_words_tell_the_commands(rt: HostRuntime) -> Result<(), Fail> {
 fn the_release_is_one_line(rt: HostRuntime) -> Result<(), Fail> {
     let alloc = rt.alloc();
     let mut files = Files::new(POLICY, CERTIFICATE, &SECTION);
-    let answer = ask(alloc, &["turnaudit", "--version"], &mut files)?;
+    let answer = ask(&rt, alloc, &["turnaudit", "--version"], &mut files)?;
     assert_eq!(rt; answer.status, 0);
     assert_eq!(rt; answer.err.len(), 0);
     assert_eq!(rt; answer.out.as_slice(), RELEASE.as_bytes());
+    Ok(())
+}
+
+#[test]
+fn workers_are_1_to_256(rt: HostRuntime) -> Result<(), Fail> {
+    let alloc = rt.alloc();
+    let mut files = Files::new(POLICY, CERTIFICATE, &SECTION);
+    for count in ["0", "257", "-1", "two"] {
+        let words = [
+            "turnaudit",
+            "audit",
+            "--policy",
+            "policy",
+            "--workers",
+            count,
+            "capture",
+        ];
+        let answer = ask(&rt, alloc, &words, &mut files)?;
+        assert_eq!(rt; answer.status, 5, "{count}");
+        assert_eq!(rt; answer.out.len(), 0);
+    }
     Ok(())
 }

@@ -5,7 +5,9 @@ use crate::tests::memory::{Answer, Files, ask};
 use audit_keys::hmac_sha1;
 use std::alloc::AllocError;
 use std::process::Abort;
+use std::sync::Wait;
 use std::test::Fail;
+use std::thread::Threads;
 
 const WORDS: [&str; 9] = [
     "turnaudit",
@@ -50,13 +52,17 @@ impl Session {
     }
 
     /// What `check` answers to the session.
-    pub fn answer(&self) -> Result<Answer, AllocError> {
+    pub fn answer(&self, rt: &(impl Threads + Wait + Sync)) -> Result<Answer, AllocError> {
         let certificate = format!(in self.alloc; "{}end\n", self.certificate)?;
-        self.answer_by(certificate.as_str())
+        self.answer_by(rt, certificate.as_str())
     }
 
     /// What a command answers to the session's captures, without its certificate.
-    pub fn answer_to(&self, command: &str) -> Result<Answer, AllocError> {
+    pub fn answer_to(
+        &self,
+        rt: &(impl Threads + Wait + Sync),
+        command: &str,
+    ) -> Result<Answer, AllocError> {
         let words = [
             "turnaudit",
             command,
@@ -70,28 +76,37 @@ impl Session {
         if self.peers.is_some() {
             words.push("second")?;
         }
-        ask(self.alloc, words.as_slice(), &mut self.files(""))
+        ask(rt, self.alloc, words.as_slice(), &mut self.files(""))
     }
 
     /// What `check` answers to the session with another certificate.
-    pub fn answer_by(&self, certificate: &str) -> Result<Answer, AllocError> {
+    pub fn answer_by(
+        &self,
+        rt: &(impl Threads + Wait + Sync),
+        certificate: &str,
+    ) -> Result<Answer, AllocError> {
         let mut words = Vec::from_slice(self.alloc, &WORDS)?;
         if self.peers.is_some() {
             words.push("second")?;
         }
-        ask(self.alloc, words.as_slice(), &mut self.files(certificate))
+        ask(
+            rt,
+            self.alloc,
+            words.as_slice(),
+            &mut self.files(certificate),
+        )
     }
 
     /// That the captures have these digests, and that `check` writes the report and nothing else.
     fn assert_report(
         &self,
-        rt: &impl Abort,
+        rt: &(impl Abort + Threads + Wait + Sync),
         digests: &str,
         status: u8,
         report: &str,
     ) -> Result<(), Fail> {
         assert_eq!(rt; self.digests()?.as_str(), digests);
-        let answer = self.answer()?;
+        let answer = self.answer(rt)?;
         assert_eq!(rt; answer.out.as_slice(), report.as_bytes());
         assert_eq!(rt; answer.err.len(), 0);
         assert_eq!(rt; answer.status, status);
@@ -101,7 +116,7 @@ impl Session {
     /// That the captures have these digests, and that the session conforms with this many datagrams.
     pub fn assert_conforming(
         &self,
-        rt: &impl Abort,
+        rt: &(impl Abort + Threads + Wait + Sync),
         digests: &str,
         datagrams: u32,
     ) -> Result<(), Fail> {
@@ -114,7 +129,7 @@ impl Session {
     /// That the captures have these digests, and that the session has the breach of these three lines.
     pub fn assert_breach(
         &self,
-        rt: &impl Abort,
+        rt: &(impl Abort + Threads + Wait + Sync),
         digests: &str,
         breach: [&str; 3],
     ) -> Result<(), Fail> {
