@@ -11,7 +11,7 @@ use Rattle.audit_keys.specs.Keys.{Knows}
 use Rattle.audit_report.specs.ReportText.{report_text}
 use Rattle.audit_rules.specs.Keys.{KeyFor}
 use Rattle.audit_sightings.specs.Intake.{Taken}
-use Rattle.audit_verdict.specs.Verdicts.{IsConforming}
+use Rattle.audit_verdict.specs.Verdicts.{IsConforming, IsVerdict}
 use Rattle.audit_whole.specs.CaptureRun.{rules_for}
 use Rattle.audit_whole.specs.Conforms.{Conforms}
 use Rattle.audit_whole.specs.Headline.{Headline}
@@ -21,10 +21,11 @@ abbrev pub status_of : Verdict → ℕ
 status_of (Conforming datagrams lanes) = 0
 status_of (NotShown breach) = 1
 
--- The report of a verdict was written, which the status repeats. It conforms exactly where the certificate explains the sightings by
+-- The report of the certificate's verdict was written, which the status repeats. It conforms exactly where the certificate explains the sightings by
 -- one run of the server, and then the headline holds.
 pub record IsJudged (taken : Taken) (key_for : KeyFor) (certificate : Certificate) (before after : Option (List ℕ)) (status : ℕ) : Type 0 where
   pub verdict : Verdict
+  pub is : IsVerdict taken key_for certificate verdict
   pub written : after ≡ followed_by before (report_text verdict taken)
   pub told : status ≡ status_of verdict
   pub conforming : IsConforming verdict ↔ Conforms taken (rules_for taken key_for) certificate

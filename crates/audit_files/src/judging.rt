@@ -8,7 +8,7 @@ ghost use Rattle.audit_keys.specs.KeyFor.{key_for};
 ghost use Rattle.audit_model.specs.declared.certificate.Certificate.{Certificate as Written};
 ghost use Rattle.audit_model.specs.PolicyText.{policy_of};
 ghost use Rattle.audit_sightings.specs.Intake.{taken};
-ghost use Rattle.audit_verdict.specs.Verdicts.{IsConforming};
+ghost use Rattle.audit_verdict.specs.Verdicts.{IsConforming, IsVerdict};
 ghost use Rattle.audit_whole.specs.CaptureRun.{rules_for};
 ghost use Rattle.audit_whole.specs.Conforms.{Conforms};
 ghost use Rattle.audit_whole.specs.Headline.{Headline};
@@ -91,6 +91,7 @@ fn verdict_of<R: Threads + Wait + Sync>(
     certificate: &Certificate,
     workers: Workers,
 ) -> Result<Verdict, AllocError>
+    ensures verdict { IfOk result (IsVerdict (taken intake.now) (key_for users.now) certificate.now) }
     ensures conforming { IfOk result (λ verdict. IsConforming verdict ↔ Conforms (taken intake.now) (rules_for (taken intake.now) (key_for users.now)) certificate.now) }
     ensures headline { IfOk result (λ verdict. IsConforming verdict → Headline (taken intake.now) (key_for users.now) certificate.now) }
 {
