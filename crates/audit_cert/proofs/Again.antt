@@ -19,7 +19,8 @@ use Rattle.audit_model.specs.Addr.{addr_of, addr_text}
 use Rattle.audit_text.proofs.Numbers.{own, number_only}
 use Rattle.audit_cert.specs.EventLine.{word32_of, word64_of, sight_id_of, event_key_of, placed_of}
 use Rattle.audit_cert.specs.Spelling.{sight_text, key_text}
-use Rattle.audit_cert.specs.Fits.{AddrFits, SightFits, KeyFits}
+use Rattle.audit_model.specs.Fits.{AddrFits}
+use Rattle.audit_cert.specs.Fits.{SightFits, KeyFits}
 use Rattle.audit_cert.proofs.Words.{placed_word, octets}
 
 pub bind_again : {A B E : Type 0} (r : Result A E) (f : A → Result B E) (x : A) (y : Result B E) → r ≡ Ok x → f x ≡ y → (r >>= f) ≡ y

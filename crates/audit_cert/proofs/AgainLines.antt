@@ -19,7 +19,8 @@ use Rattle.audit_cert.specs.DraftView.{Drafted}
 use Rattle.audit_cert.specs.EventLine.{sight_id_of, placed_of, act_of, event_of}
 use Rattle.audit_cert.specs.CertLines.{with_event, said_count, after_lane, after_event, after_drop, after_line}
 use Rattle.audit_cert.specs.Spelling.{sight_text, event_line, lane_line, drop_line}
-use Rattle.audit_cert.specs.Fits.{AddrFits, SightFits, KeyFits, EventFits, DropFits}
+use Rattle.audit_model.specs.Fits.{AddrFits}
+use Rattle.audit_cert.specs.Fits.{SightFits, KeyFits, EventFits, DropFits}
 use Rattle.audit_text.specs.Reading.{line_after}
 use Rattle.audit_cert.proofs.Texts.{read_rest, line_read}
 use Rattle.audit_cert.proofs.Words.{placed_word}

@@ -1,7 +1,7 @@
 -- What has a spelling: a certificate whose numbers are of their types, within the limits, with no two lanes of one pair.
 use Rattle.std.specs.Prelude.{◌≤◌, ◌<◌, ◌^◌, length}
 use Rattle.std.specs.List.{AllByRecursion, IsDistinct}
-use Rattle.audit_model.specs.declared.address.Addr.{Addr}
+use Rattle.audit_model.specs.Fits.{AddrFits}
 use Rattle.audit_model.specs.declared.sighting.SightId.{SightId}
 use Rattle.audit_model.specs.declared.event.Key.{Key}
 use Rattle.audit_model.specs.declared.event.Event.{Event}
@@ -12,9 +12,6 @@ use Rattle.audit_model.specs.declared.certificate.TheConstants.{MAX_LANES, MAX_E
 use Rattle.audit_model.specs.Lanes.{same_lane}
 use Rattle.audit_cert.specs.DraftView.{Drafted}
 use Rattle.audit_cert.specs.CertLines.{said_count}
-
-abbrev pub AddrFits : Addr → Type 0
-AddrFits a = (a.ip < 2 ^ 32) × (a.port < 2 ^ 16)
 
 abbrev pub SightFits : SightId → Type 0
 SightFits s = (s.iface < 2 ^ 32) × (s.index < 2 ^ 32)

@@ -1,5 +1,6 @@
 pub mod AddressText
 pub mod Addr
+pub mod Fits
 pub mod Window
 pub mod Event
 pub mod EventCount

@@ -1,6 +1,7 @@
 -- Sightings by interface: a list of them for each interface's number.
-use Rattle.std.specs.Prelude.{◌≡◌, ◌≢◌, ℕ, ◌+◌, ◌≤◌, List, [], ◌∷◌, ◌++◌, length, sum_by, Some, slice_get, slice_index_or}
+use Rattle.std.specs.Prelude.{◌≡◌, ◌≢◌, ℕ, ◌+◌, ◌<◌, ◌≤◌, ◌^◌, List, [], ◌∷◌, ◌++◌, length, sum_by, Some, slice_get, slice_index_or}
 use Rattle.audit_model.specs.declared.sighting.Sighting.{Sighting}
+use Rattle.audit_model.specs.Fits.{AddrFits}
 
 -- the sightings of an interface, none where there is no such interface
 abbrev pub of_interface : List (List Sighting) → ℕ → List Sighting
@@ -13,6 +14,13 @@ count_of interfaces = sum_by length interfaces
 abbrev pub IsNumbered : ℕ → List Sighting → Type 0
 IsNumbered iface interface = (index : ℕ) (sighting : Sighting) → slice_get interface index ≡ Some sighting → sighting.id ≡ record { iface = iface; index = index }
 
+-- moments have 64 bits
+abbrev pub SightingFits : Sighting → Type 0
+SightingFits sighting = (sighting.hi < 2 ^ 64) × AddrFits sighting.from × AddrFits sighting.to
+
+abbrev pub EachFits : List Sighting → Type 0
+EachFits interface = (index : ℕ) (sighting : Sighting) → slice_get interface index ≡ Some sighting → SightingFits sighting
+
 -- the last interface is not empty
 abbrev pub IsTight : List (List Sighting) → Type 0
 IsTight interfaces = (last : ℕ) → length interfaces ≡ last + 1 → of_interface interfaces last ≢ []
@@ -23,6 +31,7 @@ pub record AreByInterface (interfaces : List (List Sighting)) (count : ℕ) : Ty
   pub few : count ≤ 16777216
   pub few_interfaces : length interfaces ≤ 1024
   pub numbered : (iface : ℕ) → IsNumbered iface (of_interface interfaces iface)
+  pub fits : (iface : ℕ) → EachFits (of_interface interfaces iface)
 
 -- one sighting more, behind the others of its interface
 pub record Adds (old : List (List Sighting)) (iface : ℕ) (sighting : Sighting) (new : List (List Sighting)) : Type 0 where

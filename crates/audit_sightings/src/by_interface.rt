@@ -35,7 +35,7 @@ impl Model for ByInterface {
 
 impl ByInterface {
     ghost use Rattle.std.specs.Prelude.{◌≡◌, ◌⊎◌, ◌<◌, ℕ, [], length, OnOk, OnErr, IfSome, IfErr, option_copied, option_and_then, slice_get};
-    ghost use Rattle.audit_sightings.specs.ByInterface.{of_interface, count_of, IsNumbered, Adds};
+    ghost use Rattle.audit_sightings.specs.ByInterface.{of_interface, count_of, IsNumbered, EachFits, Adds};
     ghost use Rattle.audit_sightings.specs.View.{view};
     ghost use Rattle.audit_sightings.specs.Sightings.{sighting_of};
 
@@ -81,6 +81,8 @@ impl ByInterface {
     pub fn count(&self) -> u32
         ensures count { result ≡ count_of self.now }
         ensures numbered { (iface : ℕ) → IsNumbered iface (of_interface self.now iface) }
+        ensures few { (count_of self.now ≤ MAX_SIGHTINGS) × (length self.now ≤ 1024) }
+        ensures fits { (iface : ℕ) → EachFits (of_interface self.now iface) }
     {
         self.count
     }

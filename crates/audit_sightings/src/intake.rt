@@ -29,6 +29,7 @@ impl Intake {
     ghost use Rattle.audit_sightings.specs.ByInterface.{Grows, IsNumbered, count_of};
     ghost use Rattle.audit_sightings.specs.Intake.{taken, sighting_at, interface_at, AreNumbered};
     ghost use Rattle.audit_sightings.specs.Amid.{Amid};
+    ghost use Rattle.audit_sightings.specs.Bounds.{IsBounded};
     ghost use Rattle.audit_sightings.specs.Files.{Fed, not_fed, StandsFor, GoesOn, Refuses, FilesEnd};
 
     /// An intake of no files. It takes no memory.
@@ -233,6 +234,7 @@ impl Intake {
         ensures files { result.0 ≡ (taken self.now).files }
         ensures sightings { result.1 ≡ count_of (taken self.now).interfaces }
         ensures numbered { AreNumbered (taken self.now) }
+        ensures bounded { IsBounded (taken self.now) }
     {
         (self.files.len() as u32, self.interfaces.count())
     }

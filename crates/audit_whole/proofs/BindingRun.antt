@@ -27,7 +27,8 @@ use Rattle.audit_server.specs.Run.{IsFree, RunFrom}
 use Rattle.audit_server.specs.State.{State, at_first, after}
 use Rattle.audit_server.specs.Step.{In}
 use Rattle.audit_whole.specs.BindingCapture.{the_server, the_pair, the_policy, request_payload, success_payload, request_name, success_name, the_request, the_success, binding_capture, binding_steps}
-use Rattle.audit_whole.specs.Bounds.{IsBounded, SightingFits}
+use Rattle.audit_sightings.specs.ByInterface.{SightingFits}
+use Rattle.audit_sightings.specs.Bounds.{IsBounded}
 use Rattle.audit_whole.specs.CaptureRun.{rules_for, IsCaptureRun}
 use Rattle.audit_whole.proofs.BindingMessages.{request_read, success_read, request_message, success_message, tells_client}
 

@@ -12,7 +12,7 @@ use Rattle.audit_server.specs.Acting.{acting_pairs}
 use Rattle.audit_server.specs.Placed.{Placed, of_lane}
 use Rattle.audit_server.specs.Placing.{times_placed}
 use Rattle.audit_server.specs.Step.{Step}
-use Rattle.audit_whole.specs.Bounds.{IsBounded}
+use Rattle.audit_sightings.specs.Bounds.{IsBounded}
 use Rattle.audit_whole.specs.CaptureRun.{rules_for, IsCaptureRun}
 use Rattle.audit_whole.specs.Conforms.{Conforms}
 use Rattle.audit_whole.specs.Glued.{glued_steps}

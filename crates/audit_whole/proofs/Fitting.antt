@@ -15,7 +15,8 @@ use Rattle.audit_model.specs.Lanes.{same_addr, same_pair}
 use Rattle.audit_model.specs.Policy.{relays}
 use Rattle.audit_model.specs.Sames.{same_client}
 use Rattle.audit_model.proofs.Sames.{addr_true}
-use Rattle.audit_cert.specs.Fits.{AddrFits, SightFits, KeyFits, EventFits, LaneFits, DropFits}
+use Rattle.audit_model.specs.Fits.{AddrFits}
+use Rattle.audit_cert.specs.Fits.{SightFits, KeyFits, EventFits, LaneFits, DropFits}
 use Rattle.audit_sightings.specs.Intake.{Taken, sighting_at}
 use Rattle.audit_rules.specs.declared.path.Path.TheVariants.{Client}
 use Rattle.audit_rules.specs.Allocation.{Allocation, Change}
@@ -33,7 +34,8 @@ use Rattle.audit_server.specs.Step.{Step, Move, In, Act, Out}
 use Rattle.audit_server.proofs.Meeting.{all_two}
 use Rattle.audit_server.proofs.Once.{fold_cut, run_cut, splits_all, leaves, given_owes}
 use Rattle.audit_server.proofs.Orders.{all_filter, all_right}
-use Rattle.audit_whole.specs.Bounds.{SightingFits, IsBounded}
+use Rattle.audit_sightings.specs.ByInterface.{SightingFits}
+use Rattle.audit_sightings.specs.Bounds.{IsBounded}
 use Rattle.audit_whole.specs.CaptureRun.{rules_for, IsSeen, MayBePlaced, IsCaptureRun}
 use Rattle.audit_whole.proofs.Conforming.{any_all}
 use Rattle.audit_whole.proofs.Paths.{client_of_test, both_true}

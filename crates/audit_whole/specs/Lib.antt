@@ -10,5 +10,4 @@ pub mod Relayed
 pub mod Grounded
 pub mod Departures
 pub mod Headline
-pub mod Bounds
 pub mod BindingCapture

@@ -12,7 +12,8 @@ ghost use Rattle.audit_model.specs.declared.sighting.Sighting.{Sighting};
 ghost use Rattle.audit_model.specs.Policy.{AreApart, relays};
 ghost use Rattle.audit_cert.specs.Fits.{IsCertificate};
 ghost use Rattle.audit_rules.specs.Keys.{KeyFor};
-ghost use Rattle.audit_sightings.specs.Intake.{Taken, AreNumbered, sighting_at};
+ghost use Rattle.audit_sightings.specs.Bounds.{IsBounded};
+ghost use Rattle.audit_sightings.specs.Intake.{Taken, AreNumbered, sighting_at, taken as taken_of};
 ghost use Rattle.audit_server.specs.Acting.{acting_pairs};
 ghost use Rattle.audit_server.specs.Holding.{AnyOf, HoldsAt};
 ghost use Rattle.audit_server.specs.Placed.{Placed, Rises, state_after};
@@ -22,7 +23,6 @@ ghost use Rattle.audit_server.specs.Step.{Step, Out};
 ghost use Rattle.audit_server.specs.Tenancies.{tenancies};
 ghost use Rattle.audit_server.specs.Whole.{EachRuns};
 ghost use Rattle.audit_whole.specs.BindingCapture.{binding_capture, binding_steps};
-ghost use Rattle.audit_whole.specs.Bounds.{IsBounded};
 ghost use Rattle.audit_whole.specs.CaptureRun.{rules_for, IsCaptureRun};
 ghost use Rattle.audit_whole.specs.Conforms.{Conforms};
 ghost use Rattle.audit_whole.specs.Departures.{IsRelayedUp};
@@ -30,6 +30,9 @@ ghost use Rattle.audit_whole.specs.Glued.{by_lane, glued, glued_steps, lanes_fro
 ghost use Rattle.audit_whole.specs.Grounded.{IsGrounded};
 ghost use Rattle.audit_whole.specs.Headline.{Headline};
 ghost use Rattle.audit_whole.specs.Passes.{Passes};
+
+use audit_sightings::Intake;
+use audit_sightings::laws::sightings_are_bounded;
 
 /// At each move of the glued list, the client of another lane has a usable allocation with an address in the server's one
 /// table exactly where a tenancy of that lane, taken by its final end, holds the address there (RFC 8656, section 6).
@@ -77,6 +80,17 @@ pub fn written()
         (certificate : Certificate) × Conforms taken (rules_for taken key_for) certificate × (glued_steps certificate ≡ steps)
         × IsCertificate (record { lanes = certificate.lanes; drops = certificate.drops }) }
 {}
+
+/// So it is for whatever an intake has taken in: its limits hold.
+pub fn written_of_intake(intake: &Intake)
+    ensures { let taken = taken_of intake.now in (key_for : KeyFor) (steps : List Step) →
+        AreApart taken.policy → IsCaptureRun taken (rules_for taken key_for) steps → length (acting_pairs steps) ≤ MAX_LANES →
+        (certificate : Certificate) × Conforms taken (rules_for taken key_for) certificate × (glued_steps certificate ≡ steps)
+        × IsCertificate (record { lanes = certificate.lanes; drops = certificate.drops }) }
+{
+    written();
+    sightings_are_bounded(intake);
+}
 
 /// There are captures that a run explains: a Binding request and its success, whoever the users are. And a certificate conforms
 /// to them, whose glued list is that run.

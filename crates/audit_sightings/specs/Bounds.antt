@@ -1,15 +1,10 @@
 -- What an intake keeps: its limits, and numbers of the types that its sightings are read into.
-use Rattle.std.specs.Prelude.{◌≡◌, ◌<◌, ◌≤◌, ◌^◌, Some, length}
+use Rattle.std.specs.Prelude.{◌≡◌, ◌≤◌, Some, length}
 use Rattle.audit_model.specs.declared.sighting.SightId.{SightId}
 use Rattle.audit_model.specs.declared.sighting.Sighting.{Sighting}
-use Rattle.audit_cert.specs.Fits.{AddrFits}
 use Rattle.audit_sightings.specs.declared.by_interface.TheConstants.{MAX_SIGHTINGS}
-use Rattle.audit_sightings.specs.ByInterface.{count_of}
+use Rattle.audit_sightings.specs.ByInterface.{count_of, SightingFits}
 use Rattle.audit_sightings.specs.Intake.{Taken, sighting_at}
-
--- moments have 64 bits, IPv4 addresses 32 and ports 16
-abbrev pub SightingFits : Sighting → Type 0
-SightingFits s = (s.hi < 2 ^ 64) × AddrFits s.from × AddrFits s.to
 
 pub record IsBounded (taken : Taken) : Type 0 where
   pub few_interfaces : length taken.interfaces ≤ 1024

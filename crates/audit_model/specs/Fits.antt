@@ -1,0 +1,7 @@
+-- Numbers of the types that an address is read into.
+use Rattle.std.specs.Prelude.{◌<◌, ◌^◌}
+use Rattle.audit_model.specs.declared.address.Addr.{Addr}
+
+-- IPv4 addresses have 32 bits, ports 16
+abbrev pub AddrFits : Addr → Type 0
+AddrFits a = (a.ip < 2 ^ 32) × (a.port < 2 ^ 16)
