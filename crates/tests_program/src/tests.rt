@@ -6,6 +6,7 @@ mod credentials;
 mod errors;
 mod feeding;
 mod finding;
+mod gluing;
 mod lanes;
 mod memory;
 mod messages;
