@@ -122,7 +122,7 @@ ActIsSeen taken (In s) = Unit {0}
 ActIsSeen taken (Act c s t) = IsSomeAnd (sighting_at taken s) (λ x. x.side ≡ Arrives) × IsSomeAnd (sighting_at taken t) (λ x. x.side ≡ Leaves)
 ActIsSeen taken (Out t) = Unit {0}
 
-seen_event : (taken : Taken) (pair : Option Pair) (last : Option Key) (event : Event) → IsProper pair event → AllUnbroken (event_checks taken false pair last event) → MayBePlaced taken (key_of event).moment (move_of pair event)
+pub seen_event : (taken : Taken) (pair : Option Pair) (last : Option Key) (event : Event) → IsProper pair event → AllUnbroken (event_checks taken false pair last event) → MayBePlaced taken (key_of event).moment (move_of pair event)
 seen_event taken None last (events.In sight key) p h = seen_by (sighting_at taken sight) Arrives key h.1.0 h.1.1.0 h.1.1.1.1.0
 seen_event taken None last (events.Act sight gives key) p h = absurd p
 seen_event taken None last (events.Out sight key) p h = absurd p
@@ -273,7 +273,7 @@ rises_from taken pair lane place last (e ∷ es) own = (
   rises_from taken pair lane (place + 1) (Some (key_of e)) es own.1,
 )
 
-rise_lanes : (taken : Taken) (n : ℕ) (lanes : List CertLane) (last : List Placed) → AllByRecursion (OwnSound taken) (lanes_entries n lanes) → Rises last → AllByRecursion Rises (lanes_from n lanes ++ last ∷ [])
+pub rise_lanes : (taken : Taken) (n : ℕ) (lanes : List CertLane) (last : List Placed) → AllByRecursion (OwnSound taken) (lanes_entries n lanes) → Rises last → AllByRecursion Rises (lanes_from n lanes ++ last ∷ [])
 rise_lanes taken n [] last own r = (r, tt)
 rise_lanes taken n (lane ∷ lanes) last own r = (
   rises_from taken (Some (record { client = lane.client; listen = lane.listen })) n 0 None lane.events (all_left (OwnSound taken) (lane_entries n lane) (lanes_entries (n + 1) lanes) own),
@@ -315,7 +315,7 @@ all_on_time certificate r =
 
 -- ---- along interfaces
 
-placed_event : (pair : Option Pair) (event : Event) (s : SightId) → IsProper pair event → placed (move_of pair event) ≡ Some s → places_in event s ≡ true
+pub placed_event : (pair : Option Pair) (event : Event) (s : SightId) → IsProper pair event → placed (move_of pair event) ≡ Some s → places_in event s ≡ true
 placed_event pair event s p h = sym (same_places pair event s p) ∙ placed_places (move_of pair event) s h
 
 module _ (taken : Taken) (numbered : AreNumbered taken) (certificate : Certificate) (sound : Sound taken (entries certificate)) where

@@ -79,17 +79,17 @@ lane_tenancies w certificate = tenancies_more w (lanes_from 0 certificate.lanes)
 
 -- ---- clashes
 
-in_front : {A : Type 0} (x : A) (xs : List A) → Contains (x ∷ xs) x
+pub in_front : {A : Type 0} (x : A) (xs : List A) → Contains (x ∷ xs) x
 in_front x xs = Contains-append_left (x ∷ []) xs x (Contains-push [] x)
 
-in_behind : {A : Type 0} (x : A) (xs : List A) (y : A) → Contains xs y → Contains (x ∷ xs) y
+pub in_behind : {A : Type 0} (x : A) (xs : List A) (y : A) → Contains xs y → Contains (x ∷ xs) y
 in_behind x xs y h = Contains-append_right (x ∷ []) xs y h
 
 all_contained : {A : Type 0} (P : A → Type 0) (xs : List A) → ((x : A) → Contains xs x → P x) → AllByRecursion P xs
 all_contained P [] f = tt
 all_contained P (x ∷ xs) f = (f x (in_front x xs), all_contained P xs (λ y h. f y (in_behind x xs y h)))
 
-any_contained : {A : Type 0} (P : A → Type 0) (xs : List A) → AnyOf P xs → (x : A) × Contains xs x × P x
+pub any_contained : {A : Type 0} (P : A → Type 0) (xs : List A) → AnyOf P xs → (x : A) × Contains xs x × P x
 any_contained P [] h = absurd h
 any_contained P (x ∷ xs) (inl h) = (x, in_front x xs, h)
 any_contained P (x ∷ xs) (inr h) = let k = any_contained P xs h in (k.0, in_behind x xs k.0 k.1, k.2)
@@ -99,7 +99,7 @@ all_at P [] k x h l = absurd (omega (arith, l))
 all_at P (y ∷ ys) zero x h l = h.0
 all_at P (y ∷ ys) (suc k) x h l = all_at P ys k x h.1 (omega (arith, l))
 
-contained_all : {A : Type 0} (P : A → Type 0) (xs : List A) (x : A) → AllByRecursion P xs → Contains xs x → P x
+pub contained_all : {A : Type 0} (P : A → Type 0) (xs : List A) (x : A) → AllByRecursion P xs → Contains xs x → P x
 contained_all P xs x h c = subst P c.2 (all_at P xs c.0 x h c.1)
 
 any_at : {A : Type 0} (P : A → Type 0) (xs : List A) (k : ℕ) (x : A) → k < length xs → P (get_or xs k x) → AnyOf P xs
@@ -107,7 +107,7 @@ any_at P [] k x l p = absurd (omega (arith, l))
 any_at P (y ∷ ys) zero x l p = inl p
 any_at P (y ∷ ys) (suc k) x l p = inr (any_at P ys k x (omega (arith, l)) p)
 
-contained_any : {A : Type 0} (P : A → Type 0) (xs : List A) (x : A) → Contains xs x → P x → AnyOf P xs
+pub contained_any : {A : Type 0} (P : A → Type 0) (xs : List A) (x : A) → Contains xs x → P x → AnyOf P xs
 contained_any P xs x c p = any_at P xs c.0 x c.1 (subst P (sym c.2) p)
 
 pub nowhere_of : (ts : List Tenancy) → ((b : Breach) → ¬ ShowsClash ts b) → ClashNowhere ts

@@ -50,15 +50,15 @@ unbroken (c ∷ cs) at f = (
   unbroken cs at (λ b k. f b (inr k)),
 )
 
-none_broken : (cs : List Check) → AllUnbroken cs → first_broken cs ≡ None
+pub none_broken : (cs : List Check) → AllUnbroken cs → first_broken cs ≡ None
 none_broken [] h = refl
 none_broken (c ∷ cs) h = ap (λ b. cond b (Some (c.rule, c.sight)) (first_broken cs)) h.0 ∙ none_broken cs h.1
 
-abbrev AllFrom : Taken → List Entry → List Entry → Type 0
+abbrev pub AllFrom : Taken → List Entry → List Entry → Type 0
 AllFrom taken earlier [] = Unit {0}
 AllFrom taken earlier (e ∷ es) = AllUnbroken (checks taken earlier e) × AllFrom taken (earlier ++ e ∷ []) es
 
-unshown : (taken : Taken) (earlier es : List Entry) → ((b : Breach) → ¬ ShowsFrom taken earlier es b) → AllFrom taken earlier es
+pub unshown : (taken : Taken) (earlier es : List Entry) → ((b : Breach) → ¬ ShowsFrom taken earlier es b) → AllFrom taken earlier es
 unshown taken earlier [] f = tt
 unshown taken earlier (e ∷ es) f = (unbroken (checks taken earlier e) e.at (λ b k. f b (inl k)), unshown taken (earlier ++ e ∷ []) es (λ b k. f b (inr k)))
 
@@ -67,7 +67,7 @@ own_of taken placed pair last (In sight key) h = (refl, h.1)
 own_of taken placed pair last (Act arrival departure key) h = h
 own_of taken placed pair last (Out sight key) h = (refl, h.1)
 
-own_all : (taken : Taken) (earlier es : List Entry) → AllFrom taken earlier es → AllByRecursion (OwnSound taken) es
+pub own_all : (taken : Taken) (earlier es : List Entry) → AllFrom taken earlier es → AllByRecursion (OwnSound taken) es
 own_all taken earlier [] h = tt
 own_all taken earlier (e ∷ es) h = (own_of taken (is_placed earlier e.event) e.pair e.last e.event h.0, own_all taken (earlier ++ e ∷ []) es h.1)
 
@@ -100,7 +100,7 @@ times_push : (taken : Taken) (earlier : List Entry) (e : Entry) (s : SightId) (h
 times_push taken earlier e s true is h once = omega (arith, none_placed earlier s (new_by taken earlier e s e.event h is))
 times_push taken earlier e s false is h once = omega (arith, once)
 
-once_from : (taken : Taken) (earlier es : List Entry) → AllFrom taken earlier es → ((s : SightId) → times_placed earlier s ≤ 1) → (s : SightId) → times_placed (earlier ++ es) s ≤ 1
+pub once_from : (taken : Taken) (earlier es : List Entry) → AllFrom taken earlier es → ((s : SightId) → times_placed earlier s ≤ 1) → (s : SightId) → times_placed (earlier ++ es) s ≤ 1
 once_from taken earlier [] h once s = subst (λ (n : ℕ). n ≤ 1) (sym (times_append earlier [] s)) (omega (arith, once s))
 once_from taken earlier (e ∷ es) h once s =
     subst (λ (all : List Entry). times_placed all s ≤ 1) (append_assoc earlier (e ∷ []) es)
