@@ -14,6 +14,11 @@ the ordinary ones. It fails where 4n takes over 5 times as long as n, or an atta
   unasked     departures with the data of the last Send indication, which was relayed already, so that no arrival explains them
   silent      Allocate requests that nobody answers, all of one transaction, and at the end a success to it for each
   copies      one datagram of a peer again and again, each relayed to the client
+  same        one Binding request again and again, its success again and again: one transaction, one payload, one address
+  permissions one client that asks for permissions for up to 60,000 peers, and sends to each
+  channels    one client that binds up to 16,383 channels, more numbers than RFC 8656 has, and sends by each
+  handed      clients that are given one relayed address in turn, each giving it up again
+  reversed_stamps 64 interfaces of one file, each with its datagrams stamped from the last to the first
 """
 
 import argparse
@@ -43,7 +48,7 @@ class Capture:
         self.folder = folder
         (folder / "policy").write_text(POLICY)
         (folder / "creds").write_text("".join(f"user{number}\texample.org\tsecret\n" for number in range(users)))
-        self.client, self.peer = Side(folder / "client.pcapng", 0), Side(folder / "peer.pcapng", 0)
+        self.client, self.peer = Side(folder / "client.pcapng", 0, 0), Side(folder / "peer.pcapng", 0, 64)
 
     def sides(self):
         return self.client, self.peer
@@ -170,6 +175,80 @@ def copies(folder, datagrams, size):
     capture.close()
 
 
+def same(folder, datagrams, size):
+    capture = Capture(folder, 0)
+    source, id, moment = ("198.51.100.1", 40000), bytes(12), START
+    for number in range(datagrams // 2):
+        capture.client.put(moment, source, SERVER, message(BINDING, id, []))
+        capture.client.put(moment + 20, SERVER, source, message(BINDING | SUCCESS, id, [(MAPPED, address(source))]))
+        moment += 40
+    capture.close()
+
+
+def permissions(folder, datagrams, size):
+    capture = Capture(folder, 1)
+    client = Client(0, capture.sides())
+    client.open(START)
+    peers = [(f"203.{number >> 16}.{number >> 8 & 255}.{number & 255}", 7000) for number in range(min(60_000, datagrams // 2))]
+    moment = START + 1000
+    for first in range(0, len(peers), 60):
+        client.request(moment, "permission", [(PEER, address(peer)) for peer in peers[first:first + 60]], [])
+        moment += 40
+    for number in range(datagrams // 2 - len(peers) // 60):
+        client.peer = peers[number * 7919 % len(peers)]
+        client.to_peer(moment, bytes(size))
+        moment += 40
+    capture.close()
+
+
+def channels(folder, datagrams, size):
+    capture = Capture(folder, 1)
+    client = Client(0, capture.sides())
+    client.open(START)
+    count = min(16_383, datagrams // 4)
+    moment = START + 1000
+    for number in range(count):
+        client.channel, client.peer = 0x4000 + number, (f"203.0.{number >> 8}.{number & 255}", 7000)
+        client.renew(moment)
+        moment += 40
+    for number in range(datagrams // 2 - count):
+        at = number * 7919 % count
+        client.channel, client.peer = 0x4000 + at, (f"203.0.{at >> 8}.{at & 255}", 7000)
+        client.to_peer(moment, bytes(size))
+        moment += 40
+    capture.close()
+
+
+def handed(folder, datagrams, size):
+    count = 1000
+    capture = Capture(folder, count)
+    clients = [Client(number, capture.sides()) for number in range(count)]
+    moment = START
+    for number in range(datagrams // 4):
+        client = clients[number % count]
+        client.relayed = ("192.0.2.1", 49152)
+        gives = [(RELAYED, address(client.relayed)), (LIFETIME, struct.pack(">I", 600)), (MAPPED, address(client.endpoint))]
+        client.request(moment, "allocate", [(TRANSPORT, bytes([17, 0, 0, 0]))], gives)
+        client.refresh(moment + 40, 0)
+        moment += 80
+    capture.close()
+
+
+def reversed_stamps(folder, datagrams, size):
+    capture = Capture(folder, 0)
+    capture.client.out.seek(0)
+    capture.client.out.write(make_capture.SECTION + 64 * make_capture.INTERFACE)
+    for number in range(datagrams):
+        source = ("198.51.100.1", 40000 + number % 64)
+        at = capture.client.out.tell()
+        capture.client.put(START + 40 * (datagrams - number), source, SERVER, message(BINDING, struct.pack(">III", 0, 0, number), []))
+        # The interface's number stands behind the block's type and length.
+        capture.client.out.seek(at + 8)
+        capture.client.out.write(struct.pack("<I", number % 64))
+        capture.client.out.seek(0, 2)
+    capture.close()
+
+
 def seconds(words):
     """The processor time of a command, and what it printed."""
     before = resource.getrusage(resource.RUSAGE_CHILDREN)
@@ -198,12 +277,13 @@ def main():
     program = asked.program.resolve()
     # The datagrams at n, and how many bytes of data each has.
     small, large = (int(32_768 * asked.scale), 60), (int(512 * asked.scale), 54_000)
-    attacks = {users: small, clients: small, silent: small, copies: small, denied: small, unasked: large}
+    attacks = {users: small, clients: small, silent: small, copies: small, denied: small, unasked: large, same: small}
+    attacks |= {permissions: small, channels: small, handed: small, reversed_stamps: small}
     failed = 0
     with tempfile.TemporaryDirectory() as scratch:
         scratch = pathlib.Path(scratch)
         plain = {}
-        print(f"{'capture':12}{'datagrams':>10}{'command':>9}{'n':>9}{'4n':>9}{'4n to n':>9}{'to ordinary':>13}")
+        print(f"{'capture':16}{'datagrams':>10}{'command':>9}{'n':>9}{'4n':>9}{'4n to n':>9}{'to ordinary':>13}")
         for build, (datagrams, size) in [(ordinary, small), (ordinary, large), *attacks.items()]:
             times = []
             for count in (datagrams, 4 * datagrams):
@@ -215,7 +295,7 @@ def main():
             for name in times[0]:
                 one, four = (time[name] for time in times)
                 grows, worse = four / one, four / plain[datagrams][name]
-                print(f"{build.__name__:12}{datagrams:>10}{name:>9}{one:>9.2f}{four:>9.2f}{grows:>9.1f}{worse:>13.1f}", flush=True)
+                print(f"{build.__name__:16}{datagrams:>10}{name:>9}{one:>9.2f}{four:>9.2f}{grows:>9.1f}{worse:>13.1f}", flush=True)
                 if build is not ordinary and (grows > 5 or worse > 8):
                     failed += 1
     print(f"{failed} failed")
