@@ -1,11 +1,12 @@
 # turnaudit: `make demo` audits a capture of a real server, `make test` runs the gate and judges the captures of real servers; `make format`
-# comes before a commit.
+# comes before a commit; `make fuzz SECONDS=600` gives the program damaged input for so long.
 
 PROGRAM = crates/turnaudit/out/turnaudit
 SOURCES = crates.txt $(shell find crates \( -path '*/src/*.rt' -o -path '*/specs/*.antt' -o -path '*/proofs/*.antt' \) -not -path '*/out/*')
+SECONDS = 60
 DEMO = examples/coturn-channels-two-files
 
-.PHONY: demo format test
+.PHONY: demo format fuzz test
 
 # Prints the verdict on the captures of a call over coturn.
 demo: $(PROGRAM)
@@ -21,8 +22,14 @@ format:
 	@for crate in crates/*/; do (cd $$crate && rt fmt) || exit 1; done
 
 # Proves every crate from nothing, tries the must-fail edits, and runs the tests and the program; then, with the program that this
-# built, judges the captures in examples and tries the examples of docs/REFUSALS.md.
+# built, judges the captures in examples, tries the examples of docs/REFUSALS.md, compares with the plain checker, and gives it hostile input.
 test:
 	rt ci
 	tests/captures.sh $(PROGRAM)
 	python3 tests/beside_plain.py $(PROGRAM) examples/*
+	python3 tests/hostile.py $(PROGRAM)
+	python3 tests/fuzz.py $(PROGRAM) --seconds 20 --seed 1 examples/*
+
+# Gives the program damaged captures, policies, credentials and certificates, and looks at how it answers.
+fuzz: $(PROGRAM)
+	python3 tests/fuzz.py $(PROGRAM) --seconds $(SECONDS) examples/*
