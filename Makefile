@@ -21,8 +21,9 @@ format:
 	@for crate in crates/*/; do (cd $$crate && rt fmt) || exit 1; done
 
 # Proves every crate from nothing, tries the must-fail edits, and runs the tests and the program; then, with the program that this
-# built, judges the captures in examples and tries the examples of docs/REFUSALS.md.
+# built, judges the captures in examples, asks that the number of workers changes no answer, and tries the examples of docs/REFUSALS.md.
 test:
 	rt ci
 	tests/captures.sh $(PROGRAM)
+	tests/workers.sh $(PROGRAM)
 	python3 tests/beside_plain.py $(PROGRAM) examples/*
