@@ -22,10 +22,12 @@ format:
 	@for crate in crates/*/; do (cd $$crate && rt fmt) || exit 1; done
 
 # Proves every crate from nothing, tries the must-fail edits, and runs the tests and the program; then, with the program that this
-# built, judges the captures in examples, tries the examples of docs/REFUSALS.md, compares with the plain checker, and gives it hostile input.
+# built, judges the captures in examples, asks that the number of workers changes no answer, tries the examples of docs/REFUSALS.md, compares
+# with the plain checker, and gives it hostile input.
 test:
 	rt ci
 	tests/captures.sh $(PROGRAM)
+	tests/workers.sh $(PROGRAM)
 	python3 tests/beside_plain.py $(PROGRAM) examples/*
 	python3 tests/hostile.py $(PROGRAM)
 	python3 tests/fuzz.py $(PROGRAM) --seconds 20 --seed 1 examples/*

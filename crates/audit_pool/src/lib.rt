@@ -2,6 +2,7 @@
 #![tactic(auto)]
 
 mod gate;
+mod inputs;
 mod pass;
 mod workers;
 

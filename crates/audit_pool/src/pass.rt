@@ -10,9 +10,10 @@ ghost use Rattle.audit_whole.specs.Headline.{Headline};
 ghost use Rattle.audit_pool.specs.Full.{IsFullOf};
 
 use crate::gate::Gate;
+use crate::inputs::job_by;
 use crate::workers::full_book;
 use audit_book::Closed;
-use audit_glue::{check, conclude, job};
+use audit_glue::{check, conclude};
 use audit_keys::Credentials;
 use audit_model::{Certificate, Verdict};
 use audit_placement::placed;
@@ -53,7 +54,15 @@ fn verdict_of_parts<'a, R: Threads + Wait + Sync, G: Gate + Sync>(
             });
         }
     };
-    let job = job(alloc, intake, credentials, certificate, &placement)?;
+    let job = job_by(
+        rt,
+        alloc,
+        intake,
+        credentials,
+        certificate,
+        &placement,
+        workers,
+    )?;
     let job = Arc::new(alloc, job)?;
     let filled = full_book(rt, alloc, &job, workers, gate);
     // The memory of the job may be wanted.

@@ -1,0 +1,46 @@
+#!/bin/bash
+# workers.sh PROGRAM: asks that the answer doesn't depend on the number of workers: each folder of captures in examples/ by `audit`, and by `check` with the
+# stored certificate or else the one that `find` writes, with 1, 2, 4 and 256 workers: the same status, and the same bytes on both outputs.
+program=$(realpath "$1") || exit 1
+cd "$(dirname "$0")/../examples" || exit 1
+scratch=$(mktemp -d)
+trap 'rm -rf "$scratch"' EXIT
+passed=0
+failed=0
+
+answer() { # WORKERS WORDS.. : what the program answers to the words, with the folder's policy, users and captures
+    workers=$1
+    shift
+    "$program" "$@" --workers "$workers" --policy policy --creds creds "${captures[@]}" > "$scratch/out.$workers" 2> "$scratch/err.$workers"
+    echo $? > "$scratch/status.$workers"
+}
+
+compare() { # WORDS.. : the answers by more workers are that of one
+    answer 1 "$@"
+    for workers in 2 4 256; do
+        answer "$workers" "$@"
+        same=yes
+        for part in out err status; do cmp -s "$scratch/$part.1" "$scratch/$part.$workers" || same=no; done
+        if [ "$same" = yes ]; then
+            passed=$((passed + 1))
+        else
+            failed=$((failed + 1))
+            echo "failed: ${folder%/} by $1 with $workers workers"
+        fi
+    done
+}
+
+for folder in */; do
+    cd "$folder" || exit 1
+    if [ -f client.pcapng ]; then captures=(client.pcapng peer.pcapng); else captures=(cap.pcapng); fi
+    compare audit
+    certificate=certificate
+    if ! [ -f certificate ]; then
+        certificate=$scratch/found
+        "$program" find --policy policy --creds creds "${captures[@]}" > "$certificate" 2> /dev/null
+    fi
+    compare check --cert "$certificate"
+    cd ..
+done
+echo "workers: $passed passed, $failed failed"
+[ "$failed" = 0 ] && [ "$passed" -gt 0 ]
