@@ -79,13 +79,16 @@ class Case:
         lines += [f"drop {name} {moment} 0" for moment, name in sorted(drops)]
         return "".join(f"{line}\n" for line in [*lines, "end"])
 
+    def policy(self):
+        return f"turnaudit-policy 1\nlisten 192.0.2.1:3478\nrelay 192.0.2.1:{FIRST_PORT}-65535\n"
+
     def write(self, folder):
         captures, names = self.captures()
         paths = []
         for number, capture in enumerate(captures):
             paths.append(f"interface{number}.pcapng")
             (folder / paths[-1]).write_bytes(capture)
-        (folder / "policy").write_text(f"turnaudit-policy 1\nlisten 192.0.2.1:3478\nrelay 192.0.2.1:{FIRST_PORT}-65535\n")
+        (folder / "policy").write_text(self.policy())
         (folder / "creds").write_text("".join(f"{user}\texample.org\tsecret\n" for user in USERS))
         (folder / "truth").write_text(self.truth(names))
         return paths
@@ -97,9 +100,9 @@ def run(program, folder, paths, *words):
     return done.returncode, done.stdout + done.stderr
 
 
-def audit(program, seed):
+def audit(program, seed, build):
     """Whether the server of that seed acts on one datagram after another, and what is wrong, if anything."""
-    case = Case(seed)
+    case = build(seed)
     with tempfile.TemporaryDirectory() as name:
         folder = pathlib.Path(name)
         paths = case.write(folder)
@@ -112,8 +115,8 @@ def audit(program, seed):
         return seed, case.setting.sequential, " | ".join(text.splitlines()[2:5])
 
 
-def main():
-    parser = argparse.ArgumentParser(description=__doc__, formatter_class=argparse.RawDescriptionHelpFormatter)
+def main(build=Case, about=__doc__):
+    parser = argparse.ArgumentParser(description=about, formatter_class=argparse.RawDescriptionHelpFormatter)
     parser.add_argument("program", nargs="?")
     parser.add_argument("--first", type=int, default=1)
     parser.add_argument("--count", type=int, default=500)
@@ -122,7 +125,7 @@ def main():
     words = parser.parse_args()
     if words.write:
         words.write.mkdir(parents=True, exist_ok=True)
-        Case(words.first).write(words.write)
+        build(words.first).write(words.write)
         return
     if not words.program:
         parser.error("PROGRAM or --write is needed")
@@ -130,7 +133,7 @@ def main():
     missed = tried = 0
     with concurrent.futures.ProcessPoolExecutor() as pool:
         seeds = range(words.first, words.first + words.count)
-        for seed, sequential, wrong in pool.map(audit, [program] * words.count, seeds, chunksize=8):
+        for seed, sequential, wrong in pool.map(audit, [program] * words.count, seeds, [build] * words.count, chunksize=8):
             if words.one_after_another and not sequential:
                 continue
             tried += 1

@@ -220,6 +220,9 @@ class Allocation:
 class Server:
     """Acts on each input in the order of the moments of its acts, and notes what is seen and what it did."""
 
+    lifetime = 600
+    """Of each allocation, in seconds."""
+
     def __init__(self, setting, inputs):
         self.setting = setting
         self.inputs = inputs
@@ -261,6 +264,10 @@ class Server:
             plan.append((unused(act), unused(leaves), number))
         return plan
 
+    def ends_of(self, client):
+        """The client's address, and the listen address that it asks."""
+        return client_address(client), SERVER
+
     def client_interface(self, client):
         return client % self.setting.client_interfaces
 
@@ -271,7 +278,7 @@ class Server:
         if one.kind == "peer":
             interface, source, target = self.peer_interface(one.peer), PEERS[one.peer], (RELAY_IP, FIRST_PORT + one.port)
         else:
-            interface, source, target = self.client_interface(one.client), client_address(one.client), SERVER
+            interface, (source, target) = self.client_interface(one.client), self.ends_of(one.client)
         self.seen.append(Seen(one.arrival, interface, source, target, request(one), "in", number))
 
     def act_on(self, number, one, act, leaves):
@@ -279,7 +286,7 @@ class Server:
         if one.kind == "peer":
             answer.from_peer()
         elif one.kind == "binding":
-            answer.to_client(message(1 | stun.SUCCESS, transaction(one), [(stun.MAPPED, address(client_address(one.client)))]))
+            answer.to_client(message(1 | stun.SUCCESS, transaction(one), [(stun.MAPPED, address(self.ends_of(one.client)[0]))]))
         elif one.kind in ("send", "channel data"):
             answer.to_peer()
         elif one.error:
@@ -335,7 +342,8 @@ class Answer:
 
     def to_client(self, payload, client=None):
         client = self.one.client if client is None else client
-        self.note(client, self.server.client_interface(client), SERVER, client_address(client), payload)
+        target, source = self.server.ends_of(client)
+        self.note(client, self.server.client_interface(client), source, target, payload)
 
     def error(self, code):
         attributes = [(stun.ERROR_CODE, bytes([0, 0, code // 100, code % 100]) + b"no")]
@@ -350,8 +358,8 @@ class Answer:
     def allocated(self, port):
         self.success([
             (stun.RELAYED, address((RELAY_IP, port))),
-            (stun.LIFETIME, struct.pack(">I", 600)),
-            (stun.MAPPED, address(client_address(self.one.client))),
+            (stun.LIFETIME, struct.pack(">I", self.server.lifetime)),
+            (stun.MAPPED, address(self.server.ends_of(self.one.client)[0])),
         ])
 
     def allocate(self):
@@ -368,7 +376,7 @@ class Answer:
         if not free:
             return self.error(508)
         port = free[one.pick % len(free)]
-        allocations[one.client] = Allocation(port, one.user, one.transaction, self.act + 600 * SECOND)
+        allocations[one.client] = Allocation(port, one.user, one.transaction, self.act + self.server.lifetime * SECOND)
         return self.allocated(port)
 
     def of_allocation(self):
@@ -392,7 +400,7 @@ class Answer:
         if self.one.lifetime == 0:
             del self.server.allocations[self.one.client]
         else:
-            self.allocation.until = self.act + 600 * SECOND
+            self.allocation.until = self.act + self.one.lifetime * SECOND
         self.success([(stun.LIFETIME, struct.pack(">I", self.one.lifetime))])
 
     def bind(self):
