@@ -15,6 +15,7 @@ The input that showed it is kept in FOLDER, with the words in `words`. The seed 
 """
 
 import argparse
+import collections
 import concurrent.futures
 import os
 import pathlib
@@ -28,7 +29,8 @@ import time
 
 sys.path.insert(0, str(pathlib.Path(__file__).parent))
 
-from beside_plain import captures_in
+from beside_plain import captures_in, changed_certificate, changed_payload
+from plain.reading import read_policy
 
 LONGEST = 10
 """Seconds that a run may take."""
@@ -165,12 +167,32 @@ def with_other_lines(chance, text):
     return b"\n".join(lines)
 
 
-def damaged(chance, name, data):
-    if chance.random() < 0.2:
+def with_other_payload(chance, policy, capture):
+    """A bit of a datagram of the service turned, where the capture can still be read."""
+    try:
+        return changed_payload(chance, policy, capture)
+    except (ValueError, IndexError, KeyError, struct.error):
+        return with_other_blocks(chance, capture)
+
+
+def with_other_line(chance, text):
+    """A number of the certificate changed, where it can still be read."""
+    try:
+        return changed_certificate(chance, text.decode()).encode()
+    except (ValueError, IndexError):
+        return with_other_lines(chance, text)
+
+
+def damaged(chance, policy, name, data):
+    """The file damaged: half of the captures and certificates so that they can still be read."""
+    if chance.random() < 0.15:
         return with_other_bytes(chance, data)
+    readable = chance.random() < 0.6
     if name.startswith("capture"):
-        return chance.choice((with_other_blocks, with_other_stamp))(chance, data)
-    return with_other_lines(chance, data)
+        if readable and chance.random() < 0.5:
+            return with_other_stamp(chance, data)
+        return with_other_payload(chance, policy, data) if readable else with_other_blocks(chance, data)
+    return with_other_line(chance, data) if name == "cert" and readable else with_other_lines(chance, data)
 
 
 class Answer:
@@ -214,6 +236,7 @@ class Stored:
         captures = captures_in(folder)
         self.files = {f"capture{number}": front_of(path.read_bytes()) for number, path in enumerate(captures)}
         self.captures = list(self.files)
+        self.policy = read_policy(folder / "policy")
         self.files["policy"] = (folder / "policy").read_bytes()
         if (folder / "creds").exists():
             self.files["creds"] = (folder / "creds").read_bytes()
@@ -232,12 +255,13 @@ class Stored:
         creds = ["--creds", "creds"] if "creds" in self.files else []
         return [command, "--policy", "policy", *creds, *more, *self.captures]
 
-    def fault_of(self, program, place):
-        """What is wrong with the answers to the files of the folder, and to which words, or None."""
+    def fault_of(self, program, place, statuses):
+        """What is wrong with the answers to the files of the folder, and to which words, or None. The statuses are counted."""
         one = Answer(program, place, self.words("check", "--cert", "cert"))
         many = Answer(program, place, self.words("check", "--cert", "cert", "--workers", "4"))
         found = Answer(program, place, self.words("find"))
         whole = Answer(program, place, self.words("audit"))
+        statuses.update(f"{answer.words[0]} {answer.status}" for answer in (one, found, whole))
         for answer in (one, many, found, whole):
             if answer.fault():
                 return answer.words, answer.fault()
@@ -254,25 +278,26 @@ class Stored:
 
 
 def tried(program, stored, seed, number, keep):
-    """What is wrong with the answers to a try, or None."""
+    """What is wrong with the answers to a try, or None; and how often each status came."""
+    statuses = collections.Counter()
     chance = random.Random(f"{seed} {number}")
     case = stored[number % len(stored)]
     files = dict(case.files)
-    for _ in range(chance.choice((1, 1, 1, 2, 3, 8))):
-        name = chance.choice(sorted(files))
-        files[name] = damaged(chance, name, files[name])
+    for _ in range(chance.choice((1, 1, 1, 1, 2, 5))):
+        name = chance.choice(["cert", "cert", *case.captures, *case.captures, *sorted(files)])
+        files[name] = damaged(chance, case.policy, name, files[name])
     with tempfile.TemporaryDirectory() as place:
         place = pathlib.Path(place)
         case.write(place, files)
-        fault = case.fault_of(program, place)
+        fault = case.fault_of(program, place, statuses)
     if fault:
         words, what = fault
         keep = keep / f"{seed}-{number}"
         keep.mkdir(parents=True, exist_ok=True)
         case.write(keep, files)
         (keep / "words").write_text(" ".join(words) + "\n")
-        return f"try {number}: {' '.join(words)}: {what}\n    kept in {keep}"
-    return None
+        return f"try {number}: {' '.join(words)}: {what}\n    kept in {keep}", statuses
+    return None, statuses
 
 
 def main():
@@ -287,13 +312,18 @@ def main():
     program = asked.program.resolve()
     stored = [Stored(program, folder) for folder in asked.folders if (folder / "policy").exists() and captures_in(folder)]
     print(f"seed {asked.seed}, {len(stored)} stored cases")
-    end, number, wrong = time.monotonic() + asked.seconds, 0, []
+    end, number, wrong, statuses = time.monotonic() + asked.seconds, 0, [], collections.Counter()
     with concurrent.futures.ThreadPoolExecutor(asked.jobs) as pool:
         while time.monotonic() < end and not wrong:
             batch = range(number, number + 16 * asked.jobs)
-            wrong = [what for what in pool.map(lambda n: tried(program, stored, asked.seed, n, asked.keep), batch) if what]
+            for what, counted in pool.map(lambda n: tried(program, stored, asked.seed, n, asked.keep), batch):
+                statuses.update(counted)
+                if what:
+                    wrong.append(what)
             number = batch.stop
-    print("\n".join(wrong[:10]))
+    for what in wrong[:10]:
+        print(what)
+    print("statuses: " + ", ".join(f"{words} {count} times" for words, count in sorted(statuses.items())))
     print(f"{number} tries, {len(wrong)} wrong")
     sys.exit(1 if wrong else 0)
 
