@@ -1,8 +1,8 @@
 #!/bin/bash
 # no_memory.sh PROGRAM: each allocation of `audit`, `find` and `check` on a capture of a real server is refused in turn; the answer is status 3 and
-# one line each time, and nothing on standard output. Of a certificate larger than what `find` gathers before it writes (64 KiB), some allocations are refused, and a
-# front of it may be out: with status 3 it is no certificate. With several workers each allocation is refused in turn too, and then the threads from each
-# number on: the answer is that of one thread, or status 3. It needs gcc.
+# one line each time, and nothing on standard output; with two workers that, or the answer of one. Of a certificate larger than what `find` gathers before it writes (64 KiB), some allocations are refused, and a
+# front of it may be out: with status 3 it is no certificate. With several workers on 24 clients the last allocations are refused in turn, and then the threads
+# from each number on: the answer is that of one thread, or status 3. It needs gcc.
 program=$(realpath "$1") || exit 1
 cd "$(dirname "$0")" || exit 1
 scratch=$(mktemp -d)
@@ -11,16 +11,18 @@ gcc -shared -fPIC -O1 -o "$scratch/failing_malloc.so" failing_malloc.c -ldl || e
 cd ../examples/coturn-channels-two-files || exit 1
 failed=0
 
-refuse_each() { # NAME WORDS..
+refuse_each() { # NAME WORDS.. : by several workers the answer may be that of one, too
     name=$1
     shift
     number=0
+    "$program" "$@" --policy policy --creds creds client.pcapng peer.pcapng > "$scratch/whole"
     while true; do
         number=$((number + 1))
         FAIL_AT=$number LD_PRELOAD="$scratch/failing_malloc.so" "$program" "$@" --policy policy --creds creds client.pcapng peer.pcapng \
             > "$scratch/answer" 2> "$scratch/told"
         status=$?
         if grep -q '^allocations: ' "$scratch/told"; then break; fi
+        if [[ " $* " == *" --workers "* ]] && [ "$status" = 0 ] && cmp -s "$scratch/whole" "$scratch/answer"; then continue; fi
         if [ "$status" != 3 ] || [ -s "$scratch/answer" ] || [ "$(cat "$scratch/told")" != "turnaudit: out of memory" ]; then
             failed=$((failed + 1))
             echo "failed: $name, allocation $number: status $status, $(head -c 200 "$scratch/told")"
@@ -32,6 +34,8 @@ refuse_each() { # NAME WORDS..
 refuse_each audit audit
 refuse_each find find
 refuse_each check check --cert certificate
+refuse_each "check by two workers" check --cert certificate --workers 2
+refuse_each "audit by two workers" audit --workers 2
 
 cd ../coturn-24-clients || exit 1
 "$program" find --policy policy --creds creds cap.pcapng > "$scratch/certificate" || exit 1
