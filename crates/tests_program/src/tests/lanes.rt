@@ -167,12 +167,7 @@ fn two_allocations(alloc: Global, relayed: Addr) -> Result<Session, BuildFault> 
 
 #[test]
 fn an_address_that_another_client_holds_is_r22(rt: HostRuntime) -> Result<(), Fail> {
-    let session = two_allocations(rt.alloc(), RELAYED)?;
-    assert_eq!(rt;
-        session.digests()?.as_str(),
-        "2493a2b493faba680488c472fc6a78e30b599c19"
-    );
-    let answer = session.answer(&rt)?;
+    let answer = two_allocations(rt.alloc(), RELAYED)?.answer(&rt)?;
     assert_eq!(rt;
         answer.out.as_slice(),
         "turnaudit-report 1\nnot shown\nrule R22 address held\nphase 3 lane 1 event 1 moment 1021000000 tie 0\ndatagram 0.2 198.51.100.8:40001 to 192.0.2.1:3478 80 bytes\n".as_bytes()
@@ -187,12 +182,7 @@ fn two_clients_with_addresses_of_their_own_conform(rt: HostRuntime) -> Result<()
         port: 50001,
         ..RELAYED
     };
-    let session = two_allocations(rt.alloc(), other)?;
-    assert_eq!(rt;
-        session.digests()?.as_str(),
-        "0894266254087fd5b1728bb32912edb44cd583d1"
-    );
-    let answer = session.answer(&rt)?;
+    let answer = two_allocations(rt.alloc(), other)?.answer(&rt)?;
     assert_eq!(rt;
         answer.out.as_slice(),
         "turnaudit-report 1\nconforming 4 datagrams 2 lanes\n".as_bytes()
