@@ -6,7 +6,6 @@ mod credentials;
 mod errors;
 mod feeding;
 mod finding;
-mod gluing;
 mod lanes;
 mod memory;
 mod messages;

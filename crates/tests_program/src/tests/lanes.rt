@@ -4,7 +4,7 @@
 use super::captures::{binding_capture, binding_parts};
 use super::memory::{Files, ask};
 use super::messages::{allocate, send, success, to_user};
-use super::sessions::{LISTEN, OTHER_CLIENT, PEER, RELAYED, Session};
+use super::sessions::{LISTEN, PEER, RELAYED, Session};
 use super::{CONFORMING, POLICY, WORDS};
 use audit_model::{Addr, Side};
 use audit_samples::{BuildFault, UdpDatagram};
@@ -14,6 +14,11 @@ use std::process::Abort;
 use std::sync::Wait;
 use std::test::Fail;
 use std::thread::Threads;
+
+const OTHER_CLIENT: Addr = Addr {
+    ip: 0xC633_6408,
+    port: 40001,
+};
 
 const OTHER_LANE: &str = "198.51.100.8:40001 192.0.2.1:3478";
 

@@ -12,11 +12,6 @@ pub const CLIENT: Addr = Addr {
     port: 40000,
 };
 
-pub const OTHER_CLIENT: Addr = Addr {
-    ip: 0xC633_6408,
-    port: 40001,
-};
-
 pub const LISTEN: Addr = Addr {
     ip: 0xC000_0201,
     port: 3478,

@@ -41,7 +41,7 @@ impl Session {
     }
 
     /// The digests of the captures, with a space between two.
-    pub fn digests(&self) -> Result<String, AllocError> {
+    fn digests(&self) -> Result<String, AllocError> {
         let mut digests = String::new(self.alloc);
         push_digest(&mut digests, self.clients.bytes())?;
         if let Some(peers) = &self.peers {
