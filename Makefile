@@ -30,6 +30,7 @@ test:
 	tests/workers.sh $(PROGRAM)
 	python3 tests/beside_plain.py $(PROGRAM) examples/*
 	python3 tests/hostile.py $(PROGRAM)
+	python3 tests/handed_on.py $(PROGRAM)
 	python3 tests/fuzz.py $(PROGRAM) --seconds 20 --seed 1 examples/*
 
 # Gives the program damaged captures, policies, credentials and certificates, and looks at how it answers.
