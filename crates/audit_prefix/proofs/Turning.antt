@@ -37,7 +37,7 @@ walk_join : (taken : Taken) (key_for : KeyFor) (p q : List Placed) (m : Memory) 
 walk_join taken key_for [] q m found g h = h
 walk_join taken key_for (e ∷ p) q m found g h = inr (g.0, walk_join taken key_for p q (remembered (rules_for taken key_for) m e) found g.1 h)
 
-abbrev GoesSoFar : Taken → (KeyFor) → Turn → Type 0
+abbrev GoesSoFar : Taken → KeyFor → Turn → Type 0
 GoesSoFar taken key_for turn = Walks taken key_for nothing_yet turn.before None
 
 module _ (taken : Taken) (key_for : KeyFor) where

@@ -28,7 +28,7 @@ horizon_of None = 0
 horizon_of (Some last) = last
 
 -- the departures that the lanes owe
-abbrev pub owed_in : Taken → (KeyFor) → List (List Placed) → ℕ
+abbrev pub owed_in : Taken → KeyFor → List (List Placed) → ℕ
 owed_in taken key_for [] = 0
 owed_in taken key_for (lane ∷ lanes) = length (remembered_all (rules_for taken key_for) nothing_yet lane).owing + owed_in taken key_for lanes
 
