@@ -183,11 +183,11 @@ def with_other_line(chance, text):
         return with_other_lines(chance, text)
 
 
-def damaged(chance, policy, name, data):
-    """The file damaged: half of the captures and certificates so that they can still be read."""
+def damaged(chance, policy, name, data, is_whole):
+    """The file damaged: about half of the captures and certificates that were whole so that they can still be read."""
     if chance.random() < 0.15:
         return with_other_bytes(chance, data)
-    readable = chance.random() < 0.6
+    readable = chance.random() < 0.6 and is_whole
     if name.startswith("capture"):
         if readable and chance.random() < 0.5:
             return with_other_stamp(chance, data)
@@ -285,7 +285,7 @@ def tried(program, stored, seed, number, keep):
     files = dict(case.files)
     for _ in range(chance.choice((1, 1, 1, 1, 2, 5))):
         name = chance.choice(["cert", "cert", *case.captures, *case.captures, *sorted(files)])
-        files[name] = damaged(chance, case.policy, name, files[name])
+        files[name] = damaged(chance, case.policy, name, files[name], files[name] is case.files[name])
     with tempfile.TemporaryDirectory() as place:
         place = pathlib.Path(place)
         case.write(place, files)
