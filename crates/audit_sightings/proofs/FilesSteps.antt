@@ -121,7 +121,7 @@ concat-append [] ys = refl
 concat-append (x ∷ xs) ys = ap (λ (r : List ℕ). x ++ r) (concat-append xs ys) ∙ sym (append_assoc x (concat xs) (concat ys))
 
 -- a text that begins with packets begins with the first of them
-begins_first : (text : List ℕ) (packets others : List Packet) → BeginsWith text (packets ++ others) → BeginsWith text packets
+pub begins_first : (text : List ℕ) (packets others : List Packet) → BeginsWith text (packets ++ others) → BeginsWith text packets
 begins_first text packets others begins =
     let front : Front no_blocks text (packets ++ others) begins.0 begins.1 = begins.2 in
     let first : GivesFirst no_blocks front.blocks packets = gives_first no_blocks begins.0 front.blocks packets others front.run in (

@@ -3,3 +3,5 @@ pub mod TakingSteps
 pub mod Refusing
 pub mod FilesSteps
 pub mod AmidSteps
+pub mod AmidMore
+pub mod Zipped

@@ -4,10 +4,15 @@ ghost use Rattle.std.specs.Prelude.{◌≤◌, vec_len};
 
 use crate::by_interface::ByInterface;
 use crate::fault::{IntakeFault, IntakeFaultKind};
+use crate::parallel::{gather, take_frames};
 use crate::taking::{take_packet, take_packets};
 use audit_model::{Policy, SightId, Sighting};
 use audit_pcapng::BlockReader;
 use std::alloc::Global;
+use std::thread::Threads;
+
+/// From how many bytes on the frames of a piece are read by many threads: below, starting them costs more than they save.
+const PARALLEL_FROM: usize = 1_048_576;
 
 /// How many files there may be.
 pub const MAX_FILES: usize = 16;
@@ -107,10 +112,7 @@ impl Intake {
         }
         match self.take_piece(file, piece) {
             Ok(()) => Ok(()),
-            Err(kind) => {
-                self.failed = Some(file);
-                Err(IntakeFault { kind, file })
-            }
+            Err(kind) => Err(self.fail(file, kind)),
         }
     }
 
@@ -123,15 +125,127 @@ impl Intake {
         ensures policy { self.new.policy ≡ self.old.policy }
         ensures files { vec_len self.new.files ≡ vec_len self.old.files }
     {
+        match self.start_piece(file, piece) {
+            Ok(rest) => self.take_rest(file, rest),
+            Err(fault) => Err(fault),
+        }
+    }
+
+    /// Takes in the packet of the block that was held, once the piece makes it whole, and gives the bytes behind it.
+    fn start_piece<'a>(&mut self, file: u32, piece: &'a [u8]) -> Result<&'a [u8], IntakeFaultKind>
+        requires { file < vec_len self.old.files }
+        ensures ok { (files : List Fed) → StandsFor self.old files → IfOk result (λ rest. Amid self.new files file piece.now rest.now) }
+        ensures err { (files : List Fed) → StandsFor self.old files →
+            IfErr result (Refuses self.old.policy self.new.interfaces files file piece.now) }
+        ensures grows { Grows self.old.interfaces self.new.interfaces }
+        ensures policy { self.new.policy ≡ self.old.policy }
+        ensures files { vec_len self.new.files ≡ vec_len self.old.files }
+    {
         let mut held = Vec::new(self.alloc);
         let reader = &mut self.files[file as usize];
         let started = reader.start(piece, &mut held);
         match take_packets(&self.policy, &mut self.interfaces, file, &held) {
             Err(fault) => Err(fault),
             Ok(()) => match started {
-                Ok(rest) => self.take_rest(file, rest),
+                Ok(rest) => Ok(rest),
                 Err(fault) => Err(IntakeFaultKind::Capture(fault)),
             },
+        }
+    }
+
+    /// As `feed`, but that the frames of a piece of 1 MiB or more are read by as many threads as there are processors, and
+    /// then taken in in order. While it runs it holds some 100 bytes more for each packet of such a piece.
+    pub fn feed_parallel<R: Threads + Sync>(
+        &mut self,
+        rt: &R,
+        file: u32,
+        piece: &[u8],
+    ) -> Result<(), IntakeFault>
+        requires { file < vec_len self.old.files }
+        ensures ok { (files : List Fed) → StandsFor self.old files → OnOk result (GoesOn self.new files file piece.now) }
+        ensures err { (files : List Fed) → StandsFor self.old files → IfErr result (λ fault.
+            (fault.file ≡ file) × Refuses self.new.policy self.new.interfaces files file piece.now fault.kind) }
+        ensures failed { self.old.failed ≡ None → OnErr result (self.new.failed ≡ Some file) }
+        ensures again { (failed : ℕ) → self.old.failed ≡ Some failed →
+            (result ≡ Err (record { kind = IntakeFaultKind.Failed; file = failed })) × (self.new ≡ self.old) }
+        ensures grows { Grows self.old.interfaces self.new.interfaces }
+        ensures policy { self.new.policy ≡ self.old.policy }
+        ensures files { vec_len self.new.files ≡ vec_len self.old.files }
+    {
+        if piece.len() < PARALLEL_FROM {
+            return self.feed(file, piece);
+        }
+        if let Some(failed) = self.failed {
+            return Err(IntakeFault {
+                kind: IntakeFaultKind::Failed,
+                file: failed,
+            });
+        }
+        match self.take_large_piece(rt, file, piece) {
+            Ok(()) => Ok(()),
+            Err(kind) => Err(self.fail(file, kind)),
+        }
+    }
+
+    /// Every later call fails because of this file.
+    fn fail(&mut self, file: u32, kind: IntakeFaultKind) -> IntakeFault
+        ensures fault { result ≡ record { kind = kind; file = file } }
+        ensures failed { self.new ≡ record self.old { failed = Some file } }
+    {
+        self.failed = Some(file);
+        IntakeFault { kind, file }
+    }
+
+    fn take_large_piece<R: Threads + Sync>(
+        &mut self,
+        rt: &R,
+        file: u32,
+        piece: &[u8],
+    ) -> Result<(), IntakeFaultKind>
+        requires { file < vec_len self.old.files }
+        ensures ok { (files : List Fed) → StandsFor self.old files → OnOk result (GoesOn self.new files file piece.now) }
+        ensures err { (files : List Fed) → StandsFor self.old files →
+            IfErr result (Refuses self.old.policy self.new.interfaces files file piece.now) }
+        ensures grows { Grows self.old.interfaces self.new.interfaces }
+        ensures policy { self.new.policy ≡ self.old.policy }
+        ensures files { vec_len self.new.files ≡ vec_len self.old.files }
+    {
+        match self.start_piece(file, piece) {
+            Ok(rest) => self.take_large_rest(rt, file, rest),
+            Err(fault) => Err(fault),
+        }
+    }
+
+    /// Takes in the packets of what is left of a piece, whose frames are read by many threads.
+    fn take_large_rest<R: Threads + Sync>(
+        &mut self,
+        rt: &R,
+        file: u32,
+        rest: &[u8],
+    ) -> Result<(), IntakeFaultKind>
+        requires { file < vec_len self.old.files }
+        ensures ok { (files : List Fed) (piece : List ℕ) → Amid self.old files file piece rest.now →
+            OnOk result (GoesOn self.new files file piece) }
+        ensures err { (files : List Fed) (piece : List ℕ) → Amid self.old files file piece rest.now →
+            IfErr result (Refuses self.old.policy self.new.interfaces files file piece) }
+        ensures grows { Grows self.old.interfaces self.new.interfaces }
+        ensures policy { self.new.policy ≡ self.old.policy }
+        ensures files { vec_len self.new.files ≡ vec_len self.old.files }
+    {
+        let mut packets = Vec::new(self.alloc);
+        let reader = &mut self.files[file as usize];
+        let gathered = gather(reader, rest, &mut packets);
+        take_frames(
+            rt,
+            self.alloc,
+            &self.policy,
+            &mut self.interfaces,
+            file,
+            &packets,
+        )?;
+        match gathered {
+            Ok(()) => Ok(()),
+            Err(fault) => Err(IntakeFaultKind::Capture(fault)),
         }
     }
 

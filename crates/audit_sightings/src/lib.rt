@@ -5,6 +5,7 @@ mod by_interface;
 mod fault;
 mod intake;
 pub mod laws;
+mod parallel;
 mod service_datagram;
 mod taking;
 

@@ -1,0 +1,27 @@
+use Rattle.std.proofs.Common.{◌+◌, ◌*◌, refl, sym, ap, ◌∙◌, Option, Ok}
+use Rattle.audit_sightings.specs.declared.service_datagram.ServiceDatagram.{ServiceDatagram as Declared}
+use Rattle.std.proofs.lemmas.Result.{on_ok_weaker}
+use Rattle.audit_pcapng.specs.Packets.{packet_of}
+use Rattle.audit_sightings.specs.View.{view, view_found}
+use Rattle.audit_sightings.proofs.TakingSteps.{TakesIn-other, TakesIn-kept}
+use Rattle.audit_sightings.proofs.Refusing.{refused_by_packet, refused_by_limit}
+use Rattle.audit_sightings.proofs.taking.take_found.Goals as goal
+
+pub returns-in-Err-clause-err : goal.returns-in-Err-clause-err
+returns-in-Err-clause-err c = refused_by_packet c.args.policy.now c.args.interfaces.now (packet_of c.args.packet) c.in-Err.fault (sym (sym (ap view_found c.in-Err.is) ∙ c.requires.found))
+
+pub returns-in_default-clause-ok : goal.returns-in_default-clause-ok
+returns-in_default-clause-ok c =
+    TakesIn-other c.args.policy.now c.args.interfaces.now c.args.file (packet_of c.args.packet) (sym c.requires.found ∙ ap view_found c.in-Ok.is ∙ ap (λ (k : Option Declared). view_found (Ok k)) c.in_default.is)
+
+pub returns-clause-ok : goal.returns-clause-ok
+returns-clause-ok c =
+    let found = sym c.requires.found ∙ ap view_found c.in-Ok.is ∙ ap (λ (k : Option Declared). view_found (Ok k)) c.in-Some.is in
+    on_ok_weaker c.push.result
+    (TakesIn-kept c.args.policy.now c.args.interfaces.now c.push.new.self c.args.file (64 * c.args.file + c.args.packet.iface) (packet_of c.args.packet) (view c.in-Some.kept) found c.if-packet-ge-INTERFACES_OF_FILE.false refl)
+    c.push.ensures.ok
+
+pub returns-clause-err : goal.returns-clause-err
+returns-clause-err c =
+    let found = sym c.requires.found ∙ ap view_found c.in-Ok.is ∙ ap (λ (k : Option Declared). view_found (Ok k)) c.in-Some.is in
+    refused_by_limit c.args.policy.now c.args.interfaces.now (packet_of c.args.packet) (view c.in-Some.kept) c.push.result found c.push.ensures.refused
