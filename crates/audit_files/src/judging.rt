@@ -62,13 +62,15 @@ pub struct Files {
 }
 
 /// The users and the captures of a run, by its policy. Files are read in this order: policy, users, captures; each is judged before the
-/// next is read.
-pub fn read_files<S: Source>(
+/// next is read. Any number of workers reads the same.
+pub fn read_files<R: Threads + Sync, S: Source>(
+    rt: &R,
     alloc: Global,
     source: &mut S,
     policy: &str,
     users: Option<&str>,
     captures: &[&str],
+    workers: Workers,
 ) -> Result<Files, Stop>
     ensures { (policy_text users_text : List ℕ) (texts : List (List ℕ)) →
         S.holds source.old policy.now ≡ Some policy_text →
@@ -78,7 +80,8 @@ pub fn read_files<S: Source>(
 {
     let policy = read_policy(alloc, source, policy)?;
     let users = read_users(alloc, source, users)?;
-    let intake = take_in(alloc, source, captures, Intake::new(alloc, policy))?;
+    let intake = Intake::new(alloc, policy);
+    let intake = take_in(rt, alloc, source, captures, intake, workers)?;
     Ok(Files { intake, users })
 }
 
@@ -148,6 +151,7 @@ pub fn check_files<R: Threads + Wait + Sync, S: Source, O: Sink>(
     let users = read_users(alloc, source, users)?;
     let reader = CertificateReader::new(alloc);
     let certificate = read_text(alloc, source, certificate, reader)?;
-    let intake = take_in(alloc, source, captures, Intake::new(alloc, policy))?;
+    let intake = Intake::new(alloc, policy);
+    let intake = take_in(rt, alloc, source, captures, intake, workers)?;
     judge(rt, alloc, &intake, &users, &certificate, workers, out)
 }

@@ -34,7 +34,7 @@ pub fn audit_captures<R: Threads + Wait + Sync, S: Source, O: Sink>(
         AllZip (λ name text. S.holds source.old name.now ≡ Some text) captures.now texts →
         IfOk result (λ status. (found : Found) × IsAudited policy_text users_text texts found (O.taken out.old) (O.taken out.new) status) }
 {
-    let files = read_files(alloc, source, policy, users, captures)?;
+    let files = read_files(rt, alloc, source, policy, users, captures, workers)?;
     let certificate = find(alloc, &files.intake, &files.users)?;
     judge(
         rt,
@@ -48,18 +48,21 @@ pub fn audit_captures<R: Threads + Wait + Sync, S: Source, O: Sink>(
 }
 
 /// Finds a certificate, and writes it.
-fn run_find<S: Source, O: Sink>(
+fn run_find<R: Threads + Sync, S: Source, O: Sink>(
+    rt: &R,
     alloc: Global,
     inputs: &Inputs<'_>,
     source: &mut S,
     out: &mut O,
 ) -> Result<u8, Stop> {
     let files = read_files(
+        rt,
         alloc,
         source,
         inputs.policy,
         inputs.credentials,
         &inputs.captures,
+        Workers::one(),
     )?;
     let certificate = find(alloc, &files.intake, &files.users)?;
     let mut buffered = Buffered::new(alloc, out)?;
@@ -103,7 +106,7 @@ fn run_request<R: Threads + Wait + Sync, S: Source, O: Sink, E: Sink>(
             *workers,
             out,
         ),
-        Request::Find(inputs) => run_find(alloc, inputs, source, out),
+        Request::Find(inputs) => run_find(rt, alloc, inputs, source, out),
         Request::Help(text) => {
             put_text(out, text.as_str())?;
             Ok(0)

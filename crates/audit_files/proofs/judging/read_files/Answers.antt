@@ -13,9 +13,9 @@ returns g c = λ policy_text users_text texts policy users none captures.
     let of_policy = c.in_ok-policy.ensures.says policy_text policy in
     let of_users = c.in_ok-users.ensures.says users_text (subst (λ (h : Holds). IfSome c.args.users (λ name. h name.now ≡ Some users_text)) (sym first) users) none in
     let intake = c.in_ok-intake.intake in
-    let same : intake.policy ≡ c.in_ok-policy.policy = c.in_ok-intake.ensures.policy ∙ ap (λ (t : Taken). t.policy) c.new.ensures.empty in
+    let same : intake.policy ≡ c.in_ok-policy.policy = c.in_ok-intake.ensures.policy ∙ ap (λ (t : Taken). t.policy) c.new-intake.ensures.empty in
     record {
       policy' = subst (λ (p : Policy). policy_of policy_text ≡ Ok p) (sym same) of_policy;
       users' = of_users;
-      captures' = c.in_ok-intake.ensures.taken texts c.new.ensures.stands (subst (λ (h : Holds). AllZip (λ name text. h name.now ≡ Some text) c.args.captures.now texts) (sym second) captures);
+      captures' = c.in_ok-intake.ensures.taken texts c.new-intake.ensures.stands (subst (λ (h : Holds). AllZip (λ name text. h name.now ≡ Some text) c.args.captures.now texts) (sym second) captures);
     }

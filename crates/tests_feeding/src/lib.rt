@@ -1,0 +1,5 @@
+//! Tests of many datagrams by one feed.
+#![tactic(auto)]
+
+#[cfg(test)]
+mod tests;
