@@ -23,7 +23,7 @@ format:
 
 # Proves every crate from nothing, tries the must-fail edits, and runs the tests and the program; then, with the program that this
 # built, judges the captures in examples, asks that the number of workers changes no answer, tries the examples of docs/REFUSALS.md, compares
-# with the plain checker, and gives it hostile input.
+# with the plain checker, gives it hostile input, and refuses it memory.
 test:
 	rt ci
 	tests/captures.sh $(PROGRAM)
@@ -31,6 +31,7 @@ test:
 	python3 tests/beside_plain.py $(PROGRAM) examples/*
 	python3 tests/hostile.py $(PROGRAM)
 	python3 tests/handed_on.py $(PROGRAM)
+	tests/no_memory.sh $(PROGRAM)
 	python3 tests/fuzz.py $(PROGRAM) --seconds 20 --seed 1 examples/*
 
 # Gives the program damaged captures, policies, credentials and certificates, and looks at how it answers.
