@@ -11,7 +11,7 @@ use audit_pcapng::BlockReader;
 use std::alloc::Global;
 use std::thread::Threads;
 
-/// From how many bytes on the frames of a piece are read by many threads: below, starting them costs more than they save.
+/// From how many bytes on the frames of a piece are read by many threads. It saves no time at any size so far (docs/DECISIONS.md).
 const PARALLEL_FROM: usize = 1_048_576;
 
 /// How many files there may be.
@@ -154,7 +154,7 @@ impl Intake {
     }
 
     /// As `feed`, but that the frames of a piece of 1 MiB or more are read by as many threads as there are processors, and
-    /// then taken in in order. While it runs it holds some 100 bytes more for each packet of such a piece.
+    /// then taken in in order. Of such a piece it holds some 100 bytes more for each packet while it runs, and takes longer than `feed`.
     pub fn feed_parallel<R: Threads + Sync>(
         &mut self,
         rt: &R,
