@@ -1,6 +1,7 @@
 //! Leases by their keys.
 
-ghost use Rattle.std.specs.Prelude.{◌≡◌, List, [], true, false, IsTrue, IsSome, OnOk, OnErr, None};
+ghost use Rattle.std.specs.Prelude.{◌≡◌, List, [], true, false, IsTrue, IsSome, IfOk, OnOk, OnErr, None};
+ghost use Rattle.std.specs.List.{AllZip};
 ghost use Rattle.std.specs.declared.cmp.Ordering.TheVariants.{Equal};
 ghost use Rattle.audit_expiry.specs.Leases.{value_at, Puts, PutsAll, Removes, Somewhere, Everywhere};
 ghost use Rattle.audit_expiry.specs.Growth.{Adds, Grew, HasEach, KeepsOthers};
@@ -70,6 +71,16 @@ impl<K: Ord + Copy, V: Copy> Leases<K, V> {
     {
         self.values.insert(key, value)?;
         Ok(())
+    }
+
+    /// The same table once more. It takes time and memory in proportion to the number of keys.
+    pub fn copied(&self) -> Result<Self, AllocError>
+        ensures { IfOk result (λ same. AllZip (λ one other. K.is_clone one.0 other.0 × V.is_clone one.1 other.1) self.now same) }
+    {
+        Ok(Leases {
+            values: self.values.clone()?,
+            alloc: self.alloc,
+        })
     }
 
     /// Takes the key out. It takes logarithmic time.

@@ -2,6 +2,7 @@
 
 use audit_expiry::{Lease, Leases};
 use audit_model::{Addr, At, Listed, SightId, Tenancy};
+use std::alloc::{AllocError, Global};
 
 /// What a channel number is bound to (RFC 8656, section 12).
 #[derive(Clone, Copy, Debug, PartialEq, Eq)]
@@ -29,6 +30,28 @@ pub struct Allocation {
     pub id: [u8; 12],
 }
 
+impl Allocation {
+    ghost use Rattle.std.specs.Prelude.{◌≡◌, None, IfOk};
+    ghost use Rattle.audit_rules.specs.Effect.{tenancy_of};
+
+    /// The same once more.
+    fn copied(&self, alloc: Global) -> Result<Allocation, AllocError>
+        ensures { IfOk result (λ same. tenancy_of None same ≡ tenancy_of None self.now) }
+    {
+        Ok(Allocation {
+            permissions: self.permissions.copied()?,
+            channels: self.channels.copied()?,
+            user: Listed::from(Vec::from_slice(alloc, self.user.as_slice())?),
+            lease: self.lease,
+            last: self.last,
+            born: self.born,
+            sight: self.sight,
+            relayed: self.relayed,
+            id: self.id,
+        })
+    }
+}
+
 /// The table of one lane: what the server has for its client at its listen address.
 #[derive(Debug, Drop)]
 pub struct LaneTable {
@@ -40,7 +63,7 @@ pub struct LaneTable {
 }
 
 impl LaneTable {
-    ghost use Rattle.std.specs.Prelude.{◌≡◌, None};
+    ghost use Rattle.std.specs.Prelude.{◌≡◌, None, IfOk};
     ghost use Rattle.audit_rules.specs.Effect.{standing};
 
     /// A table with no allocation. It takes no memory.
@@ -53,6 +76,22 @@ impl LaneTable {
             listen,
             lane,
         }
+    }
+
+    /// The same table once more. It takes time and memory in proportion to its permissions and channels.
+    pub fn copied(&self, alloc: Global) -> Result<LaneTable, AllocError>
+        ensures { IfOk result (λ same. (standing same).tenancy ≡ (standing self.now).tenancy) }
+    {
+        let allocation = match &self.allocation {
+            Some(found) => Some(found.copied(alloc)?),
+            None => None,
+        };
+        Ok(LaneTable {
+            allocation,
+            client: self.client,
+            listen: self.listen,
+            lane: self.lane,
+        })
     }
 
     /// The tenancy of the allocation that is there, from the act that made it. It takes no memory.
