@@ -1,13 +1,14 @@
 #!/usr/bin/env python3
 """Audits random captures of a simulated server that keeps to RFC 8656, and tells those that are not shown.
 
-    python3 bench/random_captures.py PROGRAM [--first 1] [--count 500] [--one-after-another]
+    python3 bench/random_captures.py PROGRAM [--first 1] [--count 500] [--most MISSED] [--one-after-another]
     python3 bench/random_captures.py --write FOLDER --first SEED
 
 Requests are lost and copied, up to 4 clients share up to 6 relayed addresses, and each interface's clock is ahead or behind by up to
 450 microseconds, within the skew of the policy. Where a capture is not shown, the certificate of what the simulated server did
 is checked, too: that has to conform. With --write a case is written to a folder, that certificate among it (truth).
-With --one-after-another only those servers count that finish one datagram before the next.
+With --one-after-another only those servers count that finish one datagram before the next. With --most it ends with status 1 where
+more than so many are not shown.
 """
 
 import argparse
@@ -120,6 +121,7 @@ def main(build=Case, about=__doc__):
     parser.add_argument("program", nargs="?")
     parser.add_argument("--first", type=int, default=1)
     parser.add_argument("--count", type=int, default=500)
+    parser.add_argument("--most", type=int)
     parser.add_argument("--one-after-another", action="store_true")
     parser.add_argument("--write", type=pathlib.Path)
     words = parser.parse_args()
@@ -141,6 +143,8 @@ def main(build=Case, about=__doc__):
                 missed += 1
                 print(f"seed {seed}: {wrong}", flush=True)
     print(f"{missed} of {tried} not shown")
+    if words.most is not None and missed > words.most:
+        raise SystemExit(1)
 
 
 if __name__ == "__main__":
