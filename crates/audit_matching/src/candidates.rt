@@ -1,0 +1,153 @@
+//! The pools whose arrivals a departure may answer.
+
+use crate::bindings::Bindings;
+use crate::content::{Gives, PoolKey};
+use crate::numbers::{LaneNumber, PoolNumber, SeenNumber};
+use crate::pool_numbers::PoolNumbers;
+use crate::pools::Pools;
+use crate::seen::{Says, Seen, Sights};
+use crate::tenancies::{Tenancies, Tenancy};
+use crate::times::Times;
+use audit_model::Addr;
+use std::alloc::{AllocError, Global};
+
+/// What departures are matched by.
+#[derive(Clone, Copy)]
+pub struct Known<'a> {
+    pub sights: &'a Sights,
+    pub numbers: &'a PoolNumbers,
+    pub bindings: &'a Bindings,
+    pub pools: &'a Pools,
+    pub tenancies: &'a Tenancies,
+    pub times: &'a Times,
+    /// How long an arrival may wait for its answer.
+    pub hold: u64,
+    pub alloc: Global,
+}
+
+impl<'a> Known<'a> {
+    /// The pools whose arrivals a departure may answer, the likeliest first. `lane` is the lane of what leaves from a relayed
+    /// address, where it is known; else it is that of any client that may have had the address.
+    pub fn candidates(
+        &self,
+        number: SeenNumber,
+        seen: &Seen,
+        lane: Option<LaneNumber>,
+    ) -> Result<Vec<PoolNumber>, AllocError> {
+        let mut found = Vec::new(self.alloc);
+        match seen.says {
+            Says::Gives(_, Some(pool)) => found.push(pool)?,
+            Says::Gives(
+                Gives::Relayed {
+                    relayed,
+                    peer,
+                    digest,
+                },
+                _,
+            ) => {
+                for lane in self.senders(number, relayed, lane)? {
+                    self.add_sent(lane, peer, digest, &mut found)?;
+                }
+            }
+            Says::Gives(Gives::Data { peer, digest }, _) => {
+                for tenancy in self.owned(number, seen)? {
+                    self.add_received(&tenancy, peer, digest, &mut found)?;
+                }
+            }
+            Says::Gives(
+                Gives::Channel {
+                    number: channel,
+                    digest,
+                },
+                _,
+            ) => {
+                for tenancy in self.owned(number, seen)? {
+                    self.add_bound(&tenancy, channel, digest, &mut found)?;
+                }
+            }
+            _ => {}
+        }
+        Ok(found)
+    }
+
+    /// The lanes that may have sent what leaves from a relayed address.
+    fn senders(
+        &self,
+        number: SeenNumber,
+        relayed: Addr,
+        lane: Option<LaneNumber>,
+    ) -> Result<Vec<LaneNumber>, AllocError> {
+        let mut lanes = Vec::new(self.alloc);
+        if let Some(lane) = lane {
+            lanes.push(lane)?;
+            return Ok(lanes);
+        }
+        let time = self.times.of(number);
+        let of = self.tenancies.of_address(relayed);
+        for tenancy in self.tenancies.meeting(of, time.early, time.late)? {
+            if !lanes.contains(&tenancy.lane) {
+                lanes.push(tenancy.lane)?;
+            }
+        }
+        Ok(lanes)
+    }
+
+    /// The tenancies of a departure's lane about its time.
+    fn owned(&self, number: SeenNumber, seen: &Seen) -> Result<Vec<Tenancy>, AllocError> {
+        let Some(lane) = seen.lane else {
+            return Ok(Vec::new(self.alloc));
+        };
+        let time = self.times.of(number);
+        let of = self.tenancies.of_lane(lane);
+        self.tenancies.meeting(of, time.early, time.late)
+    }
+
+    /// Adds the pools of what a lane sent to a peer.
+    pub fn add_sent(
+        &self,
+        lane: LaneNumber,
+        peer: Addr,
+        digest: u64,
+        found: &mut Vec<PoolNumber>,
+    ) -> Result<(), AllocError> {
+        self.add(PoolKey::send(lane, peer, digest), found)?;
+        for number in self.bindings.numbers_of(lane, peer)? {
+            self.add(PoolKey::channel(lane, number, digest), found)?;
+        }
+        Ok(())
+    }
+
+    /// Adds the pool of what a peer sent to a tenancy's address.
+    fn add_received(
+        &self,
+        tenancy: &Tenancy,
+        peer: Addr,
+        digest: u64,
+        found: &mut Vec<PoolNumber>,
+    ) -> Result<(), AllocError> {
+        self.add(PoolKey::peer(tenancy.relayed, peer, digest), found)
+    }
+
+    /// Adds the pools of what the peers of a channel sent to a tenancy's address.
+    fn add_bound(
+        &self,
+        tenancy: &Tenancy,
+        channel: u16,
+        digest: u64,
+        found: &mut Vec<PoolNumber>,
+    ) -> Result<(), AllocError> {
+        for peer in self.bindings.peers_of(tenancy.lane, channel)? {
+            self.add_received(tenancy, peer, digest, found)?;
+        }
+        Ok(())
+    }
+
+    fn add(&self, key: PoolKey, found: &mut Vec<PoolNumber>) -> Result<(), AllocError> {
+        if let Some(pool) = self.numbers.get(&key) {
+            if !found.contains(&pool) {
+                found.push(pool)?;
+            }
+        }
+        Ok(())
+    }
+}

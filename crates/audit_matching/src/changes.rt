@@ -1,0 +1,75 @@
+//! The answers that tell of allocations.
+
+use crate::content::Gives;
+use crate::numbers::{LaneNumber, SeenNumber};
+use crate::seen::{Seen, Sights};
+use crate::times::Times;
+use audit_model::Addr;
+use std::alloc::{AllocError, Global};
+
+/// An answer of a lane, by its time.
+type Told = (LaneNumber, u64, SeenNumber);
+
+/// The answers that tell that allocations were made, ended and kept, each kind of them in order.
+#[derive(Drop)]
+pub(crate) struct Changes {
+    pub(crate) made: Vec<(Addr, u64, SeenNumber)>,
+    ended: Vec<Told>,
+    kept: Vec<Told>,
+}
+
+impl Changes {
+    pub(crate) fn gather(
+        alloc: Global,
+        sights: &Sights,
+        times: &Times,
+    ) -> Result<Changes, AllocError> {
+        let mut changes = Changes {
+            made: Vec::new(alloc),
+            ended: Vec::new(alloc),
+            kept: Vec::new(alloc),
+        };
+        for (place, seen) in sights.as_slice().iter().enumerate() {
+            if let Ok(number) = u32::try_from(place) {
+                let number = SeenNumber(number);
+                changes.note(seen, number, times.of(number).when)?;
+            }
+        }
+        changes.made.sort_unstable();
+        changes.ended.sort_unstable();
+        changes.kept.sort_unstable();
+        Ok(changes)
+    }
+
+    fn note(&mut self, seen: &Seen, number: SeenNumber, when: u64) -> Result<(), AllocError> {
+        let Some(lane) = seen.lane else {
+            return Ok(());
+        };
+        match seen.gives() {
+            Some(Gives::Allocated { relayed, .. }) => self.made.push((relayed, when, number))?,
+            Some(Gives::Deleted) => self.ended.push((lane, when, number))?,
+            Some(Gives::Refreshed { .. }) => self.kept.push((lane, when, number))?,
+            _ => {}
+        }
+        Ok(())
+    }
+
+    /// The first answer of a lane behind a moment that tells that its allocation was deleted.
+    pub(crate) fn end_behind(&self, lane: LaneNumber, when: u64) -> Option<SeenNumber> {
+        let place = self
+            .ended
+            .partition_point(|told| (told.0, told.1) <= (lane, when));
+        match self.ended.get(place) {
+            Some((other, _, number)) if *other == lane => Some(*number),
+            _ => None,
+        }
+    }
+
+    /// The answers behind a moment that tell that an allocation was kept, those of the lane first.
+    pub(crate) fn kept_behind(&self, lane: LaneNumber, when: u64) -> &[Told] {
+        let place = self
+            .kept
+            .partition_point(|told| (told.0, told.1) <= (lane, when));
+        self.kept.get(place..).unwrap_or(&[])
+    }
+}

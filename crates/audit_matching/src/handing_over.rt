@@ -1,0 +1,159 @@
+//! Relayed addresses that go from one client to another.
+
+use crate::changes::Changes;
+use crate::content::Gives;
+use crate::edges::Edges;
+use crate::matching::Mates;
+use crate::numbers::{LaneNumber, SeenNumber};
+use crate::seen::{Says, Sights};
+use crate::times::Times;
+use audit_model::Addr;
+use std::alloc::{AllocError, Global};
+
+/// How far an allocation is put behind others that can't have ended before it.
+const SWAPS: usize = 8;
+
+/// An allocation of an address, by the answer that tells of it, and the answer that tells of its end.
+#[derive(Clone, Copy)]
+struct Holding {
+    relayed: Addr,
+    lane: LaneNumber,
+    maker: SeenNumber,
+    ender: Option<SeenNumber>,
+}
+
+/// Two clients that had one relayed address, one after the other.
+#[derive(Clone, Copy, Debug)]
+pub struct Handover {
+    /// The first one, the answer that tells of its allocation, and the answer that tells of its end.
+    pub from: LaneNumber,
+    pub maker: SeenNumber,
+    pub ender: Option<SeenNumber>,
+    /// The answer that tells of the second one's allocation.
+    pub next: SeenNumber,
+}
+
+/// What handovers are found by.
+#[derive(Clone, Copy)]
+struct Facts<'a> {
+    sights: &'a Sights,
+    mates: &'a Mates,
+}
+
+impl Facts<'_> {
+    /// Whether one may have ended before another one began.
+    fn may(&self, first: &Holding, second: &Holding) -> bool {
+        if first.lane == second.lane {
+            return true;
+        }
+        let request = match first.ender {
+            Some(ender) => self.mates.of(ender),
+            None => None,
+        };
+        let lo = match request {
+            Some(request) => self.sights.get(request).map(|seen| seen.lo),
+            None => None,
+        };
+        match (lo, self.sights.get(second.maker)) {
+            (Some(lo), Some(next)) => lo <= next.hi,
+            _ => false,
+        }
+    }
+}
+
+/// The handovers of all relayed addresses, in an order of each that is possible, if there is one close to that of the answers.
+pub fn handovers(
+    alloc: Global,
+    sights: &Sights,
+    times: &Times,
+    mates: &Mates,
+) -> Result<Vec<Handover>, AllocError> {
+    let facts = Facts { sights, mates };
+    let mut holdings = holdings(alloc, facts, times)?;
+    for place in 0..holdings.len() {
+        settle(facts, &mut holdings, place);
+    }
+    let mut found = Vec::new(alloc);
+    for pair in holdings.windows(2) {
+        if let [first, second] = pair {
+            if first.relayed == second.relayed && first.lane != second.lane {
+                found.push(Handover {
+                    from: first.lane,
+                    maker: first.maker,
+                    ender: first.ender,
+                    next: second.maker,
+                })?;
+            }
+        }
+    }
+    Ok(found)
+}
+
+/// The allocations of each address, in the order of the answers.
+fn holdings(alloc: Global, facts: Facts<'_>, times: &Times) -> Result<Vec<Holding>, AllocError> {
+    let changes = Changes::gather(alloc, facts.sights, times)?;
+    let mut found = Vec::new(alloc);
+    let mut last = None;
+    for (relayed, when, maker) in &changes.made {
+        let Some(seen) = facts.sights.get(*maker) else {
+            continue;
+        };
+        let (Some(lane), Says::Gives(Gives::Allocated { .. }, pool)) = (seen.lane, seen.says) else {
+            continue;
+        };
+        if last != Some((*relayed, pool)) {
+            let ender = changes.end_behind(lane, *when);
+            found.push(Holding {
+                relayed: *relayed,
+                lane,
+                maker: *maker,
+                ender: ender.filter(|ender| facts.mates.of(*ender).is_some()),
+            })?;
+        }
+        last = Some((*relayed, pool));
+    }
+    Ok(found)
+}
+
+/// Puts an allocation before those that can't have ended before it, and that it can have ended before.
+fn settle(facts: Facts<'_>, holdings: &mut [Holding], place: usize) {
+    for back in 0..SWAPS {
+        let (Some(before), Some(here)) = (
+            place.checked_sub(back.saturating_add(1)),
+            place.checked_sub(back),
+        ) else {
+            return;
+        };
+        let (Some(first), Some(second)) = (holdings.get(before), holdings.get(here)) else {
+            return;
+        };
+        let is_one = first.relayed == second.relayed;
+        if !is_one || facts.may(first, second) || !facts.may(second, first) {
+            return;
+        }
+        holdings.swap(before, here);
+    }
+}
+
+/// Asks that whoever gave an address up asked for it before the next one had it.
+pub fn ask_handovers(
+    sights: &Sights,
+    handovers: &[Handover],
+    mates: &Mates,
+    edges: &mut Edges,
+) -> Result<(), AllocError> {
+    for handover in handovers {
+        let request = match handover.ender {
+            Some(ender) => mates.of(ender),
+            None => None,
+        };
+        if let Some(request) = request {
+            if let (Some(asks), Some(next)) = (sights.get(request), sights.get(handover.next)) {
+                if asks.lo <= next.hi && !asks.is_behind(next) {
+                    edges.ask(request, handover.next)?;
+                }
+            }
+        }
+    }
+    Ok(())
+}

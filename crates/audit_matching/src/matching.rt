@@ -1,0 +1,225 @@
+//! Which arrival each departure most likely answers.
+
+use crate::candidates::Known;
+use crate::numbers::{LaneNumber, PoolNumber, SeenNumber};
+use crate::seen::{Seen, Sights};
+use crate::times::Times;
+use std::alloc::{AllocError, Global};
+
+/// How many arrivals of a pool are looked at for one departure.
+pub(crate) const COPIES: usize = 16;
+
+/// A departure and an arrival for each other. It bounds their keys; a lane's search chooses anew.
+#[derive(Drop)]
+pub struct Mates {
+    of: Vec<Option<SeenNumber>>,
+}
+
+impl Mates {
+    /// The mate of each of so many sightings: none.
+    pub fn none(alloc: Global, count: usize) -> Result<Mates, AllocError> {
+        Ok(Mates {
+            of: vec![in alloc; None; count]?,
+        })
+    }
+
+    /// The mate of each sighting.
+    pub fn as_slice(&self) -> &[Option<SeenNumber>] {
+        self.of.as_slice()
+    }
+
+    pub fn of(&self, number: SeenNumber) -> Option<SeenNumber> {
+        self.of.get(number.index()).copied().flatten()
+    }
+
+    /// Joins a departure to an arrival, and parts both from others.
+    pub fn join_anew(&mut self, departure: SeenNumber, arrival: SeenNumber) {
+        if let Some(other) = self.of(arrival) {
+            self.set(other, None);
+        }
+        self.part(departure);
+        self.join(departure, arrival);
+    }
+
+    /// Parts a departure from its arrival.
+    pub fn part(&mut self, departure: SeenNumber) {
+        if let Some(mate) = self.of(departure) {
+            self.set(mate, None);
+        }
+        self.set(departure, None);
+    }
+
+    fn join(&mut self, departure: SeenNumber, arrival: SeenNumber) {
+        self.set(departure, Some(arrival));
+        self.set(arrival, Some(departure));
+    }
+
+    fn set(&mut self, number: SeenNumber, mate: Option<SeenNumber>) {
+        if let Some(place) = self.of.get_mut(number.index()) {
+            *place = mate;
+        }
+    }
+}
+
+/// Joins departures to arrivals, the oldest first.
+#[derive(Drop)]
+struct Matching {
+    mates: Mates,
+    /// The place in each pool of the first arrival that may still be joined.
+    heads: Vec<usize>,
+    /// How many responses of each pool's requests are left.
+    owed: Vec<usize>,
+}
+
+/// Joins each departure to the oldest arrival that it may answer. `lanes` has the lane of each that leaves from a relayed address, where it
+/// is known. It takes n log n.
+pub fn match_up(known: &Known<'_>, lanes: &[Option<LaneNumber>]) -> Result<Mates, AllocError> {
+    let alloc = known.alloc;
+    let mut matching = Matching {
+        mates: Mates::none(alloc, known.sights.as_slice().len())?,
+        heads: vec![in alloc; 0; known.numbers.count()]?,
+        owed: owed(known)?,
+    };
+    for (_, number) in &departures(alloc, known.sights, known.times)? {
+        if let Some(seen) = known.sights.get(*number) {
+            let lane = lanes.get(number.index()).copied().flatten();
+            matching.join_departure(known, *number, seen, lane)?;
+        }
+    }
+    Ok(matching.mates)
+}
+
+/// How many responses there are to the requests of each pool.
+fn owed(known: &Known<'_>) -> Result<Vec<usize>, AllocError> {
+    let mut owed: Vec<usize> = vec![in known.alloc; 0; known.numbers.count()]?;
+    for seen in known.sights.as_slice() {
+        if let Some(pool) = seen.response_pool() {
+            if let Some(count) = owed.get_mut(pool.index()) {
+                *count = count.saturating_add(1);
+            }
+        }
+    }
+    Ok(owed)
+}
+
+/// The departures by their times.
+pub(crate) fn departures(
+    alloc: Global,
+    sights: &Sights,
+    times: &Times,
+) -> Result<Vec<(u64, SeenNumber)>, AllocError> {
+    let mut found = Vec::new(alloc);
+    for (place, seen) in sights.as_slice().iter().enumerate() {
+        if let (false, Ok(number)) = (seen.arrives(), u32::try_from(place)) {
+            let number = SeenNumber(number);
+            found.push((times.of(number).when, number))?;
+        }
+    }
+    found.sort_unstable();
+    Ok(found)
+}
+
+/// An arrival that a departure may answer.
+#[derive(Clone, Copy)]
+struct Choice {
+    arrival: SeenNumber,
+    /// Whether it came so late that the departure is within the hold at every moment of its window.
+    is_sure: bool,
+    when: u64,
+}
+
+impl Choice {
+    /// The better one of the two: rather a sure one, and then the older one.
+    fn or(self, other: Option<Choice>) -> Choice {
+        match other {
+            Some(other)
+                if other.is_sure && !self.is_sure
+                    || other.is_sure == self.is_sure && other.when < self.when => { other }
+            _ => self,
+        }
+    }
+}
+
+impl Matching {
+    /// Joins a departure to the best arrival of its pools.
+    fn join_departure(
+        &mut self,
+        known: &Known<'_>,
+        number: SeenNumber,
+        seen: &Seen,
+        lane: Option<LaneNumber>,
+    ) -> Result<(), AllocError> {
+        let mut best: Option<Choice> = None;
+        for pool in known.candidates(number, seen, lane)? {
+            self.advance(known, pool, seen);
+            if let Some(choice) = self.first_of(known, pool, seen) {
+                best = Some(match best {
+                    Some(best) => best.or(Some(choice)),
+                    None => choice,
+                });
+            }
+        }
+        if let Some(best) = best {
+            self.mates.join(number, best.arrival);
+        }
+        if let Some(pool) = seen.response_pool() {
+            if let Some(owed) = self.owed.get_mut(pool.index()) {
+                *owed = owed.saturating_sub(1);
+            }
+        }
+        Ok(())
+    }
+
+    /// Goes past the arrivals of a pool that are joined, or came too long ago.
+    fn advance(&mut self, known: &Known<'_>, pool: PoolNumber, leaves: &Seen) {
+        let Some(head) = self.heads.get_mut(pool.index()) else {
+            return;
+        };
+        let mates = &self.mates;
+        for number in known.pools.get(pool).get(*head..).unwrap_or(&[]) {
+            let is_late = match known.sights.get(*number) {
+                Some(seen) => seen.hi.saturating_add(known.hold) < leaves.lo,
+                None => true,
+            };
+            if mates.of(*number).is_none() && !is_late {
+                return;
+            }
+            *head = head.saturating_add(1);
+        }
+    }
+
+    /// Whether as many responses are left as requests of a pool are, so that none is to be left out.
+    fn is_all_owed(&self, known: &Known<'_>, pool: PoolNumber, head: usize) -> bool {
+        let owed = self.owed.get(pool.index()).copied().unwrap_or(0);
+        let left = known.pools.get(pool).get(head..).unwrap_or(&[]);
+        let open = left
+            .iter()
+            .take(COPIES)
+            .filter(|number| self.mates.of(**number).is_none())
+            .count();
+        left.len() <= COPIES && open <= owed
+    }
+
+    /// The first arrival of a pool that fits well, or else the first that fits.
+    fn first_of(&self, known: &Known<'_>, pool: PoolNumber, leaves: &Seen) -> Option<Choice> {
+        let head = self.heads.get(pool.index()).copied()?;
+        let is_all_owed = self.is_all_owed(known, pool, head);
+        let mut best: Option<Choice> = None;
+        for number in known.pools.get(pool).get(head..)?.iter().take(COPIES) {
+            let arrives = known.sights.get(*number)?;
+            let fits = arrives.lo <= leaves.hi && !arrives.is_behind(leaves);
+            if self.mates.of(*number).is_none() && fits {
+                let choice = Choice {
+                    arrival: *number,
+                    is_sure: arrives.lo.saturating_add(known.hold) >= leaves.hi,
+                    when: known.times.of(*number).when,
+                };
+                if choice.is_sure || is_all_owed {
+                    return Some(choice.or(best));
+                }
+                best = best.or(Some(choice));
+            }
+        }
+        best
+    }
+}

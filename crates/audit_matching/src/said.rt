@@ -1,0 +1,79 @@
+//! What a sighting says, before pools have numbers.
+
+use crate::content::{
+    Gives, PoolKey, asked_by_client, asked_by_peer, given_to_client, given_to_peer,
+};
+use crate::lanes::Lanes;
+use crate::numbers::{LaneNumber, PoolNumber};
+use crate::seen::Says;
+use audit_model::{Policy, Side, Sighting};
+
+/// What a sighting says, while pools have no numbers yet.
+#[derive(Clone, Copy)]
+pub(crate) struct Said {
+    pub says: Says,
+    /// The lane of what goes between a client and its listen address.
+    pub lane: Option<LaneNumber>,
+    /// What it asks for, or what the requests that it answers ask for.
+    pub key: Option<PoolKey>,
+}
+
+/// The pool of each sighting until all keys are in order.
+const NO_POOL: PoolNumber = PoolNumber(0);
+
+/// What a sighting says.
+pub(crate) fn said_by(policy: &Policy, sighting: &Sighting, lanes: &Lanes) -> Said {
+    match sighting.side {
+        Side::Arrives if !policy.listens(sighting.to) => Said {
+            says: Says::Received(NO_POOL),
+            lane: None,
+            key: Some(asked_by_peer(sighting)),
+        },
+        Side::Arrives => match lanes.get(sighting.from, sighting.to) {
+            Some(lane) => asked(lane, sighting),
+            None => Said {
+                says: Says::Nothing,
+                lane: None,
+                key: None,
+            },
+        },
+        Side::Leaves if !policy.listens(sighting.from) => Said {
+            says: Says::Gives(given_to_peer(sighting), None),
+            lane: None,
+            key: None,
+        },
+        Side::Leaves => match lanes.get(sighting.to, sighting.from) {
+            Some(lane) => given(lane, sighting),
+            None => Said {
+                says: Says::Gives(Gives::Other, None),
+                lane: None,
+                key: None,
+            },
+        },
+    }
+}
+
+/// What a client's datagram says.
+fn asked(lane: LaneNumber, sighting: &Sighting) -> Said {
+    let key = asked_by_client(lane, sighting.payload.as_slice());
+    let says = match &key {
+        Some(key) if key.is_request() => Says::Request(NO_POOL),
+        Some(_) => Says::Sent(NO_POOL),
+        None => Says::Nothing,
+    };
+    Said {
+        says,
+        lane: Some(lane),
+        key,
+    }
+}
+
+/// What a datagram to a client says.
+fn given(lane: LaneNumber, sighting: &Sighting) -> Said {
+    let (gives, key) = given_to_client(lane, sighting.payload.as_slice());
+    Said {
+        says: Says::Gives(gives, key.map(|_| NO_POOL)),
+        lane: Some(lane),
+        key,
+    }
+}

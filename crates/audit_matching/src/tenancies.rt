@@ -1,0 +1,212 @@
+//! Which client had which relayed address when, as far as the answers tell.
+
+use crate::changes::Changes;
+use crate::content::Gives;
+use crate::numbers::{LaneNumber, SeenNumber};
+use crate::seen::{Says, Seen, Sights};
+use crate::times::Times;
+use audit_model::Addr;
+use std::alloc::{AllocError, Global};
+
+const NANOSECONDS: u64 = 1_000_000_000;
+
+/// How many answers that prolong one tenancy are looked at; one that has more has no end by its lifetime.
+const PROLONGED: usize = 256;
+
+/// How many tenancies before a moment are looked at.
+const NEIGHBOURS: usize = 8;
+
+/// The time in which a client may have had a relayed address.
+#[derive(Clone, Copy, Debug)]
+pub struct Tenancy {
+    pub start: u64,
+    pub end: u64,
+    pub relayed: Addr,
+    pub lane: LaneNumber,
+    /// The answer that tells of it.
+    pub maker: SeenNumber,
+}
+
+/// The tenancies that answers tell of.
+#[derive(Drop)]
+pub struct Tenancies {
+    by_address: Vec<Tenancy>,
+    by_lane: Vec<Tenancy>,
+    alloc: Global,
+}
+
+impl Tenancies {
+    /// Those of all answers. `mates` has the request of each that is known. It takes n log n.
+    pub fn of(
+        alloc: Global,
+        sights: &Sights,
+        times: &Times,
+        mates: &[Option<SeenNumber>],
+        grace: u64,
+    ) -> Result<Tenancies, AllocError> {
+        let changes = Changes::gather(alloc, sights, times)?;
+        let mut by_address: Vec<Tenancy> = Vec::new(alloc);
+        let mut last = None;
+        for (relayed, _, number) in &changes.made {
+            let Some(seen) = sights.get(*number) else {
+                continue;
+            };
+            if last == Some((*relayed, seen.lane, seen.says)) {
+                continue;
+            }
+            last = Some((*relayed, seen.lane, seen.says));
+            if let Some(tenancy) = tenancy_of(sights, times, mates, &changes, *number, grace) {
+                by_address.push(tenancy)?;
+            }
+        }
+        let mut by_lane = Vec::from_slice(alloc, by_address.as_slice())?;
+        by_address.sort_unstable_by_key(|one| (one.relayed, one.start, one.maker));
+        by_lane.sort_unstable_by_key(|one| (one.lane, one.start, one.maker));
+        Ok(Tenancies {
+            by_address,
+            by_lane,
+            alloc,
+        })
+    }
+
+    /// The tenancies of a relayed address, by their starts.
+    pub fn of_address(&self, relayed: Addr) -> &[Tenancy] {
+        let start = self.by_address.partition_point(|one| one.relayed < relayed);
+        let end = self
+            .by_address
+            .partition_point(|one| one.relayed <= relayed);
+        self.by_address.get(start..end).unwrap_or(&[])
+    }
+
+    /// The tenancies of a lane, by their starts.
+    pub fn of_lane(&self, lane: LaneNumber) -> &[Tenancy] {
+        let start = self.by_lane.partition_point(|one| one.lane < lane);
+        let end = self.by_lane.partition_point(|one| one.lane <= lane);
+        self.by_lane.get(start..end).unwrap_or(&[])
+    }
+
+    /// Those of some tenancies, in the order of their starts, that meet a span of time, the last one first; where none does, the
+    /// nearest ones.
+    pub fn meeting(&self, of: &[Tenancy], low: u64, high: u64) -> Result<Vec<Tenancy>, AllocError> {
+        let behind = of.partition_point(|one| one.start <= high);
+        let near = of
+            .get(behind.saturating_sub(NEIGHBOURS)..behind)
+            .unwrap_or(&[]);
+        let mut found = Vec::new(self.alloc);
+        for one in near.iter().rev() {
+            if one.end >= low {
+                found.push(*one)?;
+            }
+        }
+        if found.is_empty() {
+            for one in near.iter().rev().take(2) {
+                found.push(*one)?;
+            }
+            if let Some(next) = of.get(behind) {
+                found.push(*next)?;
+            }
+        }
+        Ok(found)
+    }
+
+    /// The lanes in which the server may have acted on a datagram that came to a relayed address at a moment, the likeliest first.
+    pub fn lanes_at(
+        &self,
+        relayed: Addr,
+        moment: u64,
+        hold: u64,
+    ) -> Result<Vec<LaneNumber>, AllocError> {
+        let of = self.of_address(relayed);
+        let behind = of.partition_point(|one| one.start <= moment);
+        let near = of
+            .get(behind.saturating_sub(NEIGHBOURS)..behind)
+            .unwrap_or(&[]);
+        let mut lanes = Vec::new(self.alloc);
+        for one in near {
+            if one.end >= moment && !lanes.contains(&one.lane) {
+                lanes.push(one.lane)?;
+            }
+        }
+        if let (true, Some(last)) = (lanes.is_empty(), near.last()) {
+            lanes.push(last.lane)?;
+        }
+        for one in of.get(behind..).unwrap_or(&[]).iter().take(2) {
+            if one.start <= moment.saturating_add(hold) && !lanes.contains(&one.lane) {
+                lanes.push(one.lane)?;
+            }
+        }
+        Ok(lanes)
+    }
+}
+
+/// The tenancy that an answer tells of.
+fn tenancy_of(
+    sights: &Sights,
+    times: &Times,
+    mates: &[Option<SeenNumber>],
+    changes: &Changes,
+    maker: SeenNumber,
+    grace: u64,
+) -> Option<Tenancy> {
+    let seen = sights.get(maker)?;
+    let lane = seen.lane?;
+    let Gives::Allocated { relayed, seconds } = seen.gives()? else {
+        return None;
+    };
+    let when = times.of(maker).when;
+    let end = match changes.end_behind(lane, when) {
+        Some(number) => times
+            .of(number)
+            .when
+            .max(sights.get(number).map_or(0, |seen| seen.hi)),
+        None => u64::MAX,
+    };
+    let first_end = over(seen, seconds, grace);
+    let last_end = prolonged(sights, changes, lane, when, end, first_end, grace);
+    let start = match mates.get(maker.index()).copied().flatten() {
+        Some(mate) => when.min(times.of(mate).when),
+        None => when,
+    };
+    Some(Tenancy {
+        start,
+        end: end.min(last_end),
+        relayed,
+        lane,
+        maker,
+    })
+}
+
+/// The last moment of what an answer gives for so many seconds.
+fn over(seen: &Seen, seconds: u32, grace: u64) -> u64 {
+    seen.hi
+        .saturating_add(u64::from(seconds).saturating_mul(NANOSECONDS))
+        .saturating_add(grace)
+}
+
+/// The last moment of a tenancy, prolonged by the answers behind a moment and up to an end.
+fn prolonged(
+    sights: &Sights,
+    changes: &Changes,
+    lane: LaneNumber,
+    from: u64,
+    end: u64,
+    first: u64,
+    grace: u64,
+) -> u64 {
+    let mut last = first;
+    for (place, (other, when, number)) in changes.kept_behind(lane, from).iter().enumerate() {
+        let Some(seen) = sights.get(*number) else {
+            return last;
+        };
+        if *other != lane || *when > end || seen.lo > last {
+            return last;
+        }
+        if place >= PROLONGED {
+            return u64::MAX;
+        }
+        if let Says::Gives(Gives::Refreshed { seconds }, _) = seen.says {
+            last = over(seen, seconds, grace);
+        }
+    }
+    last
+}

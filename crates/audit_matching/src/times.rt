@@ -1,0 +1,64 @@
+//! When sightings may have been.
+
+use crate::numbers::SeenNumber;
+use crate::seen::Sights;
+use std::alloc::{AllocError, Global};
+
+/// About when a sighting was.
+#[derive(Clone, Copy, Debug)]
+pub struct Time {
+    /// What it is ordered by.
+    pub when: u64,
+    /// The earliest and the latest moment that it may have.
+    pub early: u64,
+    pub late: u64,
+}
+
+/// About when each sighting was, by their numbers.
+#[derive(Drop)]
+pub struct Times {
+    list: Vec<Time>,
+}
+
+impl Times {
+    /// By what the captures say: the stamp, and the window around it.
+    pub fn by_stamps(alloc: Global, sights: &Sights) -> Result<Times, AllocError> {
+        let mut list = Vec::with_capacity(alloc, sights.as_slice().len())?;
+        for seen in sights.as_slice() {
+            list.push(Time {
+                when: seen.stamp,
+                early: seen.lo,
+                late: seen.hi,
+            })?;
+        }
+        Ok(Times { list })
+    }
+
+    /// By keys that were found: the least moment, and the one at which it is placed.
+    pub fn by_keys(alloc: Global, low: &[u64], at: &[u64]) -> Result<Times, AllocError> {
+        let mut list = Vec::with_capacity(alloc, low.len())?;
+        for (early, late) in low.iter().zip(at) {
+            list.push(Time {
+                when: *early,
+                early: *early,
+                late: *late,
+            })?;
+        }
+        Ok(Times { list })
+    }
+
+    /// About when a sighting was; at the first moment, where there is none of that number.
+    pub fn of(&self, number: SeenNumber) -> Time {
+        let none = Time {
+            when: 0,
+            early: 0,
+            late: 0,
+        };
+        self.list.get(number.index()).copied().unwrap_or(none)
+    }
+
+    /// What each is ordered by.
+    pub fn whens(&self, alloc: Global) -> Result<Vec<u64>, AllocError> {
+        self.list.iter().map(|time| time.when).collect(alloc)
+    }
+}
