@@ -1,0 +1,130 @@
+//! When addresses change hands: by when a lane's allocation has to be over, and when one may begin.
+
+use crate::lane::{Lane, relayed_of};
+use crate::needs::AHEAD;
+use crate::slot::Slot;
+use audit_matching::{Gives, Handover, LaneNumber, Mates, Order, SeenNumber};
+use std::alloc::{AllocError, Global};
+use std::collections::{BTreeMap, BTreeSet};
+
+/// By when an allocation has to be over.
+#[derive(Clone, Copy, Debug)]
+pub(crate) struct Deadline {
+    pub slot: Slot,
+    pub moment: u64,
+    /// The answer that tells of the allocation.
+    pub maker: SeenNumber,
+}
+
+/// The deadlines of each lane, in order, and the slots before which allocations mayn't begin.
+#[derive(Drop)]
+pub(crate) struct Deadlines {
+    list: Vec<(LaneNumber, Slot, SeenNumber, u64)>,
+    not_before: BTreeMap<SeenNumber, Slot>,
+    /// The answers that tell of the second allocation of an address.
+    seconds: BTreeSet<SeenNumber>,
+}
+
+impl Deadlines {
+    /// Those of handovers.
+    pub fn of(
+        alloc: Global,
+        handovers: &[Handover],
+        mates: &Mates,
+        order: &Order,
+        at: &[u64],
+    ) -> Result<Deadlines, AllocError> {
+        let mut deadlines = Deadlines {
+            list: Vec::new(alloc),
+            not_before: BTreeMap::new(alloc),
+            seconds: BTreeSet::new(alloc),
+        };
+        for handover in handovers {
+            let next = order.rank(handover.next);
+            deadlines.seconds.insert(handover.next)?;
+            let Some(ender) = handover.ender else {
+                continue;
+            };
+            let Some(request) = mates.of(ender) else {
+                continue;
+            };
+            if order.rank(request) < next {
+                let slot = Slot::first(next);
+                let moment = at.get(handover.next.index()).copied().unwrap_or(0);
+                deadlines
+                    .list
+                    .push((handover.from, slot, handover.maker, moment))?;
+                let behind = Slot::before(order.rank(ender)).next();
+                deadlines
+                    .not_before
+                    .insert(handover.next, behind.min(slot))?;
+            }
+        }
+        deadlines.list.sort_unstable();
+        Ok(deadlines)
+    }
+
+    /// The slot before which an allocation mayn't begin.
+    pub fn not_before(&self, maker: SeenNumber) -> Slot {
+        self.not_before.get(&maker).copied().unwrap_or(Slot(0))
+    }
+
+    /// Whether another client had the address of an allocation before.
+    pub fn is_second(&self, maker: SeenNumber) -> bool {
+        self.seconds.contains(&maker)
+    }
+
+    /// The deadline of a lane at a place among them.
+    pub fn get(&self, lane: LaneNumber, place: usize) -> Option<Deadline> {
+        let start = self.list.partition_point(|one| one.0 < lane);
+        let (of, slot, maker, moment) = self.list.get(start.checked_add(place)?)?;
+        if *of != lane {
+            return None;
+        }
+        Some(Deadline {
+            slot: *slot,
+            moment: *moment,
+            maker: *maker,
+        })
+    }
+}
+
+impl Lane<'_> {
+    /// Ends an allocation by its deadline, if the answer that tells of its end is owed.
+    pub(crate) fn meet(&mut self, deadline: Deadline) -> Result<(), AllocError> {
+        let Deadline {
+            slot,
+            moment,
+            maker,
+        } = deadline;
+        if !self.state.is_acted(maker) && self.state.table.running().is_none() {
+            let _refused = self.act_now(maker, slot, moment)?;
+        }
+        let Some(Gives::Allocated { relayed, .. }) = self.given.gives(maker) else {
+            return Ok(());
+        };
+        let is_over = self
+            .state
+            .table
+            .running()
+            .is_none_or(|tenancy| tenancy.last < moment);
+        if is_over || relayed_of(&self.state.table) != Some(relayed) {
+            return Ok(());
+        }
+        let rank = slot.rank();
+        let behind = self.changes.partition_point(|change| change.0 < rank);
+        for place in 0..AHEAD {
+            let change = self.changes.get(behind.saturating_add(place)).copied();
+            let Some((_, answer)) = change else {
+                return Ok(());
+            };
+            let is_end = self.given.gives(answer) == Some(Gives::Deleted);
+            if is_end && !self.state.is_acted(answer) {
+                if self.act_now(answer, slot, moment)?.is_none() {
+                    return Ok(());
+                }
+            }
+        }
+        Ok(())
+    }
+}

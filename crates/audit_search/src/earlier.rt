@@ -1,0 +1,170 @@
+//! Acts of a lane before its departures leave: at their arrivals, or before a table was ended.
+
+use crate::acting::Does;
+use crate::lane::{Attempt, Lane, Refused, relayed_of};
+use crate::slot::Slot;
+use crate::state::{Acted, Progress};
+use audit_matching::{Gives, Seen, SeenNumber};
+use audit_model::Rule;
+use audit_rules::LaneTable;
+use std::alloc::AllocError;
+
+/// Why an answer can't be given before a table was ended, whatever it answers.
+fn refused_before_end(gives: Option<Gives>, does: Does, is_usable: bool) -> Option<Refused> {
+    match gives {
+        Some(Gives::Deleted) if is_usable => Some(Refused::Rule(Rule::NoAllocation)),
+        Some(Gives::Allocated { .. }) if does == Does::Ends => {
+            Some(Refused::Rule(Rule::AllocationPresent))
+        }
+        _ => None,
+    }
+}
+
+impl Lane<'_> {
+    /// Acts on an answer that makes or keeps an allocation, or binds a channel, at its request, or right behind the last act; tells whether
+    /// it did.
+    pub(crate) fn act_early(
+        &mut self,
+        departure: SeenNumber,
+        seen: &Seen,
+        before: Slot,
+    ) -> Result<bool, AllocError> {
+        let is_one = matches!(
+            seen.gives(),
+            Some(Gives::Allocated { .. } | Gives::Refreshed { .. } | Gives::Bound)
+        );
+        if !is_one || self.given.deadlines.is_second(departure) {
+            return Ok(false);
+        }
+        let Some(arrival) = self.oldest(departure, before)? else {
+            return Ok(false);
+        };
+        let own = (
+            Slot::behind(self.given.rank(arrival)),
+            self.given.at(arrival),
+        );
+        let (slot, moment) = own.max(self.state.progress.last);
+        if slot >= before {
+            return Ok(false);
+        }
+        let mut table = table_copy(self)?;
+        let does = self.does(&table, seen, moment);
+        if self
+            .judge(&mut table, arrival, departure, slot, moment)?
+            .is_some()
+        {
+            return Ok(false);
+        }
+        let before = std::mem::replace(&mut self.state.table, table);
+        self.accept(departure, arrival, slot, moment, does, Some(before))?;
+        Ok(true)
+    }
+
+    /// Acts on a departure at its arrival, when a lease wasn't over; tells why it can't.
+    pub(crate) fn act_at_arrival(
+        &mut self,
+        departure: SeenNumber,
+    ) -> Result<Option<Refused>, AllocError> {
+        let Some(seen) = self.given.seen(departure) else {
+            return Ok(Some(Refused::NoArrival));
+        };
+        let relayed = relayed_of(&self.state.table);
+        for pool in self.given.pools_of(self.number, seen, relayed)? {
+            let before = Slot::before(self.given.rank(departure));
+            if let Some(arrival) = self.unused(departure, pool, before)?.first().copied() {
+                if self.act_at(departure, seen, arrival)? {
+                    return Ok(None);
+                }
+            }
+        }
+        Ok(Some(Refused::NoArrival))
+    }
+
+    /// Acts on a departure right behind an arrival, if the table didn't change since; tells whether it did.
+    fn act_at(
+        &mut self,
+        departure: SeenNumber,
+        seen: &Seen,
+        arrival: SeenNumber,
+    ) -> Result<bool, AllocError> {
+        let slot = Slot::behind(self.given.rank(arrival));
+        let moment = self.given.at(arrival);
+        let does = self.does(&self.state.table, seen, moment);
+        if slot <= self.state.progress.changed || does == Does::Ends {
+            return Ok(false);
+        }
+        let mut table = table_copy(self)?;
+        if self
+            .judge(&mut table, arrival, departure, slot, moment)?
+            .is_some()
+        {
+            return Ok(false);
+        }
+        if does == Does::Changes {
+            let before = std::mem::replace(&mut self.state.table, table);
+            self.state.changed_from(Some(before))?;
+            let progress = Progress {
+                changed: slot,
+                last: self.state.progress.last.max((slot, moment)),
+                ..self.state.progress
+            };
+            self.state.set_progress(progress)?;
+        }
+        let acted = Acted {
+            slot,
+            turn: (self.state.progress.turn, 1),
+            arrival,
+        };
+        self.state.act(departure, acted)?;
+        Ok(true)
+    }
+
+    /// Acts on a departure right before a table was ended; tells why it can't.
+    pub(crate) fn act_before_end(
+        &mut self,
+        departure: SeenNumber,
+        which: usize,
+    ) -> Result<Option<Refused>, AllocError> {
+        let given = self.given;
+        let (Some(seen), Some((slot, turn, moment))) = (
+            given.seen(departure),
+            self.state.end_of(which),
+        ) else {
+            return Ok(Some(Refused::NoArrival));
+        };
+        let Some(mut table) = self.state.copied_past(given.alloc, which)? else {
+            return Ok(Some(Refused::NoArrival));
+        };
+        let is_usable = table
+            .running()
+            .is_some_and(|tenancy| moment <= tenancy.last);
+        let does = self.does(&table, seen, moment);
+        if let Some(refused) = refused_before_end(seen.gives(), does, is_usable) {
+            return Ok(Some(refused));
+        }
+        let arrival = match self.attempt(&mut table, departure, slot, moment)? {
+            Attempt::Accepted(arrival) => arrival,
+            Attempt::Refused(refused) => return Ok(Some(refused)),
+        };
+        let progress = Progress {
+            turn: self.state.progress.turn.saturating_add(1),
+            ..self.state.progress
+        };
+        self.state.set_progress(progress)?;
+        if does == Does::Changes {
+            self.state.change_past(which, table)?;
+        }
+        let acted = Acted {
+            slot,
+            turn: (turn.saturating_sub(1), progress.turn),
+            arrival,
+        };
+        self.state.act(departure, acted)?;
+        Ok(None)
+    }
+}
+
+/// A copy of the lane's table.
+fn table_copy(lane: &Lane<'_>) -> Result<LaneTable, AllocError> {
+    lane.state.table.copied(lane.given.alloc)
+}

@@ -1,0 +1,187 @@
+//! Going back to a choice, or to the farthest departure that no way leads past.
+
+use crate::lane::Refused;
+use crate::needs::AHEAD;
+use crate::state::State;
+use crate::sweep::{Choice, Fault, STEPS, Sweep};
+use crate::wishes::Wish;
+use audit_matching::{Gives, SeenNumber};
+use audit_model::Rule;
+use std::alloc::AllocError;
+use std::collections::BTreeMap;
+
+/// How many times the hold a choice is kept.
+const REACH: u64 = 64;
+
+/// About how many steps and entries of tables are kept for going back.
+const TRAIL: u64 = 65_536;
+
+/// How many wishes a lane has at the most.
+const WISHES: usize = 64;
+
+impl Sweep<'_> {
+    /// Forgets the choices that were made long ago, and those behind which too much is noted.
+    pub(crate) fn forget_old_choices(&mut self, departure: SeenNumber, budget: u64) {
+        if self.lane.steps >= budget {
+            self.stack.clear();
+        }
+        let given = self.lane.given;
+        let moment = given.at(departure);
+        for _ in 0..self.stack.len() {
+            let Some(choice) = self.stack.front().copied() else {
+                break;
+            };
+            let made = match self.lane.departures.get(choice.place) {
+                Some((_, _, other)) => given.at(*other),
+                None => 0,
+            };
+            let until = made.saturating_add(given.known.hold.saturating_mul(REACH));
+            if until >= moment && self.lane.state.trail_weight() <= TRAIL {
+                break;
+            }
+            let _forgotten = self.stack.pop_front();
+            let mark = self.stack.front().map_or(usize::MAX, |next| next.mark);
+            self.lane.state.forget_before(mark);
+        }
+    }
+
+    /// Notes what the lane would need to act on a departure.
+    pub(crate) fn ask(
+        &mut self,
+        departure: SeenNumber,
+        refused: Refused,
+    ) -> Result<(), AllocError> {
+        let is_new = self.asked.iter().all(|asked| asked.0 != departure);
+        if is_new && self.asked.len() < AHEAD {
+            let wishes = self.lane.wishes(departure, refused)?;
+            self.asked.push((departure, wishes))?;
+        }
+        Ok(())
+    }
+
+    /// What the lane would need: for the departure where it came farthest, and then for the others.
+    pub(crate) fn wishes(&self) -> Result<Vec<Wish>, AllocError> {
+        let mut wishes: Vec<Wish> = Vec::new(self.lane.given.alloc);
+        let Some(fault) = self.fault else {
+            return Ok(wishes);
+        };
+        for is_fault in [true, false] {
+            for (departure, asked) in &self.asked {
+                if (*departure == fault.departure) == is_fault {
+                    for wish in asked {
+                        if wishes.len() < WISHES && !wishes.contains(wish) {
+                            wishes.push(*wish)?;
+                        }
+                    }
+                }
+            }
+        }
+        Ok(wishes)
+    }
+
+    /// Goes back to the newest choice, or takes the ways to the farthest departure again.
+    pub(crate) fn go_back(&mut self, departure: SeenNumber, budget: u64) -> Result<(), AllocError> {
+        let was_noting = std::mem::replace(&mut self.lane.state.is_noting, true);
+        let refused = self.lane.refused_now(departure)?;
+        self.lane.state.is_noting = was_noting;
+        let refused = refused.unwrap_or(Refused::NoArrival);
+        self.ask(departure, refused)?;
+        let is_farther = self.far.as_ref().is_none_or(|far| self.place > far.0);
+        if is_farther {
+            let mut chosen = BTreeMap::new(self.lane.given.alloc);
+            for (place, number) in &self.chosen {
+                chosen.insert(*place, *number)?;
+            }
+            self.far = Some((self.place, chosen));
+            self.far_steps = self.lane.steps;
+        }
+        self.lane.steps = self.lane.steps.saturating_add(1);
+        let is_left = self.lane.steps < budget
+            && self.lane.steps.saturating_sub(self.far_steps) <= STEPS;
+        match self.newest_choice(refused) {
+            Some(choice) if is_left && self.is_near(choice, departure) => {
+                self.lane.state.undo(choice.mark);
+                self.place = choice.place;
+                self.passed = choice.passed;
+                self.skip = choice.tried;
+                self.forget_behind(choice.place);
+                Ok(())
+            }
+            _ => {
+                self.start_again();
+                Ok(())
+            }
+        }
+    }
+
+    /// Takes out the newest choice that may mend what was refused: where that is for the allocation, one that makes or ends an allocation.
+    fn newest_choice(&mut self, refused: Refused) -> Option<Choice> {
+        let is_of_allocation = is_of_allocation(refused);
+        for _ in 0..self.stack.len() {
+            let choice = self.stack.pop_back()?;
+            if choice.is_of_end || !is_of_allocation {
+                return Some(choice);
+            }
+        }
+        None
+    }
+
+    /// Forgets which ways were taken from a place on.
+    fn forget_behind(&mut self, place: usize) {
+        self.chosen.retain(|other, _| *other < place);
+    }
+
+    /// Whether a choice may have led to a departure on which the lane can't act.
+    fn is_near(&self, choice: Choice, departure: SeenNumber) -> bool {
+        let given = self.lane.given;
+        let Some((_, _, other)) = self.lane.departures.get(choice.place).copied() else {
+            return false;
+        };
+        if matches!(
+            given.gives(other),
+            Some(Gives::Allocated { .. } | Gives::Deleted)
+        ) {
+            return true;
+        }
+        given.held_until(other).saturating_add(given.known.hold) >= given.at(departure)
+    }
+
+    /// Takes the ways to the farthest departure again.
+    fn start_again(&mut self) {
+        let given = self.lane.given;
+        let (client, listen) = given.pair(self.lane.number);
+        self.lane.state = State::new(given.alloc, self.lane.number, client, listen);
+        self.place = 0;
+        self.passed = 0;
+        self.skip = 0;
+        self.stack.clear();
+        self.chosen.clear();
+        self.is_replaying = true;
+    }
+
+    /// Notes the departure on which the lane couldn't act, and acts on it all the same.
+    pub(crate) fn blame(&mut self, departure: SeenNumber) -> Result<(), AllocError> {
+        let refused = self.lane.act_likely(departure)?;
+        self.ask(departure, refused)?;
+        self.fault = Some(Fault {
+            departure,
+            refused,
+            low: self.lane.given.low(departure),
+        });
+        Ok(())
+    }
+}
+
+/// Whether a rule asks for an allocation, for none, or for another one.
+fn is_of_allocation(refused: Refused) -> bool {
+    matches!(
+        refused,
+        Refused::Rule(
+            Rule::NoAllocation
+                | Rule::AllocationPresent
+                | Rule::ErrorCondition
+                | Rule::RelayedAddress
+                | Rule::OtherUser
+        )
+    )
+}

@@ -1,0 +1,241 @@
+//! Rounds, each with what lanes of the one before would have needed.
+
+use crate::asked::Asked;
+use crate::lane_wishes::LaneWishes;
+use crate::prepared::Prepared;
+use crate::reading::{FirstKeys, Reading};
+use crate::round::Round;
+use crate::searched::AllSearched;
+use crate::wishes::Wish;
+use audit_matching::{LaneNumber, SeenNumber};
+use std::alloc::{AllocError, Global};
+use std::collections::{BTreeMap, BTreeSet};
+use std::thread::Threads;
+
+/// How many rounds there are at the most, each time that the clocks are told anew.
+const ROUNDS: u32 = 16;
+
+/// How many rounds there are at the least.
+const FEWEST: u32 = 2;
+
+/// How many sightings all rounds of a turn go over, unless they are fewer than that.
+const SIGHTINGS: usize = 100_000;
+
+/// How often the clocks are told anew.
+const TURNS: u32 = 3;
+
+/// How good a round is: by its faults, by the arrivals that two lanes act on, by how far it came.
+type Score = (usize, usize, u64);
+
+/// A round, and how good it is.
+#[derive(Drop)]
+struct Scored {
+    round: Round,
+    score: Score,
+}
+
+/// The rounds so far.
+#[derive(Drop)]
+pub(crate) struct Climb<'a> {
+    pub(crate) reading: &'a Reading<'a>,
+    pub(crate) first: FirstKeys,
+    pub(crate) asked: Asked,
+    pub(crate) lanes: BTreeMap<LaneNumber, LaneWishes>,
+    pub(crate) tried: BTreeSet<(LaneNumber, Wish, u64)>,
+    /// Arrivals that were asked to stand before departures, and helped.
+    pub(crate) helped: BTreeSet<(SeenNumber, SeenNumber)>,
+    /// The lanes that had faults in the round before.
+    pub(crate) faulty: BTreeSet<LaneNumber>,
+    searched: AllSearched,
+    best: Option<Scored>,
+    /// How often the clocks were told anew.
+    turn: u32,
+    /// How many rounds this turn has left behind its first one, and whether that is to come.
+    left: u32,
+    is_first: bool,
+    is_over: bool,
+}
+
+/// The best of the rounds.
+pub fn best_round(reading: &Reading<'_>) -> Result<Round, AllocError> {
+    let mut climb = Climb::new(reading)?;
+    for _ in 0..climb.most() {
+        if climb.is_over {
+            break;
+        }
+        let prepared = climb.prepared()?;
+        climb.search(&prepared)?;
+        climb.take(prepared)?;
+    }
+    climb.end()
+}
+
+/// The same, where lanes are searched by so many threads at the most. The round is the same for every number of them.
+pub fn best_round_by<R: Threads + Sync>(
+    rt: &R,
+    workers: u32,
+    reading: &Reading<'_>,
+) -> Result<Round, AllocError> {
+    let mut climb = Climb::new(reading)?;
+    for _ in 0..climb.most() {
+        if climb.is_over {
+            break;
+        }
+        let prepared = climb.prepared()?;
+        climb.search_by(rt, workers, &prepared)?;
+        climb.take(prepared)?;
+    }
+    climb.end()
+}
+
+impl Scored {
+    fn of(round: Round, alloc: Global) -> Result<Scored, AllocError> {
+        let doubles = round.doubles(alloc)?.len();
+        let low = round.faults.iter().map(|fault| fault.1.low).min();
+        let score = (
+            usize::MAX.saturating_sub(round.faults.len()),
+            usize::MAX.saturating_sub(doubles),
+            low.unwrap_or(u64::MAX),
+        );
+        Ok(Scored { round, score })
+    }
+
+    /// Whether there are no faults.
+    fn is_whole(&self) -> bool {
+        self.score.0 == usize::MAX && self.score.1 == usize::MAX
+    }
+
+    /// The better one of the two, the older one of two that are alike.
+    fn or_older(self, older: Option<Scored>) -> Scored {
+        match older {
+            Some(older) if older.score >= self.score => older,
+            _ => self,
+        }
+    }
+}
+
+impl<'a> Climb<'a> {
+    fn new(reading: &'a Reading<'a>) -> Result<Climb<'a>, AllocError> {
+        let alloc = reading.alloc;
+        let shifts: Vec<u64> = vec![in alloc; 0; reading.sights.interfaces()]?;
+        Ok(Climb {
+            reading,
+            first: FirstKeys::of(reading, &shifts)?,
+            asked: Asked {
+                before: BTreeSet::new(alloc),
+                answers: BTreeSet::new(alloc),
+                is_early: false,
+                banned: BTreeSet::new(alloc),
+                shifts,
+            },
+            lanes: BTreeMap::new(alloc),
+            tried: BTreeSet::new(alloc),
+            helped: BTreeSet::new(alloc),
+            faulty: BTreeSet::new(alloc),
+            searched: AllSearched::new(alloc),
+            best: None,
+            turn: 0,
+            left: rounds_of(reading),
+            is_first: true,
+            is_over: false,
+        })
+    }
+
+    /// How many rounds there are at the most.
+    fn most(&self) -> u32 {
+        let each = rounds_of(self.reading).saturating_add(1);
+        each.saturating_mul(TURNS.saturating_add(1))
+    }
+
+    /// What the next round's searches go by.
+    fn prepared(&self) -> Result<Prepared, AllocError> {
+        Prepared::of(self.reading, &self.first, &self.asked)
+    }
+
+    fn search(&mut self, prepared: &Prepared) -> Result<(), AllocError> {
+        let given = prepared.given(self.reading, &self.first, self.asked.is_early);
+        self.searched.search(&given)
+    }
+
+    fn search_by<R: Threads + Sync>(
+        &mut self,
+        rt: &R,
+        workers: u32,
+        prepared: &Prepared,
+    ) -> Result<(), AllocError> {
+        let given = prepared.given(self.reading, &self.first, self.asked.is_early);
+        self.searched.search_by(rt, workers, &given)
+    }
+
+    /// Takes in a round whose lanes are searched, and what they ask of the next one.
+    fn take(&mut self, prepared: Prepared) -> Result<(), AllocError> {
+        let alloc = self.reading.alloc;
+        let round = prepared.round(alloc, &self.searched)?;
+        if !self.is_first {
+            self.settle(&round)?;
+        }
+        self.is_first = false;
+        let is_more = self.ask(&round)?;
+        let best = Scored::of(round, alloc)?.or_older(self.best.take());
+        self.go_on(&best, is_more)?;
+        self.best = Some(best);
+        Ok(())
+    }
+
+    /// Goes to the next round, or to the next turn where lanes ask for nothing more.
+    fn go_on(&mut self, best: &Scored, is_more: bool) -> Result<(), AllocError> {
+        if best.is_whole() {
+            self.is_over = true;
+        } else if is_more && self.left > 0 {
+            self.left -= 1;
+        } else {
+            self.turn_on(&best.round)?;
+        }
+        Ok(())
+    }
+
+    /// Goes to the next turn in which something is told anew.
+    fn turn_on(&mut self, best: &Round) -> Result<(), AllocError> {
+        for turn in self.turn.saturating_add(1)..=TURNS {
+            self.turn = turn;
+            let is_new = self.tell_clocks(best)?;
+            self.asked.is_early = turn == TURNS;
+            if is_new || self.asked.is_early {
+                return self.start_again();
+            }
+        }
+        self.is_over = true;
+        Ok(())
+    }
+
+    /// Forgets what is asked for, and tells the keys anew.
+    fn start_again(&mut self) -> Result<(), AllocError> {
+        self.asked.before.clear();
+        self.asked.answers.clear();
+        self.asked.banned.clear();
+        self.lanes.clear();
+        self.tried.clear();
+        self.faulty.clear();
+        self.searched.clear();
+        self.first = FirstKeys::of(self.reading, &self.asked.shifts)?;
+        self.left = rounds_of(self.reading);
+        self.is_first = true;
+        Ok(())
+    }
+
+    /// The best of the rounds; no memory, if there was none.
+    fn end(self) -> Result<Round, AllocError> {
+        let Climb { best, .. } = self;
+        let Scored { round, .. } = best.ok_or(AllocError)?;
+        Ok(round)
+    }
+}
+
+/// How many rounds a turn has behind its first one: fewer, where there are many sightings.
+fn rounds_of(reading: &Reading<'_>) -> u32 {
+    let count = reading.sights.as_slice().len();
+    let rounds = SIGHTINGS / count.max(1);
+    u32::try_from(rounds)
+        .unwrap_or(ROUNDS)
+        .clamp(FEWEST, ROUNDS)
+}

@@ -1,0 +1,136 @@
+//! Which wishes of lanes are kept, taken back and tried next.
+
+use crate::lane_wishes::{Kept, LaneWishes};
+use crate::round::Round;
+use crate::rounds::Climb;
+use crate::sweep::Fault;
+use crate::wishes::Wish;
+use audit_matching::LaneNumber;
+use std::alloc::AllocError;
+use std::collections::BTreeSet;
+
+/// How many wishes of a lane are looked at in one round.
+const LOOKED_AT: u32 = 1024;
+
+impl Climb<'_> {
+    /// Keeps the wishes that got their lanes further, and takes the others back.
+    pub(crate) fn settle(&mut self, round: &Round) -> Result<(), AllocError> {
+        let is_new = round
+            .faults
+            .iter()
+            .any(|fault| !self.faulty.contains(&fault.0));
+        let mut blamed = BTreeSet::new(self.reading.alloc);
+        for (_, fault, _) in &round.faults {
+            blamed.insert(fault.departure)?;
+        }
+        for (lane, wishes) in self.lanes.iter_mut() {
+            let Some(wish) = wishes.pending.take() else {
+                continue;
+            };
+            let fault = fault_of(round, *lane);
+            let is_worse = match wish {
+                Wish::NotHere { sighting, .. } => is_new || blamed.contains(&sighting),
+                Wish::Before { .. } | Wish::Answers { .. } => false,
+            };
+            let is_stuck = fault.is_some_and(|fault| fault.low <= wishes.level);
+            if is_worse || is_stuck {
+                self.asked.take_back(wish);
+            } else {
+                if let Wish::Before { arrival, departure } = wish {
+                    self.helped.insert((arrival, departure))?;
+                }
+                let alloc = self.reading.alloc;
+                wishes.kept.push(Kept {
+                    wish,
+                    open: wishes.open.take().unwrap_or(Vec::new(alloc)),
+                    level: wishes.level,
+                })?;
+            }
+        }
+        Ok(())
+    }
+
+    /// Asks for what the lanes need; tells whether there was anything new.
+    pub(crate) fn ask(&mut self, round: &Round) -> Result<bool, AllocError> {
+        self.faulty.clear();
+        for (lane, _, _) in &round.faults {
+            self.faulty.insert(*lane)?;
+        }
+        let mut is_more = self.ask_doubles(round)?;
+        for (lane, fault, wishes) in &round.faults {
+            if self.ask_lane(*lane, fault, wishes)? {
+                is_more = true;
+            }
+        }
+        Ok(is_more)
+    }
+
+    /// Asks that of two lanes that act on one arrival the later one does without it, or else the earlier one.
+    fn ask_doubles(&mut self, round: &Round) -> Result<bool, AllocError> {
+        let mut is_more = false;
+        for (arrival, later, earlier) in round.doubles(self.reading.alloc)? {
+            for lane in [later, earlier] {
+                let wish = Wish::NotHere {
+                    sighting: arrival,
+                    lane,
+                };
+                if self.tried.insert((lane, wish, 0))? {
+                    self.asked.banned.remove(&(arrival, later));
+                    self.asked.banned.remove(&(arrival, earlier));
+                    self.asked.banned.insert((arrival, lane))?;
+                    is_more = true;
+                    break;
+                }
+            }
+        }
+        Ok(is_more)
+    }
+
+    /// Asks for the next wish of a lane; tells whether there was one.
+    fn ask_lane(
+        &mut self,
+        lane: LaneNumber,
+        fault: &Fault,
+        told: &[Wish],
+    ) -> Result<bool, AllocError> {
+        let alloc = self.reading.alloc;
+        if !self.lanes.contains_key(&lane) {
+            let none = LaneWishes {
+                open: None,
+                level: 0,
+                pending: None,
+                kept: Vec::new(alloc),
+            };
+            self.lanes.insert(lane, none)?;
+        }
+        let Some(wishes) = self.lanes.get_mut(&lane) else {
+            return Ok(false);
+        };
+        if wishes.open.is_none() {
+            let mut open = Vec::from_slice(alloc, told)?;
+            open.reverse();
+            wishes.open = Some(open);
+            wishes.level = fault.low;
+        }
+        for _ in 0..LOOKED_AT {
+            let Some(wish) = wishes.next(&mut self.asked) else {
+                return Ok(false);
+            };
+            if self.tried.insert((lane, wish, wishes.digest()))? {
+                self.asked.ask(wish)?;
+                wishes.pending = Some(wish);
+                return Ok(true);
+            }
+        }
+        Ok(false)
+    }
+}
+
+/// The fault of a lane.
+fn fault_of(round: &Round, lane: LaneNumber) -> Option<Fault> {
+    let place = round.faults.partition_point(|fault| fault.0 < lane);
+    match round.faults.get(place) {
+        Some((other, fault, _)) if *other == lane => Some(*fault),
+        _ => None,
+    }
+}

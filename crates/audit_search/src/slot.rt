@@ -1,0 +1,54 @@
+//! Places in the order of all sightings, finer than their ranks.
+
+ghost use Rattle.std.specs.Prelude.{◌≡◌, ◌/◌, ◌%◌, ◌<◌};
+
+/// A place right before or right behind a sighting, in the order of all: four for each sighting.
+#[derive(Clone, Copy, Debug, PartialEq, Eq, PartialOrd, Ord)]
+pub struct Slot(pub u32);
+
+impl Slot {
+    /// One of the four slots of a rank: two before the sighting, its own, and one behind it.
+    pub fn part(rank: u32, place: u32) -> Slot {
+        Slot(rank.saturating_mul(4).saturating_add(place))
+    }
+
+    /// Before all else of a rank.
+    pub fn first(rank: u32) -> Slot {
+        Slot::part(rank, 0)
+    }
+
+    /// Right before the sighting of a rank.
+    pub fn before(rank: u32) -> Slot {
+        Slot::part(rank, 1)
+    }
+
+    /// The sighting's own.
+    pub fn own(rank: u32) -> Slot {
+        Slot::part(rank, 2)
+    }
+
+    /// Right behind the sighting of a rank.
+    pub fn behind(rank: u32) -> Slot {
+        Slot::part(rank, 3)
+    }
+
+    /// The rank of its sighting.
+    pub fn rank(self) -> u32
+        ensures { result ≡ self.0 / 4 }
+    {
+        self.0 / 4
+    }
+
+    /// Which of the four slots of its rank it is.
+    pub fn place(self) -> u32
+        ensures which { result ≡ self.0 % 4 }
+        ensures few { result < 4 }
+    {
+        self.0 % 4
+    }
+
+    /// The next slot.
+    pub fn next(self) -> Slot {
+        Slot(self.0.saturating_add(1))
+    }
+}

@@ -1,0 +1,253 @@
+//! What a lane's search has done so far.
+
+use crate::slot::Slot;
+use crate::trail::{Trail, Undo};
+use crate::views::PoolRef;
+use audit_matching::{LaneNumber, SeenNumber};
+use audit_model::Addr;
+use audit_rules::LaneTable;
+use std::alloc::{AllocError, Global};
+use std::collections::{BTreeMap, BTreeSet, VecDeque};
+
+/// The act that gives a departure.
+#[derive(Clone, Copy, Debug)]
+pub(crate) struct Acted {
+    pub slot: Slot,
+    /// The order of the acts of one slot.
+    pub turn: (u32, u32),
+    pub arrival: SeenNumber,
+}
+
+/// The table as it was before an act that ended or made an allocation.
+#[derive(Drop)]
+pub(crate) struct Past {
+    pub(crate) table: LaneTable,
+    /// The slot, the turn and the moment of that act, and its arrival.
+    pub(crate) slot: Slot,
+    pub(crate) turn: u32,
+    pub(crate) moment: u64,
+    pub(crate) by: SeenNumber,
+}
+
+/// How far the acts have come.
+#[derive(Clone, Copy)]
+pub(crate) struct Progress {
+    pub(crate) turn: u32,
+    /// The slot of the last change of the table.
+    pub(crate) changed: Slot,
+    /// How much the table has, about.
+    pub(crate) weight: u64,
+    /// The slot and the moment of the last act in order.
+    pub(crate) last: (Slot, u64),
+}
+
+/// The table of a lane, those that ended, and the acts so far.
+#[derive(Drop)]
+pub(crate) struct State {
+    pub(crate) table: LaneTable,
+    /// The tables that ended, but for the oldest ones, which are forgotten.
+    past: VecDeque<Past>,
+    /// How many of them are forgotten.
+    forgotten: usize,
+    pub(crate) progress: Progress,
+    acts: BTreeMap<SeenNumber, Acted>,
+    used: BTreeSet<SeenNumber>,
+    /// The place in each pool of the first arrival that may be unused.
+    first: BTreeMap<PoolRef, usize>,
+    trail: Trail,
+    /// Whether steps are noted, so that they can be taken back.
+    pub(crate) is_noting: bool,
+}
+
+impl State {
+    pub(crate) fn new(alloc: Global, lane: LaneNumber, client: Addr, listen: Addr) -> State {
+        State {
+            table: LaneTable::new(lane.0, client, listen),
+            past: VecDeque::new(alloc),
+            forgotten: 0,
+            progress: Progress {
+                turn: 0,
+                changed: Slot(0),
+                weight: 0,
+                last: (Slot(0), 0),
+            },
+            acts: BTreeMap::new(alloc),
+            used: BTreeSet::new(alloc),
+            first: BTreeMap::new(alloc),
+            trail: Trail::new(alloc),
+            is_noting: false,
+        }
+    }
+
+    /// The acts, by their departures.
+    pub(crate) fn acts(&self) -> &BTreeMap<SeenNumber, Acted> {
+        &self.acts
+    }
+
+    pub(crate) fn is_acted(&self, departure: SeenNumber) -> bool {
+        self.acts.contains_key(&departure)
+    }
+
+    pub(crate) fn is_used(&self, arrival: SeenNumber) -> bool {
+        self.used.contains(&arrival)
+    }
+
+    pub(crate) fn first(&self, pool: PoolRef) -> usize {
+        self.first.get(&pool).copied().unwrap_or(0)
+    }
+
+    /// How many tables ended.
+    pub(crate) fn ended(&self) -> usize {
+        self.forgotten.saturating_add(self.past.len())
+    }
+
+    /// One of the tables that ended, by its number from 0, unless it is forgotten.
+    pub(crate) fn past(&self, which: usize) -> Option<&Past> {
+        self.past.get(which.checked_sub(self.forgotten)?)
+    }
+
+    /// The table that ended last.
+    pub(crate) fn last_past(&self) -> Option<&Past> {
+        self.past.back()
+    }
+
+    /// A mark to go back to.
+    pub(crate) fn mark(&self) -> usize {
+        self.trail.mark()
+    }
+
+    /// About how much memory the trail takes.
+    pub(crate) fn trail_weight(&self) -> u64 {
+        self.trail.weight()
+    }
+
+    fn note(&mut self, undo: Undo, weight: u64) -> Result<(), AllocError> {
+        if self.is_noting {
+            self.trail.push(undo, weight)?;
+        }
+        Ok(())
+    }
+
+    /// Forgets how to go back.
+    pub(crate) fn forget(&mut self) {
+        self.trail.clear();
+        self.is_noting = false;
+    }
+
+    /// Forgets how to go back behind a mark.
+    pub(crate) fn forget_before(&mut self, mark: usize) {
+        self.trail.forget_before(mark);
+    }
+
+    /// Forgets the oldest tables that ended, but for so many, and those that may come back.
+    pub(crate) fn keep_past(&mut self, count: usize) {
+        let kept = count.saturating_add(self.trail.ends());
+        for _ in kept..self.past.len() {
+            if self.past.pop_front().is_some() {
+                self.forgotten = self.forgotten.saturating_add(1);
+            }
+        }
+    }
+
+    pub(crate) fn set_first(&mut self, pool: PoolRef, place: usize) -> Result<(), AllocError> {
+        let before = self.first.insert(pool, place)?;
+        self.note(Undo::First(pool, before), 1)
+    }
+
+    pub(crate) fn set_progress(&mut self, progress: Progress) -> Result<(), AllocError> {
+        let before = std::mem::replace(&mut self.progress, progress);
+        self.note(Undo::Progress(before), 1)
+    }
+
+    /// Notes what the table was before it changed, where that was kept.
+    pub(crate) fn changed_from(&mut self, before: Option<LaneTable>) -> Result<(), AllocError> {
+        let weight = self.progress.weight.saturating_add(1);
+        match before {
+            Some(before) => self.note(Undo::Table(before), weight),
+            None => Ok(()),
+        }
+    }
+
+    /// Notes what the table was before it was ended.
+    pub(crate) fn ended_from(&mut self, past: Past) -> Result<(), AllocError> {
+        self.past.push_back(past)?;
+        self.note(Undo::Ended, 1)
+    }
+
+    /// The slot, the turn and the moment at which a table was ended.
+    pub(crate) fn end_of(&self, which: usize) -> Option<(Slot, u32, u64)> {
+        let past = self.past(which)?;
+        Some((past.slot, past.turn, past.moment))
+    }
+
+    /// A copy of a table that was ended.
+    pub(crate) fn copied_past(
+        &self,
+        alloc: Global,
+        which: usize,
+    ) -> Result<Option<LaneTable>, AllocError> {
+        match self.past(which) {
+            Some(past) => Ok(Some(past.table.copied(alloc)?)),
+            None => Ok(None),
+        }
+    }
+
+    /// Changes a table that was ended.
+    pub(crate) fn change_past(&mut self, which: usize, table: LaneTable) -> Result<(), AllocError> {
+        let Some(place) = which.checked_sub(self.forgotten) else {
+            return Ok(());
+        };
+        let Some(past) = self.past.get_mut(place) else {
+            return Ok(());
+        };
+        let before = std::mem::replace(&mut past.table, table);
+        let weight = self.progress.weight.saturating_add(1);
+        self.note(Undo::Past(which, before), weight)
+    }
+
+    pub(crate) fn act(&mut self, departure: SeenNumber, acted: Acted) -> Result<(), AllocError> {
+        self.acts.insert(departure, acted)?;
+        self.used.insert(acted.arrival)?;
+        self.note(Undo::Acted(departure, acted.arrival), 1)
+    }
+
+    /// Goes back to a mark.
+    pub(crate) fn undo(&mut self, mark: usize) {
+        for _ in mark..self.trail.mark() {
+            if let Some(undo) = self.trail.pop() {
+                self.take_back(undo);
+            }
+        }
+    }
+
+    fn take_back(&mut self, undo: Undo) {
+        match undo {
+            Undo::Progress(progress) => self.progress = progress,
+            Undo::Table(table) => self.table = table,
+            Undo::Ended => {
+                if let Some(past) = self.past.pop_back() {
+                    self.table = past.table;
+                }
+            }
+            Undo::Past(which, table) => {
+                if let Some(place) = which.checked_sub(self.forgotten) {
+                    if let Some(past) = self.past.get_mut(place) {
+                        past.table = table;
+                    }
+                }
+            }
+            Undo::Acted(departure, arrival) => {
+                self.acts.remove(&departure);
+                self.used.remove(&arrival);
+            }
+            Undo::First(pool, Some(place)) => {
+                if let Some(first) = self.first.get_mut(&pool) {
+                    *first = place;
+                }
+            }
+            Undo::First(pool, None) => {
+                self.first.remove(&pool);
+            }
+        }
+    }
+}

@@ -1,0 +1,240 @@
+//! The sweep of one lane over its departures.
+
+use crate::given::Given;
+use crate::lane::{Lane, Refused};
+use crate::plans::{PAST, Plan};
+use crate::slot::Slot;
+use crate::state::Acted;
+use crate::wishes::Wish;
+use audit_matching::{LaneNumber, SeenNumber};
+use std::alloc::AllocError;
+use std::collections::{BTreeMap, VecDeque};
+
+/// How many steps are spent on one conflict.
+pub(crate) const STEPS: u64 = 8000;
+
+/// How many steps all lanes have together, whatever their departures; each has so many as one conflict takes at the most.
+const FREE_STEPS: u64 = 1_000_000;
+
+/// How many steps a lane has for each departure, beside those.
+const STEPS_EACH: u64 = 64;
+
+/// How many choices are kept for going back.
+const STACK: usize = 64;
+
+/// A choice between several ways to act on a departure.
+#[derive(Clone, Copy)]
+pub(crate) struct Choice {
+    pub(crate) place: usize,
+    /// How many ways were tried.
+    pub(crate) tried: usize,
+    pub(crate) mark: usize,
+    /// How many deadlines were passed.
+    pub(crate) passed: usize,
+    /// Whether one of the ways makes or ends an allocation.
+    pub(crate) is_of_end: bool,
+}
+
+/// A departure on which a lane can't act, and why.
+#[derive(Clone, Copy, Debug)]
+pub struct Fault {
+    pub departure: SeenNumber,
+    pub refused: Refused,
+    /// The least moment of the departure.
+    pub low: u64,
+}
+
+/// What the search of a lane found: the act for each departure, and the first departure on which the lane couldn't act in any order that
+/// was tried.
+#[derive(Drop)]
+pub(crate) struct Found {
+    pub acts: Vec<(SeenNumber, Acted)>,
+    pub fault: Option<Fault>,
+    /// What it would need to go on, the likeliest first.
+    pub wishes: Vec<Wish>,
+}
+
+/// The sweep of a lane: where it is, and how it came there.
+#[derive(Drop)]
+pub(crate) struct Sweep<'a> {
+    pub(crate) lane: Lane<'a>,
+    pub(crate) place: usize,
+    /// How many deadlines were passed.
+    pub(crate) passed: usize,
+    /// How many ways were tried at the place where it went back to.
+    pub(crate) skip: usize,
+    pub(crate) stack: VecDeque<Choice>,
+    /// Which of the ways was taken, where it wasn't the first.
+    pub(crate) chosen: BTreeMap<usize, usize>,
+    /// The farthest departure that no way led past, and the ways that led there.
+    pub(crate) far: Option<(usize, BTreeMap<usize, usize>)>,
+    /// The steps when it came there.
+    pub(crate) far_steps: u64,
+    /// The ways to the farthest departure are taken again.
+    pub(crate) is_replaying: bool,
+    pub(crate) fault: Option<Fault>,
+    /// Departures on which it couldn't act in some order, and what it would have needed.
+    pub(crate) asked: Vec<(SeenNumber, Vec<Wish>)>,
+}
+
+/// Finds the acts of a lane: an order in which the server kept to its rules, where it finds one; else the farthest one.
+pub(crate) fn search_lane(given: &Given<'_>, number: LaneNumber) -> Result<Found, AllocError> {
+    let mut sweep = Sweep {
+        lane: Lane::new(given, number)?,
+        place: 0,
+        passed: 0,
+        skip: 0,
+        stack: VecDeque::new(given.alloc),
+        chosen: BTreeMap::new(given.alloc),
+        far: None,
+        far_steps: 0,
+        is_replaying: false,
+        fault: None,
+        asked: Vec::new(given.alloc),
+    };
+    let count = sweep.lane.departures.len() as u64;
+    let lanes = (given.pairs.len() as u64).max(1);
+    let free = (FREE_STEPS / lanes).min(STEPS);
+    let budget = free.saturating_add(count.saturating_mul(STEPS_EACH));
+    // Each departure twice, and those that are swept again, each of which is a step.
+    let turns = budget.saturating_add(count).saturating_mul(2);
+    for _ in 0..turns.saturating_add(2) {
+        if !sweep.step(budget)? {
+            break;
+        }
+    }
+    let mut acts = Vec::new(given.alloc);
+    for (departure, acted) in sweep.lane.state.acts() {
+        acts.push((*departure, *acted))?;
+    }
+    Ok(Found {
+        acts,
+        fault: sweep.fault,
+        wishes: sweep.wishes()?,
+    })
+}
+
+impl Sweep<'_> {
+    /// Goes one departure on, or back; tells whether there was one.
+    fn step(&mut self, budget: u64) -> Result<bool, AllocError> {
+        let Some((_, _, departure)) = self.lane.departures.get(self.place).copied() else {
+            return Ok(false);
+        };
+        self.lane.clock = self.lane.given.at(departure);
+        if self.far.as_ref().is_some_and(|far| self.place < far.0) {
+            self.lane.steps = self.lane.steps.saturating_add(1);
+        }
+        self.meet_deadlines(departure)?;
+        if self.lane.state.is_acted(departure) {
+            self.go_on();
+            return Ok(true);
+        }
+        if self.fault.is_some() {
+            self.lane.act_anyhow(departure)?;
+            self.go_on();
+            return Ok(true);
+        }
+        if self.act(departure, budget)? {
+            self.go_on();
+            return Ok(true);
+        }
+        if self.is_replaying {
+            self.blame(departure)?;
+            self.go_on();
+            return Ok(true);
+        }
+        self.go_back(departure, budget)?;
+        Ok(true)
+    }
+
+    /// Ends the allocations that have to be over before a departure.
+    fn meet_deadlines(&mut self, departure: SeenNumber) -> Result<(), AllocError> {
+        let given = self.lane.given;
+        let before = Slot::before(given.rank(departure));
+        for _ in 0..given.order.as_slice().len() {
+            match given.deadlines.get(self.lane.number, self.passed) {
+                Some(deadline) if deadline.slot < before => {
+                    self.lane.meet(deadline)?;
+                    self.passed = self.passed.saturating_add(1);
+                }
+                _ => return Ok(()),
+            }
+        }
+        Ok(())
+    }
+
+    fn go_on(&mut self) {
+        self.place = self.place.saturating_add(1);
+        self.skip = 0;
+    }
+
+    /// Acts on a departure in the next way that wasn't tried; tells whether there was one.
+    fn act(&mut self, departure: SeenNumber, budget: u64) -> Result<bool, AllocError> {
+        if self.is_replaying {
+            self.skip = self.chosen_before();
+        }
+        let is_choice = !self.is_replaying
+            && self.lane.steps < budget
+            && self.lane.is_ambiguous(departure)?;
+        self.forget_old_choices(departure, budget);
+        if self.stack.is_empty() && !is_choice {
+            self.lane.state.forget();
+        }
+        self.lane.state.keep_past(PAST);
+        if self.skip == 0 && !is_choice && self.act_plainly(departure)? {
+            return Ok(true);
+        }
+        let was_noting = self.lane.state.is_noting;
+        self.lane.state.is_noting = true;
+        let mark = self.lane.state.mark();
+        let limit = self.lane.steps.saturating_add(STEPS);
+        let plans = self.lane.plans(departure, limit)?;
+        for (number, plan) in plans.iter().enumerate().skip(self.skip) {
+            if self.lane.follow(departure, plan)? {
+                self.chosen.insert(self.place, number)?;
+                let is_kept = is_choice || !matches!(plan, Plan::Now);
+                if is_kept && !self.is_replaying && self.lane.steps < budget {
+                    let is_of_end = self.lane.is_of_end(departure, &plans);
+                    self.keep(number, mark, is_of_end)?;
+                }
+                return Ok(true);
+            }
+            self.lane.state.undo(mark);
+        }
+        self.lane.state.is_noting = was_noting;
+        Ok(false)
+    }
+
+    /// Acts on a departure as it leaves, without another way; tells whether it could.
+    fn act_plainly(&mut self, departure: SeenNumber) -> Result<bool, AllocError> {
+        let slot = Slot::before(self.lane.given.rank(departure));
+        if self.lane.is_rather_earlier(departure)? {
+            return Ok(false);
+        }
+        let moment = self.lane.given.at(departure);
+        Ok(self.lane.act_now(departure, slot, moment)?.is_none())
+    }
+
+    /// Keeps a choice of which a way was taken.
+    fn keep(&mut self, number: usize, mark: usize, is_of_end: bool) -> Result<(), AllocError> {
+        self.stack.push_back(Choice {
+            place: self.place,
+            tried: number.saturating_add(1),
+            mark,
+            passed: self.passed,
+            is_of_end,
+        })?;
+        if self.stack.len() > STACK {
+            let _oldest = self.stack.pop_front();
+        }
+        Ok(())
+    }
+
+    /// Which way was taken here on the way to the farthest departure.
+    fn chosen_before(&self) -> usize {
+        match &self.far {
+            Some((_, chosen)) => chosen.get(&self.place).copied().unwrap_or(0),
+            None => 0,
+        }
+    }
+}

@@ -1,0 +1,195 @@
+//! What a lane would need to act on a departure, and doesn't have.
+
+use crate::lane::{Lane, Refused};
+use crate::needs::{AHEAD, helps};
+use crate::views::PoolRef;
+use audit_matching::{Gives, LaneNumber, SeenNumber};
+use audit_model::Rule;
+use std::alloc::AllocError;
+
+/// What a lane asks for.
+#[derive(Clone, Copy, Debug, PartialEq, Eq, PartialOrd, Ord)]
+pub enum Wish {
+    /// That an arrival stands before a departure.
+    Before {
+        arrival: SeenNumber,
+        departure: SeenNumber,
+    },
+    /// That an arrival stands so late that a departure may answer it.
+    Answers {
+        arrival: SeenNumber,
+        departure: SeenNumber,
+    },
+    /// That a sighting of a relayed address is another lane's.
+    NotHere {
+        sighting: SeenNumber,
+        lane: LaneNumber,
+    },
+}
+
+/// How many arrivals of a pool are asked for.
+const EACH: usize = 2;
+
+impl Lane<'_> {
+    /// What the lane would need to act on a departure, the likeliest first: arrivals before it, its own or those of answers that may help;
+    /// or that it is another lane's.
+    pub(crate) fn wishes(
+        &self,
+        departure: SeenNumber,
+        refused: Refused,
+    ) -> Result<Vec<Wish>, AllocError> {
+        let mut wishes = Vec::new(self.given.alloc);
+        if is_of_table(refused) {
+            self.wish_changes(departure, refused, &mut wishes)?;
+            self.wish_own(departure, &mut wishes)?;
+        } else {
+            self.wish_own(departure, &mut wishes)?;
+            self.wish_changes(departure, refused, &mut wishes)?;
+        }
+        if self.has_other_holders(departure)? {
+            let place = wishes.len().min(EACH);
+            let wish = Wish::NotHere {
+                sighting: departure,
+                lane: self.number,
+            };
+            wishes.insert(place, wish)?;
+        }
+        Ok(wishes)
+    }
+
+    /// Asks for arrivals that the departure may answer.
+    fn wish_own(&self, departure: SeenNumber, wishes: &mut Vec<Wish>) -> Result<(), AllocError> {
+        for pool in self.any_pools(departure)? {
+            self.wish_late(departure, pool, wishes)?;
+            self.wish_behind(departure, pool, EACH, wishes)?;
+        }
+        Ok(())
+    }
+
+    /// Asks that the last arrivals of a pool that came too long before a departure stand later, if they may.
+    fn wish_late(
+        &self,
+        departure: SeenNumber,
+        pool: PoolRef,
+        wishes: &mut Vec<Wish>,
+    ) -> Result<(), AllocError> {
+        let all = self.given.views.arrivals(self.number, pool);
+        let rank = self.given.rank(departure);
+        let moment = self.given.at(departure);
+        let behind = all.partition_point(|one| one.2 < rank);
+        let near = all.get(behind.saturating_sub(EACH)..behind).unwrap_or(&[]);
+        for (_, _, _, arrival) in near {
+            let wish = Wish::Answers {
+                arrival: *arrival,
+                departure,
+            };
+            let hi = self.given.seen(*arrival).map_or(0, |seen| seen.hi);
+            let last = hi.saturating_add(self.given.known.hold);
+            let is_late = self.given.held_until(*arrival) < moment;
+            let may_stand = last >= self.given.low(departure) && !self.state.is_used(*arrival);
+            if is_late && may_stand && !wishes.contains(&wish) {
+                wishes.push(wish)?;
+            }
+        }
+        Ok(())
+    }
+
+    /// Asks for the requests of answers that may help.
+    fn wish_changes(
+        &self,
+        departure: SeenNumber,
+        refused: Refused,
+        wishes: &mut Vec<Wish>,
+    ) -> Result<(), AllocError> {
+        let reasons = [
+            refused,
+            Refused::Rule(Rule::NoPermission),
+            Refused::Rule(Rule::NoAllocation),
+            Refused::Rule(Rule::ErrorCondition),
+        ];
+        for reason in reasons {
+            self.wish_changes_for(departure, reason, wishes)?;
+        }
+        Ok(())
+    }
+
+    fn wish_changes_for(
+        &self,
+        departure: SeenNumber,
+        reason: Refused,
+        wishes: &mut Vec<Wish>,
+    ) -> Result<(), AllocError> {
+        let rank = self.given.rank(departure);
+        let hi = self.given.seen(departure).map_or(0, |seen| seen.hi);
+        let until = hi.saturating_add(self.given.known.hold);
+        let behind = self.changes.partition_point(|change| change.0 <= rank);
+        let near = self
+            .changes
+            .get(behind.saturating_sub(AHEAD)..)
+            .unwrap_or(&[]);
+        for (_, answer) in near.iter().take(AHEAD.saturating_mul(3)) {
+            let may_help = self
+                .given
+                .gives(*answer)
+                .is_some_and(|gives| helps(reason, gives));
+            if may_help && !self.state.is_acted(*answer) && self.given.low(*answer) <= until {
+                if let Some(pool) = self.response_ref(*answer) {
+                    self.wish_behind(departure, pool, 1, wishes)?;
+                }
+            }
+        }
+        Ok(())
+    }
+
+    /// Asks for the first arrivals of a pool that stand behind a departure, and might stand before it.
+    fn wish_behind(
+        &self,
+        departure: SeenNumber,
+        pool: PoolRef,
+        count: usize,
+        wishes: &mut Vec<Wish>,
+    ) -> Result<(), AllocError> {
+        let all = self.given.views.arrivals(self.number, pool);
+        let rank = self.given.rank(departure);
+        let hi = self.given.seen(departure).map_or(0, |seen| seen.hi);
+        let behind = all.partition_point(|one| one.2 < rank);
+        for (_, _, _, arrival) in all.get(behind..).unwrap_or(&[]).iter().take(count) {
+            let wish = Wish::Before {
+                arrival: *arrival,
+                departure,
+            };
+            let may_stand = self.given.low(*arrival) <= hi && !self.state.is_used(*arrival);
+            if may_stand && !wishes.contains(&wish) {
+                wishes.push(wish)?;
+            }
+        }
+        Ok(())
+    }
+
+    /// Whether a departure leaves from a relayed address that several lanes had.
+    fn has_other_holders(&self, departure: SeenNumber) -> Result<bool, AllocError> {
+        let given = self.given;
+        let Some(Gives::Relayed { relayed, .. }) = given.gives(departure) else {
+            return Ok(false);
+        };
+        let tenancies = given.known.tenancies;
+        let lane = self.number;
+        let of = tenancies.of_address(relayed);
+        Ok(of.iter().any(|tenancy| tenancy.lane != lane))
+    }
+}
+
+/// Whether a rule asks for something in the table.
+fn is_of_table(refused: Refused) -> bool {
+    matches!(
+        refused,
+        Refused::Rule(
+            Rule::NoAllocation
+                | Rule::AllocationOver
+                | Rule::NoPermission
+                | Rule::PermissionOver
+                | Rule::NoChannel
+                | Rule::ChannelOver
+        )
+    )
+}
