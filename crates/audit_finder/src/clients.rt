@@ -128,6 +128,15 @@ impl Clients {
         from(with_lanes(self.pairs.as_slice()), first)
     }
 
+    /// The client and the listen address of each lane.
+    pub fn lanes(&self) -> &[(Addr, Addr)]
+        ensures which { result.now ≡ take MAX_LANES self.now.pairs }
+        ensures apart { IsDistinct same result.now }
+        ensures few { length result.now ≤ MAX_LANES }
+    {
+        self.lanes_from(0)
+    }
+
     /// Takes in the clients of the sightings that the intake has gained.
     pub fn take_in(&mut self, alloc: Global, intake: &Intake) -> Result<(), AllocError>
         ensures pairs { OnOk result (self.new.pairs ≡ with_new self.old.looked.items (taken intake.now) self.old.pairs) }

@@ -1,21 +1,24 @@
 //! Certificates, out of what is found.
 
-ghost use Rattle.std.specs.Prelude.{◌≡◌, ◌↔◌, ◌+◌, ◌<◌, ◌≤◌, IsTrue, All, map, length, IfOk};
+ghost use Rattle.std.specs.Prelude.{◌≡◌, ◌↔◌, ◌+◌, ◌<◌, ◌≤◌, IsTrue, All, [], map, length, IfOk};
 ghost use Rattle.std.specs.List.{IsDistinct};
 ghost use Rattle.audit_model.specs.EventCount.{event_count};
 ghost use Rattle.audit_model.specs.declared.certificate.TheConstants.{MAX_LANES, MAX_EVENTS};
 ghost use Rattle.audit_sightings.specs.Intake.{Taken, taken, IsThere, NamesWhatIsThere};
-ghost use Rattle.audit_finder.specs.Clients.{same, clients_of};
+ghost use Rattle.audit_finder.specs.Clients.{same, clients_of, with_new};
 ghost use Rattle.audit_finder.specs.Found.{pair_of, empty_lane, AllNamed, AreThere};
 
-use crate::finder::Finder;
+use crate::clients::Clients;
 use crate::portion::Portion;
+use crate::writing::written;
 use audit_keys::Credentials;
 use audit_model::{
     Addr, CertDrop, CertLane, Certificate, Event, Extension, Listed, MAX_EVENTS, Side, SightId,
 };
+use audit_search::{Reading, best_round, best_round_by};
 use audit_sightings::Intake;
 use std::alloc::{AllocError, Global};
+use std::thread::Threads;
 
 /// Whether a sighting of that name is there, and goes that way.
 fn is_there(intake: &Intake, side: Side, sight: SightId) -> bool
@@ -151,6 +154,58 @@ fn certificate_of(alloc: Global, found: Extension) -> Result<Certificate, AllocE
     })
 }
 
+/// The events that are found of these clients' lanes.
+fn in_passes(
+    alloc: Global,
+    intake: &Intake,
+    credentials: &Credentials,
+    pairs: &[(Addr, Addr)],
+) -> Result<Portion, AllocError> {
+    let reading = Reading::new(alloc, intake, credentials, pairs)?;
+    let round = best_round(&reading)?;
+    written(alloc, &reading, &round)
+}
+
+/// The same, by so many threads at the most.
+fn in_passes_by<R: Threads + Sync>(
+    rt: &R,
+    alloc: Global,
+    intake: &Intake,
+    credentials: &Credentials,
+    pairs: &[(Addr, Addr)],
+    workers: u32,
+) -> Result<Portion, AllocError> {
+    let reading = Reading::new(alloc, intake, credentials, pairs)?;
+    let round = best_round_by(rt, workers, &reading)?;
+    written(alloc, &reading, &round)
+}
+
+/// The clients of all captures.
+fn clients_in(alloc: Global, intake: &Intake) -> Result<Clients, AllocError>
+    ensures { IfOk result (λ clients. clients.pairs ≡ with_new [] (taken intake.now) []) }
+{
+    let mut clients = Clients::new(alloc);
+    clients.take_in(alloc, intake)?;
+    Ok(clients)
+}
+
+/// The certificate with these lanes, and with the events and the drops of a portion that name what is there.
+fn certificate_with(
+    alloc: Global,
+    intake: &Intake,
+    lanes: &[(Addr, Addr)],
+    portion: Portion,
+) -> Result<Certificate, AllocError>
+    requires apart { IsDistinct same lanes.now }
+    requires few { length lanes.now ≤ MAX_LANES }
+    ensures lanes { IfOk result (λ certificate. map pair_of certificate.lanes ≡ lanes.now) }
+    ensures events { IfOk result (λ certificate. AllNamed (taken intake.now) certificate.lanes) }
+    ensures drops { IfOk result (λ certificate. AreThere (taken intake.now) certificate.drops) }
+{
+    let found = extension(alloc, intake, lanes, portion)?;
+    certificate_of(alloc, found)
+}
+
 /// Finds a certificate: an order in which the server kept to its rules, where it finds one; else one that shows where it did
 /// not.
 ///
@@ -165,7 +220,26 @@ pub fn find(
     ensures events { IfOk result (λ certificate. AllNamed (taken intake.now) certificate.lanes) }
     ensures drops { IfOk result (λ certificate. AreThere (taken intake.now) certificate.drops) }
 {
-    let mut finder = Finder::new(alloc);
-    let found = finder.extend(intake, credentials, u64::MAX)?;
-    certificate_of(alloc, found)
+    let clients = clients_in(alloc, intake)?;
+    let lanes = clients.lanes();
+    let portion = in_passes(alloc, intake, credentials, lanes)?;
+    certificate_with(alloc, intake, lanes, portion)
+}
+
+/// Finds the certificate that `find` finds, by so many threads at the most: each searches lanes of its own.
+pub fn find_parallel<R: Threads + Sync>(
+    rt: &R,
+    alloc: Global,
+    intake: &Intake,
+    credentials: &Credentials,
+    workers: u32,
+) -> Result<Certificate, AllocError>
+    ensures lanes { IfOk result (λ certificate. map pair_of certificate.lanes ≡ clients_of (taken intake.now)) }
+    ensures events { IfOk result (λ certificate. AllNamed (taken intake.now) certificate.lanes) }
+    ensures drops { IfOk result (λ certificate. AreThere (taken intake.now) certificate.drops) }
+{
+    let clients = clients_in(alloc, intake)?;
+    let lanes = clients.lanes();
+    let found = in_passes_by(rt, alloc, intake, credentials, lanes, workers)?;
+    certificate_with(alloc, intake, lanes, found)
 }

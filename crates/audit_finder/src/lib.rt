@@ -27,6 +27,7 @@ mod queues;
 mod rows;
 mod said;
 mod search;
+mod writing;
 
 pub use finder::Finder;
-pub use finding::find;
+pub use finding::{find, find_parallel};

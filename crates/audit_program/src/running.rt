@@ -8,13 +8,26 @@ ghost use Rattle.audit_model.specs.declared.certificate.Certificate.{Certificate
 use crate::buffered::Buffered;
 use crate::command_line::{Inputs, Request, read as read_words};
 use crate::writing::{put_line, put_text};
-use audit_files::{Source, Stop, Workers, check_files, judge, read_files};
-use audit_finder::find;
-use audit_model::Sink;
-use std::alloc::Global;
+use audit_files::{Files, Source, Stop, Workers, check_files, judge, read_files};
+use audit_finder::{find, find_parallel};
+use audit_model::{Certificate, Sink};
+use std::alloc::{AllocError, Global};
 use std::convert::AsStr;
 use std::sync::Wait;
 use std::thread::Threads;
+
+/// Finds a certificate: with one worker on the caller's thread alone, and else by so many threads at the most.
+fn find_by<R: Threads + Sync>(
+    rt: &R,
+    alloc: Global,
+    files: &Files,
+    workers: Workers,
+) -> Result<Certificate, AllocError> {
+    if workers.count == 1 {
+        return find(alloc, &files.intake, &files.users);
+    }
+    find_parallel(rt, alloc, &files.intake, &files.users, workers.count)
+}
 
 /// Judges captures by a certificate that is found, and writes the report. Files are read in this order: policy, users, captures; each is
 /// judged before the next is read. It gives 0 where they conform, and 1 where that isn't shown.
@@ -35,7 +48,7 @@ pub fn audit_captures<R: Threads + Wait + Sync, S: Source, O: Sink>(
         IfOk result (λ status. (found : Found) × IsAudited policy_text users_text texts found (O.taken out.old) (O.taken out.new) status) }
 {
     let files = read_files(rt, alloc, source, policy, users, captures, workers)?;
-    let certificate = find(alloc, &files.intake, &files.users)?;
+    let certificate = find_by(rt, alloc, &files, workers)?;
     judge(
         rt,
         alloc,

@@ -1,0 +1,132 @@
+//! The events of what was found in passes, in the order of their keys.
+
+use crate::numbers::LaneNumber;
+use crate::portion::Portion;
+use audit_matching::{SeenNumber, Sights};
+use audit_model::{Event, Key};
+use audit_search::{Act, Reading, Round, Slot};
+use std::alloc::{AllocError, Global};
+
+/// The events so far.
+#[derive(Drop)]
+struct Writing<'a> {
+    sights: &'a Sights,
+    round: &'a Round,
+    /// How many acts are written.
+    written: usize,
+    /// The key of the next event.
+    key: Key,
+    /// The lane of each arrival that is acted on.
+    acted: Vec<Option<LaneNumber>>,
+    portion: Portion,
+}
+
+/// The events of a round: of each moment in the order of the sightings, with the acts right before and behind these.
+pub(crate) fn written(
+    alloc: Global,
+    reading: &Reading<'_>,
+    round: &Round,
+) -> Result<Portion, AllocError> {
+    let mut writing = Writing {
+        sights: &reading.sights,
+        round,
+        written: 0,
+        key: Key { moment: 0, tie: 0 },
+        acted: acted(alloc, round)?,
+        portion: Portion::new(alloc),
+    };
+    for number in round.order.as_slice() {
+        writing.write(*number)?;
+    }
+    Ok(writing.portion)
+}
+
+/// The lane of each arrival that is acted on: of two that act on it the one whose act comes first.
+fn acted(alloc: Global, round: &Round) -> Result<Vec<Option<LaneNumber>>, AllocError> {
+    let mut acted: Vec<Option<LaneNumber>> = vec![in alloc; None; round.at.len()]?;
+    for (_, lane, _, arrival, _) in &round.acts {
+        if let Some(place) = acted.get_mut(arrival.index()) {
+            if place.is_none() {
+                *place = Some(LaneNumber(lane.0));
+            }
+        }
+    }
+    Ok(acted)
+}
+
+impl Writing<'_> {
+    /// Writes a sighting, and the acts right before it and right behind it.
+    fn write(&mut self, number: SeenNumber) -> Result<(), AllocError> {
+        let round = self.round;
+        let moment = round.at.get(number.index()).copied();
+        self.go_to(moment.unwrap_or(0));
+        let rank = round.order.rank(number);
+        self.write_acts(Slot::own(rank))?;
+        self.write_own(number)?;
+        self.write_acts(Slot::first(rank.saturating_add(1)))
+    }
+
+    /// Goes on to a moment, unless it is past.
+    fn go_to(&mut self, moment: u64) {
+        if moment > self.key.moment {
+            self.key = Key { moment, tie: 0 };
+        }
+    }
+
+    /// The key of the next event.
+    fn tick(&mut self) -> Key {
+        let key = self.key;
+        self.key.tie = key.tie.saturating_add(1);
+        key
+    }
+
+    /// Writes the acts before a slot.
+    fn write_acts(&mut self, before: Slot) -> Result<(), AllocError> {
+        let round = self.round;
+        for act in round.acts.get(self.written..).unwrap_or(&[]) {
+            if act.0 >= before {
+                return Ok(());
+            }
+            self.written = self.written.saturating_add(1);
+            self.write_act(act)?;
+        }
+        Ok(())
+    }
+
+    fn write_act(&mut self, act: &Act) -> Result<(), AllocError> {
+        let (_, lane, _, arrival, departure) = act;
+        let sights = self.sights;
+        if let (Some(arrives), Some(leaves)) = (sights.get(*arrival), sights.get(*departure)) {
+            let (sight, gives) = (arrives.id, leaves.id);
+            let key = self.tick();
+            let event = Event::Act { sight, gives, key };
+            self.portion.push(LaneNumber(lane.0), event)?;
+        }
+        Ok(())
+    }
+
+    /// Writes a sighting: in the lane that acts on it, or as a drop, or as it leaves.
+    fn write_own(&mut self, number: SeenNumber) -> Result<(), AllocError> {
+        let sights = self.sights;
+        let Some(seen) = sights.get(number) else {
+            return Ok(());
+        };
+        let sight = seen.id;
+        if seen.arrives() {
+            let lane = self.acted.get(number.index()).copied().flatten();
+            let key = self.tick();
+            return match lane {
+                Some(lane) => self.portion.push(lane, Event::In { sight, key }),
+                None => self.portion.push_drop(sight, key),
+            };
+        }
+        let round = self.round;
+        let relayed = round.relayed.as_slice().get(number.index());
+        if let Some(lane) = seen.lane.or(relayed.copied().flatten()) {
+            let key = self.tick();
+            let event = Event::Out { sight, key };
+            self.portion.push(LaneNumber(lane.0), event)?;
+        }
+        Ok(())
+    }
+}
