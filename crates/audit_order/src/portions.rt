@@ -136,6 +136,13 @@ impl Placing {
         }
     }
 
+    /// What was added so far. It takes no memory.
+    pub fn certificate(&self) -> &Certificate
+        ensures { result.now ≡ self.now.certificate }
+    {
+        &self.certificate
+    }
+
     /// How many arrivals and departures were added, drops among them: where no breach is shown, how many sightings are placed.
     pub fn count(&self) -> u32
         ensures { (taken : Taken) → Keeps taken self.now → result ≡ placing_count (entries self.now.certificate) }

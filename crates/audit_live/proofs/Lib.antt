@@ -1,0 +1,9 @@
+pub mod Chains
+pub mod Walking
+pub mod Meanings
+pub mod Fresh
+pub mod Known
+pub mod Named
+pub mod Takes
+pub mod Fronts
+pub mod Remembering

@@ -1,0 +1,35 @@
+use Rattle.std.proofs.Common.{ℕ, List, All, Some, refl, sym, subst}
+use Rattle.audit_keys.specs.KeyFor.{key_for}
+use Rattle.audit_model.specs.declared.event.Event.{Event}
+use Rattle.audit_sightings.specs.Intake.{taken, NamesWhatIsThere}
+use Rattle.audit_live.specs.declared.front.Front.{Front}
+use Rattle.audit_live.proofs.Fronts.{extension_named, tells_lanes, knows_lanes}
+use Rattle.audit_live.proofs.front.Front.take.Goals as goal
+
+pub returns-in-Err-clause-tells : goal.returns-in-Err-clause-tells
+returns-in-Err-clause-tells c = record {
+  extends = c.in_ok-breach.ensures.extends;
+  of_placement = Some c.in-Err.breach;
+  least = rw c.in-Err.is at (c.in_ok-breach.ensures.breach c.requires.knows.before c.requires.knows.keeps c.requires.knows.stays);
+  told = refl;
+}
+
+pub take-requires-clause-named : goal.take-requires-clause-named
+take-requires-clause-named c =
+    let named = rw c.in_default.is at (c.in_ok-breach.ensures.named c.requires.knows.before c.requires.knows.keeps c.requires.knows.stays) in
+    subst (λ (es : List (ℕ × Event)). All (λ (e : ℕ × Event). NamesWhatIsThere (taken c.args.intake.now) e.1) es) (sym c.as_slice-2.ensures)
+    (extension_named (taken c.args.intake.now) c.args.self.now.placing.certificate c.add.new.self.certificate c.args.extension.now c.in_ok-breach.ensures.extends c.requires.fits.room named)
+
+pub returns-clause-tells : goal.returns-clause-tells
+returns-clause-tells c =
+    let none = rw c.in_default.is at (c.in_ok-breach.ensures.passes c.requires.knows.before c.requires.knows.keeps c.requires.knows.stays) in
+    let new : Front = record { placing = c.add.new.self; lanes = c.take.new.self } in
+    tells_lanes (taken c.args.intake.now) (key_for c.args.credentials.now) c.args.last c.args.self.now new c.add-2.new.self c.args.extension.now c.in_ok-breach.ensures.extends
+    c.as_slice.result.now c.as_slice.ensures c.as_slice-2.result.now c.as_slice-2.ensures none c.in_ok-add.ensures.lanes c.in_ok-add.ensures.rest.0 c.in_ok-add.ensures.rest.1 c.take.result c.take.ensures.takes
+
+pub returns-clause-knows : goal.returns-clause-knows
+returns-clause-knows c =
+    let new : Front = record { placing = c.add.new.self; lanes = c.take.new.self } in
+    knows_lanes (taken c.args.intake.now) (key_for c.args.credentials.now) c.args.last c.args.self.now new c.add-2.new.self c.args.extension.now c.in_ok-breach.ensures.extends
+    c.as_slice.result.now c.as_slice.ensures (c.in_ok-breach.ensures.keeps c.requires.knows.before c.requires.knows.keeps c.requires.knows.stays) c.requires.knows.lanes c.in_ok-add.ensures.count
+    c.take.result c.take.ensures.count

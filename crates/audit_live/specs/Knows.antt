@@ -1,0 +1,36 @@
+-- What is known of what is placed so far, while no breach was told.
+use Rattle.std.specs.Prelude.{◌≡◌, ℕ, length, Option, vec_len}
+use Rattle.audit_model.specs.declared.extension.Extension.{Extension}
+use Rattle.audit_model.specs.declared.verdict.Breach.{Breach}
+use Rattle.audit_model.specs.Least.{IsLeast}
+use Rattle.audit_order.specs.Grown.{Extends}
+use Rattle.audit_order.specs.Kept.{Keeps, Stays}
+use Rattle.audit_placement.specs.Shows.{ShowsPlaced}
+use Rattle.audit_prefix.specs.Told.{OrElse}
+use Rattle.audit_rules.specs.Keys.{KeyFor}
+use Rattle.audit_sightings.specs.Intake.{Taken}
+use Rattle.audit_live.specs.declared.front.Front.{Front}
+use Rattle.audit_live.specs.declared.lanes.LiveLanes.{LiveLanes}
+use Rattle.audit_live.specs.Chain.{Chain}
+use Rattle.audit_live.specs.Turn.{AddsLane, TakesTurn}
+
+-- where sightings are placed is known for the intake of an earlier call, and each lane of the certificate is walked
+pub record Knows (taken : Taken) (front : Front) : Type 0 where
+  pub before : Taken
+  pub stays : Stays before taken
+  pub keeps : Keeps before front.placing
+  pub lanes : vec_len front.lanes.lanes ≡ length front.placing.certificate.lanes
+
+-- what the lanes make of a turn, with those that are new
+abbrev pub TakesWithNew : Taken → KeyFor → Option ℕ → Front → Extension → Front → Option Breach → Type 0
+TakesWithNew taken key_for last old extension new found =
+    (with_new : LiveLanes) × Chain AddsLane old.lanes.lanes.items extension.lanes with_new.lanes.items
+    × (with_new.owed ≡ old.lanes.owed) × (with_new.holders ≡ old.lanes.holders)
+    × TakesTurn taken key_for last with_new extension.events new.lanes found
+
+-- The certificate gains the extension, and of the whole as it then stands the least breach of what is placed is told, or else what the lanes show.
+pub record Tells (taken : Taken) (key_for : KeyFor) (last : Option ℕ) (old : Front) (extension : Extension) (new : Front) (found : Option Breach) : Type 0 where
+  pub extends : Extends old.placing.certificate extension new.placing.certificate
+  pub of_placement : Option Breach
+  pub least : IsLeast (ShowsPlaced taken new.placing.certificate) of_placement
+  pub told : OrElse of_placement (TakesWithNew taken key_for last old extension new) found

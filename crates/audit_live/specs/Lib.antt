@@ -1,0 +1,9 @@
+pub mod Chain
+pub mod Steps
+pub mod Holding
+pub mod Asked
+pub mod Turn
+pub mod Knows
+pub mod Audit
+pub mod Refusals
+pub mod Remembered

@@ -1,0 +1,77 @@
+//! Which tenancies are asked for clashes in a turn.
+
+ghost use Rattle.std.specs.Prelude.{◌≡◌, ◌<◌, ◌++◌, All, IfOk, OnOk, vec_len};
+ghost use Rattle.std.specs.List.{flat_map};
+ghost use Rattle.audit_live.specs.Asked.{asked_of, fresh_at, held_by, is_past_last as comes_past};
+
+use crate::lanes::LiveLanes;
+use audit_model::Tenancy;
+use std::alloc::AllocError;
+
+/// Whether the moment is past the last horizon, if there was one.
+pub fn is_past_last(last: Option<u64>, moment: u64) -> bool
+    ensures { result ≡ comes_past last moment }
+{
+    match last {
+        None => true,
+        Some(last) => last < moment,
+    }
+}
+
+impl LiveLanes {
+    /// Of those lanes the tenancies that ended since they were asked last, and the ones that run.
+    fn fresh(&self, touched: &[u32]) -> Result<Vec<Tenancy>, AllocError>
+        requires { All (λ number. number < vec_len self.now.lanes) touched.now }
+        ensures { IfOk result (λ fresh. fresh.items ≡ flat_map (fresh_at self.now.lanes.items) touched.now) }
+    {
+        let mut fresh = Vec::new(self.alloc);
+        'touched: for number in touched {
+            self.add_fresh(*number, &mut fresh)?;
+        }
+        Ok(fresh)
+    }
+
+    fn add_fresh(&self, number: u32, fresh: &mut Vec<Tenancy>) -> Result<(), AllocError>
+        requires { number < vec_len self.now.lanes }
+        ensures { OnOk result (fresh.new.items ≡ fresh.old.items ++ fresh_at self.now.lanes.items number) }
+    {
+        let lane = &self.lanes[number as usize];
+        fresh.extend_from_slice(lane.ended())?;
+        if let Some(running) = lane.running() {
+            fresh.push(running)?;
+        }
+        Ok(())
+    }
+
+    /// Adds the tenancy of the lane that is noted with the address of one that was born past the last horizon.
+    fn add_held(
+        &self,
+        last: Option<u64>,
+        tenancy: &Tenancy,
+        asked: &mut Vec<Tenancy>,
+    ) -> Result<(), AllocError>
+        ensures { OnOk result (asked.new.items ≡ asked.old.items ++ held_by self.now.lanes.items self.now.holders last tenancy.now) }
+    {
+        if is_past_last(last, tenancy.born.key.moment) {
+            if let Some(held) = self.holders.running(&self.lanes, tenancy.relayed) {
+                asked.push(held)?;
+            }
+        }
+        Ok(())
+    }
+
+    /// The tenancies that are asked for clashes: of the lanes with these numbers those that ended since they were asked last and the one that
+    /// runs, and of other lanes the one that runs with an address that one of these was given past the last horizon.
+    pub fn asked(&self, last: Option<u64>, touched: &[u32]) -> Result<Vec<Tenancy>, AllocError>
+        requires { All (λ number. number < vec_len self.now.lanes) touched.now }
+        ensures { IfOk result (λ asked. asked.items ≡ asked_of self.now.lanes.items self.now.holders last touched.now) }
+    {
+        let fresh = self.fresh(touched)?;
+        let rows = fresh.as_slice();
+        let mut asked = Vec::from_slice(self.alloc, rows)?;
+        'rows: for tenancy in rows {
+            self.add_held(last, tenancy, &mut asked)?;
+        }
+        Ok(asked)
+    }
+}

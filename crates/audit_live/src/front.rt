@@ -1,0 +1,75 @@
+//! What is placed so far.
+
+ghost use Rattle.std.specs.Prelude.{◌≡◌, [], IfNone, IfOk, OnOk, length, min, vec_len};
+ghost use Rattle.audit_keys.specs.KeyFor.{key_for};
+ghost use Rattle.audit_order.specs.Grown.{Fits};
+ghost use Rattle.audit_order.specs.Growing.{placing_count};
+ghost use Rattle.audit_placement.specs.Entries.{entries};
+ghost use Rattle.audit_sightings.specs.Intake.{Taken, taken};
+ghost use Rattle.audit_live.specs.Knows.{Knows, Tells};
+
+use crate::lanes::LiveLanes;
+use crate::progress::Progress;
+use audit_keys::Credentials;
+use audit_model::{Breach, Extension};
+use audit_order::Placing;
+use audit_sightings::Intake;
+use std::alloc::{AllocError, Global};
+
+/// The certificate that is taken so far, and what its lanes have come to.
+#[derive(Drop)]
+pub struct Front {
+    pub placing: Placing,
+    pub lanes: LiveLanes,
+}
+
+impl Front {
+    /// Nothing is placed. It takes no memory.
+    pub fn new(alloc: Global) -> Front
+        ensures lanes { result.placing.certificate.lanes ≡ [] }
+        ensures drops { result.placing.certificate.drops ≡ [] }
+        ensures knows { (taken : Taken) → Knows taken result }
+    {
+        Front {
+            placing: Placing::new(alloc),
+            lanes: LiveLanes::new(alloc),
+        }
+    }
+
+    /// Takes what the certificate gains, and gives the breach that it shows then.
+    pub fn take(
+        &mut self,
+        intake: &Intake,
+        credentials: &Credentials,
+        last: Option<u64>,
+        extension: &Extension,
+    ) -> Result<Option<Breach>, AllocError>
+        requires knows { Knows (taken intake.now) self.old }
+        requires fits { Fits self.old.placing.certificate extension.now }
+        ensures tells { IfOk result (Tells (taken intake.now) (key_for credentials.now) last self.old extension.now self.new) }
+        ensures knows { IfOk result (λ found. IfNone found (Knows (taken intake.now) self.new)) }
+    {
+        if let Err(breach) = self.placing.add(intake, extension)? {
+            return Ok(Some(breach));
+        }
+        self.lanes.add(extension.lanes.as_slice())?;
+        self.lanes
+            .take(intake, credentials, last, extension.events.as_slice())
+    }
+
+    /// What it has come to at a horizon.
+    pub fn progress(&self, horizon: u64) -> Progress
+        requires { vec_len self.now.lanes.lanes ≡ length self.now.placing.certificate.lanes }
+        ensures horizon { result.horizon ≡ horizon }
+        ensures placed { (taken : Taken) → Knows taken self.now → result.placed ≡ placing_count (entries self.now.placing.certificate) }
+        ensures lanes { result.lanes ≡ length self.now.placing.certificate.lanes }
+        ensures owed { result.owed ≡ min self.now.lanes.owed 4294967295 }
+    {
+        Progress {
+            horizon,
+            placed: self.placing.count(),
+            lanes: self.placing.certificate().lanes.len() as u32,
+            owed: u32::try_from(self.lanes.owed).unwrap_or(u32::MAX),
+        }
+    }
+}

@@ -1,0 +1,18 @@
+//! The verdict while captures grow: a certificate is taken in turns, each up to a horizon, and the first turn that breaks a rule is told.
+#![tactic(auto)]
+
+mod asking;
+mod cause;
+mod fault;
+mod front;
+mod holders;
+mod lane;
+mod lanes;
+pub mod laws;
+mod live;
+mod progress;
+mod turn;
+
+pub use fault::{LiveEnd, LiveFault};
+pub use live::Live;
+pub use progress::Progress;
