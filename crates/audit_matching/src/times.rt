@@ -59,6 +59,10 @@ impl Times {
 
     /// What each is ordered by.
     pub fn whens(&self, alloc: Global) -> Result<Vec<u64>, AllocError> {
-        self.list.iter().map(|time| time.when).collect(alloc)
+        let mut whens = Vec::with_capacity(alloc, self.list.len())?;
+        for time in &self.list {
+            whens.push(time.when)?;
+        }
+        Ok(whens)
     }
 }
