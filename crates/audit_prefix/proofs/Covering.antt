@@ -62,7 +62,7 @@ fresh_are w turn since h =
 
 -- ---- what is asked
 
-found_in : (w : Rules) (turns : List Turn) (t : Tenancy) → Contains (fresh w turns) t → (turn : Turn) × Contains turns turn × Contains (fresh_in w turn) t
+pub found_in : (w : Rules) (turns : List Turn) (t : Tenancy) → Contains (fresh w turns) t → (turn : Turn) × Contains turns turn × Contains (fresh_in w turn) t
 found_in w [] t c = absurd (omega (arith, c.1))
 found_in w (turn ∷ turns) t c = elim (Contains-append_cases (fresh_in w turn) (fresh w turns) t c) [
   | inl k ↦ (turn, Contains-append_left (turn ∷ []) turns turn (Contains-push [] turn), k)

@@ -56,7 +56,7 @@ befores_are w n (lane ∷ lanes) pairs es = ap (λ ts. tenancies_in w (map place
 
 -- ---- what the turns are
 
-in_lane : (pair : Option Pair) (n k : ℕ) (last : Option Key) (es : List Event) → AllByRecursion (λ (e : Placed). e.at.lane ≡ n) (map placed_of (entries_from pair n k last es))
+pub in_lane : (pair : Option Pair) (n k : ℕ) (last : Option Key) (es : List Event) → AllByRecursion (λ (e : Placed). e.at.lane ≡ n) (map placed_of (entries_from pair n k last es))
 in_lane pair n k last [] = tt
 in_lane pair n k last (e ∷ es) = (refl, in_lane pair n (k + 1) (Some (key_of e)) es)
 

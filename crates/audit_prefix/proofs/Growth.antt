@@ -24,6 +24,7 @@ use Rattle.audit_server.specs.Tenancies.{running, ended, tenancies_from}
 use Rattle.audit_server.specs.Captured.{change_between, MayBetween}
 use Rattle.audit_server.proofs.Holding.{ActsFrom, MayAct}
 use Rattle.audit_whole.specs.CaptureRun.{rules_for}
+use Rattle.audit_prefix.specs.Walk.{Memory, came_after, owing_after, remembered, remembered_all, since_after, taken_after}
 
 -- ---- sightings stay
 
@@ -153,3 +154,21 @@ module _ (w v : Rules) (g : GoOn w v) where
       ∙ ap (λ (y : Option Allocation). option_to_list (ended w e.at e.move x ten) ++ tenancies_from v y (running v e.at e.move x ten) es) (acted_same e.at.key.moment e.move x a.0)
       ∙ ap (λ (o : Option Tenancy). option_to_list (ended w e.at e.move x ten) ++ tenancies_from v (acted w e.at.key.moment e.move x) o es) (running_same e e.move x ten a.0)
       ∙ ap (λ (ts : List Tenancy). option_to_list (ended w e.at e.move x ten) ++ ts) k
+
+  -- and what is remembered
+  pub remembered_same : (es : List Placed) (m : Memory) → ActsFrom w m.allocation es → remembered_all v m es ≡ remembered_all w m es
+  remembered_same [] m a = refl
+  remembered_same (e ∷ es) m a =
+      let allocation = acted_same e.at.key.moment e.move m.allocation a.0 in
+      let runs = running_same e e.move m.allocation m.runs a.0 in
+      let ended_then = ended_same e e.move m.allocation m.runs a.0 in
+      let one : remembered v m e ≡ remembered w m e = λ i. record {
+        came = came_after m e.at.key.moment e.move;
+        taken = taken_after m e.move;
+        since = since_after m e.move;
+        owing = owing_after m e.at e.move;
+        allocation = allocation i;
+        runs = runs i;
+        ended = m.ended ++ option_to_list (ended_then i);
+      } in
+      ap (λ n. remembered_all v n es) one ∙ remembered_same es (remembered w m e) a.1

@@ -26,10 +26,10 @@ runs_cut : (w : Rules) (p q : List Placed) → (x : Option Allocation) (ten : Op
 runs_cut w [] q x ten = refl
 runs_cut w (e ∷ p) q x ten = runs_cut w p q _ _
 
-in_lane : (w : Rules) (es : List Placed) (r : Tenancy) → runs_after w None None es ≡ Some r → Contains (tenancies_in w es) r
+pub in_lane : (w : Rules) (es : List Placed) (r : Tenancy) → runs_after w None None es ≡ Some r → Contains (tenancies_in w es) r
 in_lane w es r h = subst (λ (ts : List Tenancy). Contains ts r) (sym (so_far w es None None)) (Contains-append_right (ended_in w None None es) (option_to_list (runs_after w None None es)) r (in_listed (runs_after w None None es) r h))
 
-in_all : (w : Rules) (turns : List Turn) (turn : Turn) (r : Tenancy) → Contains turns turn → Contains (tenancies_in w (whole turn)) r → Contains (all_tenancies w (wholes turns)) r
+pub in_all : (w : Rules) (turns : List Turn) (turn : Turn) (r : Tenancy) → Contains turns turn → Contains (tenancies_in w (whole turn)) r → Contains (all_tenancies w (wholes turns)) r
 in_all w [] turn r c k = absurd (omega (arith, c.1))
 in_all w (u ∷ us) turn r c k = elim (Contains-append_cases (u ∷ []) us turn c) [
   | inl h ↦ let e : u ≡ turn = contained_all (λ (v : Turn). u ≡ v) (u ∷ []) turn (refl, tt) h in Contains-append_left (tenancies_in w (whole u)) (all_tenancies w (wholes us)) r (subst (λ (v : Turn). Contains (tenancies_in w (whole v)) r) (sym e) k)

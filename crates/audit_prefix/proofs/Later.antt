@@ -36,7 +36,7 @@ module _ (w v : Rules) (g : GoOn w v) where
 
 -- ---- one client alone holds an address
 
-lanes_apart : (a b : At) → a.lane ≢ b.lane → (Precedes a.key a.lane b.key b.lane) ⊎ (Precedes b.key b.lane a.key a.lane)
+pub lanes_apart : (a b : At) → a.lane ≢ b.lane → (Precedes a.key a.lane b.key b.lane) ⊎ (Precedes b.key b.lane a.key a.lane)
 lanes_apart a b ne = elim (cases_order a.key.moment b.key.moment) [
   | inl e ↦ elim (cases_order a.key.tie b.key.tie) [
     | inl i ↦ elim (cases_order a.lane b.lane) [
