@@ -16,14 +16,16 @@ use Rattle.audit_order.specs.Kept.{Keeps}
 use Rattle.audit_order.proofs.PortionSteps.{with_length}
 use Rattle.audit_placement.specs.Named.{AllNamed}
 use Rattle.audit_placement.specs.Shows.{ShowsPlaced}
+use Rattle.audit_prefix.specs.Live.{MayAdvance}
+use Rattle.audit_prefix.specs.Told.{LiveBreach}
 use Rattle.audit_rules.specs.Keys.{KeyFor}
 use Rattle.audit_sightings.specs.Intake.{Taken, NamesWhatIsThere}
 use Rattle.audit_live.specs.declared.front.Front.{Front}
 use Rattle.audit_live.specs.declared.lanes.LiveLanes.{LiveLanes}
 use Rattle.audit_live.specs.Chain.{Chain}
-use Rattle.audit_live.specs.Knows.{Knows, Tells}
+use Rattle.audit_live.specs.Knows.{Knows, Tells, stands_for}
 use Rattle.audit_live.specs.Turn.{AddsLane, TakesTurn}
-use Rattle.audit_live.proofs.Known.{stays_same}
+use Rattle.audit_live.proofs.Joining.{come_past, known_whole, told_whole}
 use Rattle.audit_live.proofs.Named.{events_named}
 
 pub extension_named : (taken : Taken) (old new : Certificate) (extension : Extension) → Extends old extension new → HasRoom old extension → AllNamed taken new
@@ -60,11 +62,23 @@ module _ (taken : Taken) (key_for : KeyFor) (last : Option ℕ) (old new : Front
   }
   tells_lanes events events_are none adds owed holders (Err fault) takes = tt
 
-  pub knows_lanes : Keeps taken new.placing → vec_len old.lanes.lanes ≡ length old.placing.certificate.lanes → vec_len with_new.lanes ≡ vec_len old.lanes.lanes + length pairs
-      → (result : Result (Option Breach) AllocError) → OnOk result (vec_len new.lanes.lanes ≡ vec_len with_new.lanes) → IfOk result (λ found. IfNone found (Knows taken new))
-  knows_lanes keeps before grown (Ok None) count =
+  pub lanes_there : vec_len old.lanes.lanes ≡ length old.placing.certificate.lanes → vec_len with_new.lanes ≡ vec_len old.lanes.lanes + length pairs → (result : Result (Option Breach) AllocError)
+      → OnOk result (vec_len new.lanes.lanes ≡ vec_len with_new.lanes) → OnOk result (vec_len new.lanes.lanes ≡ length new.placing.certificate.lanes)
+  lanes_there before grown (Ok found) count =
       let now : length new.placing.certificate.lanes ≡ length old.placing.certificate.lanes + length extension.lanes = lanes_count old.placing.certificate new.placing.certificate extension extends in
       let same : length pairs ≡ length extension.lanes = ap length pairs_are in
-      record { before = taken; stays = stays_same taken; keeps = keeps; lanes = omega (arith, count, grown, before, now, same) }
-  knows_lanes keeps before grown (Ok (Some breach)) count = tt
-  knows_lanes keeps before grown (Err fault) count = tt
+      omega (arith, count, grown, before, now, same)
+  lanes_there before grown (Err fault) count = tt
+
+module _ (taken : Taken) (key_for : KeyFor) (last : Option ℕ) (old new : Front) (extension : Extension) (knows : Knows taken key_for last old) (horizon : ℕ) (may : MayAdvance (stands_for taken old last) horizon extension) where
+  -- what is told is the breach of the whole
+  pub shows_whole : (result : Result (Option Breach) AllocError) → IfOk result (Tells taken key_for last old extension new) → IfOk result (LiveBreach taken key_for new.placing.certificate)
+  shows_whole (Ok found) tells = told_whole taken key_for last old new extension knows may.fits (come_past taken key_for last horizon old new extension knows may) found tells
+  shows_whole (Err fault) tells = tt
+
+  -- and where there is none, what is known goes on
+  pub knows_on : Keeps taken new.placing → (result : Result (Option Breach) AllocError) → IfOk result (Tells taken key_for last old extension new)
+      → OnOk result (vec_len new.lanes.lanes ≡ length new.placing.certificate.lanes) → IfOk result (λ found. IfNone found (Knows taken key_for (Some horizon) new))
+  knows_on keeps (Ok None) tells count = known_whole taken key_for last horizon old new extension knows may tells keeps count
+  knows_on keeps (Ok (Some breach)) tells count = tt
+  knows_on keeps (Err fault) tells count = tt

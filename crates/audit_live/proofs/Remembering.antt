@@ -61,27 +61,27 @@ left_in_time hold moment None right = absurd (none-some LeftWithoutAct (sym righ
 left_in_time hold moment (Some given) right = ltb-false (later given.arrived hold) moment (past_to (is_past hold given.arrived moment) HeldTooLong right)
 
 module _ (taken : Taken) (key_for : KeyFor) (pair : Pair) (number place : ℕ) (rows : List CredRow) (old : Kept) (m : Memory) (known : Remembers pair old m) where
-  abbrev terms : Terms
+  abbrev pub terms : Terms
   terms = terms_by number taken.policy rows
 
   module _ (a l : Sighting) (key : Key) (may_be : IsOpen taken.policy.hold key.moment (old.came a.id) (old.gave l.id)) where
-    abbrev arrived : Arrival
+    abbrev pub arrived : Arrival
     arrived = record { moment = may_be.came; user = may_be.user; acted = false }
 
-    came_then : m.came a.id ≡ Some may_be.came
+    pub came_then : m.came a.id ≡ Some may_be.came
     came_then = sym (known.came a.id) ∙ ap (option_map (λ (x : Arrival). x.moment)) may_be.is
 
-    not_taken : m.taken a.id ≡ false
+    pub not_taken : m.taken a.id ≡ false
     not_taken = sym (known.taken a.id arrived may_be.is)
 
-    not_since : is_some (m.since l.id) ≡ false
+    pub not_since : is_some (m.since l.id) ≡ false
     not_since = ap is_some (sym (known.since l.id) ∙ ap (option_map (λ (d : Departure). d.arrived)) may_be.not_given)
 
     tells_first : told_by (old.came a.id) ≡ Some 0
     tells_first = ap told_by may_be.is ∙ known.told a.id arrived may_be.is
 
     -- the key of whom the arrival names
-    agrees : (named : Option CredRow) → rows ≡ option_to_list named → IsRowOf key_for a.payload named → AgreeInMessage (terms.keys (told_by (old.came a.id))) key_for a.payload
+    pub agrees : (named : Option CredRow) → rows ≡ option_to_list named → IsRowOf key_for a.payload named → AgreeInMessage (terms.keys (told_by (old.came a.id))) key_for a.payload
     agrees named rows_are is =
         subst (λ (told : Option ℕ). AgreeInMessage (terms.keys told) key_for a.payload) (sym tells_first)
         (subst (λ (rs : List CredRow). AgreeInMessage ((terms_by number taken.policy rs).keys (Some 0)) key_for a.payload) (sym rows_are) (first_row named is))
@@ -90,10 +90,10 @@ module _ (taken : Taken) (key_for : KeyFor) (pair : Pair) (number place : ℕ) (
         first_row None nobody = row_agrees key_for a.payload None nobody
         first_row (Some row) names = row_agrees key_for a.payload (Some row) names
 
-    asked : KeyFor → Situation
+    unfoldable pub asked : KeyFor → Situation
     asked keys = record { client = pair.client; listen = pair.listen; policy = taken.policy; key_for = keys; allocation = m.allocation; arrives = a; leaves = l; moment = key.moment }
 
-    asked_is : situation_in terms old a l key.moment ≡ asked (terms.keys (told_by (old.came a.id)))
+    pub asked_is : situation_in terms old a l key.moment ≡ asked (terms.keys (told_by (old.came a.id)))
     unfolding asked
     asked_is = λ i. record {
       client = known.client i;

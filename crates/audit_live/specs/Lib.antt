@@ -7,3 +7,4 @@ pub mod Knows
 pub mod Audit
 pub mod Refusals
 pub mod Remembered
+pub mod Walked

@@ -4,12 +4,14 @@ use Rattle.audit_lane.specs.declared.noted.Arrival.{Arrival}
 use Rattle.audit_lane.specs.Content.{Happening}
 use Rattle.audit_lane.specs.Faults.{IsRight}
 use Rattle.audit_lane.specs.After.{after}
-use Rattle.audit_lane.specs.Kept.{Kept}
+use Rattle.audit_lane.specs.Kept.{Kept, place_at}
 use Rattle.audit_lane.specs.Seen.{SameKept, terms_by}
-use Rattle.audit_lane.specs.Walk.{key_at}
+use Rattle.audit_lane.specs.Walk.{Shows, key_at}
 use Rattle.audit_model.specs.declared.pair.Pair.{Pair}
+use Rattle.audit_model.specs.declared.rule.Rule.{Rule}
 use Rattle.audit_model.specs.declared.sighting.SightId.{SightId}
-use Rattle.audit_prefix.specs.Walk.{GoesOn, Memory, remembered}
+use Rattle.audit_model.specs.declared.verdict.Breach.{Breach}
+use Rattle.audit_prefix.specs.Walk.{Breaks, GoesOn, Memory, lane_breach, remembered, sight_named}
 use Rattle.audit_rules.specs.declared.credentials.CredRow.{CredRow}
 use Rattle.audit_rules.specs.Keys.{KeyFor}
 use Rattle.audit_runs.specs.Run.{IsKnown, move_of, placed_at}
@@ -37,3 +39,10 @@ GoesOnAsWalk taken key_for pair number place event rows old new m =
     → SameKept new (after (terms_by number taken.policy rows) place old event)
     → GoesOn (rules_for taken key_for) m (key_at event).moment (move_of pair event)
     × Remembers pair new (remembered (rules_for taken key_for) m (placed_at (terms_by number taken.policy rows) pair place event))
+
+-- a breach that an event shows is of the first rule that the walk breaks by it
+abbrev pub StopsAsWalk : Taken → KeyFor → Pair → ℕ → ℕ → Happening → List CredRow → Kept → Memory → Breach → Type 0
+StopsAsWalk taken key_for pair number place event rows old m breach =
+    AreRowsOf key_for event rows → IsKnown (sighting_at taken) event → Remembers pair old m → Shows (terms_by number taken.policy rows) place old event breach
+    → (rule : Rule) × Breaks taken key_for m (key_at event).moment (move_of pair event) rule
+    × (breach ≡ lane_breach taken key_for (place_at (terms_by number taken.policy rows) (key_at event) place) (sight_named taken key_for (move_of pair event)) rule)

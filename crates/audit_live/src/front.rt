@@ -1,12 +1,15 @@
 //! What is placed so far.
 
-ghost use Rattle.std.specs.Prelude.{◌≡◌, [], IfNone, IfOk, OnOk, length, min, vec_len};
+ghost use Rattle.std.specs.Prelude.{◌≡◌, ℕ, Option, None, Some, IfNone, IfOk, OnOk, [], length, min, vec_len};
 ghost use Rattle.audit_keys.specs.KeyFor.{key_for};
 ghost use Rattle.audit_order.specs.Grown.{Fits};
 ghost use Rattle.audit_order.specs.Growing.{placing_count};
 ghost use Rattle.audit_placement.specs.Entries.{entries};
-ghost use Rattle.audit_sightings.specs.Intake.{Taken, taken};
-ghost use Rattle.audit_live.specs.Knows.{Knows, Tells};
+ghost use Rattle.audit_prefix.specs.Live.{MayAdvance};
+ghost use Rattle.audit_prefix.specs.Told.{LiveBreach};
+ghost use Rattle.audit_rules.specs.Keys.{KeyFor};
+ghost use Rattle.audit_sightings.specs.Intake.{AreNumbered, Taken, taken};
+ghost use Rattle.audit_live.specs.Knows.{Knows, Tells, stands_for};
 
 use crate::lanes::LiveLanes;
 use crate::progress::Progress;
@@ -28,7 +31,7 @@ impl Front {
     pub fn new(alloc: Global) -> Front
         ensures lanes { result.placing.certificate.lanes ≡ [] }
         ensures drops { result.placing.certificate.drops ≡ [] }
-        ensures knows { (taken : Taken) → Knows taken result }
+        ensures knows { (taken : Taken) (key_for : KeyFor) → AreNumbered taken → Knows taken key_for None result }
     {
         Front {
             placing: Placing::new(alloc),
@@ -44,10 +47,15 @@ impl Front {
         last: Option<u64>,
         extension: &Extension,
     ) -> Result<Option<Breach>, AllocError>
-        requires knows { Knows (taken intake.now) self.old }
+        requires knows { Knows (taken intake.now) (key_for credentials.now) last self.old }
         requires fits { Fits self.old.placing.certificate extension.now }
         ensures tells { IfOk result (Tells (taken intake.now) (key_for credentials.now) last self.old extension.now self.new) }
-        ensures knows { IfOk result (λ found. IfNone found (Knows (taken intake.now) self.new)) }
+        // Of an extension that may come, what it shows is the breach of the whole,
+        ensures shows { (horizon : ℕ) → MayAdvance (stands_for (taken intake.now) self.old last) horizon extension.now →
+            IfOk result (LiveBreach (taken intake.now) (key_for credentials.now) self.new.placing.certificate) }
+        // and where there is none, what is known goes on.
+        ensures knows { (horizon : ℕ) → MayAdvance (stands_for (taken intake.now) self.old last) horizon extension.now →
+            IfOk result (λ found. IfNone found (Knows (taken intake.now) (key_for credentials.now) (Some horizon) self.new)) }
     {
         if let Err(breach) = self.placing.add(intake, extension)? {
             return Ok(Some(breach));
@@ -61,7 +69,7 @@ impl Front {
     pub fn progress(&self, horizon: u64) -> Progress
         requires { vec_len self.now.lanes.lanes ≡ length self.now.placing.certificate.lanes }
         ensures horizon { result.horizon ≡ horizon }
-        ensures placed { (taken : Taken) → Knows taken self.now → result.placed ≡ placing_count (entries self.now.placing.certificate) }
+        ensures placed { (taken : Taken) (key_for : KeyFor) (last : Option ℕ) → Knows taken key_for last self.now → result.placed ≡ placing_count (entries self.now.placing.certificate) }
         ensures lanes { result.lanes ≡ length self.now.placing.certificate.lanes }
         ensures owed { result.owed ≡ min self.now.lanes.owed 4294967295 }
     {

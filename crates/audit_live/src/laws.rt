@@ -1,17 +1,37 @@
 //! What holds of the steps of a lane, by the definitions alone. No program calls these.
 
-ghost use Rattle.std.specs.Prelude.{ℕ, List};
+ghost use Rattle.std.specs.Prelude.{◌<◌, ℕ, List, Option, IfSome};
 ghost use Rattle.audit_lane.specs.Content.{Happening};
 ghost use Rattle.audit_lane.specs.Kept.{Kept};
+ghost use Rattle.audit_model.specs.declared.extension.Extension.{Extension};
 ghost use Rattle.audit_model.specs.declared.pair.Pair.{Pair};
+ghost use Rattle.audit_model.specs.declared.verdict.Breach.{Breach};
+ghost use Rattle.audit_order.specs.Grown.{Fits};
+ghost use Rattle.audit_prefix.specs.Advance.{OfMoments};
+ghost use Rattle.audit_prefix.specs.Told.{LiveBreach};
 ghost use Rattle.audit_prefix.specs.Walk.{Memory};
 ghost use Rattle.audit_rules.specs.declared.credentials.CredRow.{CredRow};
 ghost use Rattle.audit_rules.specs.Keys.{KeyFor};
 ghost use Rattle.audit_sightings.specs.Intake.{Taken};
-ghost use Rattle.audit_live.specs.Remembered.{GoesOnAsWalk};
+ghost use Rattle.audit_live.specs.declared.front.Front.{Front};
+ghost use Rattle.audit_live.specs.Knows.{Knows, Tells};
+ghost use Rattle.audit_live.specs.Remembered.{GoesOnAsWalk, StopsAsWalk};
 
 /// An event that is right by the row of its user is one that the walk of the lane by all credentials goes on with, and what is kept then is what is remembered then.
 pub fn steps_are_remembered()
     ensures { (taken : Taken) (key_for : KeyFor) (pair : Pair) (number place : ℕ) (event : Happening) (rows : List CredRow) (old new : Kept) (m : Memory) →
         GoesOnAsWalk taken key_for pair number place event rows old new m }
+{}
+
+/// The breach that an event shows by the row of its user is of the first rule that the walk of the lane breaks there by all credentials.
+pub fn breaches_are_those_of_the_walk()
+    ensures { (taken : Taken) (key_for : KeyFor) (pair : Pair) (number place : ℕ) (event : Happening) (rows : List CredRow) (old : Kept) (m : Memory) (breach : Breach) →
+        StopsAsWalk taken key_for pair number place event rows old m breach }
+{}
+
+/// What a turn tells, whose extension fits and comes past the last horizon, is the breach of the whole certificate as it then stands.
+pub fn turns_tell_the_breach_of_the_whole()
+    ensures { (taken : Taken) (key_for : KeyFor) (last : Option ℕ) (old new : Front) (extension : Extension) (found : Option Breach) →
+        Knows taken key_for last old → Fits old.placing.certificate extension → OfMoments (λ moment. IfSome last (λ before. before < moment)) extension →
+        Tells taken key_for last old extension new found → LiveBreach taken key_for new.placing.certificate found }
 {}

@@ -5,7 +5,8 @@ ghost use Rattle.audit_keys.specs.KeyFor.{key_for};
 ghost use Rattle.audit_model.specs.declared.certificate.TheConstants.{MAX_LANES};
 ghost use Rattle.audit_order.specs.Growing.{placing_count};
 ghost use Rattle.audit_placement.specs.Entries.{entries};
-ghost use Rattle.audit_prefix.specs.Live.{MayAdvance};
+ghost use Rattle.audit_prefix.specs.Live.{Advances, MayAdvance, Shows, horizon_of};
+ghost use Rattle.audit_prefix.specs.Prefix.{IsPrefix};
 ghost use Rattle.audit_sightings.specs.Files.{Fed, GoesOn, Refuses, StandsFor, not_fed};
 ghost use Rattle.audit_sightings.specs.Intake.{taken};
 ghost use Rattle.audit_sightings.specs.declared.fault.IntakeFault.{IntakeFault as Fault};
@@ -28,6 +29,7 @@ use audit_glue::check;
 use audit_keys::Credentials;
 use audit_model::{Extension, Policy, Verdict};
 use audit_sightings::Intake;
+use audit_sightings::laws::sightings_are_numbered;
 use std::alloc::Global;
 use std::marker::Model;
 
@@ -47,6 +49,7 @@ pub struct Live {
 impl Model for Live {
     ghost use Rattle.std.specs.Prelude.{◌≡◌, None};
     ghost use Rattle.std.specs.Coded.{codes};
+    ghost use Rattle.audit_keys.specs.KeyFor.{key_for};
     ghost use Rattle.audit_keys.specs.contracts.keyring.Credentials.{the_row as credentials_row};
     ghost use Rattle.audit_sightings.specs.contracts.intake.Intake.{the_row as intake_row};
     ghost use Rattle.audit_live.specs.contracts.front.Front.{the_row as front_row};
@@ -60,7 +63,7 @@ impl Model for Live {
 
     ghost view = { λ l. record { intake = l.intake; credentials = l.credentials; front = l.front; last = l.last; ended = l.ended } };
 
-    ghost invariant = { λ l. l.ended ≡ None → Knows (taken l.intake) l.front };
+    ghost invariant = { λ l. l.ended ≡ None → Knows (taken l.intake) (key_for l.credentials) l.last l.front };
 }
 
 impl Live {
@@ -113,12 +116,17 @@ impl Live {
         ensures cause { self.old.ended ≡ None → IfErr result (λ refusal. IsInput refusal (λ fault. self.new.ended ≡ Some (Refused fault))) }
         ensures goes_on { OnOk result (self.new.ended ≡ None) }
         ensures files { vec_len self.new.intake.files ≡ vec_len self.old.intake.files }
+        // As the captures grow, what is placed stays the front of a run that explains them.
+        ensures prefix { OnOk result (IsPrefix (taken self.new.intake) (rules_for (taken self.new.intake) (key_for self.new.credentials)) self.new.front.placing.certificate (horizon_of self.new.last)) }
         ensures rest { self.new ≡ record self.old { intake = self.new.intake; ended = self.new.ended } }
     {
         if self.ended.is_some() {
             return Err(LiveFault::Ended);
         }
-        match self.intake.feed(file, piece) {
+        let fed = self.intake.feed(file, piece);
+        // That its sightings are numbered is asked of what is known.
+        sightings_are_numbered(&self.intake);
+        match fed {
             Ok(()) => Ok(()),
             Err(fault) => {
                 self.ended = Some(Cause::Refused(fault));
@@ -161,6 +169,11 @@ impl Live {
         ensures leaves { IfErr result (Leaves self.old self.new) }
         ensures passes { OnOk result (Tells (taken self.old.intake) (key_for self.old.credentials) self.old.last self.old.front extension self.new.front None) }
         ensures breach { IfErr result (λ refusal. IfBreach refusal (λ breach. Tells (taken self.old.intake) (key_for self.old.credentials) self.old.last self.old.front extension self.new.front (Some breach))) }
+        // It is accepted where no breach is shown of the whole, and refused by G3 where one is, with the one that is told.
+        ensures advances { OnOk result (Advances (key_for self.old.credentials) (standing_of self.old) horizon extension (standing_of self.new)) }
+        ensures shows { IfErr result (λ refusal. IfBreach refusal (λ breach. Shows (key_for self.old.credentials) (standing_of self.old) extension (Some breach))) }
+        // What is placed is the front of a run that explains the captures.
+        ensures prefix { OnOk result (IsPrefix (taken self.new.intake) (rules_for (taken self.new.intake) (key_for self.new.credentials)) self.new.front.placing.certificate horizon) }
         ensures progress { IfOk result (λ progress. progress ≡ record {
           horizon = horizon;
           placed = placing_count (entries self.new.front.placing.certificate);

@@ -3,7 +3,7 @@ use Rattle.audit_keys.specs.KeyFor.{key_for}
 use Rattle.audit_model.specs.declared.event.Event.{Event}
 use Rattle.audit_sightings.specs.Intake.{taken, NamesWhatIsThere}
 use Rattle.audit_live.specs.declared.front.Front.{Front}
-use Rattle.audit_live.proofs.Fronts.{extension_named, tells_lanes, knows_lanes}
+use Rattle.audit_live.proofs.Fronts.{extension_named, knows_on, lanes_there, shows_whole, tells_lanes}
 use Rattle.audit_live.proofs.front.Front.take.Goals as goal
 
 pub returns-in-Err-clause-tells : goal.returns-in-Err-clause-tells
@@ -27,9 +27,19 @@ returns-clause-tells c =
     tells_lanes (taken c.args.intake.now) (key_for c.args.credentials.now) c.args.last c.args.self.now new c.add-2.new.self c.args.extension.now c.in_ok-breach.ensures.extends
     c.as_slice.result.now c.as_slice.ensures c.as_slice-2.result.now c.as_slice-2.ensures none c.in_ok-add.ensures.lanes c.in_ok-add.ensures.rest.0 c.in_ok-add.ensures.rest.1 c.take.result c.take.ensures.takes
 
-pub returns-clause-knows : goal.returns-clause-knows
-returns-clause-knows c =
+pub returns-in-Err-clause-shows : goal.returns-in-Err-clause-shows
+returns-in-Err-clause-shows c = λ horizon may.
+    (Some c.in-Err.breach, rw c.in-Err.is at (c.in_ok-breach.ensures.breach c.requires.knows.before c.requires.knows.keeps c.requires.knows.stays), refl)
+
+pub returns-clause-shows : goal.returns-clause-shows
+returns-clause-shows c = λ horizon may.
     let new : Front = record { placing = c.add.new.self; lanes = c.take.new.self } in
-    knows_lanes (taken c.args.intake.now) (key_for c.args.credentials.now) c.args.last c.args.self.now new c.add-2.new.self c.args.extension.now c.in_ok-breach.ensures.extends
-    c.as_slice.result.now c.as_slice.ensures (c.in_ok-breach.ensures.keeps c.requires.knows.before c.requires.knows.keeps c.requires.knows.stays) c.requires.knows.lanes c.in_ok-add.ensures.count
-    c.take.result c.take.ensures.count
+    shows_whole (taken c.args.intake.now) (key_for c.args.credentials.now) c.args.last c.args.self.now new c.args.extension.now c.requires.knows horizon may c.take.result (returns-clause-tells c)
+
+pub returns-clause-knows : goal.returns-clause-knows
+returns-clause-knows c = λ horizon may.
+    let new : Front = record { placing = c.add.new.self; lanes = c.take.new.self } in
+    knows_on (taken c.args.intake.now) (key_for c.args.credentials.now) c.args.last c.args.self.now new c.args.extension.now c.requires.knows horizon may
+    (c.in_ok-breach.ensures.keeps c.requires.knows.before c.requires.knows.keeps c.requires.knows.stays) c.take.result (returns-clause-tells c)
+    (lanes_there (taken c.args.intake.now) (key_for c.args.credentials.now) c.args.last c.args.self.now new c.add-2.new.self c.args.extension.now c.in_ok-breach.ensures.extends
+    c.as_slice.result.now c.as_slice.ensures c.requires.knows.lanes c.in_ok-add.ensures.count c.take.result c.take.ensures.count)
