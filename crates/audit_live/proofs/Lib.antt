@@ -21,3 +21,4 @@ pub mod Named
 pub mod Takes
 pub mod Joining
 pub mod Fronts
+pub mod OneTold

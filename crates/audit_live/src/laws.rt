@@ -1,15 +1,16 @@
 //! What holds of the steps of a lane, by the definitions alone. No program calls these.
 
-ghost use Rattle.std.specs.Prelude.{◌<◌, ℕ, List, Option, IfSome};
+ghost use Rattle.std.specs.Prelude.{◌<◌, ℕ, List, Option, None, Some, IfSome};
 ghost use Rattle.audit_lane.specs.Content.{Happening};
 ghost use Rattle.audit_lane.specs.Kept.{Kept};
+ghost use Rattle.audit_model.specs.declared.certificate.Certificate.{Certificate};
 ghost use Rattle.audit_model.specs.declared.extension.Extension.{Extension};
 ghost use Rattle.audit_model.specs.declared.pair.Pair.{Pair};
 ghost use Rattle.audit_model.specs.declared.verdict.Breach.{Breach};
 ghost use Rattle.audit_order.specs.Grown.{Fits};
 ghost use Rattle.audit_prefix.specs.Advance.{OfMoments};
 ghost use Rattle.audit_prefix.specs.Told.{LiveBreach};
-ghost use Rattle.audit_prefix.specs.Walk.{Memory};
+ghost use Rattle.audit_prefix.specs.Walk.{HaveBytes, Memory};
 ghost use Rattle.audit_rules.specs.declared.credentials.CredRow.{CredRow};
 ghost use Rattle.audit_rules.specs.Keys.{KeyFor};
 ghost use Rattle.audit_sightings.specs.Intake.{Taken};
@@ -34,4 +35,10 @@ pub fn turns_tell_the_breach_of_the_whole()
     ensures { (taken : Taken) (key_for : KeyFor) (last : Option ℕ) (old new : Front) (extension : Extension) (found : Option Breach) →
         Knows taken key_for last old → Fits old.placing.certificate extension → OfMoments (λ moment. IfSome last (λ before. before < moment)) extension →
         Tells taken key_for last old extension new found → LiveBreach taken key_for new.placing.certificate found }
+{}
+
+/// Where no breach is told of a certificate, none is one by the same definitions: so an advance is refused by G3 exactly where there is one. What was captured is bytes.
+pub fn a_breach_is_told_or_none()
+    ensures { (taken : Taken) (key_for : KeyFor) (certificate : Certificate) (breach : Breach) → HaveBytes taken →
+        LiveBreach taken key_for certificate None → LiveBreach taken key_for certificate (Some breach) → ⊥ }
 {}

@@ -169,7 +169,7 @@ impl Live {
         ensures leaves { IfErr result (Leaves self.old self.new) }
         ensures passes { OnOk result (Tells (taken self.old.intake) (key_for self.old.credentials) self.old.last self.old.front extension self.new.front None) }
         ensures breach { IfErr result (λ refusal. IfBreach refusal (λ breach. Tells (taken self.old.intake) (key_for self.old.credentials) self.old.last self.old.front extension self.new.front (Some breach))) }
-        // It is accepted where no breach is shown of the whole, and refused by G3 where one is, with the one that is told.
+        // Accepted, no breach is told of the whole certificate as it then stands; refused by G3, this one is.
         ensures advances { OnOk result (Advances (key_for self.old.credentials) (standing_of self.old) horizon extension (standing_of self.new)) }
         ensures shows { IfErr result (λ refusal. IfBreach refusal (λ breach. Shows (key_for self.old.credentials) (standing_of self.old) extension (Some breach))) }
         // What is placed is the front of a run that explains the captures.
