@@ -39,7 +39,7 @@ impl Lane<'_> {
         let Some(seen) = self.given.seen(departure) else {
             return Ok(Some(Refused::NoArrival));
         };
-        if self.given.is_early && self.act_early(departure, seen, slot)? {
+        if self.given.asked.is_at_request(departure) && self.act_early(departure, seen, slot)? {
             return Ok(None);
         }
         let empty = self.empty_table();

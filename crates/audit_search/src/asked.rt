@@ -12,6 +12,8 @@ pub(crate) struct Asked {
     pub before: BTreeSet<(SeenNumber, SeenNumber)>,
     /// Departures, and the arrivals that they are to answer.
     pub answers: BTreeSet<(SeenNumber, SeenNumber)>,
+    /// Answers that give a lease, whose acts are to stand at their requests.
+    pub at_requests: BTreeSet<SeenNumber>,
     /// Whether acts that make or keep an allocation stand at their requests.
     pub is_early: bool,
     pub banned: Banned,
@@ -28,6 +30,9 @@ impl Asked {
             Wish::Answers { arrival, departure } => {
                 self.answers.insert((departure, arrival))?;
             }
+            Wish::AtRequest { answer } => {
+                self.at_requests.insert(answer)?;
+            }
             Wish::NotHere { sighting, lane } => {
                 self.banned.insert((sighting, lane))?;
             }
@@ -43,10 +48,18 @@ impl Asked {
             Wish::Answers { arrival, departure } => {
                 self.answers.remove(&(departure, arrival));
             }
+            Wish::AtRequest { answer } => {
+                self.at_requests.remove(&answer);
+            }
             Wish::NotHere { sighting, lane } => {
                 self.banned.remove(&(sighting, lane));
             }
         }
+    }
+
+    /// Whether the act of an answer is to stand at its request, rather than where the answer leaves.
+    pub(crate) fn is_at_request(&self, answer: SeenNumber) -> bool {
+        self.is_early || self.at_requests.contains(&answer)
     }
 
     pub(crate) fn shift(&self, iface: u32) -> u64 {

@@ -1,5 +1,6 @@
 //! When addresses change hands: by when a lane's allocation has to be over, and when one may begin.
 
+use crate::asked::Asked;
 use crate::lane::{Lane, relayed_of};
 use crate::needs::AHEAD;
 use crate::slot::Slot;
@@ -33,6 +34,7 @@ impl Deadlines {
         mates: &Mates,
         order: &Order,
         at: &[u64],
+        asked: &Asked,
     ) -> Result<Deadlines, AllocError> {
         let mut deadlines = Deadlines {
             list: Vec::new(alloc),
@@ -49,15 +51,22 @@ impl Deadlines {
                 continue;
             };
             if order.rank(request) < next {
-                let slot = Slot::first(next);
-                let moment = at.get(handover.next.index()).copied().unwrap_or(0);
+                let is_soon = asked.at_requests.contains(&handover.next);
+                let (slot, last) = if is_soon {
+                    (Slot::behind(order.rank(request)), request)
+                } else {
+                    (Slot::first(next), handover.next)
+                };
+                let moment = at.get(last.index()).copied().unwrap_or(0);
                 deadlines
                     .list
                     .push((handover.from, slot, handover.maker, moment))?;
-                let behind = Slot::before(order.rank(ender)).next();
-                deadlines
-                    .not_before
-                    .insert(handover.next, behind.min(slot))?;
+                let behind = if is_soon {
+                    slot.next()
+                } else {
+                    slot.min(Slot::before(order.rank(ender)).next())
+                };
+                deadlines.not_before.insert(handover.next, behind)?;
             }
         }
         deadlines.list.sort_unstable();

@@ -31,9 +31,13 @@ impl Lane<'_> {
     ) -> Result<bool, AllocError> {
         let is_one = matches!(
             seen.gives(),
-            Some(Gives::Allocated { .. } | Gives::Refreshed { .. } | Gives::Bound)
+            Some(
+                Gives::Allocated { .. } | Gives::Refreshed { .. } | Gives::Bound | Gives::Permitted
+            )
         );
-        if !is_one || self.given.deadlines.is_second(departure) {
+        let given = self.given;
+        let is_asked = given.asked.at_requests.contains(&departure);
+        if !is_one || (given.deadlines.is_second(departure) && !is_asked) {
             return Ok(false);
         }
         let Some(arrival) = self.oldest(departure, before)? else {
@@ -44,7 +48,7 @@ impl Lane<'_> {
             self.given.at(arrival),
         );
         let (slot, moment) = own.max(self.state.progress.last);
-        if slot >= before {
+        if slot >= before || slot < given.deadlines.not_before(departure) {
             return Ok(false);
         }
         let mut table = table_copy(self)?;
@@ -60,7 +64,7 @@ impl Lane<'_> {
         Ok(true)
     }
 
-    /// Acts on a departure at its arrival, when a lease wasn't over; tells why it can't.
+    /// Acts on a departure at its arrival, or right behind the last act, when a lease wasn't over; tells why it can't.
     pub(crate) fn act_at_arrival(
         &mut self,
         departure: SeenNumber,
@@ -80,17 +84,26 @@ impl Lane<'_> {
         Ok(Some(Refused::NoArrival))
     }
 
-    /// Acts on a departure right behind an arrival, if the table didn't change since; tells whether it did.
+    /// Acts on a departure right behind an arrival, or right behind the last act where the table changed since; tells whether it did.
     fn act_at(
         &mut self,
         departure: SeenNumber,
         seen: &Seen,
         arrival: SeenNumber,
     ) -> Result<bool, AllocError> {
-        let slot = Slot::behind(self.given.rank(arrival));
-        let moment = self.given.at(arrival);
+        let own = (
+            Slot::behind(self.given.rank(arrival)),
+            self.given.at(arrival),
+        );
+        let is_changed = own.0 <= self.state.progress.changed;
+        let (slot, moment) = if is_changed {
+            own.max(self.state.progress.last)
+        } else {
+            own
+        };
         let does = self.does(&self.state.table, seen, moment);
-        if slot <= self.state.progress.changed || does == Does::Ends {
+        let is_late = slot >= Slot::before(self.given.rank(departure));
+        if is_late || does == Does::Ends {
             return Ok(false);
         }
         let mut table = table_copy(self)?;
@@ -100,19 +113,20 @@ impl Lane<'_> {
         {
             return Ok(false);
         }
+        let mut progress = Progress {
+            turn: self.state.progress.turn.saturating_add(1),
+            last: self.state.progress.last.max((slot, moment)),
+            ..self.state.progress
+        };
         if does == Does::Changes {
             let before = std::mem::replace(&mut self.state.table, table);
             self.state.changed_from(Some(before))?;
-            let progress = Progress {
-                changed: slot,
-                last: self.state.progress.last.max((slot, moment)),
-                ..self.state.progress
-            };
-            self.state.set_progress(progress)?;
+            progress.changed = slot;
         }
+        self.state.set_progress(progress)?;
         let acted = Acted {
             slot,
-            turn: (self.state.progress.turn, 1),
+            turn: (progress.turn, 0),
             arrival,
         };
         self.state.act(departure, acted)?;

@@ -1,9 +1,10 @@
 //! What the search of a lane goes by.
 
+use crate::asked::Asked;
 use crate::deadlines::Deadlines;
 use crate::views::{PoolRef, Views};
 use audit_keys::Credentials;
-use audit_matching::{Gives, Known, LaneNumber, Order, PoolKey, Says, Seen, SeenNumber};
+use audit_matching::{Gives, Known, LaneNumber, Mates, Order, PoolKey, Says, Seen, SeenNumber};
 use audit_model::{Addr, SightId, Sighting};
 use audit_sightings::Intake;
 use std::alloc::{AllocError, Global};
@@ -21,8 +22,9 @@ pub(crate) struct Given<'a> {
     pub low: &'a [u64],
     pub at: &'a [u64],
     pub deadlines: &'a Deadlines,
-    /// Whether acts that make or keep an allocation stand at their requests, for leases that end to the microsecond.
-    pub is_early: bool,
+    /// The arrival that each departure most likely answers.
+    pub mates: &'a Mates,
+    pub asked: &'a Asked,
     /// The client and the listen address of each lane.
     pub pairs: &'a [(Addr, Addr)],
 }

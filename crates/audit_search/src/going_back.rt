@@ -36,7 +36,7 @@ impl Sweep<'_> {
                 None => 0,
             };
             let until = made.saturating_add(given.known.hold.saturating_mul(REACH));
-            if until >= moment && self.lane.state.trail_weight() <= TRAIL {
+            if (until >= moment || choice.is_of_end) && self.lane.state.trail_weight() <= TRAIL {
                 break;
             }
             let _forgotten = self.stack.pop_front();

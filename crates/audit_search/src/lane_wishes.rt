@@ -44,6 +44,7 @@ impl LaneWishes {
             let (one, other) = match kept.wish {
                 Wish::Before { arrival, departure } => (arrival.0, departure.0),
                 Wish::Answers { arrival, departure } => (departure.0, arrival.0),
+                Wish::AtRequest { answer } => (answer.0, u32::MAX),
                 Wish::NotHere { sighting, lane } => (lane.0, sighting.0),
             };
             hasher.write_u32(one);

@@ -47,7 +47,7 @@ impl Prepared {
         let low = lows(alloc, sights, &mut edges, &asked.shifts, hold)?;
         let at = places(alloc, sights, &edges, &low, hold)?;
         let order = ranked(alloc, sights, &edges, &low, &at)?;
-        let deadlines = Deadlines::of(alloc, &handovers, &first.mates, &order, &at)?;
+        let deadlines = Deadlines::of(alloc, &handovers, &first.mates, &order, &at, asked)?;
         let shared = Shared::of(alloc, &known, &handovers, &first.mates)?;
         let viewed = Viewed {
             intake: reading.intake,
@@ -56,7 +56,7 @@ impl Prepared {
             low: &low,
             at: &at,
             relayed: relayed.as_slice(),
-            banned: &asked.banned,
+            asked,
             shared: &shared,
         };
         let views = Views::of(alloc, &viewed, reading.pairs.len())?;
@@ -77,7 +77,7 @@ impl Prepared {
         &'a self,
         reading: &'a Reading<'_>,
         first: &'a FirstKeys,
-        is_early: bool,
+        asked: &'a Asked,
     ) -> Given<'a> {
         Given {
             alloc: reading.alloc,
@@ -89,7 +89,8 @@ impl Prepared {
             low: &self.low,
             at: &self.at,
             deadlines: &self.deadlines,
-            is_early,
+            mates: &self.edges.mates,
+            asked,
             pairs: reading.pairs,
         }
     }

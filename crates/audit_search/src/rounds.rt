@@ -24,7 +24,7 @@ const SIGHTINGS: usize = 100_000;
 /// How often the clocks are told anew.
 const TURNS: u32 = 3;
 
-/// How good a round is: by its faults, by the arrivals that two lanes act on, by how far it came.
+/// How good a round is: by its faults, by the arrivals that two lanes act on and the addresses that two hold, by how far it came.
 type Score = (usize, usize, u64);
 
 /// A round, and how good it is.
@@ -89,12 +89,13 @@ pub fn best_round_by<R: Threads + Sync>(
 }
 
 impl Scored {
-    fn of(round: Round, alloc: Global) -> Result<Scored, AllocError> {
-        let doubles = round.doubles(alloc)?.len();
+    fn of(round: Round, reading: &Reading<'_>) -> Result<Scored, AllocError> {
+        let doubles = round.doubles(reading.alloc)?.len();
+        let overlaps = round.overlaps(reading)?.len();
         let low = round.faults.iter().map(|fault| fault.1.low).min();
         let score = (
             usize::MAX.saturating_sub(round.faults.len()),
-            usize::MAX.saturating_sub(doubles),
+            usize::MAX.saturating_sub(doubles).saturating_sub(overlaps),
             low.unwrap_or(u64::MAX),
         );
         Ok(Scored { round, score })
@@ -124,6 +125,7 @@ impl<'a> Climb<'a> {
             asked: Asked {
                 before: BTreeSet::new(alloc),
                 answers: BTreeSet::new(alloc),
+                at_requests: BTreeSet::new(alloc),
                 is_early: false,
                 banned: BTreeSet::new(alloc),
                 shifts,
@@ -153,7 +155,7 @@ impl<'a> Climb<'a> {
     }
 
     fn search(&mut self, prepared: &Prepared) -> Result<(), AllocError> {
-        let given = prepared.given(self.reading, &self.first, self.asked.is_early);
+        let given = prepared.given(self.reading, &self.first, &self.asked);
         self.searched.search(&given)
     }
 
@@ -163,7 +165,7 @@ impl<'a> Climb<'a> {
         workers: u32,
         prepared: &Prepared,
     ) -> Result<(), AllocError> {
-        let given = prepared.given(self.reading, &self.first, self.asked.is_early);
+        let given = prepared.given(self.reading, &self.first, &self.asked);
         self.searched.search_by(rt, workers, &given)
     }
 
@@ -176,7 +178,7 @@ impl<'a> Climb<'a> {
         }
         self.is_first = false;
         let is_more = self.ask(&round)?;
-        let best = Scored::of(round, alloc)?.or_older(self.best.take());
+        let best = Scored::of(round, self.reading)?.or_older(self.best.take());
         self.go_on(&best, is_more)?;
         self.best = Some(best);
         Ok(())
@@ -212,6 +214,7 @@ impl<'a> Climb<'a> {
     fn start_again(&mut self) -> Result<(), AllocError> {
         self.asked.before.clear();
         self.asked.answers.clear();
+        self.asked.at_requests.clear();
         self.asked.banned.clear();
         self.lanes.clear();
         self.tried.clear();

@@ -30,7 +30,7 @@ impl Climb<'_> {
             let fault = fault_of(round, *lane);
             let is_worse = match wish {
                 Wish::NotHere { sighting, .. } => is_new || blamed.contains(&sighting),
-                Wish::Before { .. } | Wish::Answers { .. } => false,
+                Wish::Before { .. } | Wish::Answers { .. } | Wish::AtRequest { .. } => false,
             };
             let is_stuck = fault.is_some_and(|fault| fault.low <= wishes.level);
             if is_worse || is_stuck {
@@ -57,6 +57,9 @@ impl Climb<'_> {
             self.faulty.insert(*lane)?;
         }
         let mut is_more = self.ask_doubles(round)?;
+        if self.ask_overlaps(round)? {
+            is_more = true;
+        }
         for (lane, fault, wishes) in &round.faults {
             if self.ask_lane(*lane, fault, wishes)? {
                 is_more = true;
@@ -81,6 +84,19 @@ impl Climb<'_> {
                     is_more = true;
                     break;
                 }
+            }
+        }
+        Ok(is_more)
+    }
+
+    /// Asks that allocations that are held when another lane has their address are over earlier; tells whether one of that is new.
+    fn ask_overlaps(&mut self, round: &Round) -> Result<bool, AllocError> {
+        let mut is_more = false;
+        for (lane, answer) in round.overlaps(self.reading)? {
+            let wish = Wish::AtRequest { answer };
+            if self.tried.insert((lane, wish, 0))? {
+                self.asked.ask(wish)?;
+                is_more = true;
             }
         }
         Ok(is_more)

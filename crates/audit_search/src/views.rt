@@ -1,7 +1,8 @@
 //! The arrivals and departures of each lane, in the order of all sightings.
 
+use crate::asked::Asked;
 use crate::shared::Shared;
-use audit_matching::{Banned, Known, LaneNumber, Order, PoolNumber, Says, Seen, SeenNumber};
+use audit_matching::{Known, LaneNumber, Order, PoolNumber, Says, Seen, SeenNumber};
 use audit_sightings::Intake;
 use std::alloc::{AllocError, Global};
 
@@ -52,7 +53,7 @@ pub(crate) struct Viewed<'a> {
     pub at: &'a [u64],
     /// The lane of each departure from a relayed address.
     pub relayed: &'a [Option<LaneNumber>],
-    pub banned: &'a Banned,
+    pub asked: &'a Asked,
     pub shared: &'a Shared,
 }
 
@@ -162,7 +163,7 @@ impl Views {
         let moment = known.times.of(number).early;
         let mut is_shared = false;
         for lane in known.tenancies.lanes_at(sighting.to, moment, known.hold)? {
-            if !viewed.banned.contains(&(number, lane)) {
+            if !viewed.asked.banned.contains(&(number, lane)) {
                 self.arrivals
                     .push((lane, PoolRef { pool, is_shared }, rank, number))?;
                 self.mix(viewed, lane, number);
@@ -178,7 +179,8 @@ impl Views {
         let at = viewed.at.get(number.index()).copied().unwrap_or(0);
         if let Some(print) = self.prints.get_mut(lane.index()) {
             let mut mixed = *print;
-            for word in [u64::from(number.0), low, at] {
+            let is_at_request = viewed.asked.at_requests.contains(&number);
+            for word in [u64::from(number.0), low, at, u64::from(is_at_request)] {
                 mixed = (mixed ^ word).wrapping_mul(FACTOR).rotate_left(29);
             }
             *print = mixed;

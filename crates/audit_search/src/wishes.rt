@@ -1,6 +1,7 @@
 //! What a lane would need to act on a departure, and doesn't have.
 
 use crate::lane::{Lane, Refused};
+use crate::leases::is_of_what_is_there;
 use crate::needs::{AHEAD, helps};
 use crate::views::PoolRef;
 use audit_matching::{Gives, LaneNumber, SeenNumber};
@@ -20,6 +21,10 @@ pub enum Wish {
         arrival: SeenNumber,
         departure: SeenNumber,
     },
+    /// That the act of an answer that gives a lease stands at its request, so that the lease ends as early as it may.
+    AtRequest {
+        answer: SeenNumber,
+    },
     /// That a sighting of a relayed address is another lane's.
     NotHere {
         sighting: SeenNumber,
@@ -28,7 +33,7 @@ pub enum Wish {
 }
 
 /// How many arrivals of a pool are asked for.
-const EACH: usize = 2;
+pub(crate) const EACH: usize = 2;
 
 impl Lane<'_> {
     /// What the lane would need to act on a departure, the likeliest first: arrivals before it, its own or those of answers that may help;
@@ -39,6 +44,10 @@ impl Lane<'_> {
         refused: Refused,
     ) -> Result<Vec<Wish>, AllocError> {
         let mut wishes = Vec::new(self.given.alloc);
+        if is_of_what_is_there(refused) {
+            self.wish_at_request(departure, &mut wishes)?;
+        }
+        self.wish_soon(departure, &mut wishes)?;
         if is_of_table(refused) {
             self.wish_changes(departure, refused, &mut wishes)?;
             self.wish_own(departure, &mut wishes)?;
@@ -62,8 +71,43 @@ impl Lane<'_> {
         for pool in self.any_pools(departure)? {
             self.wish_late(departure, pool, wishes)?;
             self.wish_behind(departure, pool, EACH, wishes)?;
+            self.wish_older(departure, pool, wishes)?;
         }
         Ok(())
+    }
+
+    /// Asks that an older arrival of a pool, which nothing answers, is answered by the mate of the next one, so that this one is free.
+    fn wish_older(
+        &self,
+        departure: SeenNumber,
+        pool: PoolRef,
+        wishes: &mut Vec<Wish>,
+    ) -> Result<(), AllocError> {
+        let all = self.given.views.arrivals(self.number, pool);
+        let rank = self.given.rank(departure);
+        let behind = all.partition_point(|one| one.2 < rank);
+        let near = all.get(behind.saturating_sub(AHEAD)..behind).unwrap_or(&[]);
+        let mut older: Option<SeenNumber> = None;
+        for (_, _, _, arrival) in near {
+            let mate = self.given.mates.of(*arrival);
+            if let (Some(older), Some(mate)) = (older, mate) {
+                let wish = Wish::Answers {
+                    arrival: older,
+                    departure: mate,
+                };
+                if self.may_answer(mate, older) && !wishes.contains(&wish) {
+                    wishes.push(wish)?;
+                }
+            }
+            older = if mate.is_none() { Some(*arrival) } else { None };
+        }
+        Ok(())
+    }
+
+    /// Whether an arrival may stand so late that a departure is within the hold of it.
+    fn may_answer(&self, departure: SeenNumber, arrival: SeenNumber) -> bool {
+        let hi = self.given.seen(arrival).map_or(0, |seen| seen.hi);
+        hi.saturating_add(self.given.known.hold) >= self.given.low(departure)
     }
 
     /// Asks that the last arrivals of a pool that came too long before a departure stand later, if they may.
@@ -83,10 +127,8 @@ impl Lane<'_> {
                 arrival: *arrival,
                 departure,
             };
-            let hi = self.given.seen(*arrival).map_or(0, |seen| seen.hi);
-            let last = hi.saturating_add(self.given.known.hold);
             let is_late = self.given.held_until(*arrival) < moment;
-            let may_stand = last >= self.given.low(departure) && !self.state.is_used(*arrival);
+            let may_stand = self.may_answer(departure, *arrival) && !self.state.is_used(*arrival);
             if is_late && may_stand && !wishes.contains(&wish) {
                 wishes.push(wish)?;
             }
