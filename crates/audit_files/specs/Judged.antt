@@ -21,6 +21,17 @@ abbrev pub status_of : Verdict → ℕ
 status_of (Conforming datagrams lanes) = 0
 status_of (NotShown breach) = 1
 
+-- It is the certificate's verdict. It conforms exactly where the certificate explains the sightings by one run of the server, and then the
+-- headline holds.
+pub record Judges (taken : Taken) (key_for : KeyFor) (certificate : Certificate) (verdict : Verdict) : Type 0 where
+  pub is : IsVerdict taken key_for certificate verdict
+  pub conforming : IsConforming verdict ↔ Conforms taken (rules_for taken key_for) certificate
+  pub headline : IsConforming verdict → Headline taken key_for certificate
+
+-- the report of the verdict was written, which the status repeats
+abbrev pub IsTold : Taken → Verdict → Option (List ℕ) → Option (List ℕ) → ℕ → Type 0
+IsTold taken verdict before after status = (after ≡ followed_by before (report_text verdict taken)) × (status ≡ status_of verdict)
+
 -- The report of the certificate's verdict was written, which the status repeats. It conforms exactly where the certificate explains the sightings by
 -- one run of the server, and then the headline holds.
 pub record IsJudged (taken : Taken) (key_for : KeyFor) (certificate : Certificate) (before after : Option (List ℕ)) (status : ℕ) : Type 0 where

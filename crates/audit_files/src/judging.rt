@@ -12,7 +12,7 @@ ghost use Rattle.audit_verdict.specs.Verdicts.{IsConforming, IsVerdict};
 ghost use Rattle.audit_whole.specs.CaptureRun.{rules_for};
 ghost use Rattle.audit_whole.specs.Conforms.{Conforms};
 ghost use Rattle.audit_whole.specs.Headline.{Headline};
-ghost use Rattle.audit_files.specs.Judged.{AreRead, AreUsers, IsAudited, IsJudged};
+ghost use Rattle.audit_files.specs.Judged.{AreRead, AreUsers, IsAudited, IsJudged, IsTold};
 
 use crate::captures::take_in;
 use crate::source::Source;
@@ -85,8 +85,8 @@ pub fn read_files<R: Threads + Sync, S: Source>(
     Ok(Files { intake, users })
 }
 
-/// The verdict by one worker, or by more of them.
-fn verdict_of<R: Threads + Wait + Sync>(
+/// The verdict on the captures by the certificate, whatever the number of workers.
+pub fn verdict_of<R: Threads + Wait + Sync>(
     rt: &R,
     alloc: Global,
     intake: &Intake,
@@ -105,6 +105,22 @@ fn verdict_of<R: Threads + Wait + Sync>(
     Ok(judged.verdict)
 }
 
+/// Writes the report of a verdict on the captures. It gives 0 where they conform, and 1 where that isn't shown.
+pub fn tell<O: Sink>(
+    alloc: Global,
+    verdict: &Verdict,
+    intake: &Intake,
+    out: &mut O,
+) -> Result<u8, Stop>
+    ensures { IfOk result (IsTold (taken intake.now) verdict.now (O.taken out.old) (O.taken out.new)) }
+{
+    report(alloc, verdict, intake, out)?;
+    match verdict {
+        Verdict::Conforming { .. } => Ok(0),
+        Verdict::NotShown(_) => Ok(1),
+    }
+}
+
 /// Judges the captures by the certificate, and writes the report. It gives 0 where they conform, and 1 where that isn't shown, whatever
 /// the number of workers.
 pub fn judge<R: Threads + Wait + Sync, O: Sink>(
@@ -119,11 +135,7 @@ pub fn judge<R: Threads + Wait + Sync, O: Sink>(
     ensures { IfOk result (IsJudged (taken intake.now) (key_for users.now) certificate.now (O.taken out.old) (O.taken out.new)) }
 {
     let verdict = verdict_of(rt, alloc, intake, users, certificate, workers)?;
-    report(alloc, &verdict, intake, out)?;
-    match verdict {
-        Verdict::Conforming { .. } => Ok(0),
-        Verdict::NotShown(_) => Ok(1),
-    }
+    tell(alloc, &verdict, intake, out)
 }
 
 /// Judges captures by the certificate of a file, and writes the report. Files are read in this order: policy, credentials, certificate,

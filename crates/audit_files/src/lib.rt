@@ -9,7 +9,9 @@ mod text;
 mod workers;
 
 pub use captures::take_in;
-pub use judging::{Files, check_files, judge, read_files, read_policy, read_users};
+pub use judging::{
+    Files, check_files, judge, read_files, read_policy, read_users, tell, verdict_of,
+};
 pub use source::{ReadFailed, Source};
 pub use stop::Stop;
 pub use text::{TextReading, read_text};

@@ -9,7 +9,9 @@ ghost use Rattle.audit_finder.specs.Clients.{same, clients_of, with_new};
 ghost use Rattle.audit_finder.specs.Found.{pair_of, empty_lane, AllNamed, AreThere};
 
 use crate::clients::Clients;
+use crate::judge::Judge;
 use crate::portion::Portion;
+use crate::search::Search;
 use crate::writing::written;
 use audit_keys::Credentials;
 use audit_model::{
@@ -180,6 +182,23 @@ fn in_passes_by<R: Threads + Sync>(
     written(alloc, &reading, &round)
 }
 
+/// The events that one walk over all sightings gives.
+fn in_one_walk(
+    alloc: Global,
+    intake: &Intake,
+    credentials: &Credentials,
+    clients: &Clients,
+) -> Result<Portion, AllocError> {
+    let judge = Judge {
+        alloc,
+        intake,
+        credentials,
+        clients,
+    };
+    let mut search = Search::new(alloc);
+    search.go(&judge, u64::MAX)
+}
+
 /// The clients of all captures.
 fn clients_in(alloc: Global, intake: &Intake) -> Result<Clients, AllocError>
     ensures { IfOk result (λ clients. clients.pairs ≡ with_new [] (taken intake.now) []) }
@@ -224,6 +243,22 @@ pub fn find(
     let lanes = clients.lanes();
     let portion = in_passes(alloc, intake, credentials, lanes)?;
     certificate_with(alloc, intake, lanes, portion)
+}
+
+/// Finds a certificate as `find` does, with the same lanes, but by one walk over the sightings in which nothing is taken back: it takes less
+/// time, and finds an order for fewer captures.
+pub fn find_once(
+    alloc: Global,
+    intake: &Intake,
+    credentials: &Credentials,
+) -> Result<Certificate, AllocError>
+    ensures lanes { IfOk result (λ certificate. map pair_of certificate.lanes ≡ clients_of (taken intake.now)) }
+    ensures events { IfOk result (λ certificate. AllNamed (taken intake.now) certificate.lanes) }
+    ensures drops { IfOk result (λ certificate. AreThere (taken intake.now) certificate.drops) }
+{
+    let clients = clients_in(alloc, intake)?;
+    let once = in_one_walk(alloc, intake, credentials, &clients)?;
+    certificate_with(alloc, intake, clients.lanes(), once)
 }
 
 /// Finds the certificate that `find` finds, by so many threads at the most: each searches lanes of its own.

@@ -30,4 +30,4 @@ mod search;
 mod writing;
 
 pub use finder::Finder;
-pub use finding::{find, find_parallel};
+pub use finding::{find, find_once, find_parallel};

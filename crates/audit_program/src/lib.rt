@@ -3,6 +3,7 @@
 
 mod buffered;
 mod command_line;
+mod finding;
 mod running;
 mod writing;
 

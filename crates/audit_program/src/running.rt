@@ -7,27 +7,14 @@ ghost use Rattle.audit_model.specs.declared.certificate.Certificate.{Certificate
 
 use crate::buffered::Buffered;
 use crate::command_line::{Inputs, Request, read as read_words};
+use crate::finding::found_either_way;
 use crate::writing::{put_line, put_text};
-use audit_files::{Files, Source, Stop, Workers, check_files, judge, read_files};
-use audit_finder::{find, find_parallel};
-use audit_model::{Certificate, Sink};
+use audit_files::{Source, Stop, Workers, check_files, read_files, tell};
+use audit_model::Sink;
 use std::alloc::{AllocError, Global};
 use std::convert::AsStr;
 use std::sync::Wait;
 use std::thread::Threads;
-
-/// Finds a certificate: with one worker on the caller's thread alone, and else by so many threads at the most.
-fn find_by<R: Threads + Sync>(
-    rt: &R,
-    alloc: Global,
-    files: &Files,
-    workers: Workers,
-) -> Result<Certificate, AllocError> {
-    if workers.count == 1 {
-        return find(alloc, &files.intake, &files.users);
-    }
-    find_parallel(rt, alloc, &files.intake, &files.users, workers.count)
-}
 
 /// Judges captures by a certificate that is found, and writes the report. Files are read in this order: policy, users, captures; each is
 /// judged before the next is read. It gives 0 where they conform, and 1 where that isn't shown.
@@ -48,20 +35,12 @@ pub fn audit_captures<R: Threads + Wait + Sync, S: Source, O: Sink>(
         IfOk result (λ status. (found : Found) × IsAudited policy_text users_text texts found (O.taken out.old) (O.taken out.new) status) }
 {
     let files = read_files(rt, alloc, source, policy, users, captures, workers)?;
-    let certificate = find_by(rt, alloc, &files, workers)?;
-    judge(
-        rt,
-        alloc,
-        &files.intake,
-        &files.users,
-        &certificate,
-        workers,
-        out,
-    )
+    let found = found_either_way(rt, alloc, &files, workers)?;
+    tell(alloc, &found.verdict, &files.intake, out)
 }
 
 /// Finds a certificate, and writes it.
-fn run_find<R: Threads + Sync, S: Source, O: Sink>(
+fn run_find<R: Threads + Wait + Sync, S: Source, O: Sink>(
     rt: &R,
     alloc: Global,
     inputs: &Inputs<'_>,
@@ -77,9 +56,9 @@ fn run_find<R: Threads + Sync, S: Source, O: Sink>(
         &inputs.captures,
         Workers::one(),
     )?;
-    let certificate = find(alloc, &files.intake, &files.users)?;
+    let found = found_either_way(rt, alloc, &files, Workers::one())?;
     let mut buffered = Buffered::new(alloc, out)?;
-    audit_cert::write(alloc, &certificate, &mut buffered)?;
+    audit_cert::write(alloc, &found.certificate, &mut buffered)?;
     buffered.flush()?;
     Ok(0)
 }

@@ -1,0 +1,102 @@
+//! A certificate for captures, and the verdict by it.
+
+ghost use Rattle.std.specs.Prelude.{IfOk};
+ghost use Rattle.audit_files.specs.Judged.{Judges};
+ghost use Rattle.audit_keys.specs.KeyFor.{key_for};
+ghost use Rattle.audit_sightings.specs.Intake.{taken};
+
+use audit_files::{Files, Workers, verdict_of};
+use audit_finder::{find, find_once, find_parallel};
+use audit_model::{Certificate, Verdict};
+use std::alloc::{AllocError, Global};
+use std::sync::Wait;
+use std::thread::Threads;
+
+/// A certificate that was found, and the verdict by it.
+#[derive(Drop)]
+pub struct Found {
+    pub certificate: Certificate,
+    pub verdict: Verdict,
+}
+
+/// The certificate with the verdict by it.
+fn judged<R: Threads + Wait + Sync>(
+    rt: &R,
+    alloc: Global,
+    files: &Files,
+    certificate: Certificate,
+    workers: Workers,
+) -> Result<Found, AllocError>
+    ensures { IfOk result (λ found. Judges (taken files.now.intake) (key_for files.now.users) found.certificate found.verdict) }
+{
+    let verdict = verdict_of(
+        rt,
+        alloc,
+        &files.intake,
+        &files.users,
+        &certificate,
+        workers,
+    )?;
+    Ok(Found {
+        certificate,
+        verdict,
+    })
+}
+
+/// Finds a certificate in passes: with one worker on the caller's thread alone, and else by so many threads at the most.
+fn find_by<R: Threads + Sync>(
+    rt: &R,
+    alloc: Global,
+    files: &Files,
+    workers: Workers,
+) -> Result<Certificate, AllocError> {
+    if workers.count == 1 {
+        return find(alloc, &files.intake, &files.users);
+    }
+    find_parallel(rt, alloc, &files.intake, &files.users, workers.count)
+}
+
+/// What one walk over the sightings finds.
+fn found_once<R: Threads + Wait + Sync>(
+    rt: &R,
+    alloc: Global,
+    files: &Files,
+    workers: Workers,
+) -> Result<Found, AllocError>
+    ensures { IfOk result (λ found. Judges (taken files.now.intake) (key_for files.now.users) found.certificate found.verdict) }
+{
+    let once = find_once(alloc, &files.intake, &files.users)?;
+    judged(rt, alloc, files, once, workers)
+}
+
+/// What is found in passes.
+fn found_in_passes<R: Threads + Wait + Sync>(
+    rt: &R,
+    alloc: Global,
+    files: &Files,
+    workers: Workers,
+) -> Result<Found, AllocError>
+    ensures { IfOk result (λ found. Judges (taken files.now.intake) (key_for files.now.users) found.certificate found.verdict) }
+{
+    let certificate = find_by(rt, alloc, files, workers)?;
+    judged(rt, alloc, files, certificate, workers)
+}
+
+/// What one walk over the sightings finds, where the captures conform by that; else what is found in passes, which take longer and find
+/// more.
+pub fn found_either_way<R: Threads + Wait + Sync>(
+    rt: &R,
+    alloc: Global,
+    files: &Files,
+    workers: Workers,
+) -> Result<Found, AllocError>
+    ensures { IfOk result (λ found. Judges (taken files.now.intake) (key_for files.now.users) found.certificate found.verdict) }
+{
+    let once = found_once(rt, alloc, files, workers)?;
+    if let Verdict::Conforming { .. } = once.verdict {
+        return Ok(once);
+    }
+    // The passes may want the memory of the walk's certificate.
+    drop(once);
+    found_in_passes(rt, alloc, files, workers)
+}
