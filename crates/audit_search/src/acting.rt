@@ -49,11 +49,7 @@ impl Lane<'_> {
             self.state.table = table;
             return Ok(Some(Refused::Rule(Rule::AddressHeld)));
         }
-        let before = match does {
-            Does::Ends => Some(self.copy(&table)?),
-            Does::Changes if self.state.is_noting => Some(self.copy(&table)?),
-            _ => None,
-        };
+        let before = self.kept(&table, does)?;
         let attempt = self.attempt(&mut table, departure, slot, moment)?;
         self.state.table = table;
         match attempt {
@@ -65,10 +61,23 @@ impl Lane<'_> {
         }
     }
 
-    /// A copy of a table, which counts as steps.
-    pub(crate) fn copy(&mut self, table: &LaneTable) -> Result<LaneTable, AllocError> {
+    /// A copy of a table that is to be kept as it was before an act, which counts as steps. Where there were too many of them, what was before
+    /// an allocation's end is lost.
+    pub(crate) fn kept(
+        &mut self,
+        table: &LaneTable,
+        does: Does,
+    ) -> Result<Option<LaneTable>, AllocError> {
+        let is_kept = match does {
+            Does::Nothing => false,
+            Does::Changes => self.state.is_noting,
+            Does::Ends => self.state.is_noting || self.steps < self.budget,
+        };
+        if !is_kept {
+            return Ok(None);
+        }
         self.steps = self.steps.saturating_add(self.state.progress.weight / 16);
-        table.copied(self.given.alloc)
+        Ok(Some(table.copied(self.given.alloc)?))
     }
 
     /// Notes an act that was accepted now.

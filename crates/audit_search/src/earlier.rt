@@ -51,17 +51,34 @@ impl Lane<'_> {
         if slot >= before || slot < given.deadlines.not_before(departure) {
             return Ok(false);
         }
-        let mut table = table_copy(self)?;
-        let does = self.does(&table, seen, moment);
-        if self
-            .judge(&mut table, arrival, departure, slot, moment)?
-            .is_some()
-        {
-            return Ok(false);
+        let does = self.does(&self.state.table, seen, moment);
+        match self.judge_here(departure, arrival, slot, moment, does)? {
+            Ok(kept) => {
+                self.accept(departure, arrival, slot, moment, does, kept)?;
+                Ok(true)
+            }
+            Err(_) => Ok(false),
         }
-        let before = std::mem::replace(&mut self.state.table, table);
-        self.accept(departure, arrival, slot, moment, does, Some(before))?;
-        Ok(true)
+    }
+
+    /// Judges an act in the lane's table, and changes that; gives what is kept of the table before it, or the rule that it breaks.
+    fn judge_here(
+        &mut self,
+        departure: SeenNumber,
+        arrival: SeenNumber,
+        slot: Slot,
+        moment: u64,
+        does: Does,
+    ) -> Result<Result<Option<LaneTable>, Refused>, AllocError> {
+        let empty = self.empty_table();
+        let mut table = std::mem::replace(&mut self.state.table, empty);
+        let kept = self.kept(&table, does)?;
+        let refused = self.judge(&mut table, arrival, departure, slot, moment)?;
+        self.state.table = table;
+        match refused {
+            Some(refused) => Ok(Err(refused)),
+            None => Ok(Ok(kept)),
+        }
     }
 
     /// Acts on a departure at its arrival, or right behind the last act, when a lease wasn't over; tells why it can't.
@@ -106,21 +123,16 @@ impl Lane<'_> {
         if is_late || does == Does::Ends {
             return Ok(false);
         }
-        let mut table = table_copy(self)?;
-        if self
-            .judge(&mut table, arrival, departure, slot, moment)?
-            .is_some()
-        {
+        let Ok(kept) = self.judge_here(departure, arrival, slot, moment, does)? else {
             return Ok(false);
-        }
+        };
         let mut progress = Progress {
             turn: self.state.progress.turn.saturating_add(1),
             last: self.state.progress.last.max((slot, moment)),
             ..self.state.progress
         };
         if does == Does::Changes {
-            let before = std::mem::replace(&mut self.state.table, table);
-            self.state.changed_from(Some(before))?;
+            self.state.changed_from(kept)?;
             progress.changed = slot;
         }
         self.state.set_progress(progress)?;
@@ -146,27 +158,23 @@ impl Lane<'_> {
         ) else {
             return Ok(Some(Refused::NoArrival));
         };
-        let Some(mut table) = self.state.copied_past(given.alloc, which)? else {
+        let empty = self.empty_table();
+        let Some(mut table) = self.state.swap_past(which, empty) else {
             return Ok(Some(Refused::NoArrival));
         };
-        let is_usable = table
-            .running()
-            .is_some_and(|tenancy| moment <= tenancy.last);
-        let does = self.does(&table, seen, moment);
-        if let Some(refused) = refused_before_end(seen.gives(), does, is_usable) {
-            return Ok(Some(refused));
-        }
-        let arrival = match self.attempt(&mut table, departure, slot, moment)? {
-            Attempt::Accepted(arrival) => arrival,
-            Attempt::Refused(refused) => return Ok(Some(refused)),
+        let attempt = self.attempt_before_end(&mut table, departure, seen, slot, moment)?;
+        let _empty = self.state.swap_past(which, table);
+        let (arrival, kept) = match attempt {
+            Ok(found) => found,
+            Err(refused) => return Ok(Some(refused)),
         };
         let progress = Progress {
             turn: self.state.progress.turn.saturating_add(1),
             ..self.state.progress
         };
         self.state.set_progress(progress)?;
-        if does == Does::Changes {
-            self.state.change_past(which, table)?;
+        if let Some(before) = kept {
+            self.state.past_changed_from(which, before)?;
         }
         let acted = Acted {
             slot,
@@ -176,9 +184,28 @@ impl Lane<'_> {
         self.state.act(departure, acted)?;
         Ok(None)
     }
-}
 
-/// A copy of the lane's table.
-fn table_copy(lane: &Lane<'_>) -> Result<LaneTable, AllocError> {
-    lane.state.table.copied(lane.given.alloc)
+    /// Acts on a departure in a table that was ended; gives the arrival, and what is kept of the table before it.
+    fn attempt_before_end(
+        &mut self,
+        table: &mut LaneTable,
+        departure: SeenNumber,
+        seen: &Seen,
+        slot: Slot,
+        moment: u64,
+    ) -> Result<Result<(SeenNumber, Option<LaneTable>), Refused>, AllocError> {
+        let is_usable = table
+            .running()
+            .is_some_and(|tenancy| moment <= tenancy.last);
+        let does = self.does(table, seen, moment);
+        if let Some(refused) = refused_before_end(seen.gives(), does, is_usable) {
+            return Ok(Err(refused));
+        }
+        let kept = self.kept(table, does)?;
+        match self.attempt(table, departure, slot, moment)? {
+            Attempt::Accepted(arrival) if does == Does::Changes => Ok(Ok((arrival, kept))),
+            Attempt::Accepted(arrival) => Ok(Ok((arrival, None))),
+            Attempt::Refused(refused) => Ok(Err(refused)),
+        }
+    }
 }

@@ -51,6 +51,8 @@ pub(crate) struct Lane<'a> {
     pub(crate) clock: u64,
     /// How many acts were judged beyond one for each departure.
     pub(crate) steps: u64,
+    /// How many steps there may be.
+    pub(crate) budget: u64,
 }
 
 impl<'a> Lane<'a> {
@@ -74,6 +76,7 @@ impl<'a> Lane<'a> {
             state: State::new(given.alloc, number, client, listen),
             clock: 0,
             steps: 0,
+            budget: 0,
         })
     }
 

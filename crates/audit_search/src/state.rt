@@ -180,27 +180,19 @@ impl State {
         Some((past.slot, past.turn, past.moment))
     }
 
-    /// A copy of a table that was ended.
-    pub(crate) fn copied_past(
-        &self,
-        alloc: Global,
-        which: usize,
-    ) -> Result<Option<LaneTable>, AllocError> {
-        match self.past(which) {
-            Some(past) => Ok(Some(past.table.copied(alloc)?)),
-            None => Ok(None),
-        }
+    /// Puts a table in the place of one that was ended, and gives that, unless it is forgotten.
+    pub(crate) fn swap_past(&mut self, which: usize, table: LaneTable) -> Option<LaneTable> {
+        let place = which.checked_sub(self.forgotten)?;
+        let past = self.past.get_mut(place)?;
+        Some(std::mem::replace(&mut past.table, table))
     }
 
-    /// Changes a table that was ended.
-    pub(crate) fn change_past(&mut self, which: usize, table: LaneTable) -> Result<(), AllocError> {
-        let Some(place) = which.checked_sub(self.forgotten) else {
-            return Ok(());
-        };
-        let Some(past) = self.past.get_mut(place) else {
-            return Ok(());
-        };
-        let before = std::mem::replace(&mut past.table, table);
+    /// Notes what a table that was ended was before it changed.
+    pub(crate) fn past_changed_from(
+        &mut self,
+        which: usize,
+        before: LaneTable,
+    ) -> Result<(), AllocError> {
         let weight = self.progress.weight.saturating_add(1);
         self.note(Undo::Past(which, before), weight)
     }

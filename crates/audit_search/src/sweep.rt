@@ -96,6 +96,7 @@ pub(crate) fn search_lane(given: &Given<'_>, number: LaneNumber) -> Result<Found
     let lanes = (given.pairs.len() as u64).max(1);
     let free = (FREE_STEPS / lanes).min(STEPS);
     let budget = free.saturating_add(count.saturating_mul(STEPS_EACH));
+    sweep.lane.budget = budget;
     // Each departure twice, and those that are swept again, each of which is a step.
     let turns = budget.saturating_add(count).saturating_mul(2);
     for _ in 0..turns.saturating_add(2) {
@@ -183,6 +184,9 @@ impl Sweep<'_> {
         self.lane.state.keep_past(PAST);
         if self.skip == 0 && !is_choice && self.act_plainly(departure)? {
             return Ok(true);
+        }
+        if self.lane.steps >= budget && !self.is_replaying {
+            return Ok(false);
         }
         let was_noting = self.lane.state.is_noting;
         self.lane.state.is_noting = true;
