@@ -116,6 +116,7 @@ impl Live {
         ensures cause { self.old.ended ≡ None → IfErr result (λ refusal. IsInput refusal (λ fault. self.new.ended ≡ Some (Refused fault))) }
         ensures goes_on { OnOk result (self.new.ended ≡ None) }
         ensures files { vec_len self.new.intake.files ≡ vec_len self.old.intake.files }
+        ensures policy { self.new.intake.policy ≡ self.old.intake.policy }
         // As the captures grow, what is placed stays the front of a run that explains them.
         ensures prefix { OnOk result (IsPrefix (taken self.new.intake) (rules_for (taken self.new.intake) (key_for self.new.credentials)) self.new.front.placing.certificate (horizon_of self.new.last)) }
         ensures rest { self.new ≡ record self.old { intake = self.new.intake; ended = self.new.ended } }
