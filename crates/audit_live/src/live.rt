@@ -7,6 +7,7 @@ ghost use Rattle.audit_order.specs.Growing.{placing_count};
 ghost use Rattle.audit_placement.specs.Entries.{entries};
 ghost use Rattle.audit_prefix.specs.Live.{Advances, MayAdvance, Shows, horizon_of};
 ghost use Rattle.audit_prefix.specs.Prefix.{IsPrefix};
+ghost use Rattle.audit_prefix.specs.Told.{LiveBreach};
 ghost use Rattle.audit_sightings.specs.Files.{Fed, GoesOn, Refuses, StandsFor, not_fed};
 ghost use Rattle.audit_sightings.specs.Intake.{taken};
 ghost use Rattle.audit_sightings.specs.declared.fault.IntakeFault.{IntakeFault as Fault};
@@ -173,6 +174,8 @@ impl Live {
         // Accepted, no breach is told of the whole certificate as it then stands; refused by G3, this one is.
         ensures advances { OnOk result (Advances (key_for self.old.credentials) (standing_of self.old) horizon extension (standing_of self.new)) }
         ensures shows { IfErr result (λ refusal. IfBreach refusal (λ breach. Shows (key_for self.old.credentials) (standing_of self.old) extension (Some breach))) }
+        ensures broken { IfErr result (λ refusal. IfBreach refusal (λ breach.
+            LiveBreach (taken self.old.intake) (key_for self.old.credentials) self.new.front.placing.certificate (Some breach))) }
         // What is placed is the front of a run that explains the captures.
         ensures prefix { OnOk result (IsPrefix (taken self.new.intake) (rules_for (taken self.new.intake) (key_for self.new.credentials)) self.new.front.placing.certificate horizon) }
         ensures progress { IfOk result (λ progress. progress ≡ record {

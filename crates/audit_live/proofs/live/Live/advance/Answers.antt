@@ -27,3 +27,9 @@ returns-in-Ok-Some-clause-shows c =
       extends = c.in-Ok-Some.ensures.tells.extends;
       told = subst (LiveBreach (taken c.self.inside.intake) (key_for c.self.inside.credentials) c.take.new.self.placing.certificate) c.in-Ok-Some.field-0-is (c.in-Ok-Some.ensures.shows c.args.horizon may);
     })
+
+pub returns-in-Ok-Some-clause-broken : goal.returns-in-Ok-Some-clause-broken
+returns-in-Ok-Some-clause-broken c =
+    let may = subst (λ (a : Audit). MayAdvance (standing_of a) c.args.horizon c.args.extension) (sym c.self.view_is) c.in-Ok.ensures.may.1 in
+    subst (λ (a : Audit). LiveBreach (taken a.intake) (key_for a.credentials) c.take.new.self.placing.certificate (Some c.in-Ok-Some.breach)) c.self.view_is
+    (subst (LiveBreach (taken c.self.inside.intake) (key_for c.self.inside.credentials) c.take.new.self.placing.certificate) c.in-Ok-Some.field-0-is (c.in-Ok-Some.ensures.shows c.args.horizon may))
