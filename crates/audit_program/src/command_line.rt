@@ -22,6 +22,11 @@ pub enum Request<'a> {
     },
     /// Find a certificate, and write it.
     Find(Inputs<'a>),
+    /// Judge captures while they grow.
+    Live {
+        inputs: Inputs<'a>,
+        turns: Turns,
+    },
     /// Tell how to use the program, or its release, on standard output.
     Help(String),
     /// The words are no request; what clap says of it, for standard error.
@@ -35,6 +40,15 @@ pub struct Inputs<'a> {
     /// Without it there are no users.
     pub credentials: Option<&'a str>,
     pub captures: Vec<&'a str>,
+}
+
+/// When captures that grow have ended, 1 to 1,000,000 each.
+#[derive(Clone, Copy, Debug, PartialEq, Eq)]
+pub struct Turns {
+    /// After so many turns in a row in which none of them gave a byte.
+    pub idle: u32,
+    /// After so many turns.
+    pub most: u32,
 }
 
 /// The release, and the line of `rt version` that names what it is proved with.
@@ -62,6 +76,12 @@ const ABOUT_CHECK: &str = "Judges captures by a certificate, whoever wrote it";
 
 const EXAMPLE_CHECK: &str =
     "Example:\n  turnaudit check --policy policy --creds users --cert certificate client.pcapng peer.pcapng";
+
+const ABOUT_LIVE: &str =
+    "Judges captures while they grow, turn by turn, until they end or a rule is broken";
+
+const EXAMPLE_LIVE: &str =
+    "Example:\n  turnaudit live --policy policy --creds users --idle 600 client.pcapng peer.pcapng\n\nreads what dumpcap still writes, and ends a minute after the last byte, or with the first rule that is broken.";
 
 /// An option with the name of a file.
 fn file_option<'a>(alloc: Global, name: &'a str, value: &'a str, help: &'a str) -> Arg<'a> {
@@ -118,6 +138,36 @@ fn workers_option<'a>(alloc: Global) -> Arg<'a> {
         .value_parser(clap::value_parser!(u32).range(1..=256))
 }
 
+/// The option of `live` with a number of turns.
+fn turns_option<'a>(alloc: Global, name: &'a str, default: &'a str, help: &'a str) -> Arg<'a> {
+    Arg::new(alloc, name)
+        .long(name)
+        .value_name("N")
+        .help(help)
+        .default_value(default)
+        .action(ArgAction::Set)
+        .value_parser(clap::value_parser!(u32).range(1..=1_000_000))
+}
+
+/// The command `live`.
+fn live_command<'a>(alloc: Global) -> Result<Command<'a>, AllocError> {
+    let idle = turns_option(
+        alloc,
+        "idle",
+        "1",
+        "After how many turns without a byte, each at least a tenth of a second, the captures have ended, 1 to 1000000",
+    );
+    let most = turns_option(
+        alloc,
+        "turns",
+        "1000000",
+        "After how many turns of up to 65536 bytes of each capture they have ended, 1 to 1000000",
+    );
+    command_of(alloc, "live", ABOUT_LIVE, EXAMPLE_LIVE)?
+        .arg(idle)?
+        .arg(most)
+}
+
 fn command<'a>(alloc: Global) -> Result<Command<'a>, AllocError> {
     let certificate = file_option(
         alloc,
@@ -137,6 +187,7 @@ fn command<'a>(alloc: Global) -> Result<Command<'a>, AllocError> {
         .subcommand_required(true)
         .subcommand(audit)?
         .subcommand(command_of(alloc, "find", ABOUT_FIND, EXAMPLE_FIND)?)?
+        .subcommand(live_command(alloc)?)?
         .subcommand(check)
 }
 
@@ -176,6 +227,25 @@ fn workers_of(matches: &ArgMatches<'_>) -> Option<Workers> {
     Workers::of(matches.get_one::<u32>("workers")?)
 }
 
+/// When captures that grow have ended, by the words of a command.
+fn turns_of(matches: &ArgMatches<'_>) -> Option<Turns> {
+    Some(Turns {
+        idle: matches.get_one::<u32>("idle")?,
+        most: matches.get_one::<u32>("turns")?,
+    })
+}
+
+/// The request that the words of the command `live` are.
+fn live_request<'a>(
+    alloc: Global,
+    matches: &ArgMatches<'a>,
+) -> Result<Option<Request<'a>>, AllocError> {
+    let (Some(inputs), Some(turns)) = (inputs_of(alloc, matches)?, turns_of(matches)) else {
+        return Ok(None);
+    };
+    Ok(Some(Request::Live { inputs, turns }))
+}
+
 /// The request that the words of a command are.
 fn request_of<'a>(
     alloc: Global,
@@ -189,6 +259,9 @@ fn request_of<'a>(
     }
     if let Some(find) = matches.subcommand_matches("find") {
         return Ok(inputs_of(alloc, find)?.map(|inputs| Request::Find(inputs)));
+    }
+    if let Some(live) = matches.subcommand_matches("live") {
+        return live_request(alloc, live);
     }
     if let Some(check) = matches.subcommand_matches("check") {
         if let (Some(inputs), Some(certificate), Some(workers)) = (

@@ -4,7 +4,13 @@
 mod buffered;
 mod command_line;
 mod finding;
+mod growing;
+mod live;
+mod newest;
 mod running;
 mod writing;
 
+pub use command_line::Turns;
+pub use growing::Growing;
+pub use live::run_live;
 pub use running::{audit_captures, run};

@@ -8,6 +8,8 @@ ghost use Rattle.audit_model.specs.declared.certificate.Certificate.{Certificate
 use crate::buffered::Buffered;
 use crate::command_line::{Inputs, Request, read as read_words};
 use crate::finding::found_either_way;
+use crate::growing::Growing;
+use crate::live::run_live;
 use crate::writing::{put_line, put_text};
 use audit_files::{Source, Stop, Workers, check_files, read_files, tell};
 use audit_model::Sink;
@@ -64,7 +66,7 @@ fn run_find<R: Threads + Wait + Sync, S: Source, O: Sink>(
 }
 
 /// Does what is asked for, and gives the exit status.
-fn run_request<R: Threads + Wait + Sync, S: Source, O: Sink, E: Sink>(
+fn run_request<R: Threads + Wait + Sync, S: Source + Growing, O: Sink, E: Sink>(
     rt: &R,
     alloc: Global,
     request: &Request<'_>,
@@ -99,6 +101,15 @@ fn run_request<R: Threads + Wait + Sync, S: Source, O: Sink, E: Sink>(
             out,
         ),
         Request::Find(inputs) => run_find(rt, alloc, inputs, source, out),
+        Request::Live { inputs, turns } => run_live(
+            alloc,
+            source,
+            inputs.policy,
+            inputs.credentials,
+            &inputs.captures,
+            *turns,
+            out,
+        ),
         Request::Help(text) => {
             put_text(out, text.as_str())?;
             Ok(0)
@@ -113,7 +124,7 @@ fn run_request<R: Threads + Wait + Sync, S: Source, O: Sink, E: Sink>(
 /// Runs the program on its words, the first of which is its name, and gives its exit status: 0 conforming, a certificate, help or the release; 1 not shown; 2 input refused;
 /// 3 out of memory; 4 a file that can't be read or an answer that can't be written; 5 words that are no request.
 /// What ended it before its answer is one line on `err`.
-pub fn run<R: Threads + Wait + Sync, N: AsStr, S: Source, O: Sink, E: Sink>(
+pub fn run<R: Threads + Wait + Sync, N: AsStr, S: Source + Growing, O: Sink, E: Sink>(
     rt: &R,
     alloc: Global,
     words: &[N],

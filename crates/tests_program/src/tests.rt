@@ -6,6 +6,7 @@ mod credentials;
 mod errors;
 mod feeding;
 mod finding;
+mod growing;
 mod lanes;
 mod memory;
 mod messages;

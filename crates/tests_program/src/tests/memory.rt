@@ -2,7 +2,7 @@
 
 use audit_files::{ReadFailed, Source};
 use audit_model::{Sink, SinkFailed};
-use audit_program::run;
+use audit_program::{Growing, run};
 use std::alloc::{AllocError, Global};
 use std::sync::Wait;
 use std::thread::Threads;
@@ -22,6 +22,12 @@ pub struct Files<'a> {
     pub step: usize,
     /// The file whose second piece can't be read.
     pub fails: Option<&'a str>,
+    /// How many bytes of each capture each of the first turns gives while they grow; later ones give all.
+    pub turns: &'a [usize],
+    /// For each capture, how many turns there were, and how many bytes they gave.
+    pub given: [(usize, usize); 2],
+    /// How many pauses there were.
+    pub pauses: u32,
 }
 
 impl<'a> Files<'a> {
@@ -36,6 +42,9 @@ impl<'a> Files<'a> {
             first: 65_536,
             step: 65_536,
             fails: None,
+            turns: &[],
+            given: [(0, 0); 2],
+            pauses: 0,
         }
     }
 }
@@ -62,6 +71,38 @@ impl Source for Files<'_> {
         let count = most.min(into.len()).min(file.len() - at);
         into[..count].copy_from_slice(&file[at..at + count]);
         Ok(count)
+    }
+}
+
+impl Growing for Files<'_> {
+    ghost use Rattle.std.specs.Prelude.{None};
+
+    ghost given = { λ _ _. None };
+
+    fn start(&mut self) {
+        self.given = [(0, 0); 2];
+    }
+
+    fn more(&mut self, capture: u32, name: &str, into: &mut [u8]) -> Result<usize, ReadFailed> {
+        let number = capture as usize;
+        let Some((turn, at)) = self.given.get(number).copied() else {
+            return Err(ReadFailed);
+        };
+        let file = match name {
+            "capture" => self.capture,
+            "second" => self.second,
+            _ => return Err(ReadFailed),
+        };
+        let at = at.min(file.len());
+        let most = self.turns.get(turn).copied().unwrap_or(into.len());
+        let count = most.min(into.len()).min(file.len() - at);
+        into[..count].copy_from_slice(&file[at..at + count]);
+        self.given[number] = (turn.saturating_add(1), at + count);
+        Ok(count)
+    }
+
+    fn pause(&mut self) {
+        self.pauses = self.pauses.saturating_add(1);
     }
 }
 

@@ -37,6 +37,9 @@ impl Session {
             first: 65_536,
             step: 65_536,
             fails: None,
+            turns: &[],
+            given: [(0, 0); 2],
+            pauses: 0,
         }
     }
 

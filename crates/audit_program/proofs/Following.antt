@@ -1,0 +1,250 @@
+-- What is known of an audit goes on from call to call.
+use Rattle.std.proofs.Common.{◌≡◌, ◌≢◌, ◌<◌, ◌++◌, ◌∙◌, ◌⊎◌, inl, inr, ℕ, zero, suc, List, [], Option, None, Some, length, ap, sym, subst, refl, arith, replicate}
+use Rattle.std.specs.Prelude.{Result, Ok, Err, IfOk, IfSome, vec_len, ◌↔◌}
+use Rattle.std.proofs.lemmas.List.{get_or-set_same, get_or-set_other, length-set, length-replicate, get_or-replicate}
+use Rattle.audit_files.specs.Judged.{AreUsers}
+use Rattle.audit_keys.specs.KeyFor.{key_for}
+use Rattle.audit_keys.specs.declared.keyring.Credentials.{Credentials}
+use Rattle.audit_model.specs.PolicyText.{policy_of}
+use Rattle.audit_model.specs.Sink.{followed_by}
+use Rattle.audit_model.specs.declared.extension.Extension.{Extension}
+use Rattle.audit_model.specs.declared.policy.Policy.{Policy}
+use Rattle.audit_model.specs.declared.verdict.Breach.{Breach}
+use Rattle.audit_model.specs.declared.verdict.Verdict.{Verdict}
+use Rattle.audit_pcapng.specs.declared.packet.Packet.{Packet}
+use Rattle.audit_prefix.specs.Told.{LiveBreach}
+use Rattle.audit_sightings.specs.declared.intake.Intake.{Intake}
+use Rattle.audit_sightings.specs.Files.{Fed, GoesOn, StandsFor, fed_at, not_fed, packets_of, with_piece}
+use Rattle.audit_sightings.specs.Intake.{taken}
+use Rattle.audit_verdict.specs.Verdicts.{IsConforming, IsVerdict}
+use Rattle.audit_whole.specs.CaptureRun.{rules_for}
+use Rattle.audit_whole.specs.Conforms.{Conforms}
+use Rattle.audit_live.specs.declared.cause.Cause.{Cause}
+use Rattle.audit_live.specs.declared.cause.Cause.TheVariants.{Broke, NoMemory, Refused}
+use Rattle.audit_live.specs.declared.fault.LiveFault.{LiveFault}
+use Rattle.audit_live.specs.declared.fault.LiveFault.TheVariants as faults
+use Rattle.audit_live.specs.declared.fault.LiveEnd.{LiveEnd}
+use Rattle.audit_live.specs.Audit.{Audit}
+use Rattle.audit_live.specs.Refusals.{AsksTheEnds, IfBreach, IsInput, IsRefusal, Leaves, told_by}
+use Rattle.audit_program.specs.Following.{Follows, Goes, LeftBy, NoneRefused, ShowsItsBreach, TookIn, WereGiven}
+use Rattle.audit_program.specs.Watched.{IsToldOf}
+use Rattle.audit_program.specs.declared.live.Turn.{Turn}
+use Rattle.audit_program.specs.declared.live.Turn.TheVariants as turns
+
+-- ---- causes
+
+-- the cause is there, and is a breach
+abbrev IsBroken : Option Cause → Type 0
+IsBroken (Some (Broke breach)) = Unit {0}
+IsBroken (Some NoMemory) = ⊥
+IsBroken (Some (Refused fault)) = ⊥
+IsBroken None = ⊥
+
+-- the cause is there, and is a refusal of bytes
+abbrev IsRefused : Option Cause → Type 0
+IsRefused (Some (Refused fault)) = Unit {0}
+IsRefused (Some (Broke breach)) = ⊥
+IsRefused (Some NoMemory) = ⊥
+IsRefused None = ⊥
+
+-- the breach of a cause, or else another
+abbrev breach_of : Breach → Option Cause → Breach
+breach_of other (Some (Broke breach)) = breach
+breach_of other (Some NoMemory) = other
+breach_of other (Some (Refused fault)) = other
+breach_of other None = other
+
+-- where it ended by no breach, it shows its breach
+no_breach : (live : Audit) (ended : Option Cause) → live.ended ≡ ended → (IsBroken ended → ⊥) → ShowsItsBreach live
+no_breach live ended is none = λ breach broke. absurd (none (subst IsBroken (sym broke ∙ is) tt))
+
+-- where it ended by no refusal, none were refused
+none_refused : (live : Audit) (ended : Option Cause) → live.ended ≡ ended → (IsRefused ended → ⊥) → NoneRefused live
+none_refused live ended is none = λ fault refused. none (subst IsRefused (sym refused ∙ is) tt)
+
+-- ---- bytes
+
+-- what was fed of a file is what was given
+known : (o : Option (List ℕ)) (text : List ℕ) → text ≡ [] → IfSome o (λ bytes. bytes ≡ []) → IfSome o (λ bytes. text ≡ bytes)
+known None text is none = tt
+known (Some bytes) text is none = is ∙ sym none
+
+-- nothing was fed where nothing was given
+given_none : (given : ℕ → Option (List ℕ)) (count : ℕ) → ((capture : ℕ) → IfSome (given capture) (λ bytes. bytes ≡ [])) → WereGiven given (replicate count not_fed)
+given_none given count none = λ file within.
+    known (given file) _ (ap (λ (f : Fed). f.text) (get_or-replicate count file not_fed not_fed (omega (arith, within, length-replicate count not_fed)))) (none file)
+
+-- the bytes, and a piece behind them
+known_more : (before after : Option (List ℕ)) (text piece now : List ℕ) → after ≡ followed_by before piece → now ≡ text ++ piece → IfSome before (λ bytes. text ≡ bytes) → IfSome after (λ bytes. now ≡ bytes)
+known_more None after text piece now is then were = subst (λ (o : Option (List ℕ)). IfSome o (λ bytes. now ≡ bytes)) (sym is) tt
+known_more (Some bytes) after text piece now is then were =
+    subst (λ (o : Option (List ℕ)). IfSome o (λ bytes. now ≡ bytes)) (sym is) (then ∙ ap (λ (l : List ℕ). l ++ piece) were)
+
+suc_or : (a b : ℕ) → (a ≡ b) ⊎ (a ≢ b) → (suc a ≡ suc b) ⊎ (suc a ≢ suc b)
+suc_or a b (inl same) = inl (ap suc same)
+suc_or a b (inr apart) = inr (λ same. apart (omega (arith, same)))
+
+same_or_apart : (a b : ℕ) → (a ≡ b) ⊎ (a ≢ b)
+same_or_apart zero zero = inl refl
+same_or_apart zero (suc b) = inr (λ same. absurd (omega (arith, same)))
+same_or_apart (suc a) zero = inr (λ same. absurd (omega (arith, same)))
+same_or_apart (suc a) (suc b) = suc_or a b (same_or_apart a b)
+
+module _ (given now : ℕ → Option (List ℕ)) (file : ℕ) (piece : List ℕ) (is : now file ≡ followed_by (given file) piece) (others : (other : ℕ) → other ≢ file → now other ≡ given other) where
+  -- at each file, either that of the piece or another
+  at_file : (files : List Fed) (more : List Packet) (other : ℕ) → other < length files → WereGiven given files → (other ≡ file) ⊎ (other ≢ file)
+      → IfSome (now other) (λ bytes. (fed_at (with_piece files file piece more) other).text ≡ bytes)
+  at_file files more other within were (inl same) =
+      let new : Fed = record { text = (fed_at files file).text ++ piece; packets = packets_of files file ++ more } in
+      subst (λ (i : ℕ). IfSome (now i) (λ bytes. (fed_at (with_piece files file piece more) i).text ≡ bytes)) (sym same)
+      (known_more (given file) (now file) (fed_at files file).text piece _ is
+      (ap (λ (f : Fed). f.text) (get_or-set_same files file new not_fed (omega (arith, within, same))))
+      (were file (omega (arith, within, same))))
+  at_file files more other within were (inr apart) =
+      let new : Fed = record { text = (fed_at files file).text ++ piece; packets = packets_of files file ++ more } in
+      subst (λ (o : Option (List ℕ)). IfSome o (λ bytes. (fed_at (with_piece files file piece more) other).text ≡ bytes)) (sym (others other apart))
+      (subst (λ (f : Fed). IfSome (given other) (λ bytes. f.text ≡ bytes)) (sym (get_or-set_other files file other new not_fed apart))
+      (were other within))
+
+  -- as a piece is taken, what was fed stays what was given
+  pub took_more : (intake : Intake) (took : TookIn given intake) (new : Intake) → GoesOn new took.files file piece → TookIn now new
+  took_more intake took new on = record {
+    files = with_piece took.files file piece on.more;
+    stands = on.stands;
+    were_given = λ other within. at_file took.files on.more other (omega (arith, within, length-set took.files file (record { text = (fed_at took.files file).text ++ piece; packets = packets_of took.files file ++ on.more }))) took.were_given (same_or_apart other file);
+  }
+
+-- ---- calls
+
+none≢refused : (live : Audit) → live.ended ≡ None → NoneRefused live
+none≢refused live none = none_refused live None none (λ refused. refused)
+
+-- the policy and the captures stay, and so does what follows of it
+module _ (policy users : List ℕ) (count : ℕ) (given : ℕ → Option (List ℕ)) (old : Audit) (goes : Goes policy users count given old) where
+  pub goes_fed : (now : ℕ → Option (List ℕ)) (file : ℕ) (piece : List ℕ) (new : Audit) → now file ≡ followed_by (given file) piece → ((other : ℕ) → other ≢ file → now other ≡ given other)
+      → ((files : List Fed) → StandsFor old.intake files → GoesOn new.intake files file piece) → new.ended ≡ None → vec_len new.intake.files ≡ vec_len old.intake.files → new.intake.policy ≡ old.intake.policy
+      → new.credentials ≡ old.credentials → Goes policy users count now new
+  goes_fed now file piece new is others on none files same keys =
+      let took = goes.1.took (none≢refused old goes.0) in (
+        none,
+        record {
+          policy' = subst (λ (p : Policy). policy_of policy ≡ Ok p) (sym same) goes.1.policy';
+          users' = subst (λ (c : Credentials). AreUsers users (key_for c)) (sym keys) goes.1.users';
+          count' = files ∙ goes.1.count';
+          shows = no_breach new None none (λ broke. broke);
+          took = λ _. took_more given now file piece is others old.intake took new.intake (on took.files took.stands);
+        },
+      )
+
+  -- bytes were refused
+  pub follows_refused : (now : ℕ → Option (List ℕ)) (new : Audit) (refusal : LiveFault) → IsInput refusal (λ fault. new.ended ≡ Some (Refused fault)) → vec_len new.intake.files ≡ vec_len old.intake.files
+      → new.intake.policy ≡ old.intake.policy → new.credentials ≡ old.credentials → Follows policy users count now new
+  follows_refused now new (faults.Input fault) ended files same keys = record {
+    policy' = subst (λ (p : Policy). policy_of policy ≡ Ok p) (sym same) goes.1.policy';
+    users' = subst (λ (c : Credentials). AreUsers users (key_for c)) (sym keys) goes.1.users';
+    count' = files ∙ goes.1.count';
+    shows = no_breach new (Some (Refused fault)) ended (λ broke. broke);
+    took = λ none. absurd (none fault ended);
+  }
+  follows_refused now new faults.Horizon ended files same keys = absurd ended
+  follows_refused now new faults.OutOfTurn ended files same keys = absurd ended
+  follows_refused now new (faults.Breach breach) ended files same keys = absurd ended
+  follows_refused now new faults.Memory ended files same keys = absurd ended
+  follows_refused now new faults.Ended ended files same keys = absurd ended
+  follows_refused now new faults.Lane ended files same keys = absurd ended
+
+  -- the captures and the users stay, and it ended by no refusal of bytes
+  with_cause : (new : Audit) (cause : Option Cause) → new.ended ≡ cause → new.intake ≡ old.intake → new.credentials ≡ old.credentials → ShowsItsBreach new → Follows policy users count given new
+  with_cause new cause is same keys shows = record {
+    policy' = subst (λ (i : Intake). policy_of policy ≡ Ok i.policy) (sym same) goes.1.policy';
+    users' = subst (λ (c : Credentials). AreUsers users (key_for c)) (sym keys) goes.1.users';
+    count' = ap (λ (i : Intake). vec_len i.files) same ∙ goes.1.count';
+    shows = shows;
+    took = λ _. subst (λ (i : Intake). TookIn given i) (sym same) (goes.1.took (none≢refused old goes.0));
+  }
+
+  pub goes_advanced : (new : Audit) → new.ended ≡ None → new.intake ≡ old.intake → new.credentials ≡ old.credentials → Goes policy users count given new
+  goes_advanced new none same keys = (none, with_cause new None none same keys (no_breach new None none (λ broke. broke)))
+
+  -- an advance was refused
+  pub follows_stopped : (horizon : ℕ) (extension : Extension) (new : Audit) (refusal : LiveFault) → IsRefusal old horizon extension refusal → Leaves old new refusal
+      → IfBreach refusal (λ breach. LiveBreach (taken old.intake) (key_for old.credentials) new.front.placing.certificate (Some breach))
+      → new.intake ≡ old.intake → new.credentials ≡ old.credentials → Follows policy users count given new
+  follows_stopped horizon extension new (faults.Breach breach) refused leaves shows same keys =
+      with_cause new (Some (Broke breach)) leaves same keys (λ other broke.
+      let same_breach : breach ≡ other = ap (breach_of breach) (sym leaves ∙ broke) in
+      subst (λ (b : Breach). LiveBreach (taken new.intake) (key_for new.credentials) new.front.placing.certificate (Some b)) same_breach
+      (subst (λ (i : Intake). LiveBreach (taken i) (key_for new.credentials) new.front.placing.certificate (Some breach)) (sym same)
+      (subst (λ (c : Credentials). LiveBreach (taken old.intake) (key_for c) new.front.placing.certificate (Some breach)) (sym keys) shows)))
+  follows_stopped horizon extension new faults.Memory refused leaves shows same keys = with_cause new (Some NoMemory) leaves same keys (no_breach new (Some NoMemory) leaves (λ broke. broke))
+  follows_stopped horizon extension new faults.Ended refused leaves shows same keys = subst (Follows policy users count given) (sym leaves) goes.1
+  follows_stopped horizon extension new faults.Horizon refused leaves shows same keys = subst (Follows policy users count given) (sym leaves) goes.1
+  follows_stopped horizon extension new faults.Lane refused leaves shows same keys = subst (Follows policy users count given) (sym leaves) goes.1
+  follows_stopped horizon extension new faults.OutOfTurn refused leaves shows same keys = subst (Follows policy users count given) (sym leaves) goes.1
+  follows_stopped horizon extension new (faults.Input fault) refused leaves shows same keys = absurd refused
+
+abbrev IsRefusedTurn : Turn → Type 0
+IsRefusedTurn turns.Refused = Unit {0}
+IsRefusedTurn turns.Fed = ⊥
+IsRefusedTurn turns.Quiet = ⊥
+
+pub fed_apart : turns.Fed ≢ turns.Refused
+fed_apart same = subst IsRefusedTurn (sym same) tt
+
+-- a turn that was not refused left it going
+pub left_going : (turn : Turn) (policy users : List ℕ) (count : ℕ) (given : ℕ → Option (List ℕ)) (live : Audit) → turn ≢ turns.Refused → Goes policy users count given live → LeftBy turn policy users count given live
+left_going turns.Fed policy users count given live apart goes = goes
+left_going turns.Quiet policy users count given live apart goes = goes
+left_going turns.Refused policy users count given live apart goes = absurd (apart refl)
+
+pub goes_same : (policy users : List ℕ) (count : ℕ) (given now : ℕ → Option (List ℕ)) (old new : Audit) → now ≡ given → new ≡ old → Goes policy users count given old → Goes policy users count now new
+goes_same policy users count given now old new same is goes =
+    subst (λ (live : Audit). Goes policy users count now live) (sym is) (subst (λ (h : ℕ → Option (List ℕ)). Goes policy users count h old) (sym same) goes)
+
+-- whatever a turn has come to, it is followed
+pub left_following : (turn : Turn) (policy users : List ℕ) (count : ℕ) (given : ℕ → Option (List ℕ)) (live : Audit) → LeftBy turn policy users count given live → Follows policy users count given live
+left_following turns.Fed policy users count given live goes = goes.1
+left_following turns.Quiet policy users count given live goes = goes.1
+left_following turns.Refused policy users count given live follows = follows
+
+-- so many captures were added, of which nothing was given
+pub files_opened : (intake : Intake) (count : ℕ) → StandsFor intake (replicate count not_fed) → vec_len intake.files ≡ count
+files_opened intake count stands = sym stands.count ∙ length-replicate count not_fed
+
+pub goes_opened : (policy users : List ℕ) (count : ℕ) (given : ℕ → Option (List ℕ)) (live : Audit) (p : Policy) (c : Credentials) → live.ended ≡ None → policy_of policy ≡ Ok p → live.intake.policy ≡ p
+    → AreUsers users (key_for c) → live.credentials ≡ c → StandsFor live.intake (replicate count not_fed) → ((capture : ℕ) → IfSome (given capture) (λ bytes. bytes ≡ [])) → Goes policy users count given live
+goes_opened policy users count given live p c none of_policy same of_users keys stands nothing = (
+  none,
+  record {
+    policy' = subst (λ (q : Policy). policy_of policy ≡ Ok q) (sym same) of_policy;
+    users' = subst (λ (d : Credentials). AreUsers users (key_for d)) (sym keys) of_users;
+    count' = files_opened live.intake count stands;
+    shows = no_breach live None none (λ broke. broke);
+    took = λ _. record { files = replicate count not_fed; stands = stands; were_given = given_none given count nothing };
+  },
+)
+
+-- ---- the end
+
+module _ (policy users : List ℕ) (count : ℕ) (given : ℕ → Option (List ℕ)) (live : Audit) (follows : Follows policy users count given live) (result : Result Verdict LiveEnd)
+    (first : (cause : Cause) → live.ended ≡ Some cause → result ≡ told_by cause) where
+  abbrev pub IsTold : Verdict → Type 0
+  IsTold = IsToldOf given live.intake (key_for live.credentials) live.front.placing.certificate
+
+  at_the_end : live.ended ≡ None → (r : Result Verdict LiveEnd) → ((files : List Fed) → StandsFor live.intake files → AsksTheEnds r files) → IfOk r (IsVerdict (taken live.intake) (key_for live.credentials) live.front.placing.certificate)
+      → IfOk r (λ verdict. IsConforming verdict ↔ Conforms (taken live.intake) (rules_for (taken live.intake) (key_for live.credentials)) live.front.placing.certificate) → IfOk r IsTold
+  at_the_end none (Ok verdict) ends is conforming =
+      let took = follows.took (none≢refused live none) in inl (record { took = took; ended = ends took.files took.stands; is = is; conforming = conforming })
+  at_the_end none (Err end) ends is conforming = tt
+
+  by_cause : (cause : Cause) → live.ended ≡ Some cause → IfOk (told_by cause) IsTold
+  by_cause (Broke breach) is = inr (record { took = follows.took (none_refused live (Some (Broke breach)) is (λ refused. refused)); breach = breach; is = refl; shows = follows.shows breach is })
+  by_cause NoMemory is = tt
+  by_cause (Refused fault) is = tt
+
+  pub told_at_last : (ended : Option Cause) → live.ended ≡ ended → (live.ended ≡ None → (files : List Fed) → StandsFor live.intake files → AsksTheEnds result files)
+      → (live.ended ≡ None → IfOk result (IsVerdict (taken live.intake) (key_for live.credentials) live.front.placing.certificate))
+      → (live.ended ≡ None → IfOk result (λ verdict. IsConforming verdict ↔ Conforms (taken live.intake) (rules_for (taken live.intake) (key_for live.credentials)) live.front.placing.certificate))
+      → IfOk result IsTold
+  told_at_last None none ends is conforming = at_the_end none result (ends none) (is none) (conforming none)
+  told_at_last (Some cause) is ends verdict conforming = subst (λ (r : Result Verdict LiveEnd). IfOk r IsTold) (sym (first cause is)) (by_cause cause is)

@@ -1,0 +1,11 @@
+use Rattle.std.proofs.Common.{ap}
+use Rattle.audit_live.specs.Audit.{Audit}
+use Rattle.audit_program.proofs.Following.{goes_fed, left_going}
+use Rattle.audit_program.proofs.live.Watch.feed.Goals as goal
+
+pub returns-in-Ok-clause-left : goal.returns-in-Ok-clause-left
+returns-in-Ok-clause-left g c = λ policy users count goes.
+    left_going c.turn_of.result policy users count (g.S.Growing.given c.more.new.self) c.feed.new.self c.turn_of.ensures
+    (goes_fed policy users count (g.S.Growing.given c.args.source.now) c.args.self.now.live goes (g.S.Growing.given c.more.new.self) c.args.file _ c.feed.new.self
+    c.in_ok-read.ensures.bytes c.more.ensures.others c.in-Ok.ensures.ok c.in-Ok.ensures.goes_on c.feed.ensures.files c.feed.ensures.policy
+    (ap (λ (a : Audit). a.credentials) c.feed.ensures.rest))

@@ -1,0 +1,22 @@
+use Rattle.std.proofs.Common.{◌≡◌, ◌∙◌, ℕ, List, Option, Some, IfSome, length, ap, sym, subst}
+use Rattle.audit_live.specs.Audit.{Audit}
+use Rattle.audit_sightings.specs.Intake.{Taken}
+use Rattle.audit_program.proofs.Following.{files_opened, goes_opened}
+use Rattle.audit_program.proofs.live.Watch.open.Goals as goal
+
+pub returns-clause-goes : goal.returns-clause-goes
+returns-clause-goes g c = λ policy_text users_text policy users none.
+    let Holds : Type 0 = List ℕ → Option (List ℕ) in
+    let first = c.read_policy.ensures.kept in
+    let rest = c.in_ok-add_captures.ensures.rest in
+    goes_opened policy_text users_text (length c.args.captures.now) (g.S.Growing.given c.start.new.self) c.add_captures.new.live c.in_ok-policy.policy c.in_ok-users.users
+    (ap (λ (a : Audit). a.ended) rest ∙ c.open-live.ensures.ended)
+    (c.in_ok-policy.ensures.says policy_text policy)
+    (c.in_ok-add_captures.ensures.policy ∙ ap (λ (t : Taken). t.policy) c.open-live.ensures.taken)
+    (c.in_ok-users.ensures.says users_text (subst (λ (h : Holds). IfSome c.args.users (λ name. h name.now ≡ Some users_text)) (sym first) users) none)
+    (ap (λ (a : Audit). a.credentials) rest ∙ c.open-live.ensures.credentials)
+    (c.in_ok-add_captures.ensures.stands c.open-live.ensures.stands)
+    c.start.ensures
+
+pub returns-clause-files : goal.returns-clause-files
+returns-clause-files g c = files_opened c.add_captures.new.live.intake (length c.args.captures.now) (c.in_ok-add_captures.ensures.stands c.open-live.ensures.stands)

@@ -1,0 +1,52 @@
+-- What is known of an audit while it follows the captures.
+use Rattle.std.specs.Prelude.{◌≡◌, ◌≢◌, ◌<◌, ℕ, List, Option, None, Some, Ok, IfSome, length, vec_len}
+use Rattle.audit_files.specs.Judged.{AreUsers}
+use Rattle.audit_keys.specs.KeyFor.{key_for}
+use Rattle.audit_model.specs.PolicyText.{policy_of}
+use Rattle.audit_model.specs.declared.verdict.Breach.{Breach}
+use Rattle.audit_prefix.specs.Told.{LiveBreach}
+use Rattle.audit_sightings.specs.declared.fault.IntakeFault.{IntakeFault}
+use Rattle.audit_sightings.specs.declared.intake.Intake.{Intake}
+use Rattle.audit_sightings.specs.Files.{Fed, StandsFor, fed_at}
+use Rattle.audit_sightings.specs.Intake.{taken}
+use Rattle.audit_live.specs.declared.cause.Cause.TheVariants.{Broke, Refused}
+use Rattle.audit_live.specs.Audit.{Audit}
+use Rattle.audit_program.specs.declared.live.Turn.{Turn}
+use Rattle.audit_program.specs.declared.live.Turn.TheVariants as turns
+
+-- what is known of the bytes that were given of each file is what it was fed
+abbrev pub WereGiven : (ℕ → Option (List ℕ)) → List Fed → Type 0
+WereGiven given files = (file : ℕ) → file < length files → IfSome (given file) (λ bytes. (fed_at files file).text ≡ bytes)
+
+-- the intake took in what was given of the captures
+pub record TookIn (given : ℕ → Option (List ℕ)) (intake : Intake) : Type 0 where
+  pub files : List Fed
+  pub stands : StandsFor intake files
+  pub were_given : WereGiven given files
+
+-- no bytes were refused
+abbrev pub NoneRefused : Audit → Type 0
+NoneRefused live = (fault : IntakeFault) → live.ended ≢ Some (Refused fault)
+
+-- a breach that ended it is told of the certificate
+abbrev pub ShowsItsBreach : Audit → Type 0
+ShowsItsBreach live = (breach : Breach) → live.ended ≡ Some (Broke breach) → LiveBreach (taken live.intake) (key_for live.credentials) live.front.placing.certificate (Some breach)
+
+-- It has the policy and the users of two texts, and so many captures; a breach that ended it is told of its certificate; and unless bytes
+-- were refused it took in all that was given.
+pub record Follows (policy users : List ℕ) (count : ℕ) (given : ℕ → Option (List ℕ)) (live : Audit) : Type 0 where
+  pub policy' : policy_of policy ≡ Ok live.intake.policy
+  pub users' : AreUsers users (key_for live.credentials)
+  pub count' : vec_len live.intake.files ≡ count
+  pub shows : ShowsItsBreach live
+  pub took : NoneRefused live → TookIn given live.intake
+
+-- and it hasn't ended
+abbrev pub Goes : List ℕ → List ℕ → ℕ → (ℕ → Option (List ℕ)) → Audit → Type 0
+Goes policy users count given live = (live.ended ≡ None) × Follows policy users count given live
+
+-- it may have ended only where something was refused
+abbrev pub LeftBy : Turn → List ℕ → List ℕ → ℕ → (ℕ → Option (List ℕ)) → Audit → Type 0
+LeftBy turns.Fed policy users count given live = Goes policy users count given live
+LeftBy turns.Quiet policy users count given live = Goes policy users count given live
+LeftBy turns.Refused policy users count given live = Follows policy users count given live

@@ -1,0 +1,314 @@
+//! The command `live`: captures are judged while they grow.
+
+ghost use Rattle.std.specs.Prelude.{◌≡◌, ◌≢◌, ◌<◌, ◌+◌, ℕ, List, [], Option, Some, IfNone, IfOk, IfSome, OnOk, length, vec_len, replicate};
+ghost use Rattle.audit_keys.specs.KeyFor.{key_for};
+ghost use Rattle.audit_model.specs.declared.certificate.Certificate.{Certificate as Found};
+ghost use Rattle.audit_sightings.specs.Files.{StandsFor, not_fed};
+ghost use Rattle.audit_sightings.specs.Intake.{taken};
+ghost use Rattle.audit_verdict.specs.Verdicts.{IsConforming};
+ghost use Rattle.audit_whole.specs.Headline.{Headline};
+ghost use Rattle.audit_program.specs.Following.{Follows, Goes, LeftBy};
+ghost use Rattle.audit_program.specs.Watched.{IsToldOf, IsWatched};
+ghost use Rattle.audit_program.specs.declared.live.Turn.TheVariants.{Refused};
+
+use crate::command_line::Turns;
+use crate::growing::Growing;
+use crate::newest::Newest;
+use audit_files::{Source, Stop, read_policy, read_users};
+use audit_finder::Finder;
+use audit_live::{Live, LiveEnd, LiveFault};
+use audit_model::{Sink, Verdict};
+use audit_report::report;
+use std::alloc::{AllocError, Global};
+
+/// How many bytes of each capture are read in a turn.
+const PIECE: usize = 65_536;
+
+/// The last horizon, behind all that is captured.
+const END: u64 = u64::MAX;
+
+/// An audit with what finds its certificate.
+#[derive(Drop)]
+struct Watch {
+    live: Live,
+    finder: Finder,
+    newest: Newest,
+    /// The last horizon.
+    last: Option<u64>,
+}
+
+/// What a turn has come to.
+#[derive(Clone, Copy, Debug, PartialEq, Eq)]
+pub enum Turn {
+    /// Some capture gave a byte.
+    Fed,
+    /// None did.
+    Quiet,
+    /// Bytes or an advance were refused.
+    Refused,
+}
+
+/// What a turn has come to in which so many bytes were taken.
+fn turn_of(read: usize) -> Turn
+    ensures { result ≢ Refused }
+{
+    if read > 0 { Turn::Fed } else { Turn::Quiet }
+}
+
+/// Pauses where there were turns without a byte.
+fn pause_after<S: Growing>(source: &mut S, idle: u32)
+    ensures { S.given source.new ≡ S.given source.old }
+{
+    if idle > 0 {
+        source.pause();
+    }
+}
+
+/// Why a run ends that has no verdict.
+fn stop_of(end: LiveEnd) -> Stop {
+    match end {
+        LiveEnd::Input(fault) => Stop::from(fault),
+        LiveEnd::Memory => Stop::Memory,
+    }
+}
+
+/// Adds so many captures to an audit of none.
+fn add_captures(live: &mut Live, count: usize) -> Result<(), Stop>
+    ensures policy { OnOk result (live.new.intake.policy ≡ live.old.intake.policy) }
+    ensures stands { StandsFor live.old.intake [] → OnOk result (StandsFor live.new.intake (replicate count not_fed)) }
+    ensures rest { OnOk result (live.new ≡ record live.old { intake = live.new.intake }) }
+{
+    for number in 0..count {
+        match live.add_file() {
+            Ok(_) => {}
+            Err(LiveFault::Input(fault)) => return Err(Stop::from(fault)),
+            Err(_) => return Err(Stop::Memory),
+        }
+    }
+    Ok(())
+}
+
+impl Watch {
+    /// The captures, of which nothing was read.
+    fn open<S: Source + Growing>(
+        alloc: Global,
+        source: &mut S,
+        policy: &str,
+        users: Option<&str>,
+        captures: &[&str],
+    ) -> Result<Watch, Stop>
+        ensures goes { (policy_text users_text : List ℕ) →
+            S.holds source.old policy.now ≡ Some policy_text →
+            IfSome users.entry (λ name. S.holds source.old name.now ≡ Some users_text) → IfNone users.entry (users_text ≡ []) →
+            IfOk result (λ watch. Goes policy_text users_text (length captures.now) (S.given source.new) watch.live) }
+        ensures files { IfOk result (λ watch. vec_len watch.live.intake.files ≡ length captures.now) }
+    {
+        let policy = read_policy(alloc, source, policy)?;
+        let users = read_users(alloc, source, users)?;
+        let mut live = Live::open(alloc, policy, users);
+        add_captures(&mut live, captures.len())?;
+        source.start();
+        let (files, _) = live.intake().counts();
+        let newest = Newest::new(alloc, files)?;
+        Ok(Watch {
+            live,
+            finder: Finder::new(alloc),
+            newest,
+            last: None,
+        })
+    }
+
+    /// Feeds what a capture has next.
+    fn feed<S: Growing>(
+        &mut self,
+        file: u32,
+        name: &str,
+        source: &mut S,
+        piece: &mut [u8],
+    ) -> Result<Turn, Stop>
+        requires { file < vec_len self.old.live.intake.files }
+        ensures left { (policy users : List ℕ) (count : ℕ) → Goes policy users count (S.given source.old) self.old.live
+            → IfOk result (λ turn. LeftBy turn policy users count (S.given source.new) self.new.live) }
+        ensures files { vec_len self.new.live.intake.files ≡ vec_len self.old.live.intake.files }
+    {
+        let read = source.more(file, name, piece)?;
+        match self.live.feed(file, &piece[..read]) {
+            Ok(()) => Ok(turn_of(read)),
+            Err(_) => Ok(Turn::Refused),
+        }
+    }
+
+    /// Feeds what each capture has next.
+    fn feed_each<S: Growing>(
+        &mut self,
+        names: &[&str],
+        source: &mut S,
+        piece: &mut [u8],
+    ) -> Result<Turn, Stop>
+        requires { vec_len self.old.live.intake.files ≡ length names.now }
+        ensures left { (policy users : List ℕ) (count : ℕ) → Goes policy users count (S.given source.old) self.old.live
+            → IfOk result (λ turn. LeftBy turn policy users count (S.given source.new) self.new.live) }
+        ensures files { vec_len self.new.live.intake.files ≡ vec_len self.old.live.intake.files }
+    {
+        let mut turn = Turn::Quiet;
+        let (files, _) = self.live.intake().counts();
+        for file in 0..files {
+            match self.feed(file, names[file as usize], source, piece)? {
+                Turn::Fed => turn = Turn::Fed,
+                Turn::Quiet => {}
+                Turn::Refused => return Ok(Turn::Refused),
+            }
+        }
+        Ok(turn)
+    }
+
+    /// How far the certificate can be found: what comes later of any capture may be answers to what came `hold` before, and nothing older.
+    fn horizon(&self) -> Option<u64> {
+        let horizon = self
+            .newest
+            .least()?
+            .saturating_sub(self.live.intake().policy().hold);
+        match self.last {
+            Some(last) if horizon <= last => None,
+            _ => Some(horizon),
+        }
+    }
+
+    /// Finds the certificate up to a horizon, and tells what came of it.
+    fn advance(&mut self, horizon: u64) -> Result<Turn, AllocError>
+        ensures left { (policy users : List ℕ) (count : ℕ) (given : ℕ → Option (List ℕ)) → Goes policy users count given self.old.live
+            → IfOk result (λ turn. LeftBy turn policy users count given self.new.live) }
+        ensures files { vec_len self.new.live.intake.files ≡ vec_len self.old.live.intake.files }
+    {
+        let extension = self
+            .finder
+            .extend(self.live.intake(), self.live.credentials(), horizon)?;
+        self.last = Some(horizon);
+        match self.live.advance(horizon, extension) {
+            Ok(_) => Ok(Turn::Fed),
+            Err(_) => Ok(Turn::Refused),
+        }
+    }
+
+    /// Reads each capture on, and finds the certificate as far as that lets it.
+    fn turn<S: Growing>(
+        &mut self,
+        names: &[&str],
+        source: &mut S,
+        piece: &mut [u8],
+    ) -> Result<Turn, Stop>
+        requires { vec_len self.old.live.intake.files ≡ length names.now }
+        ensures left { (policy users : List ℕ) (count : ℕ) → Goes policy users count (S.given source.old) self.old.live
+            → IfOk result (λ turn. LeftBy turn policy users count (S.given source.new) self.new.live) }
+        ensures files { vec_len self.new.live.intake.files ≡ vec_len self.old.live.intake.files }
+    {
+        match self.feed_each(names, source, piece)? {
+            Turn::Fed => {}
+            Turn::Quiet => return Ok(Turn::Quiet),
+            Turn::Refused => return Ok(Turn::Refused),
+        }
+        self.newest.look(self.live.intake())?;
+        match self.horizon() {
+            Some(horizon) => Ok(self.advance(horizon)?),
+            None => Ok(Turn::Fed),
+        }
+    }
+
+    /// A turn, and how many turns without a byte there were in a row then; None where something was refused.
+    fn turn_on<S: Growing>(
+        &mut self,
+        names: &[&str],
+        source: &mut S,
+        piece: &mut [u8],
+        idle: u32,
+    ) -> Result<Option<u32>, Stop>
+        requires { vec_len self.old.live.intake.files ≡ length names.now }
+        ensures goes { (policy users : List ℕ) (count : ℕ) → Goes policy users count (S.given source.old) self.old.live
+            → IfOk result (λ idle. IfSome idle (λ _. Goes policy users count (S.given source.new) self.new.live)) }
+        ensures follows { (policy users : List ℕ) (count : ℕ) → Goes policy users count (S.given source.old) self.old.live
+            → OnOk result (Follows policy users count (S.given source.new) self.new.live) }
+        ensures files { vec_len self.new.live.intake.files ≡ vec_len self.old.live.intake.files }
+    {
+        match self.turn(names, source, piece)? {
+            Turn::Fed => Ok(Some(0)),
+            Turn::Quiet => Ok(Some(idle.saturating_add(1))),
+            Turn::Refused => Ok(None),
+        }
+    }
+
+    /// Takes turns until the captures have ended, and the rest of the certificate; all of it unless something is refused.
+    fn go<S: Growing>(
+        &mut self,
+        alloc: Global,
+        names: &[&str],
+        turns: Turns,
+        source: &mut S,
+    ) -> Result<(), Stop>
+        requires { vec_len self.old.live.intake.files ≡ length names.now }
+        ensures follows { (policy users : List ℕ) (count : ℕ) → Goes policy users count (S.given source.old) self.old.live
+            → OnOk result (Follows policy users count (S.given source.new) self.new.live) }
+    {
+        let mut piece = vec![in alloc; 0u8; PIECE]?;
+        let mut idle = 0u32;
+        'turns: for _ in 0..turns.most {
+            match self.turn_on(names, source, &mut piece, idle)? {
+                Some(now) => idle = now,
+                None => return Ok(()),
+            }
+            if idle >= turns.idle {
+                break;
+            }
+            pause_after(source, idle);
+        }
+        self.advance(END)?;
+        Ok(())
+    }
+
+    /// The verdict, if the captures end here.
+    fn verdict(&self) -> Result<Verdict, Stop>
+        ensures told { (policy users : List ℕ) (count : ℕ) (given : ℕ → Option (List ℕ)) → Follows policy users count given self.now.live
+            → IfOk result (IsToldOf given self.now.live.intake (key_for self.now.live.credentials) self.now.live.front.placing.certificate) }
+        ensures headline { IfOk result (λ verdict. IsConforming verdict
+            → Headline (taken self.now.live.intake) (key_for self.now.live.credentials) self.now.live.front.placing.certificate) }
+    {
+        match self.live.finish() {
+            Ok(verdict) => Ok(verdict),
+            Err(end) => Err(stop_of(end)),
+        }
+    }
+
+    /// Writes the report, and gives the exit status.
+    fn tell<O: Sink>(&self, alloc: Global, out: &mut O) -> Result<u8, Stop>
+        ensures { (policy users : List ℕ) (count : ℕ) (given : ℕ → Option (List ℕ)) → Follows policy users count given self.now.live
+            → IfOk result (IsWatched policy users count given self.now.live.front.placing.certificate (O.taken out.old) (O.taken out.new)) }
+    {
+        let verdict = self.verdict()?;
+        report(alloc, &verdict, self.live.intake(), out)?;
+        match verdict {
+            Verdict::Conforming { .. } => Ok(0),
+            Verdict::NotShown(_) => Ok(1),
+        }
+    }
+}
+
+/// Judges captures while they grow, and writes the report. Files are read in this order: policy, users, captures by turns. It gives 0 where the
+/// captures conform, and 1 where that isn't shown.
+pub fn run_live<S: Source + Growing, O: Sink>(
+    alloc: Global,
+    source: &mut S,
+    policy: &str,
+    users: Option<&str>,
+    captures: &[&str],
+    turns: Turns,
+    out: &mut O,
+) -> Result<u8, Stop>
+    ensures { (policy_text users_text : List ℕ) →
+        S.holds source.old policy.now ≡ Some policy_text →
+        IfSome users.entry (λ name. S.holds source.old name.now ≡ Some users_text) → IfNone users.entry (users_text ≡ []) →
+        IfOk result (λ status. (found : Found)
+        × IsWatched policy_text users_text (length captures.now) (S.given source.new) found (O.taken out.old) (O.taken out.new) status) }
+{
+    let mut watch = Watch::open(alloc, source, policy, users, captures)?;
+    watch.go(alloc, captures, turns, source)?;
+    watch.tell(alloc, out)
+}
