@@ -23,7 +23,7 @@ format:
 
 # Proves every crate from nothing, tries the must-fail edits, and runs the tests and the program; then, with the program that this
 # built, judges the captures in examples, asks that the number of workers changes no answer, tries the examples of docs/REFUSALS.md, compares
-# with the plain checker, gives it hostile input, refuses it memory, and has it find certificates for captures of a simulated server.
+# with the plain checker, gives it hostile input and captures that grow, refuses it memory, and has it find certificates for captures of a simulated server.
 test:
 	rt ci
 	tests/captures.sh $(PROGRAM)
@@ -31,6 +31,7 @@ test:
 	python3 tests/beside_plain.py $(PROGRAM) examples/*
 	python3 tests/hostile.py $(PROGRAM)
 	python3 tests/handed_on.py $(PROGRAM)
+	python3 tests/live.py $(PROGRAM)
 	tests/no_memory.sh $(PROGRAM)
 	python3 tests/fuzz.py $(PROGRAM) --seconds 20 --seed 1 examples/*
 	python3 bench/random_captures.py $(PROGRAM) --count 500 --most 0
