@@ -4,15 +4,23 @@
     python3 tests/live.py PROGRAM
 
 What each capture in examples/ is answered stands in its folder; of those that aren't shown to conform the rule is compared. A growing file is written
-by this process while the program reads it, and the program waits two seconds without a byte before it takes the file to have ended.
+by this process while the program reads it, and the program waits two seconds without a byte before it takes the file to have ended. Through pipes the
+program reads in each turn just what this process writes then. Where dumpcap is installed and may capture, it writes one of the captures.
 """
 
+import array
+import fcntl
+import os
 import pathlib
+import random
 import re
 import shutil
+import signal
+import socket
 import subprocess
 import sys
 import tempfile
+import termios
 import threading
 import time
 
@@ -127,6 +135,98 @@ def try_examples(tries):
         thread.join()
 
 
+def is_read(pipe):
+    """Whether all that was written to a pipe was read."""
+    left = array.array("i", [0])
+    fcntl.ioctl(pipe, termios.FIONREAD, left)
+    return left[0] == 0
+
+
+def feed_pipes(run, pipes, contents, draw):
+    """Writes of each capture what is drawn for a turn, and waits until it is read, as long as the program runs."""
+    left = dict(zip(pipes, contents))
+    while left:
+        for pipe, content in list(left.items()):
+            count = draw()
+            os.write(pipe, content[:count])
+            left[pipe] = content[count:]
+        while not all(is_read(pipe) for pipe in left):
+            if run.poll() is not None:
+                break
+            time.sleep(0)
+        for pipe in [pipe for pipe, content in left.items() if not content or run.poll() is not None]:
+            os.close(pipe)
+            del left[pipe]
+
+
+def try_pipes(tries, scratch):
+    """What each turn reads is chosen: so many bytes, or some number drawn for each of them."""
+    examples = [(folder.name, words_in(folder), captures_in(folder), answer_in(folder)) for folder in sorted((TOP / "examples").iterdir()) if folder.is_dir()]
+    examples.append(("binding", ["--policy", POLICY], [BINDING], CONFORMING))
+    for name, words, captures, wanted in examples:
+        contents = [capture.read_bytes() for capture in captures]
+        if not all(contents):
+            continue
+        pieces = {f"{size} a turn": lambda size=size: size for size in [1, 7, 4096]}
+        for seed in [1, 2]:
+            numbers = random.Random(f"{name} {seed}")
+            pieces[f"cut by seed {seed}"] = lambda numbers=numbers: int(10 ** numbers.uniform(0, 4.5))
+        for way, draw in pieces.items():
+            with tempfile.TemporaryDirectory(dir=scratch) as folder:
+                names = [pathlib.Path(folder) / str(number) for number in range(len(captures))]
+                for path in names:
+                    os.mkfifo(path)
+                pipes = [os.open(path, os.O_RDWR) for path in names]
+                run = tries.start([*words, *names])
+                feed_pipes(run, pipes, contents, draw)
+                tries.end(f"{name}, {way}", run, wanted, as_far_as_rule)
+
+
+def answer_bindings(server):
+    """Tells each client its address (RFC 8489, section 14.2), until the socket is closed."""
+    while True:
+        try:
+            request, (host, port) = server.recvfrom(2048)
+        except OSError:
+            return
+        cookie = request[4:8]
+        mapped = bytes([0, 1]) + (port ^ int.from_bytes(cookie[:2], "big")).to_bytes(2, "big")
+        mapped += bytes(one ^ other for one, other in zip(socket.inet_aton(host), cookie))
+        server.sendto(bytes.fromhex("0101000c") + request[4:20] + bytes.fromhex("00200008") + mapped, (host, port))
+
+
+def try_dumpcap(tries, scratch):
+    """A capture that dumpcap writes on the loopback interface."""
+    if not shutil.which("dumpcap"):
+        return
+    server = socket.socket(socket.AF_INET, socket.SOCK_DGRAM)
+    server.bind(("127.0.0.1", 0))
+    port = server.getsockname()[1]
+    path, policy = scratch / "dumpcap.pcapng", scratch / "dumpcap-policy"
+    policy.write_text(f"turnaudit-policy 1\nlisten 127.0.0.1:{port}\nrelay 127.0.0.1:1-2\n")
+    words = ["dumpcap", "-q", "-i", "lo", "-f", f"udp port {port}", "-w", str(path)]
+    dumpcap = subprocess.Popen(words, stdout=subprocess.DEVNULL, stderr=subprocess.DEVNULL)
+    time.sleep(2)
+    if dumpcap.poll() is not None or not path.exists():
+        print("live: dumpcap may not capture here")
+        server.close()
+        return
+    threading.Thread(target=answer_bindings, args=(server,), daemon=True).start()
+    run = tries.start(["--policy", policy, "--idle", "60", path])
+    client = socket.socket(socket.AF_INET, socket.SOCK_DGRAM)
+    client.bind(("127.0.0.1", 0))
+    for number in range(8):
+        client.sendto(bytes.fromhex("000100002112a442") + number.to_bytes(12, "big"), ("127.0.0.1", port))
+        client.recv(2048)
+        time.sleep(0.2)
+    time.sleep(2)
+    dumpcap.send_signal(signal.SIGINT)
+    dumpcap.wait(timeout=30)
+    tries.end("what dumpcap writes", run, (0, "turnaudit-report 1\nconforming 16 datagrams 1 lanes\n", ""))
+    client.close()
+    server.close()
+
+
 def try_cuts(tries, scratch):
     words = ["--policy", POLICY]
     content = BINDING.read_bytes()
@@ -203,6 +303,8 @@ def main():
         try_truncated(tries, scratch)
         try_turns(tries, scratch)
         try_first_breach(tries, scratch)
+        try_pipes(tries, scratch)
+        try_dumpcap(tries, scratch)
     finally:
         shutil.rmtree(scratch)
     print(f"live: {tries.passed} passed, {tries.failed} failed")
