@@ -21,11 +21,11 @@ const PATIENT: [&str; 7] = [
 ];
 
 /// That the capture, given in these turns, is answered by this status, report and line.
-fn assert_live(
+fn assert_live<'a>(
     rt: &(impl Abort + AllocGlobal + Threads + Wait + Sync),
     words: &[&str],
-    capture: &[u8],
-    turns: &[usize],
+    capture: &'a [u8],
+    turns: &'a [usize],
     expected: (u8, &str, &str),
 ) -> Result<(), Fail> {
     let mut files = Files::new(POLICY, CERTIFICATE, capture);
