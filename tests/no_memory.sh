@@ -1,5 +1,5 @@
 #!/bin/bash
-# no_memory.sh PROGRAM: each allocation of `audit`, `find` and `check` on a capture of a real server is refused in turn; the answer is status 3 and
+# no_memory.sh PROGRAM: each allocation of `audit`, `find`, `check` and `live` on a capture of a real server is refused in turn; the answer is status 3 and
 # one line each time, and nothing on standard output; with two workers that, or the answer of one. Of a certificate larger than what `find` gathers before it writes (64 KiB), some allocations are refused, and a
 # front of it may be out: with status 3 it is no certificate. With several workers on 24 clients the last allocations are refused in turn, and then the threads
 # from each number on: the answer is that of one thread, or status 3. It needs gcc.
@@ -34,6 +34,7 @@ refuse_each() { # NAME WORDS.. : by several workers the answer may be that of on
 refuse_each audit audit
 refuse_each find find
 refuse_each check check --cert certificate
+refuse_each live live
 refuse_each "check by two workers" check --cert certificate --workers 2
 refuse_each "audit by two workers" audit --workers 2
 

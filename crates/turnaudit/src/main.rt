@@ -19,11 +19,16 @@ fn words_of<R: Env + AllocGlobal>(rt: &R) -> io::Result<Vec<String>> {
     Ok(words)
 }
 
+/// Says that there is no memory, and gives the exit status.
+fn refuse_memory<W: Sink>(err: &mut W) -> u8 {
+    let _ = put_all(err, b"turnaudit: out of memory\n");
+    3
+}
+
 /// Says that the words could not be read, and gives the exit status.
 fn refuse_words<W: Sink>(err: &mut W, error: &io::Error) -> u8 {
     if error.kind() == io::ErrorKind::OutOfMemory {
-        let _ = put_all(err, b"turnaudit: out of memory\n");
-        return 3;
+        return refuse_memory(err);
     }
     let _ = put_all(err, b"turnaudit: a word is not UTF-8\n");
     5
@@ -33,9 +38,11 @@ fn main(rt: HostRuntime) -> ExitCode {
     let alloc = rt.alloc();
     let mut out = HostStream::new(rt.stdout());
     let mut err = HostStream::new(rt.stderr());
-    let mut files = HostFiles::new(&rt);
     let status = match words_of(&rt) {
-        Ok(words) => run(&rt, alloc, &words, &mut files, &mut out, &mut err),
+        Ok(words) => match HostFiles::new(&rt) {
+            Ok(mut files) => run(&rt, alloc, &words, &mut files, &mut out, &mut err),
+            Err(_) => refuse_memory(&mut err),
+        },
         Err(error) => refuse_words(&mut err, &error),
     };
     ExitCode::from(status)
