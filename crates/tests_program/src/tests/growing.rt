@@ -131,27 +131,46 @@ fn what_is_no_capture_is_refused(rt: HostRuntime) -> Result<(), Fail> {
     Ok(())
 }
 
+/// That a number of turns is no request.
+fn assert_refused(
+    rt: &(impl Abort + AllocGlobal + Threads + Wait + Sync),
+    option: &str,
+    number: &str,
+) -> Result<(), Fail> {
+    let words = [
+        "turnaudit",
+        "live",
+        "--policy",
+        "policy",
+        option,
+        number,
+        "capture",
+    ];
+    let mut files = Files::new(POLICY, CERTIFICATE, &SECTION);
+    let answer = ask(rt, rt.alloc(), &words, &mut files)?;
+    assert_eq!(rt; answer.status, 5);
+    Ok(())
+}
+
 #[test]
 fn numbers_of_turns_are_1_to_1000000(rt: HostRuntime) -> Result<(), Fail> {
+    for number in ["0", "1000001", "x"] {
+        assert_refused(&rt, "--idle", number)?;
+        assert_refused(&rt, "--turns", number)?;
+    }
     let capture = binding_capture(rt.alloc(), &binding_parts())?;
-    for option in ["--idle", "--turns"] {
-        for (number, status) in [("0", 5), ("1", 0), ("1000000", 0), ("1000001", 5), ("x", 5)] {
-            let words = [
-                "turnaudit",
-                "live",
-                "--policy",
-                "policy",
-                option,
-                number,
-                "capture",
-            ];
-            // The capture is given within the first turn.
-            if option == "--turns" || number != "1000000" {
-                let mut files = Files::new(POLICY, CERTIFICATE, &capture);
-                let answer = ask(&rt, rt.alloc(), &words, &mut files)?;
-                assert_eq!(rt; answer.status, status, "{option} {number}");
-            }
-        }
+    // The capture is given within the first turn.
+    for (option, number) in [("--idle", "1"), ("--turns", "1"), ("--turns", "1000000")] {
+        let words = [
+            "turnaudit",
+            "live",
+            "--policy",
+            "policy",
+            option,
+            number,
+            "capture",
+        ];
+        assert_live(&rt, &words, &capture, &[], (0, CONFORMING, ""))?;
     }
     Ok(())
 }
