@@ -4,7 +4,7 @@
     python3 tests/live.py PROGRAM
 
 What each capture in examples/ is answered stands in its folder; of those that aren't shown to conform the rule is compared. A growing file is written
-by this process while the program reads it, and the program waits two seconds without a byte before it takes the file to have ended. Through pipes the
+by this process while the program reads it, and the program waits five seconds without a byte before it takes the file to have ended. Through pipes the
 program reads in each turn just what this process writes then. Where dumpcap is installed and may capture, it writes one of the captures.
 """
 
@@ -30,7 +30,7 @@ POLICY = TOP / "crates/turnaudit/data/policy"
 CONFORMING = (0, "turnaudit-report 1\nconforming 2 datagrams 1 lanes\n", "")
 TORN = (2, "", "turnaudit: refused C1 in capture 0\n")
 UNREAD = (4, "", "turnaudit: read failed\n")
-PATIENT = ["--idle", "20"]
+PATIENT = ["--idle", "50"]
 
 
 def without_moment(text):
@@ -251,7 +251,7 @@ def try_truncated(tries, scratch):
         path = scratch / f"truncated{length}.pcapng"
         path.write_bytes(content[:length])
         run = tries.start([*words, path])
-        time.sleep(0.7)
+        time.sleep(2)
         with open(path, "r+b") as file:
             file.truncate(60)
         tries.end(f"truncated behind {length} bytes", run, wanted)
