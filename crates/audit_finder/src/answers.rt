@@ -1,5 +1,6 @@
 //! The successes and errors that leave.
 
+use crate::causes::Cause;
 use crate::numbers::{AnswerNumber, ArrivalNumber, LaneNumber};
 use crate::queues::Queues;
 use crate::said::Says;
@@ -26,17 +27,25 @@ pub struct Answer {
 }
 
 /// The lane and the transaction id of a response.
-#[derive(Clone, Copy, Debug, PartialEq, Eq, PartialOrd, Ord)]
+#[derive(Clone, Copy, Debug, PartialEq, Eq)]
 pub struct Transaction {
     pub lane: LaneNumber,
     pub id: [u8; 12],
+}
+
+impl Transaction {
+    /// The digest of the requests that such a response answers.
+    pub fn digest(&self) -> u64 {
+        let Transaction { lane, id } = *self;
+        Cause::Request { lane, id }.digest()
+    }
 }
 
 /// All of them, by number, and those that no request has yet by their transaction.
 #[derive(Drop)]
 pub struct Answers {
     list: Vec<Answer>,
-    queues: Queues<Transaction>,
+    queues: Queues,
 }
 
 impl Answers {
@@ -66,10 +75,12 @@ impl Answers {
             deleted_from: None,
             is_acted: false,
         })?;
-        let number = AnswerNumber(
-            self.queues
-                .add(if arrival.is_none() { Some(of) } else { None })?,
-        );
+        let digest = if arrival.is_none() {
+            Some(of.digest())
+        } else {
+            None
+        };
+        let number = AnswerNumber(self.queues.add(digest)?);
         if let Some(before) = before {
             if let Some(before) = self.get_mut(before) {
                 before.behind = Some(number);
@@ -144,11 +155,11 @@ impl Answers {
 
     /// The first of the transaction that no request has.
     pub fn first(&self, of: &Transaction) -> Option<AnswerNumber> {
-        Some(AnswerNumber(self.queues.first(of)?))
+        Some(AnswerNumber(self.queues.first(of.digest())?))
     }
 
     /// Takes the first of the transaction out.
     pub fn skip(&mut self, of: &Transaction) {
-        self.queues.skip(of);
+        self.queues.skip(of.digest());
     }
 }

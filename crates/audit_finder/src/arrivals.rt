@@ -25,7 +25,7 @@ pub struct Arrival {
 #[derive(Drop)]
 pub struct Arrivals {
     list: Vec<Arrival>,
-    queues: Queues<Cause>,
+    queues: Queues,
 }
 
 impl Arrivals {
@@ -36,12 +36,12 @@ impl Arrivals {
         }
     }
 
-    /// Adds an arrival, and gives its number.
+    /// Adds an arrival that asks for something of that digest, and gives its number.
     pub fn add(
         &mut self,
         sight: SightId,
         lane: Option<LaneNumber>,
-        cause: Option<Cause>,
+        digest: Option<u64>,
     ) -> Result<ArrivalNumber, AllocError> {
         self.list.push(Arrival {
             sight,
@@ -51,7 +51,7 @@ impl Arrivals {
             is_acted: false,
             is_given: false,
         })?;
-        Ok(ArrivalNumber(self.queues.add(cause)?))
+        Ok(ArrivalNumber(self.queues.add(digest)?))
     }
 
     pub fn get(&self, number: ArrivalNumber) -> Option<&Arrival> {
@@ -64,10 +64,11 @@ impl Arrivals {
 
     /// The first that asks for this, those left out that were acted on or came too long ago.
     pub fn first(&mut self, cause: &Cause, earliest: u64) -> Option<ArrivalNumber> {
+        let digest = cause.digest();
         for _ in 0..self.list.len() {
-            let first = ArrivalNumber(self.queues.first(cause)?);
+            let first = ArrivalNumber(self.queues.first(digest)?);
             match self.get(first) {
-                Some(arrival) if is_past(arrival, earliest) => self.queues.skip(cause),
+                Some(arrival) if is_past(arrival, earliest) => self.queues.skip(digest),
                 _ => return Some(first),
             }
         }
@@ -76,7 +77,7 @@ impl Arrivals {
 
     /// The last that asked for this and was acted on, unless it came too long ago.
     pub fn past(&self, cause: &Cause, earliest: u64) -> Option<ArrivalNumber> {
-        let past = ArrivalNumber(self.queues.past(cause)?);
+        let past = ArrivalNumber(self.queues.past(cause.digest())?);
         if self.get(past)?.key?.moment < earliest {
             return None;
         }
@@ -85,7 +86,7 @@ impl Arrivals {
 
     /// The last that asks for this, of all that were added.
     pub fn last(&self, cause: &Cause) -> Option<ArrivalNumber> {
-        Some(ArrivalNumber(self.queues.last(cause)?))
+        Some(ArrivalNumber(self.queues.last(cause.digest())?))
     }
 
     /// The next that asks for the same.

@@ -8,7 +8,7 @@ use audit_stun::{Class, address, channel_data, message};
 use std::hash::{DefaultHasher, Hasher};
 
 /// What an arrival asks for. Data stands by its digest: two that have one are told apart when they are judged.
-#[derive(Clone, Copy, Debug, PartialEq, Eq, PartialOrd, Ord)]
+#[derive(Clone, Copy, Debug, PartialEq, Eq)]
 pub enum Cause {
     /// A request of that transaction id.
     Request {
@@ -33,6 +33,46 @@ pub enum Cause {
         peer: Addr,
         digest: u64,
     },
+}
+
+impl Cause {
+    /// A digest of it, by which those that ask for the same are found. Two others that have one are told apart when they are judged.
+    pub fn digest(&self) -> u64 {
+        let mut hasher = DefaultHasher::new();
+        for word in self.words() {
+            hasher.write_u64(word);
+        }
+        hasher.finish()
+    }
+
+    /// All that it has, and which of the four it is.
+    fn words(&self) -> [u64; 3] {
+        match *self {
+            Cause::Request { lane, id } => {
+                let [a, b, c, d, e, f, g, h, rest @ ..] = id;
+                let first = u64::from_le_bytes([a, b, c, d, e, f, g, h]);
+                [lane.0 as u64, first, u32::from_le_bytes(rest) as u64]
+            }
+            Cause::Send { lane, peer, digest } => {
+                [1 << 48 | lane.0 as u64, word_of(peer), digest]
+            }
+            Cause::Channel {
+                lane,
+                number,
+                digest,
+            } => [2 << 48 | lane.0 as u64, number as u64, digest],
+            Cause::Peer {
+                relayed,
+                peer,
+                digest,
+            } => [3 << 48 | word_of(relayed), word_of(peer), digest],
+        }
+    }
+}
+
+/// An address as the 48 bits that it has.
+fn word_of(address: Addr) -> u64 {
+    (address.ip as u64) << 16 | address.port as u64
 }
 
 /// A digest of data, by which equal data is found.

@@ -199,6 +199,26 @@ fn in_one_walk(
     search.go(&judge, u64::MAX)
 }
 
+/// The same events, where so many threads at the most tell what each sighting is.
+fn in_one_walk_by<R: Threads + Sync>(
+    rt: &R,
+    alloc: Global,
+    intake: &Intake,
+    credentials: &Credentials,
+    clients: &Clients,
+    workers: u32,
+) -> Result<Portion, AllocError> {
+    let judge = Judge {
+        alloc,
+        intake,
+        credentials,
+        clients,
+    };
+    let mut search = Search::new(alloc);
+    search.note_new_by(rt, workers, &judge)?;
+    search.go(&judge, u64::MAX)
+}
+
 /// The clients of all captures.
 fn clients_in(alloc: Global, intake: &Intake) -> Result<Clients, AllocError>
     ensures { IfOk result (λ clients. clients.pairs ≡ with_new [] (taken intake.now) []) }
@@ -259,6 +279,23 @@ pub fn find_once(
     let clients = clients_in(alloc, intake)?;
     let once = in_one_walk(alloc, intake, credentials, &clients)?;
     certificate_with(alloc, intake, clients.lanes(), once)
+}
+
+/// Finds the certificate that `find_once` finds. So many threads at the most read the payloads; the walk itself is one thread's.
+pub fn find_once_parallel<R: Threads + Sync>(
+    rt: &R,
+    alloc: Global,
+    intake: &Intake,
+    credentials: &Credentials,
+    workers: u32,
+) -> Result<Certificate, AllocError>
+    ensures lanes { IfOk result (λ certificate. map pair_of certificate.lanes ≡ clients_of (taken intake.now)) }
+    ensures events { IfOk result (λ certificate. AllNamed (taken intake.now) certificate.lanes) }
+    ensures drops { IfOk result (λ certificate. AreThere (taken intake.now) certificate.drops) }
+{
+    let clients = clients_in(alloc, intake)?;
+    let walked = in_one_walk_by(rt, alloc, intake, credentials, &clients, workers)?;
+    certificate_with(alloc, intake, clients.lanes(), walked)
 }
 
 /// Finds the certificate that `find` finds, by so many threads at the most: each searches lanes of its own.

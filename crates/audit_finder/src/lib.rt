@@ -11,6 +11,7 @@ mod causes;
 mod clients;
 mod clock;
 mod deciding;
+mod digests;
 mod finder;
 mod finding;
 mod heads;
@@ -27,7 +28,8 @@ mod queues;
 mod rows;
 mod said;
 mod search;
+mod seeing;
 mod writing;
 
 pub use finder::Finder;
-pub use finding::{find, find_once, find_parallel};
+pub use finding::{find, find_once, find_once_parallel, find_parallel};

@@ -45,9 +45,10 @@ impl Search {
         &mut self,
         judge: &Judge<'_>,
         leaves: &Sighting,
+        digest: u64,
         portion: &mut Portion,
     ) -> Result<Option<Wait>, AllocError> {
-        let asked = self.asked_by(judge, leaves);
+        let asked = self.asked_by(judge, leaves, digest);
         if let Some(asked) = &asked {
             match self.choose(judge, asked, leaves)? {
                 Choice::Acts(lane, number, key) => {
@@ -61,7 +62,7 @@ impl Search {
         if self.has_time(judge, leaves) {
             return Ok(Some(Wait::Next));
         }
-        let lane = match asked.or(self.asked_by_last(judge, leaves)) {
+        let lane = match asked.or(self.asked_by_last(judge, leaves, digest)) {
             Some(asked) => match self.likely(judge, &asked, leaves) {
                 Some((lane, number)) => {
                     let key = self.clock.tick();

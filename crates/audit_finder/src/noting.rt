@@ -1,26 +1,37 @@
 //! Sightings that are new.
 
 use crate::answers::Transaction;
-use crate::causes::{Cause, cause_of_client, cause_of_peer};
+use crate::causes::Cause;
 use crate::clients::Clients;
 use crate::judge::Judge;
 use crate::lanes::FoundLane;
 use crate::numbers::{AnswerNumber, ArrivalNumber, LaneNumber};
 use crate::rows::{Role, Row};
-use crate::said::{Says, answer_of};
+use crate::said::Says;
 use crate::search::Search;
-use audit_model::{Side, Sighting};
+use crate::seeing::{Seen, all_seen_by, seen_of};
+use audit_model::Sighting;
 use std::alloc::AllocError;
+use std::thread::Threads;
+
+/// How many sightings are kept at once with what they are.
+const AT_ONCE: usize = 262_144;
 
 impl Search {
     /// Notes what the intake has gained.
     pub(crate) fn note_new(&mut self, judge: &Judge<'_>) -> Result<(), AllocError> {
         self.add_lanes(judge.clients)?;
         for iface in 0..judge.intake.interfaces() {
-            if self.rows.len() <= iface as usize {
-                self.rows.push(Row::new(self.alloc))?;
-            }
+            self.add_row(iface)?;
             self.note_row(judge, iface)?;
+        }
+        Ok(())
+    }
+
+    /// Adds the row of an interface, unless it is there.
+    fn add_row(&mut self, iface: u32) -> Result<(), AllocError> {
+        if self.rows.len() <= iface as usize {
+            self.rows.push(Row::new(self.alloc))?;
         }
         Ok(())
     }
@@ -49,53 +60,69 @@ impl Search {
     fn note_row(&mut self, judge: &Judge<'_>, iface: u32) -> Result<(), AllocError> {
         let noted = self.noted(iface);
         for sighting in judge.intake.interface(iface).get(noted..).unwrap_or(&[]) {
-            let role = self.role_of(judge, sighting)?;
-            if let Some(row) = self.rows.get_mut(iface as usize) {
-                row.note(role)?;
+            self.note(judge, iface, sighting, seen_of(judge, sighting))?;
+        }
+        Ok(())
+    }
+
+    /// Notes what the intake has gained, where so many threads at the most tell what each sighting is.
+    pub(crate) fn note_new_by<R: Threads + Sync>(
+        &mut self,
+        rt: &R,
+        workers: u32,
+        judge: &Judge<'_>,
+    ) -> Result<(), AllocError> {
+        self.add_lanes(judge.clients)?;
+        for iface in 0..judge.intake.interfaces() {
+            self.add_row(iface)?;
+            let noted = self.noted(iface);
+            let sightings = judge.intake.interface(iface).get(noted..).unwrap_or(&[]);
+            for some in sightings.chunks(AT_ONCE) {
+                self.note_some_by(rt, workers, judge, iface, some)?;
             }
         }
         Ok(())
     }
 
-    fn role_of(&mut self, judge: &Judge<'_>, sighting: &Sighting) -> Result<Role, AllocError> {
-        match sighting.side {
-            Side::Arrives => Ok(Role::Arrival(self.note_arrival(judge, sighting)?)),
-            Side::Leaves => self.role_of_departure(judge, sighting),
+    /// Notes the next sightings of an interface.
+    fn note_some_by<R: Threads + Sync>(
+        &mut self,
+        rt: &R,
+        workers: u32,
+        judge: &Judge<'_>,
+        iface: u32,
+        sightings: &[Sighting],
+    ) -> Result<(), AllocError> {
+        let mut left = sightings.iter();
+        for part in all_seen_by(rt, workers, judge, sightings)? {
+            for seen in part? {
+                if let Some(sighting) = left.next() {
+                    self.note(judge, iface, sighting, seen)?;
+                }
+            }
         }
+        Ok(())
     }
 
-    fn note_arrival(
+    /// Notes the next sighting of an interface, and what it is alone.
+    fn note(
         &mut self,
         judge: &Judge<'_>,
+        iface: u32,
         sighting: &Sighting,
-    ) -> Result<ArrivalNumber, AllocError> {
-        if !judge.intake.policy().listens(sighting.to) {
-            let cause = cause_of_peer(sighting);
-            return self.arrivals.add(sighting.id, None, Some(cause));
-        }
-        let lane = judge.lane_of(sighting.from, sighting.to);
-        let cause = match lane {
-            Some(lane) => cause_of_client(lane, sighting.payload.as_slice()),
-            None => None,
+        seen: Seen,
+    ) -> Result<(), AllocError> {
+        let role = match seen {
+            Seen::Arrival { lane, asks } => {
+                Role::Arrival(self.arrivals.add(sighting.id, lane, asks)?)
+            }
+            Seen::Answer(of, says) => Role::Answer(self.note_answer(judge, sighting, says, of)?),
+            Seen::Data(digest) => Role::Data(digest),
         };
-        self.arrivals.add(sighting.id, lane, cause)
-    }
-
-    fn role_of_departure(
-        &mut self,
-        judge: &Judge<'_>,
-        sighting: &Sighting,
-    ) -> Result<Role, AllocError> {
-        if !judge.intake.policy().listens(sighting.from) {
-            return Ok(Role::Data);
+        match self.rows.get_mut(iface as usize) {
+            Some(row) => row.note(role),
+            None => Ok(()),
         }
-        let lane = judge.lane_of(sighting.to, sighting.from);
-        let (Some(lane), Some(answer)) = (lane, answer_of(sighting.payload.as_slice())) else {
-            return Ok(Role::Data);
-        };
-        let (id, says) = answer;
-        let of = Transaction { lane, id };
-        Ok(Role::Answer(self.note_answer(judge, sighting, says, of)?))
     }
 
     /// Notes an answer, with the last request of its transaction that came before it by its interface, if that has no other.

@@ -1,6 +1,6 @@
 //! What may have asked for data that leaves.
 
-use crate::causes::{Cause, digest_of};
+use crate::causes::Cause;
 use crate::judge::Judge;
 use crate::lanes::{FoundLane, Holding};
 use crate::numbers::LaneNumber;
@@ -18,14 +18,18 @@ pub(crate) struct Asked {
 }
 
 impl Search {
-    /// What may have asked for data that leaves; none where nobody has or had its relayed address.
-    pub(crate) fn asked_by(&self, judge: &Judge<'_>, leaves: &Sighting) -> Option<Asked> {
+    /// What may have asked for data of that digest that leaves; none where nobody has or had its relayed address.
+    pub(crate) fn asked_by(
+        &self,
+        judge: &Judge<'_>,
+        leaves: &Sighting,
+        digest: u64,
+    ) -> Option<Asked> {
         if judge.intake.policy().listens(leaves.from) {
             let lane = judge.lane_of(leaves.to, leaves.from)?;
-            return Some(self.asked_by_peer(lane, leaves));
+            return Some(self.asked_by_peer(lane, leaves, digest));
         }
         let holders = *self.holders.get(&leaves.from)?;
-        let digest = digest_of(leaves.payload.as_slice());
         let [send, channel, deleted] = self.asked_by_client(holders.last, leaves, digest);
         let [send_before, channel_before, deleted_before] = match holders.before {
             Some(lane) => self.asked_by_client(lane, leaves, digest),
@@ -45,12 +49,16 @@ impl Search {
     }
 
     /// What may have asked for data from an address that nobody has or had, of the last client that sent data.
-    pub(crate) fn asked_by_last(&self, judge: &Judge<'_>, leaves: &Sighting) -> Option<Asked> {
+    pub(crate) fn asked_by_last(
+        &self,
+        judge: &Judge<'_>,
+        leaves: &Sighting,
+        digest: u64,
+    ) -> Option<Asked> {
         if judge.intake.policy().listens(leaves.from) {
             return None;
         }
         let lane = self.lane_of_last()?;
-        let digest = digest_of(leaves.payload.as_slice());
         let [send, channel, deleted] = self.asked_by_client(lane, leaves, digest);
         Some(Asked {
             lane,
@@ -88,13 +96,13 @@ impl Search {
     }
 
     /// What asks for data that a client is given.
-    fn asked_by_peer(&self, lane: LaneNumber, leaves: &Sighting) -> Asked {
+    fn asked_by_peer(&self, lane: LaneNumber, leaves: &Sighting, digest: u64) -> Asked {
         let mut causes = [None; 6];
         if let Some(of) = self.lanes.get(lane.index()) {
-            if let Some(given) = data_given(leaves.payload.as_slice()) {
-                let current = cause_of(&of.current, given);
+            if let Some((given, _)) = data_given(leaves.payload.as_slice()) {
+                let current = cause_of(&of.current, given, digest);
                 causes[0] = current.map(|cause| (lane, cause));
-                causes[1] = cause_before(of, given, current).map(|cause| (lane, cause));
+                causes[1] = cause_before(of, given, digest, current).map(|cause| (lane, cause));
             }
         }
         Asked { lane, causes }
@@ -114,23 +122,28 @@ impl Search {
     }
 }
 
-/// What asks for data that a client with that allocation is given.
-fn cause_of(holding: &Holding, given: Given<'_>) -> Option<Cause> {
-    let (peer, data) = match given {
-        Given::Peer(peer, data) => (peer, data),
-        Given::Channel(number, data) => (holding.peer_of(number)?, data),
+/// What asks for data of that digest that a client with that allocation is given.
+fn cause_of(holding: &Holding, given: Given, digest: u64) -> Option<Cause> {
+    let peer = match given {
+        Given::Peer(peer) => peer,
+        Given::Channel(number) => holding.peer_of(number)?,
     };
     Some(Cause::Peer {
         relayed: holding.relayed?,
         peer,
-        digest: digest_of(data),
+        digest,
     })
 }
 
 /// What asks for data that a client is given, by the last of its deleted allocations that had such a peer, unless it is this.
-fn cause_before(of: &FoundLane, given: Given<'_>, current: Option<Cause>) -> Option<Cause> {
+fn cause_before(
+    of: &FoundLane,
+    given: Given,
+    digest: u64,
+    current: Option<Cause>,
+) -> Option<Cause> {
     for deleted in of.deleted.iter().rev() {
-        let cause = cause_of(&deleted.holding, given);
+        let cause = cause_of(&deleted.holding, given, digest);
         if cause.is_some() && cause != current {
             return cause;
         }

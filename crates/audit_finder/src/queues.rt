@@ -1,7 +1,7 @@
 //! Items in the order in which they came, by what they are found by.
 
+use crate::digests::Digests;
 use std::alloc::{AllocError, Global};
-use std::collections::BTreeMap;
 
 /// The ends of one queue.
 #[derive(Clone, Copy)]
@@ -12,46 +12,44 @@ struct Ends {
     past: Option<u32>,
 }
 
-/// Numbers of items, from 0 in the order in which they came, each in the queue of its key if it has one.
-/// Every call takes logarithmic time in the number of keys at the most.
+/// Numbers of items, from 0 in the order in which they came, each in the queue of its digest if it has one.
+/// Every call takes logarithmic time in the number of digests at the most, and mostly takes the same time.
 #[derive(Drop)]
-pub struct Queues<K: Ord> {
-    ends: BTreeMap<K, Ends>,
+pub struct Queues {
+    /// The number of the queue of each digest.
+    numbers: Digests,
+    ends: Vec<Ends>,
     /// What stands behind each item in its queue.
     behind: Vec<Option<u32>>,
 }
 
-impl<K: Ord + Drop> Queues<K> {
-    pub fn new(alloc: Global) -> Queues<K> {
+impl Queues {
+    pub fn new(alloc: Global) -> Queues {
         Queues {
-            ends: BTreeMap::new(alloc),
+            numbers: Digests::new(alloc),
+            ends: Vec::new(alloc),
             behind: Vec::new(alloc),
         }
     }
 
     /// Adds an item, and gives its number.
-    pub fn add(&mut self, key: Option<K>) -> Result<u32, AllocError> {
+    pub fn add(&mut self, digest: Option<u64>) -> Result<u32, AllocError> {
         let Ok(number) = u32::try_from(self.behind.len()) else {
             return Err(AllocError);
         };
         self.behind.push(None)?;
-        if let Some(key) = key {
-            self.join(key, number)?;
+        if let Some(digest) = digest {
+            self.join(digest, number)?;
         }
         Ok(number)
     }
 
     /// Puts an item at the end of its queue.
-    fn join(&mut self, key: K, number: u32) -> Result<(), AllocError> {
-        let Some(ends) = self.ends.get_mut(&key) else {
-            self.ends.insert(
-                key,
-                Ends {
-                    first: Some(number),
-                    last: number,
-                    past: None,
-                },
-            )?;
+    fn join(&mut self, digest: u64, number: u32) -> Result<(), AllocError> {
+        let Some(queue) = self.numbers.get(digest) else {
+            return self.begin(digest, number);
+        };
+        let Some(ends) = self.ends.get_mut(queue as usize) else {
             return Ok(());
         };
         if ends.first.is_none() {
@@ -64,19 +62,37 @@ impl<K: Ord + Drop> Queues<K> {
         Ok(())
     }
 
+    /// Begins a queue with an item.
+    fn begin(&mut self, digest: u64, number: u32) -> Result<(), AllocError> {
+        let Ok(queue) = u32::try_from(self.ends.len()) else {
+            return Err(AllocError);
+        };
+        self.numbers.insert(digest, queue)?;
+        self.ends.push(Ends {
+            first: Some(number),
+            last: number,
+            past: None,
+        })?;
+        Ok(())
+    }
+
+    fn ends_of(&self, digest: u64) -> Option<&Ends> {
+        self.ends.get(self.numbers.get(digest)? as usize)
+    }
+
     /// The first item of a queue.
-    pub fn first(&self, key: &K) -> Option<u32> {
-        self.ends.get(key)?.first
+    pub fn first(&self, digest: u64) -> Option<u32> {
+        self.ends_of(digest)?.first
     }
 
     /// The item that was added to a queue last.
-    pub fn last(&self, key: &K) -> Option<u32> {
-        Some(self.ends.get(key)?.last)
+    pub fn last(&self, digest: u64) -> Option<u32> {
+        Some(self.ends_of(digest)?.last)
     }
 
     /// The item that was taken out of a queue last.
-    pub fn past(&self, key: &K) -> Option<u32> {
-        self.ends.get(key)?.past
+    pub fn past(&self, digest: u64) -> Option<u32> {
+        self.ends_of(digest)?.past
     }
 
     /// The item behind an item in its queue.
@@ -85,8 +101,11 @@ impl<K: Ord + Drop> Queues<K> {
     }
 
     /// Takes the first item out of its queue.
-    pub fn skip(&mut self, key: &K) {
-        if let Some(ends) = self.ends.get_mut(key) {
+    pub fn skip(&mut self, digest: u64) {
+        let Some(queue) = self.numbers.get(digest) else {
+            return;
+        };
+        if let Some(ends) = self.ends.get_mut(queue as usize) {
             if let Some(first) = ends.first {
                 ends.past = Some(first);
                 ends.first = match self.behind.get(first as usize) {

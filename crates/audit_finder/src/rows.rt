@@ -11,8 +11,8 @@ pub enum Role {
     Arrival(ArrivalNumber),
     /// A success or an error.
     Answer(AnswerNumber),
-    /// Data that leaves.
-    Data,
+    /// Data that leaves, with its digest.
+    Data(u64),
 }
 
 /// What a departure waits for.

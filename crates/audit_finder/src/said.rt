@@ -2,7 +2,7 @@
 
 use audit_model::{Addr, Sighting};
 use audit_stun::numbers::attribute::{
-    CHANNEL_NUMBER, ERROR_CODE, LIFETIME, XOR_PEER_ADDRESS, XOR_RELAYED_ADDRESS,
+    CHANNEL_NUMBER, DATA, ERROR_CODE, LIFETIME, XOR_PEER_ADDRESS, XOR_RELAYED_ADDRESS,
 };
 use audit_stun::numbers::method;
 use audit_stun::{Class, Message, address, channel_data, error_code, message};
@@ -85,21 +85,21 @@ pub fn is_request(arrives: &Sighting) -> bool {
     }
 }
 
-/// Data that a client is given.
+/// How a client is given data.
 #[derive(Clone, Copy)]
-pub enum Given<'a> {
+pub enum Given {
     /// By a Data indication, with its peer.
-    Peer(Addr, &'a [u8]),
+    Peer(Addr),
     /// By ChannelData, with its number.
-    Channel(u16, &'a [u8]),
+    Channel(u16),
 }
 
-/// The data that a departure to a client gives it.
-pub fn data_given(payload: &[u8]) -> Option<Given<'_>> {
+/// How a departure to a client gives it data, and that data.
+pub fn data_given(payload: &[u8]) -> Option<(Given, &[u8])> {
     if let Some((number, data, _)) = channel_data(payload) {
-        return Some(Given::Channel(number, data));
+        return Some((Given::Channel(number), data));
     }
     let message = message(payload)?;
     let peer = address(message.first(XOR_PEER_ADDRESS)?)?;
-    Some(Given::Peer(peer, message.first(audit_stun::numbers::attribute::DATA)?))
+    Some((Given::Peer(peer), message.first(DATA)?))
 }

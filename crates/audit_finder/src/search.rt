@@ -177,7 +177,7 @@ impl Search {
                 None
             }
             Role::Answer(number) => self.place_answer(judge, number, sighting, portion)?,
-            Role::Data => self.place_data(judge, sighting, portion)?,
+            Role::Data(digest) => self.place_data(judge, sighting, digest, portion)?,
         };
         match wait {
             Some(wait) => self.wait(judge, iface, wait, sighting),
