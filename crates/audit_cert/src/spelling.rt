@@ -1,47 +1,71 @@
 //! The lines of a certificate text.
 
-ghost use Rattle.std.specs.Prelude.{◌≡◌, IfOk};
+ghost use Rattle.std.specs.Prelude.{◌≡◌, ◌++◌, codes, decimal, IfOk, OnOk};
 ghost use Rattle.std.specs.String.{string_bytes};
-ghost use Rattle.audit_cert.specs.Spelling.{lane_line, event_line, drop_line};
+ghost use Rattle.audit_cert.specs.Spelling.{lane_line, event_line, drop_line, sight_text, placed_text};
 
 use audit_model::{CertDrop, CertLane, Event, Key, SightId};
+use itoa::Buffer;
 use std::alloc::{AllocError, Global};
-use std::fmt;
 
-/// A sighting, as `64.0`.
-#[derive(Clone, Copy)]
-struct Name {
-    sight: SightId,
+/// Adds a number in decimal.
+fn add_number(line: &mut Vec<u8>, number: u64) -> Result<(), AllocError>
+    ensures { OnOk result (line.new.items ≡ line.old.items ++ decimal number) }
+{
+    let mut buffer = Buffer::new();
+    line.extend_from_slice(buffer.format(number).as_bytes())
 }
 
-impl fmt::Display for Name {
-    ghost use Rattle.std.specs.Prelude.{Some};
-    ghost use Rattle.audit_cert.specs.Spelling.{sight_text};
+/// Adds a sighting, as `64.0`.
+fn add_sight(line: &mut Vec<u8>, sight: SightId) -> Result<(), AllocError>
+    ensures { OnOk result (line.new.items ≡ line.old.items ++ sight_text sight) }
+{
+    add_number(line, sight.iface as u64)?;
+    line.extend_from_slice(b".")?;
+    add_number(line, sight.index as u64)
+}
 
-    ghost output = { λ name. Some (sight_text name.sight) };
+/// Adds a sighting, its moment and its tie, and the line's end, as `64.0 1500000 0`.
+fn add_placed(line: &mut Vec<u8>, sight: SightId, key: Key) -> Result<(), AllocError>
+    ensures { OnOk result (line.new.items ≡ line.old.items ++ placed_text sight key) }
+{
+    let Key { moment, tie } = key;
+    add_sight(line, sight)?;
+    line.extend_from_slice(b" ")?;
+    add_number(line, moment)?;
+    line.extend_from_slice(b" ")?;
+    add_number(line, tie as u64)?;
+    line.extend_from_slice(b"\n")
+}
 
-    fn fmt<W: fmt::Write>(&self, f: &mut fmt::Formatter<W>) -> fmt::Result {
-        let SightId { iface, index } = self.sight;
-        write!(f, "{iface}.{index}")
+/// Adds an event's line. An act names the arrival, then the departure.
+pub fn add_event(line: &mut Vec<u8>, event: &Event) -> Result<(), AllocError>
+    ensures { OnOk result (line.new.items ≡ line.old.items ++ event_line event.now) }
+{
+    match *event {
+        Event::In { sight, key } => {
+            line.extend_from_slice(b"in ")?;
+            add_placed(line, sight, key)
+        }
+        Event::Act { sight, gives, key } => {
+            line.extend_from_slice(b"act ")?;
+            add_sight(line, sight)?;
+            line.extend_from_slice(b" ")?;
+            add_placed(line, gives, key)
+        }
+        Event::Out { sight, key } => {
+            line.extend_from_slice(b"out ")?;
+            add_placed(line, sight, key)
+        }
     }
 }
 
-/// A moment and a tie, as `1500000 0`.
-#[derive(Clone, Copy)]
-struct Place {
-    key: Key,
-}
-
-impl fmt::Display for Place {
-    ghost use Rattle.std.specs.Prelude.{Some};
-    ghost use Rattle.audit_cert.specs.Spelling.{key_text};
-
-    ghost output = { λ place. Some (key_text place.key) };
-
-    fn fmt<W: fmt::Write>(&self, f: &mut fmt::Formatter<W>) -> fmt::Result {
-        let Key { moment, tie } = self.key;
-        write!(f, "{moment} {tie}")
-    }
+/// Adds the line of an arrival that was dropped.
+pub fn add_drop(line: &mut Vec<u8>, drop: &CertDrop) -> Result<(), AllocError>
+    ensures { OnOk result (line.new.items ≡ line.old.items ++ drop_line drop.now) }
+{
+    line.extend_from_slice(b"drop ")?;
+    add_placed(line, drop.sight, drop.key)
 }
 
 /// A lane's first line.
@@ -51,37 +75,4 @@ pub fn text_of_lane(alloc: Global, lane: &CertLane) -> Result<String, AllocError
     let client = lane.client;
     let listen = lane.listen;
     format!(in alloc; "lane {client} {listen}\n")
-}
-
-/// An event's line. An act names the arrival, then the departure.
-pub fn text_of_event(alloc: Global, event: &Event) -> Result<String, AllocError>
-    ensures { IfOk result (λ text. string_bytes text ≡ event_line event.now) }
-{
-    match *event {
-        Event::In { sight, key } => {
-            let name = Name { sight };
-            let place = Place { key };
-            format!(in alloc; "in {name} {place}\n")
-        }
-        Event::Act { sight, gives, key } => {
-            let arrival = Name { sight };
-            let departure = Name { sight: gives };
-            let place = Place { key };
-            format!(in alloc; "act {arrival} {departure} {place}\n")
-        }
-        Event::Out { sight, key } => {
-            let name = Name { sight };
-            let place = Place { key };
-            format!(in alloc; "out {name} {place}\n")
-        }
-    }
-}
-
-/// The line of an arrival that was dropped.
-pub fn text_of_drop(alloc: Global, drop: &CertDrop) -> Result<String, AllocError>
-    ensures { IfOk result (λ text. string_bytes text ≡ drop_line drop.now) }
-{
-    let name = Name { sight: drop.sight };
-    let place = Place { key: drop.key };
-    format!(in alloc; "drop {name} {place}\n")
 }

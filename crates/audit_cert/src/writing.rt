@@ -7,7 +7,7 @@ ghost use Rattle.audit_model.specs.declared.write_fault.WriteFault.TheVariants a
 ghost use Rattle.audit_cert.specs.Spelling.{lane_line, lane_lines, event_line, drop_line, spelling, said_by};
 ghost use Rattle.audit_cert.specs.Writing.{Puts};
 
-use crate::spelling::{text_of_drop, text_of_event, text_of_lane};
+use crate::spelling::{add_drop, add_event, text_of_lane};
 use audit_model::{CertDrop, CertLane, Certificate, Event, Sink, WriteFault, put_all};
 use std::alloc::Global;
 
@@ -23,18 +23,21 @@ fn put<W: Sink>(bytes: &[u8], out: &mut W) -> Result<(), WriteFault>
     Ok(())
 }
 
-fn put_event<W: Sink>(alloc: Global, event: &Event, out: &mut W) -> Result<(), WriteFault>
+/// Puts an event's line, which is made in the room of the one before.
+fn put_event<W: Sink>(line: &mut Vec<u8>, event: &Event, out: &mut W) -> Result<(), WriteFault>
     ensures { Puts (event_line event.now) result (record { taken = W.taken out.old; taken_now = W.taken out.new; failures = W.failures out.old; failures_now = W.failures out.new }) }
 {
-    let line = text_of_event(alloc, event)?;
-    put(line.as_bytes(), out)
+    line.clear();
+    add_event(line, event)?;
+    put(line.as_slice(), out)
 }
 
 fn put_events<W: Sink>(alloc: Global, events: &[Event], out: &mut W) -> Result<(), WriteFault>
     ensures { Puts (flat_map event_line events.now) result (record { taken = W.taken out.old; taken_now = W.taken out.new; failures = W.failures out.old; failures_now = W.failures out.new }) }
 {
+    let mut line = Vec::new(alloc);
     for event in events {
-        put_event(alloc, event, out)?;
+        put_event(&mut line, event, out)?;
     }
     Ok(())
 }
@@ -63,18 +66,21 @@ fn put_lanes<W: Sink>(alloc: Global, lanes: &[CertLane], out: &mut W) -> Result<
     Ok(())
 }
 
-fn put_drop<W: Sink>(alloc: Global, drop: &CertDrop, out: &mut W) -> Result<(), WriteFault>
+/// Puts a drop's line, which is made in the room of the one before.
+fn put_drop<W: Sink>(line: &mut Vec<u8>, drop: &CertDrop, out: &mut W) -> Result<(), WriteFault>
     ensures { Puts (drop_line drop.now) result (record { taken = W.taken out.old; taken_now = W.taken out.new; failures = W.failures out.old; failures_now = W.failures out.new }) }
 {
-    let line = text_of_drop(alloc, drop)?;
-    put(line.as_bytes(), out)
+    line.clear();
+    add_drop(line, drop)?;
+    put(line.as_slice(), out)
 }
 
 fn put_drops<W: Sink>(alloc: Global, drops: &[CertDrop], out: &mut W) -> Result<(), WriteFault>
     ensures { Puts (flat_map drop_line drops.now) result (record { taken = W.taken out.old; taken_now = W.taken out.new; failures = W.failures out.old; failures_now = W.failures out.new }) }
 {
+    let mut line = Vec::new(alloc);
     for drop in drops {
-        put_drop(alloc, drop, out)?;
+        put_drop(&mut line, drop, out)?;
     }
     Ok(())
 }
