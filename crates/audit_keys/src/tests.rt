@@ -168,15 +168,16 @@ const WHOLE: (u128, u128) = (
 
 const CUT: u128 = 0x8258_d231_ff83_5c3b_d6b2_54ba_5154_a6f4;
 
-/// That request with the integrity attribute of this type and value.
-fn request_with(alloc: Global, kind: u8, value: &[u8]) -> Result<Vec<u8>, Fail> {
-    let mut bytes = Vec::from_slice(alloc, &ASKS_SHA256)?;
-    bytes.extend_from_slice(&[0, kind, 0, value.len() as u8])?;
+/// That request with a MESSAGE-INTEGRITY-SHA256 of this value.
+fn request_with(alloc: Global, value: &[u8]) -> Result<Vec<u8>, Fail> {
+    let length = u8::try_from(value.len()).ok().ok_or("a byte")?;
+    let body = ASKS_SHA256.len() - 16 + (value.len() + 3) / 4 * 4;
+    let mut asks = ASKS_SHA256;
+    asks[3] = u8::try_from(body).ok().ok_or("a byte")?;
+    let mut bytes = Vec::from_slice(alloc, &asks)?;
+    bytes.extend_from_slice(&[0, 0x1C, 0, length])?;
     bytes.extend_from_slice(value)?;
-    bytes.as_mut_slice()[3] = (ASKS_SHA256.len() - 20 + 4 + (value.len() + 3) / 4 * 4) as u8;
-    while bytes.len() % 4 != 0 {
-        bytes.push(0)?;
-    }
+    bytes.extend_from_slice(&[0; 4][..(4 - value.len() % 4) % 4])?;
     Ok(bytes)
 }
 
@@ -200,7 +201,7 @@ fn sha256_requests(rt: HostRuntime) -> Result<(), Fail> {
         (&whole[..18], false),
         (&[], false),
     ] {
-        let bytes = request_with(rt.alloc(), 0x1C, value)?;
+        let bytes = request_with(rt.alloc(), value)?;
         let request = message(&bytes).ok_or("a message")?;
         let key = keys.chosen_by(&request).ok_or("a key")?;
         assert!(rt; key == keys.sha256.as_slice());
