@@ -3,7 +3,7 @@
 import struct
 from dataclasses import dataclass, field
 
-from .stun import long_term_key
+from .stun import long_term_keys
 
 GREATEST = 2**64 - 1
 
@@ -63,11 +63,11 @@ def read_policy(path):
 
 
 def read_credentials(path):
-    """The key of each user and realm."""
+    """The keys of each user and realm."""
     keys = {}
     for line in path.read_bytes().split(b"\n")[:-1] if path else ():
         user, realm, password = line.split(b"\t")
-        keys[user, realm] = long_term_key(user, realm, password)
+        keys[user, realm] = long_term_keys(user, realm, password)
     return keys
 
 

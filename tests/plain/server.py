@@ -78,7 +78,7 @@ class Server:
         user, realm = message.first(stun.USERNAME), message.first(stun.REALM)
         if user is None or realm is None or not message.has(stun.NONCE):
             return None
-        key = self.keys.get((user, realm))
+        key = self.keys.get((user, realm), {}).get(message.algorithm())
         return (user, key) if key is not None and message.is_signed(key) else None
 
     def by_a_user(self, answer):

@@ -10,7 +10,7 @@ BINDING, ALLOCATE, REFRESH, SEND, DATA_METHOD, CREATE_PERMISSION, CHANNEL_BIND =
 USERNAME, INTEGRITY, ERROR_CODE, UNKNOWN_ATTRIBUTES = 0x0006, 0x0008, 0x0009, 0x000A
 CHANNEL_NUMBER, LIFETIME, PEER, DATA, REALM, NONCE = 0x000C, 0x000D, 0x0012, 0x0013, 0x0014, 0x0015
 RELAYED, FAMILY, EVEN_PORT, TRANSPORT, MAPPED = 0x0016, 0x0017, 0x0018, 0x0019, 0x0020
-SEEN_BEHIND_INTEGRITY = (0x001C, 0x8028)
+INTEGRITY_SHA256, PASSWORD_ALGORITHM, FINGERPRINT = 0x001C, 0x001D, 0x8028
 
 
 class Message:
@@ -53,8 +53,18 @@ class Message:
         return 100 * hundreds + number if 3 <= hundreds <= 6 and number <= 99 else None
 
     def is_signed(self, key):
+        """MESSAGE-INTEGRITY-SHA256, which may be cut, decides alone where it is seen."""
+        value = self.first(INTEGRITY_SHA256)
+        if value is not None:
+            whole = hmac.new(key, self.covered[INTEGRITY_SHA256], hashlib.sha256).digest()
+            return len(value) in (16, 20, 24, 28, 32) and whole.startswith(value)
         value = self.first(INTEGRITY)
-        return value is not None and len(value) == 20 and value == hmac.new(key, self.covered, hashlib.sha1).digest()
+        return value is not None and len(value) == 20 and value == hmac.new(key, self.covered[INTEGRITY], hashlib.sha1).digest()
+
+    def algorithm(self):
+        """1 for MD5, which is also meant where none can be read, 2 for SHA-256, or another."""
+        named = self.number_of(PASSWORD_ALGORITHM, 4, ">H")
+        return 1 if named is None else named
 
 
 def message(payload):
@@ -64,16 +74,21 @@ def message(payload):
     kind, length, cookie = struct.unpack_from(">HHI", payload)
     if kind >= 0x4000 or cookie != COOKIE or length % 4 or length != len(payload) - 20:
         return None
-    attributes, covered, at = [], None, 20
+    attributes, covered, at = [], {}, 20
     while at < len(payload):
         number, size = struct.unpack_from(">HH", payload, at)
         end = at + 4 + size + -size % 4
         if end > len(payload):
             return None
-        if covered is None or number in SEEN_BEHIND_INTEGRITY:
+        # Behind MESSAGE-INTEGRITY two types are seen, and behind MESSAGE-INTEGRITY-SHA256 one of these.
+        if INTEGRITY_SHA256 in covered:
+            seen = number == FINGERPRINT
+        else:
+            seen = INTEGRITY not in covered or number in (INTEGRITY_SHA256, FINGERPRINT)
+        if seen:
             attributes.append((number, payload[at + 4:at + 4 + size]))
-        if number == INTEGRITY and covered is None:
-            covered = payload[:2] + struct.pack(">H", at + 24 - 20) + payload[4:at]
+        if seen and number in (INTEGRITY, INTEGRITY_SHA256):
+            covered[number] = payload[:2] + struct.pack(">H", end - 20) + payload[4:at]
         at = end
     return Message(kind, payload[8:20], attributes, covered)
 
@@ -96,6 +111,7 @@ def channel_data(payload):
     return number, payload[4:4 + length], len(payload) - 4 - length
 
 
-def long_term_key(user, realm, password):
-    """RFC 8489, section 9.2.2."""
-    return hashlib.md5(b":".join((user, realm, password))).digest()
+def long_term_keys(user, realm, password):
+    """By the number of the password algorithm (RFC 8489, sections 9.2.2 and 18.5)."""
+    text = b":".join((user, realm, password))
+    return {1: hashlib.md5(text).digest(), 2: hashlib.sha256(text).digest()}

@@ -10,6 +10,8 @@ use Rattle.std.specs.Cmp.{eq_by_cmp_equiv}
 use Rattle.std.specs.Cmp.Lexicographic.{slice_cmp, nat_list_cmp_total, nat_list_eq_equiv}
 use Rattle.std.specs.BTreeMap.{BTreeMap, get_by, UpdatesBy}
 use Rattle.std.specs.Map.{lookup, IsKeyTest, AreApart, KeepsOthers}
+use Rattle.audit_keys.specs.declared.keys.Keys.{Keys}
+use Rattle.audit_keys.specs.Keys.{KeyFor}
 use Rattle.std.proofs.lemmas.Bool.{cases_Bool, cond-true, cond-false}
 use Rattle.std.proofs.lemmas.Map.Text.{is_eq-slice_cmp}
 use Rattle.std.proofs.lemmas.Slice.Eq.{bytes_eq-Decides}
@@ -66,16 +68,16 @@ nested f g inside user realm users key outer inner u r =
     (cases_Bool (bytes_eq realm r))
 
 abbrev Users : Type 0
-Users = BTreeMap (Vec ℕ) (List ℕ)
+Users = BTreeMap (Vec ℕ) Keys
 
-abbrev find_in : Users → List ℕ → Option (List ℕ)
+abbrev find_in : Users → List ℕ → Option Keys
 find_in users user = get_by (by_bytes user) users
 
-abbrev pub find : BTreeMap (Vec ℕ) Users → List ℕ → List ℕ → Option (List ℕ)
+abbrev pub find : BTreeMap (Vec ℕ) Users → KeyFor
 find realms user realm = option_and_then (λ users. find_in users user) (get_by (by_bytes realm) realms)
 
 -- a user more of a realm that was there
-pub in_old_realm : (m n : BTreeMap (Vec ℕ) Users) (old new : Users) (user realm key : List ℕ) →
+pub in_old_realm : (m n : BTreeMap (Vec ℕ) Users) (old new : Users) (user realm : List ℕ) (key : Keys) →
     Some old ≡ get_by (by_bytes realm) m → UpdatesBy vec_cmp (by_bytes user) old new (Some key) → UpdatesBy vec_cmp (by_bytes realm) m n (Some new) →
     (u r : List ℕ) → find n u r ≡ cond (bytes_eq user u && bytes_eq realm r) (Some key) (find m u r)
 in_old_realm m n old new user realm key was inner outer =
@@ -83,11 +85,11 @@ in_old_realm m n old new user realm key was inner outer =
     (λ u. changed user old new (Some key) inner u ∙ ap (λ (o : Option Users). cond (bytes_eq user u) (Some key) (option_and_then (λ a. find_in a u) o)) was)
 
 -- the first user of a realm
-pub in_new_realm : (m n : BTreeMap (Vec ℕ) Users) (empty new : Users) (user realm key : List ℕ) →
+pub in_new_realm : (m n : BTreeMap (Vec ℕ) Users) (empty new : Users) (user realm : List ℕ) (key : Keys) →
     None ≡ get_by (by_bytes realm) m → empty.entries ≡ [] → UpdatesBy vec_cmp (by_bytes user) empty new (Some key) → UpdatesBy vec_cmp (by_bytes realm) m n (Some new) →
     (u r : List ℕ) → find n u r ≡ cond (bytes_eq user u && bytes_eq realm r) (Some key) (find m u r)
 in_new_realm m n empty new user realm key was none inner outer =
     nested (λ r. get_by (by_bytes r) m) (λ r. get_by (by_bytes r) n) find_in user realm new key (changed realm m n (Some new) outer)
     (λ u. changed user empty new (Some key) inner u
-    ∙ ap (λ (es : List (Vec ℕ × List ℕ)). cond (bytes_eq user u) (Some key) (lookup (λ k. is_eq (by_bytes u k)) es)) none
+    ∙ ap (λ (es : List (Vec ℕ × Keys)). cond (bytes_eq user u) (Some key) (lookup (λ k. is_eq (by_bytes u k)) es)) none
     ∙ ap (λ (o : Option Users). cond (bytes_eq user u) (Some key) (option_and_then (λ a. find_in a u) o)) was)

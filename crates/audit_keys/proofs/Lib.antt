@@ -1,3 +1,4 @@
 pub mod Pads
 pub mod Keyrings
 pub mod CredTexts
+pub mod Before

@@ -8,5 +8,7 @@ pub mod CredText
 pub mod KeyFor
 pub mod CredentialLines
 pub mod CredentialsReader
+pub mod Chosen
 pub mod Authentic
+pub mod Before256
 pub mod CredFault

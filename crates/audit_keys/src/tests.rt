@@ -1,5 +1,6 @@
 use super::*;
 use audit_stun::message;
+use std::alloc::Global;
 use std::test::*;
 
 /// The key of user `user` of realm `realm` with password `pass`.
@@ -105,12 +106,142 @@ fn long_term_request(rt: HostRuntime) -> Result<(), Fail> {
     Ok(())
 }
 
+/// The digest that thirty-two bytes of hexadecimal spell.
+fn digest256(high: u128, low: u128) -> [u8; 32] {
+    let mut digest = [0; 32];
+    digest[..16].copy_from_slice(&high.to_be_bytes());
+    digest[16..].copy_from_slice(&low.to_be_bytes());
+    digest
+}
+
+/// Cases of RFC 4231, section 4: a short key, a text in pieces, and a key longer than a block.
+#[test]
+fn hmac_sha256_of_the_standard(rt: HostRuntime) {
+    assert_eq!(rt;
+        hmac_sha256(&[0x0B; 20], &[b"Hi There"]),
+        digest256(
+            0xb034_4c61_d8db_3853_5ca8_afce_af0b_f12b,
+            0x881d_c200_c983_3da7_26e9_376c_2e32_cff7
+        )
+    );
+    assert_eq!(rt;
+        hmac_sha256(b"Jefe", &[b"what do ya want ", b"for nothing?"]),
+        digest256(
+            0x5bdc_c146_bf60_754e_6a04_2426_0895_75c7,
+            0x5a00_3f08_9d27_3983_9dec_58b9_64ec_3843
+        )
+    );
+    assert_eq!(rt;
+        hmac_sha256(
+            &[0xAA; 131],
+            &[b"Test Using Larger Than Block-Size Key - Hash Key First"]
+        ),
+        digest256(
+            0x60e4_3159_1ee0_b67f_0d8a_26aa_cbf5_b77f,
+            0x8e0b_c621_3728_c514_0546_040f_0ee3_7f54
+        )
+    );
+}
+
+/// The SHA-256 of `user:realm:pass`.
+const KEY256: (u128, u128) = (
+    0x07e9_3411_7abd_4083_6e7c_6329_b547_31b2,
+    0xb2d2_a5f9_a71f_5449_22d7_5e07_30d8_251b,
+);
+
+/// An Allocate request by `user` of `realm` that chooses SHA-256, up to its integrity.
+const ASKS_SHA256: [u8; 56] = [
+    0x00, 0x03, 0x00, 0x24, 0x21, 0x12, 0xa4, 0x42, 0x01, 0x02, 0x03, 0x04, 0x05, 0x06, 0x07, 0x08,
+    0x09, 0x0a, 0x0b, 0x0c, // Allocate request
+    0x00, 0x06, 0x00, 0x04, 0x75, 0x73, 0x65, 0x72, // USERNAME
+    0x00, 0x14, 0x00, 0x05, 0x72, 0x65, 0x61, 0x6c, 0x6d, 0x00, 0x00, 0x00, // REALM
+    0x00, 0x15, 0x00, 0x04, 0x6f, 0x6e, 0x63, 0x65, // NONCE
+    0x00, 0x1d, 0x00, 0x04, 0x00, 0x02, 0x00, 0x00, // PASSWORD-ALGORITHM
+];
+
+/// What its MESSAGE-INTEGRITY-SHA256 of 32 bytes says, and the one that is cut to 16, whose length
+/// makes it another.
+const WHOLE: (u128, u128) = (
+    0xa880_96f0_a601_cf29_d8e0_6812_50d7_a1c2,
+    0x35c2_9d66_ad8c_14ce_ce9a_380d_0461_0a61,
+);
+
+const CUT: u128 = 0x8258_d231_ff83_5c3b_d6b2_54ba_5154_a6f4;
+
+/// That request with a MESSAGE-INTEGRITY-SHA256 of this value.
+fn request_with(alloc: Global, value: &[u8]) -> Result<Vec<u8>, Fail> {
+    let length = u8::try_from(value.len()).ok().ok_or("a byte")?;
+    let body = ASKS_SHA256.len() - 16 + (value.len() + 3) / 4 * 4;
+    let mut asks = ASKS_SHA256;
+    asks[3] = u8::try_from(body).ok().ok_or("a byte")?;
+    let mut bytes = Vec::from_slice(alloc, &asks)?;
+    bytes.extend_from_slice(&[0, 0x1C, 0, length])?;
+    bytes.extend_from_slice(value)?;
+    bytes.extend_from_slice(&[0; 4][..(4 - value.len() % 4) % 4])?;
+    Ok(bytes)
+}
+
+#[test]
+fn sha256_requests(rt: HostRuntime) -> Result<(), Fail> {
+    let credentials = Credentials::read(rt.alloc(), b"user\trealm\tpass\n")?;
+    let keys = credentials.lookup(b"user", b"realm").ok_or("keys")?;
+    assert_eq!(rt; u128::from_be_bytes(keys.md5), KEY);
+    assert_eq!(rt; keys.sha256, digest256(KEY256.0, KEY256.1));
+    assert_eq!(rt;
+        long_term_key_sha256(b"user", b"realm", b"pass"),
+        keys.sha256
+    );
+    let whole = digest256(WHOLE.0, WHOLE.1);
+    let cut = CUT.to_be_bytes();
+    for (value, want) in [
+        (whole.as_slice(), true),
+        (&cut, true),
+        (&whole[..16], false),
+        (&whole[..12], false),
+        (&whole[..18], false),
+        (&[], false),
+    ] {
+        let bytes = request_with(rt.alloc(), value)?;
+        let request = message(&bytes).ok_or("a message")?;
+        let key = keys.chosen_by(&request).ok_or("a key")?;
+        assert!(rt; key == keys.sha256.as_slice());
+        assert_eq!(rt; signed(&request, key), want, "{value:?}");
+        assert!(rt; !signed(&request, &keys.md5));
+    }
+    Ok(())
+}
+
+/// Of the algorithms 1 is MD5, 2 is SHA-256, and another is nobody's.
+#[test]
+fn algorithms(rt: HostRuntime) -> Result<(), Fail> {
+    let keys = Keys {
+        md5: [1; 16],
+        sha256: [2; 32],
+    };
+    for (length, number, want) in [
+        (4, 1, Some([1; 16].as_slice())),
+        (4, 2, Some(&[2; 32])),
+        (4, 0, None),
+        (4, 3, None),
+        (3, 2, Some(&[1; 16])),
+    ] {
+        let mut bytes = ASKS_SHA256;
+        let at = bytes.len() - 8;
+        bytes[3] = (bytes.len() - 20) as u8;
+        bytes[at + 3] = length;
+        bytes[at + 5] = number;
+        let request = message(&bytes).ok_or("a message")?;
+        assert_eq!(rt; keys.chosen_by(&request), want, "{length} {number}");
+    }
+    Ok(())
+}
+
 #[test]
 fn lookups(rt: HostRuntime) -> Result<(), Fail> {
     let text = b"user\trealm\tpass\nuser\trealm 2\t\nother\trealm\tpass\n";
     let credentials = Credentials::read(rt.alloc(), text)?;
     let found = credentials.lookup(b"user", b"realm").ok_or("a key")?;
-    assert_eq!(rt; u128::from_be_bytes(found), KEY);
+    assert_eq!(rt; u128::from_be_bytes(found.md5), KEY);
     assert!(rt; credentials.lookup(b"user", b"realm 2").is_some());
     assert!(rt; credentials.lookup(b"other", b"realm").is_some());
     assert!(rt; credentials.lookup(b"other", b"realm 2").is_none());

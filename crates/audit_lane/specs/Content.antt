@@ -6,6 +6,7 @@ use Rattle.audit_model.specs.declared.policy.Policy.{Policy}
 use Rattle.audit_model.specs.declared.sighting.Sighting.{Sighting}
 use Rattle.audit_model.specs.declared.verdict.Breach.{Breach}
 use Rattle.audit_model.specs.declared.verdict.Tenancy.{Tenancy}
+use Rattle.audit_keys.specs.declared.keys.Keys.{Keys}
 use Rattle.audit_rules.specs.declared.credentials.CredRow.{CredRow}
 use Rattle.audit_lane.specs.declared.input.LaneEvent.{LaneEvent}
 use Rattle.audit_lane.specs.declared.input.LaneEvent.TheVariants.{In, Act, Out}
@@ -21,11 +22,11 @@ happening (In sighting user key) = Came sighting.now user key
 happening (Act arrives leaves key) = Acted arrives.now leaves.now key
 happening (Out sighting key) = Went sighting.now key
 
--- a user of a realm, and their long-term key
+-- a user of a realm, and their long-term keys
 pub record User : Type 0 where
   pub user : List ℕ
   pub realm : List ℕ
-  pub key : List ℕ
+  pub key : Keys
 
 abbrev pub user_of : CredRow → User
 user_of row = record { user = row.user.now; realm = row.realm.now; key = row.key }

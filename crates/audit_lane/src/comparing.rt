@@ -62,7 +62,10 @@ fn same_sighting(one: &Sighting, other: &Sighting) -> bool
 fn same_user(one: &CredRow<'_>, other: &CredRow<'_>) -> bool
     ensures { IsTrue result ↔ (user_of one.now ≡ user_of other.now) }
 {
-    one.user == other.user && one.realm == other.realm && one.key == other.key
+    one.user == other.user
+        && one.realm == other.realm
+        && one.key.md5 == other.key.md5
+        && one.key.sha256 == other.key.sha256
 }
 
 fn same_event(one: &LaneEvent<'_>, other: &LaneEvent<'_>) -> bool

@@ -5,6 +5,9 @@ use Rattle.std.specs.Option.{option_and_then}
 use Rattle.audit_stun.specs.declared.numbers.attribute.TheConstants.{USERNAME, REALM, NONCE}
 use Rattle.audit_stun.specs.Counted.{first_of}
 use Rattle.audit_stun.specs.Parts.{parts_of}
+use Rattle.audit_keys.specs.declared.keys.Keys.{Keys}
+use Rattle.audit_keys.specs.Chosen.{chosen_key}
+use Rattle.audit_keys.specs.Keys.{KeyFor}
 use Rattle.audit_keys.specs.Signed.{IsSigned}
 use Rattle.audit_keys.specs.Authentic.{IsAuthentic}
 use Rattle.audit_rules.specs.Situation.{Situation, asked}
@@ -35,17 +38,16 @@ pub map_some : {A : Type 0} (o : Option A) (P Q : A → Type 0) → ((a : A) →
 map_some (Some a) P Q f p = f a p
 map_some None P Q f p = absurd p
 
-abbrev Find : Type 0
-Find = List ℕ → List ℕ → Option (List ℕ)
-
-signed_key : (find : Find) (message user realm nonce : List ℕ) (k : Option (List ℕ)) → find user realm ≡ k → IsSomeAnd k (IsSigned message)
+signed_key : (find : KeyFor) (message user realm nonce : List ℕ) (k : Option Keys) → find user realm ≡ k → IsSomeAnd (option_and_then (chosen_key (parts_of message).attributes) k) (IsSigned message)
     → first_of USERNAME (parts_of message).attributes ≡ Some user → first_of REALM (parts_of message).attributes ≡ Some realm → first_of NONCE (parts_of message).attributes ≡ Some nonce
     → IsAuthentic find message user
-signed_key find message user realm nonce (Some key) e s u r n = record { realm = realm; nonce = nonce; key = key; names_user = u; names_realm = r; has_nonce = n; known = e; signed = s }
+signed_key find message user realm nonce (Some keys) e s u r n =
+    let chosen = some_and (chosen_key (parts_of message).attributes keys) (IsSigned message) s in
+    record { realm = realm; nonce = nonce; keys = keys; key = chosen.0; names_user = u; names_realm = r; has_nonce = n; known = e; chosen = chosen.1; signed = chosen.2 }
 signed_key find message user realm nonce None e s u r n = absurd s
 
-authentic_of : (find : Find) (message : List ℕ) (u r n : Option (List ℕ)) → first_of USERNAME (parts_of message).attributes ≡ u → first_of REALM (parts_of message).attributes ≡ r
-    → first_of NONCE (parts_of message).attributes ≡ n → IsSome n → IsSomeAnd (option_and_then (λ user. option_and_then (find user) r) u) (IsSigned message)
+authentic_of : (find : KeyFor) (message : List ℕ) (u r n : Option (List ℕ)) → first_of USERNAME (parts_of message).attributes ≡ u → first_of REALM (parts_of message).attributes ≡ r
+    → first_of NONCE (parts_of message).attributes ≡ n → IsSome n → IsSomeAnd (option_and_then (chosen_key (parts_of message).attributes) (option_and_then (λ user. option_and_then (find user) r) u)) (IsSigned message)
     → (user : List ℕ) × (first_of USERNAME (parts_of message).attributes ≡ Some user) × IsAuthentic find message user
 authentic_of find message (Some user) (Some realm) (Some nonce) u r n some s = (user, u, signed_key find message user realm nonce (find user realm) refl s u r n)
 authentic_of find message (Some user) (Some realm) None u r n some s = absurd cc
@@ -63,4 +65,4 @@ authentic_as x user by e =
     subst (IsAuthentic x.key_for x.arrives.payload) same a.2
 
 pub by_user : (x : Situation) (user : List ℕ) → IsAuthentic x.key_for x.arrives.payload user → IsByUser x
-by_user x user a = (subst IsSome (sym a.has_nonce) refl, rw (a.names_user, a.names_realm, a.known) a.signed)
+by_user x user a = (subst IsSome (sym a.has_nonce) refl, rw (a.names_user, a.names_realm, a.known, a.chosen) a.signed)

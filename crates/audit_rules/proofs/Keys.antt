@@ -1,5 +1,5 @@
 -- An act goes by the key of the user and the realm that its request names, and by no other key.
-use Rattle.std.proofs.Common.{◌≡◌, ℕ, List, Option, Some, None, refl, sym, subst, ◌∙◌}
+use Rattle.std.proofs.Common.{◌≡◌, ℕ, List, Option, Some, None, refl, sym, ap, subst, ◌∙◌}
 use Rattle.std.specs.Prelude.{IsSomeAnd}
 use Rattle.std.specs.Option.{option_and_then}
 use Rattle.audit_stun.specs.declared.class.Class.{Class}
@@ -7,6 +7,8 @@ use Rattle.audit_stun.specs.declared.class.Class.TheVariants.{Request, Indicatio
 use Rattle.audit_stun.specs.declared.numbers.method.TheConstants.{BINDING, ALLOCATE, REFRESH, CREATE_PERMISSION, CHANNEL_BIND}
 use Rattle.audit_stun.specs.declared.numbers.attribute.TheConstants.{USERNAME, REALM}
 use Rattle.audit_stun.specs.Counted.{first_of}
+use Rattle.audit_keys.specs.declared.keys.Keys.{Keys}
+use Rattle.audit_keys.specs.Chosen.{chosen_key}
 use Rattle.audit_keys.specs.Signed.{IsSigned}
 use Rattle.audit_keys.specs.Authentic.{IsAuthentic}
 use Rattle.audit_rules.specs.declared.path.Path.{Path}
@@ -27,7 +29,7 @@ module _ (key_for : KeyFor) (x : Situation) (agree : AgreeOn x.key_for key_for x
   named_by (Some user) (Some realm) e f = agree user realm e f
 
   same_named : key_named x.key_for (asked x) ≡ key_named key_for (asked x)
-  same_named = named_by (first_of USERNAME (asked x).attributes) (first_of REALM (asked x).attributes) refl refl
+  same_named = ap (λ (k : Option Keys). option_and_then (chosen_key (asked x).attributes) k) (named_by (first_of USERNAME (asked x).attributes) (first_of REALM (asked x).attributes) refl refl)
 
   pub by_user : IsByUser x → IsByUser (with_keys key_for x)
   by_user h = (h.0, subst (λ (k : Option (List ℕ)). IsSomeAnd k (IsSigned x.arrives.payload)) same_named h.1)
@@ -39,11 +41,13 @@ module _ (key_for : KeyFor) (x : Situation) (agree : AgreeOn x.key_for key_for x
   authentic user a = record {
     realm = a.realm;
     nonce = a.nonce;
+    keys = a.keys;
     key = a.key;
     names_user = a.names_user;
     names_realm = a.names_realm;
     has_nonce = a.has_nonce;
     known = sym (agree user a.realm a.names_user a.names_realm) ∙ a.known;
+    chosen = a.chosen;
     signed = a.signed;
   }
 

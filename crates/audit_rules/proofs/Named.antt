@@ -4,17 +4,16 @@ use Rattle.audit_stun.specs.declared.numbers.attribute.TheConstants.{USERNAME, R
 use Rattle.audit_stun.specs.Message.{Parts, IsMessage}
 use Rattle.audit_stun.specs.Parts.{parts_of}
 use Rattle.audit_stun.specs.Counted.{first_of}
+use Rattle.audit_keys.specs.declared.keys.Keys.{Keys}
+use Rattle.audit_keys.specs.Keys.{KeyFor}
 use Rattle.audit_rules.specs.Named.{Names, NamesNobody}
 
-abbrev Find : Type 0
-Find = List ℕ → List ℕ → Option (List ℕ)
-
-pub nobody_without_message : (find : Find) (payload : List ℕ) → ((parts : Parts) → IsMessage payload parts → ⊥) → NamesNobody find payload
+pub nobody_without_message : (find : KeyFor) (payload : List ℕ) → ((parts : Parts) → IsMessage payload parts → ⊥) → NamesNobody find payload
 nobody_without_message find payload never user realm key named = never named.parts named.message
 
 -- of a payload that is this message
-module _ (find : Find) (payload message : List ℕ) (whole : message ≡ payload) (only : (parts : Parts) → IsMessage payload parts → parts ≡ parts_of payload) where
-  value_of : (kind : ℕ) (value user realm key : List ℕ) (named : Names find payload user realm key) → first_of kind named.parts.attributes ≡ Some value
+module _ (find : KeyFor) (payload message : List ℕ) (whole : message ≡ payload) (only : (parts : Parts) → IsMessage payload parts → parts ≡ parts_of payload) where
+  value_of : (kind : ℕ) (value user realm : List ℕ) (key : Keys) (named : Names find payload user realm key) → first_of kind named.parts.attributes ≡ Some value
       → first_of kind (parts_of message).attributes ≡ Some value
   value_of kind value user realm key named there =
       ap (λ (parts : Parts). first_of kind parts.attributes) (ap parts_of whole ∙ sym (only named.parts named.message)) ∙ there

@@ -1,15 +1,12 @@
 -- The keys that an act goes by: those of the user and the realm that its request names, and no others.
-use Rattle.std.specs.Prelude.{◌≡◌, ℕ, List, Option, Some}
+use Rattle.std.specs.Prelude.{◌≡◌, ℕ, List, Some}
 use Rattle.audit_stun.specs.declared.numbers.attribute.TheConstants.{USERNAME, REALM}
 use Rattle.audit_stun.specs.Counted.{first_of}
 use Rattle.audit_stun.specs.Parts.{parts_of}
+pub use Rattle.audit_keys.specs.Keys.{KeyFor}
 use Rattle.audit_rules.specs.Situation.{Situation}
 
--- the long-term key of a user of a realm, where there is one
-abbrev pub KeyFor : Type 0
-KeyFor = List ℕ → List ℕ → Option (List ℕ)
-
--- both have the same key for the user and the realm that a payload names
+-- both have the same keys for the user and the realm that a payload names
 abbrev pub AgreeOn : KeyFor → KeyFor → List ℕ → Type 0
 AgreeOn one other payload = (user realm : List ℕ) → first_of USERNAME (parts_of payload).attributes ≡ Some user → first_of REALM (parts_of payload).attributes ≡ Some realm
     → one user realm ≡ other user realm

@@ -5,6 +5,7 @@ use Rattle.std.specs.Str.{bytes_eq}
 use Rattle.audit_expiry.specs.Leases.{value_at}
 use Rattle.audit_model.specs.declared.policy.Policy.{Policy}
 use Rattle.audit_model.specs.declared.sighting.Sighting.{Sighting}
+use Rattle.audit_keys.specs.Keys.{KeyFor}
 use Rattle.audit_rules.specs.declared.acts.Act.{Act}
 use Rattle.audit_rules.specs.declared.table.LaneTable.{LaneTable}
 use Rattle.audit_rules.specs.declared.credentials.CredRow.{CredRow}
@@ -12,11 +13,11 @@ use Rattle.audit_rules.specs.declared.table.Allocation as declared
 use Rattle.audit_rules.specs.Allocation.{Allocation}
 use Rattle.audit_rules.specs.Situation.{Situation}
 
--- the key of the first row of the user and the realm
+-- the keys of the first row of the user and the realm
 abbrev pub is_of : List ℕ → List ℕ → CredRow → Bool
 is_of user realm row = bytes_eq row.user.now user && bytes_eq row.realm.now realm
 
-abbrev pub key_in : List CredRow → List ℕ → List ℕ → Option (List ℕ)
+abbrev pub key_in : List CredRow → KeyFor
 key_in rows user realm = option_map (λ row. row.key) (find (is_of user realm) rows)
 
 abbrev pub seen : declared.Allocation → Allocation

@@ -8,6 +8,7 @@ use Rattle.audit_model.specs.Policy.{listens, relays}
 use Rattle.audit_stun.specs.declared.class.Class.{Class}
 use Rattle.audit_stun.specs.Message.{Parts, IsMessage}
 use Rattle.audit_stun.specs.Parts.{parts_of}
+use Rattle.audit_keys.specs.Keys.{KeyFor}
 use Rattle.audit_rules.specs.declared.path.Path.{Path}
 use Rattle.audit_rules.specs.declared.path.Path.TheVariants.{Client, Relay}
 use Rattle.audit_rules.specs.Allocation.{Allocation}
@@ -18,7 +19,7 @@ pub record Situation : Type 0 where
   pub client : Addr
   pub listen : Addr
   pub policy : Policy
-  pub key_for : List ℕ → List ℕ → Option (List ℕ)
+  pub key_for : KeyFor
   pub allocation : Option Allocation
   pub arrives : Sighting
   pub leaves : Sighting

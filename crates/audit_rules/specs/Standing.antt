@@ -7,6 +7,9 @@ use Rattle.audit_stun.specs.declared.class.Class.TheVariants.{Request}
 use Rattle.audit_stun.specs.declared.numbers.attribute.TheConstants.{USERNAME, REALM, NONCE}
 use Rattle.audit_stun.specs.Message.{Parts}
 use Rattle.audit_stun.specs.Counted.{first_of}
+use Rattle.audit_keys.specs.declared.keys.Keys.{Keys}
+use Rattle.audit_keys.specs.Chosen.{chosen_key}
+use Rattle.audit_keys.specs.Keys.{KeyFor}
 use Rattle.audit_keys.specs.Signed.{IsSigned}
 use Rattle.audit_expiry.specs.Lease.{IsUsable, IsGone}
 use Rattle.audit_rules.specs.declared.path.Path.TheVariants.{Client}
@@ -21,11 +24,15 @@ pub record IsResponse (x : Situation) (class : Class) (method : ℕ) : Type 0 wh
   pub response : IsOf x.leaves.payload class method
   pub same_id : (answered x).tid ≡ (asked x).tid
 
--- the key of the user and the realm that a request names
-abbrev pub key_named : (List ℕ → List ℕ → Option (List ℕ)) → Parts → Option (List ℕ)
-key_named key_for said = option_and_then (λ user. option_and_then (key_for user) (first_of REALM said.attributes)) (first_of USERNAME said.attributes)
+-- the keys of the user and the realm that a request names
+abbrev pub keys_named : KeyFor → Parts → Option Keys
+keys_named key_for said = option_and_then (λ user. option_and_then (key_for user) (first_of REALM said.attributes)) (first_of USERNAME said.attributes)
 
--- the request has a nonce, and is signed under the key of the user and the realm that it names: it is authentic by that user
+-- of these the one that it chooses (RFC 8489, section 14.12)
+abbrev pub key_named : KeyFor → Parts → Option (List ℕ)
+key_named key_for said = option_and_then (chosen_key said.attributes) (keys_named key_for said)
+
+-- the request has a nonce, and is signed under the key that it chooses of the user and the realm that it names: it is authentic by that user
 abbrev pub IsByUser : Situation → Type 0
 IsByUser x = IsSome (first_of NONCE (asked x).attributes) × IsSomeAnd (key_named x.key_for (asked x)) (IsSigned x.arrives.payload)
 

@@ -35,7 +35,7 @@ pub fn change_is_said()
     ensures { (x : Situation) (change : Change) → MayAnswer x change → change ≡ change_in x }
 {}
 
-/// An act goes by the key of the user and the realm that its request names, and by no other.
+/// An act goes by the keys of the user and the realm that its request names, and by no other.
 pub fn keys_that_matter()
     ensures may { (x : Situation) (key_for : KeyFor) → AgreeOn x.key_for key_for x.arrives.payload →
         (change : Change) → MayAnswer x change ↔ MayAnswer (with_keys key_for x) change }

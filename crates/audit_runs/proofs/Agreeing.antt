@@ -8,6 +8,7 @@ use Rattle.audit_stun.specs.Counted.{first_of}
 use Rattle.audit_stun.specs.Message.{Parts, IsMessage}
 use Rattle.audit_stun.specs.Parts.{parts_of}
 use Rattle.audit_stun.proofs.Headers.{header_of_message}
+use Rattle.audit_keys.specs.declared.keys.Keys.{Keys}
 use Rattle.audit_rules.specs.Keys.{KeyFor, AgreeOn}
 use Rattle.audit_rules.specs.Named.{Names, NamesNobody}
 use Rattle.audit_lane.specs.Content.{User, numbered}
@@ -29,7 +30,7 @@ key_alone one user realm u r =
 -- nobody is named, so there is no key
 nobody_agrees : (key_for : KeyFor) (payload : List ℕ) → NamesNobody key_for payload → IsMessage payload (parts_of payload) → AgreeOn (key_by []) key_for payload
 nobody_agrees key_for payload nobody message user realm names_user names_realm = by_key (key_for user realm) refl where
-  by_key : (found : Option (List ℕ)) → key_for user realm ≡ found → None ≡ key_for user realm
+  by_key : (found : Option Keys) → key_for user realm ≡ found → None ≡ key_for user realm
   by_key None is = sym is
   by_key (Some key) is = absurd (nobody user realm key (record { parts = parts_of payload; message = message; names_user = names_user; names_realm = names_realm; known = is }))
 

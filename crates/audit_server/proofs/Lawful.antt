@@ -12,6 +12,7 @@ use Rattle.audit_stun.specs.declared.class.Class.TheVariants.{Request, Indicatio
 use Rattle.audit_stun.specs.declared.numbers.method.TheConstants.{ALLOCATE, REFRESH, CREATE_PERMISSION, CHANNEL_BIND}
 use Rattle.audit_stun.specs.declared.numbers.attribute.TheConstants.{USERNAME, XOR_RELAYED_ADDRESS, XOR_PEER_ADDRESS}
 use Rattle.audit_stun.specs.Counted.{first_of}
+use Rattle.audit_keys.specs.Keys.{KeyFor}
 use Rattle.audit_rules.specs.declared.path.Path.{Path}
 use Rattle.audit_rules.specs.declared.path.Path.TheVariants.{Client, Relay}
 use Rattle.audit_rules.specs.Allocation.{Allocation, Change, Same, Makes, Renews, Grants, Binds, Removes}
@@ -130,7 +131,7 @@ onward x until e = subst (IsOnward x.moment) e (paths_onward x (arrival_path x) 
 
 -- ---- the rules
 
-module _ (policy : Policy) (key_for : List ℕ → List ℕ → Option (List ℕ)) where
+module _ (policy : Policy) (key_for : KeyFor) where
   usable_between : (c : Pair) (moment until : ℕ) (x : Option Allocation) (arrives leaves : Option Sighting) → MayBetween policy key_for c moment x arrives leaves → change_between policy key_for c moment x arrives leaves ≡ Renews until → IsUsableAt policy.grace moment x
   usable_between c moment until x None leaves m e = absurd m
   usable_between c moment until x (Some arrives) None m e = absurd m

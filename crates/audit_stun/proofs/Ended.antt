@@ -1,5 +1,5 @@
--- A message cut behind its MESSAGE-INTEGRITY.
-use Rattle.std.proofs.Common.{◌≡◌, ◌≢◌, ℕ, ◌+◌, ◌-◌, ◌%◌, ◌<◌, List, [], ◌∷◌, ◌++◌, length, take, drop, Option, Some, None, inl, inr, refl, sym, ap, subst, ◌∙◌, arith}
+-- A message cut behind an integrity attribute.
+use Rattle.std.proofs.Common.{◌≡◌, ◌≢◌, ◌⊎◌, ℕ, ◌+◌, ◌-◌, ◌%◌, ◌<◌, List, [], ◌∷◌, ◌++◌, length, take, drop, Option, Some, None, inl, inr, refl, sym, ap, subst, ◌∙◌, arith}
 use Rattle.std.specs.List.{All}
 use Rattle.std.specs.Prelude.{slice_range, option_map}
 use Rattle.std.specs.Int.{w16, w32, to_be_bytes}
@@ -8,31 +8,31 @@ use Rattle.std.proofs.lemmas.List.Elements.{All-cons, All-nil}
 use Rattle.std.proofs.lemmas.List.{take_at, length-append, append_assoc, append-nil}
 use Rattle.audit_stun.specs.Attribute.{Attribute, StartsWith, AreAttributes, padded, size}
 use Rattle.audit_stun.specs.Counted.{first_of}
-use Rattle.audit_stun.specs.Covered.{size_before_integrity, covered_of}
+use Rattle.audit_stun.specs.Covered.{size_before, covered_of}
 use Rattle.audit_stun.specs.Ended.{integrity, IsCovered}
 use Rattle.audit_stun.specs.Message.{IsMessage}
 use Rattle.audit_stun.specs.Parts.{parts_of}
-use Rattle.audit_stun.proofs.Covered.{size_past, first_past, size_at, first_at, none_at_end}
+use Rattle.audit_stun.proofs.Covered.{found_by, first_found, size_past, found_past, size_at, found_at, none_at_end, none_at_sha256}
 
 -- the bytes of an attribute
 abbrev pub attribute_bytes : Attribute → List ℕ → List ℕ
 attribute_bytes a padding = to_be_bytes w16 a.kind ++ to_be_bytes w16 (length a.value) ++ a.value ++ padding
 
--- some attributes, cut behind the first MESSAGE-INTEGRITY
-pub record Cut (bytes : List ℕ) (attributes : List Attribute) (value : List ℕ) : Type 0 where
+-- some attributes, cut behind the first one of a type
+pub record Cut (kind : ℕ) (bytes : List ℕ) (attributes : List Attribute) (value : List ℕ) : Type 0 where
   pub before : List Attribute
   pub after : List Attribute
   pub front : List ℕ
   pub padding : List ℕ
   pub rest : List ℕ
-  pub bytes_are : bytes ≡ front ++ (attribute_bytes (integrity value) padding ++ rest)
-  pub attributes_are : attributes ≡ before ++ integrity value ∷ after
-  pub first : All (λ a. a.kind ≢ 8) before
-  pub front_size : length front ≡ size_before_integrity attributes
+  pub bytes_are : bytes ≡ front ++ (attribute_bytes (integrity kind value) padding ++ rest)
+  pub attributes_are : attributes ≡ before ++ integrity kind value ∷ after
+  pub first : All (λ a. a.kind ≢ kind) before
+  pub front_size : length front ≡ size_before kind attributes
   pub few : length padding < 4
   pub aligned : (length value + length padding) % 4 ≡ 0
   pub fits : length value < 65536
-  pub are_attributes : AreAttributes (front ++ attribute_bytes (integrity value) padding) (before ++ integrity value ∷ [])
+  pub are_attributes : AreAttributes (front ++ attribute_bytes (integrity kind value) padding) (before ++ integrity kind value ∷ [])
 
 start_parts : (bytes : List ℕ) (a : Attribute) (rest : List ℕ) (s : StartsWith bytes a rest) → bytes ≡ attribute_bytes a s.padding ++ rest
 start_parts bytes a rest s = s.spelled
@@ -59,10 +59,10 @@ some_is x y e = cc
 same_attribute : (kind kind' : ℕ) (value value' : List ℕ) → kind ≡ kind' → value ≡ value' → attribute_of kind value ≡ attribute_of kind' value'
 same_attribute kind kind' value value' p q = rw (p, q) refl
 
-cut_here : (bytes : List ℕ) (others : List Attribute) (value rest : List ℕ) → StartsWith bytes (integrity value) rest → Cut bytes (integrity value ∷ others) value
-cut_here bytes others value rest s =
-    let whole = attribute_bytes (integrity value) s.padding in
-    let alone : StartsWith whole (integrity value) [] = subst (λ (x : List ℕ). StartsWith x (integrity value) []) (append-nil whole) (start_again bytes (integrity value) rest [] s) in
+cut_here : (kind : ℕ) (bytes : List ℕ) (others : List Attribute) (value rest : List ℕ) → StartsWith bytes (integrity kind value) rest → Cut kind bytes (integrity kind value ∷ others) value
+cut_here kind bytes others value rest s =
+    let whole = attribute_bytes (integrity kind value) s.padding in
+    let alone : StartsWith whole (integrity kind value) [] = subst (λ (x : List ℕ). StartsWith x (integrity kind value) []) (append-nil whole) (start_again bytes (integrity kind value) rest [] s) in
     record {
       before = [];
       after = others;
@@ -71,21 +71,21 @@ cut_here bytes others value rest s =
       rest = rest;
       bytes_are = s.spelled;
       attributes_are = refl;
-      first = All-nil (λ (x : Attribute). x.kind ≢ 8);
-      front_size = sym (size_at (integrity value) others refl);
+      first = All-nil (λ (x : Attribute). x.kind ≢ kind);
+      front_size = sym (size_at kind (integrity kind value) others refl);
       few = s.few;
       aligned = s.aligned;
       fits = s.length_fits;
       are_attributes = ([], alone, refl);
     }
 
-cut_later : (bytes : List ℕ) (a : Attribute) (others : List Attribute) (value rest : List ℕ) → a.kind ≢ 8 → StartsWith bytes a rest → Cut rest others value → Cut bytes (a ∷ others) value
-cut_later bytes a others value rest kind s c =
+cut_later : (kind : ℕ) (bytes : List ℕ) (a : Attribute) (others : List Attribute) (value rest : List ℕ) → a.kind ≢ kind → StartsWith bytes a rest → Cut kind rest others value → Cut kind bytes (a ∷ others) value
+cut_later kind bytes a others value rest other s c =
     let whole = attribute_bytes a s.padding in
-    let ending = attribute_bytes (integrity value) c.padding in
+    let ending = attribute_bytes (integrity kind value) c.padding in
     let again : StartsWith ((whole ++ c.front) ++ ending) a (c.front ++ ending) = subst (λ (x : List ℕ). StartsWith x a (c.front ++ ending)) (sym (append_assoc whole c.front ending)) (start_again bytes a rest (c.front ++ ending) s) in
     let whole_size : length whole ≡ size a = start_size bytes a rest s in
-    let front_size : length c.front ≡ size_before_integrity others = c.front_size in
+    let front_size : length c.front ≡ size_before kind others = c.front_size in
     record {
       before = a ∷ c.before;
       after = c.after;
@@ -94,23 +94,26 @@ cut_later bytes a others value rest kind s c =
       rest = c.rest;
       bytes_are = s.spelled ∙ ap (λ (x : List ℕ). whole ++ x) c.bytes_are ∙ sym (append_assoc whole c.front (ending ++ c.rest));
       attributes_are = ap (λ (x : List Attribute). a ∷ x) c.attributes_are;
-      first = All-cons (λ (x : Attribute). x.kind ≢ 8) a c.before kind c.first;
-      front_size = omega (arith, length-append whole c.front, size_past a others kind);
+      first = All-cons (λ (x : Attribute). x.kind ≢ kind) a c.before other c.first;
+      front_size = omega (arith, length-append whole c.front, size_past kind a others other);
       few = c.few;
       aligned = c.aligned;
       fits = c.fits;
       are_attributes = (c.front ++ ending, again, c.are_attributes);
     }
 
-pub cut_at_integrity : (bytes : List ℕ) (attributes : List Attribute) (value : List ℕ) → AreAttributes bytes attributes → first_of 8 attributes ≡ Some value → Cut bytes attributes value
-cut_at_integrity bytes [] value h e = let none : None ≡ just value = sym none_at_end ∙ e in absurd cc
-cut_at_integrity bytes (a ∷ others) value h e =
-    let later = cut_at_integrity h.0 others value h.2 in
-    elim (cases_eq a.kind 8) [
-      | inl k ↦ (let is : a ≡ integrity value = same_attribute a.kind 8 a.value value k (some_is a.value value (sym (first_at a others k) ∙ e)) in
-          let P : Attribute → Type 0 = λ x. StartsWith bytes x h.0 → Cut bytes (x ∷ others) value in
-          subst P (sym is) (cut_here bytes others value h.0) h.1)
-      | inr k ↦ cut_later bytes a others value h.0 k h.1 (later (sym (first_past a others k) ∙ e))
+pub cut_at_integrity : (kind : ℕ) (bytes : List ℕ) (attributes : List Attribute) (value : List ℕ) → AreAttributes bytes attributes → found_by kind attributes ≡ Some value → Cut kind bytes attributes value
+cut_at_integrity kind bytes [] value h e = let none : None ≡ just value = sym (none_at_end kind) ∙ e in absurd cc
+cut_at_integrity kind bytes (a ∷ others) value h e =
+    let later = cut_at_integrity kind h.0 others value h.2 in
+    elim (cases_eq a.kind kind) [
+      | inl k ↦ (let is : a ≡ integrity kind value = same_attribute a.kind kind a.value value k (some_is a.value value (sym (found_at kind a others k) ∙ e)) in
+          let P : Attribute → Type 0 = λ x. StartsWith bytes x h.0 → Cut kind bytes (x ∷ others) value in
+          subst P (sym is) (cut_here kind bytes others value h.0) h.1)
+      | inr k ↦ elim (cases_eq a.kind 28) [
+        | inl sha ↦ (let none : None ≡ just value = sym (none_at_sha256 kind a others k sha) ∙ e in absurd cc)
+        | inr other ↦ cut_later kind bytes a others value h.0 k h.1 (later (sym (found_past kind a others k other) ∙ e))
+      ]
     ]
 
 -- two numbers' bytes, the cookie's, and what is left of a message
@@ -120,14 +123,14 @@ message_bytes number len tid body = to_be_bytes w16 number ++ to_be_bytes w16 le
 abbrev cookie_and : List ℕ → List ℕ
 cookie_and rest = 33 ∷ 18 ∷ 164 ∷ 66 ∷ rest
 
-pub covered_ended : (b value : List ℕ) → IsMessage b (parts_of b) → first_of 8 (parts_of b).attributes ≡ Some value
-    → IsCovered b (take 2 b ++ to_be_bytes w16 (size_before_integrity (parts_of b).attributes + 4 + padded (length value))) (slice_range b 4 (20 + size_before_integrity (parts_of b).attributes)) value
-covered_ended b value m e =
+pub covered_ended : (kind : ℕ) (b value : List ℕ) → (kind ≡ 8) ⊎ (kind ≡ 28) → IsMessage b (parts_of b) → first_of kind (parts_of b).attributes ≡ Some value
+    → IsCovered kind b (take 2 b ++ to_be_bytes w16 (size_before kind (parts_of b).attributes + 4 + padded (length value))) (slice_range b 4 (20 + size_before kind (parts_of b).attributes)) value
+covered_ended kind b value one m e =
     let attributes = (parts_of b).attributes in
     let tid = (parts_of b).tid in
-    let n = size_before_integrity attributes in
-    let c = cut_at_integrity m.body attributes value m.attributes e in
-    let mine = attribute_bytes (integrity value) c.padding in
+    let n = size_before kind attributes in
+    let c = cut_at_integrity kind m.body attributes value m.attributes (sym (first_found kind one attributes) ∙ e) in
+    let mine = attribute_bytes (integrity kind value) c.padding in
     let rest = mine ++ c.rest in
     let spelled : b ≡ message_bytes m.number (length m.body) tid m.body = m.spelled in
     let in_two : take 2 b ≡ to_be_bytes w16 m.number = ap (take 2) spelled in
@@ -159,8 +162,8 @@ covered_ended b value m e =
       ended = record {
         number = m.number;
         body = c.front ++ mine;
-        spelled = ap (λ (x : List ℕ). x ++ text ++ to_be_bytes w16 8 ++ to_be_bytes w16 (length value) ++ value ++ c.padding) head_is
-            ∙ ap (λ (x : List ℕ). to_be_bytes w16 m.number ++ to_be_bytes w16 (length (c.front ++ mine)) ++ x ++ to_be_bytes w16 8 ++ to_be_bytes w16 (length value) ++ value ++ c.padding) text_is
+        spelled = ap (λ (x : List ℕ). x ++ text ++ to_be_bytes w16 kind ++ to_be_bytes w16 (length value) ++ value ++ c.padding) head_is
+            ∙ ap (λ (x : List ℕ). to_be_bytes w16 m.number ++ to_be_bytes w16 (length (c.front ++ mine)) ++ x ++ to_be_bytes w16 kind ++ to_be_bytes w16 (length value) ++ value ++ c.padding) text_is
             ∙ simp append_assoc;
         typed = m.typed;
         twelve = m.twelve;
@@ -178,23 +181,23 @@ found x = Some x
 found_is : (x y : Three) → found x ≡ found y → x ≡ y
 found_is x y e = cc
 
-by_value : (b head text value : List ℕ) (o : Option (List ℕ)) → IsMessage b (parts_of b) → first_of 8 (parts_of b).attributes ≡ o
-    → found (head, text, value) ≡ option_map (λ v. (take 2 b ++ to_be_bytes w16 (size_before_integrity (parts_of b).attributes + 4 + padded (length v)), slice_range b 4 (20 + size_before_integrity (parts_of b).attributes), v)) o
-    → IsCovered b head text value
-by_value b head text value None m p e = absurd cc
-by_value b head text value (Some v) m p e =
-    let before = size_before_integrity (parts_of b).attributes in
+by_value : (kind : ℕ) (b head text value : List ℕ) (o : Option (List ℕ)) → (kind ≡ 8) ⊎ (kind ≡ 28) → IsMessage b (parts_of b) → first_of kind (parts_of b).attributes ≡ o
+    → found (head, text, value) ≡ option_map (λ v. (take 2 b ++ to_be_bytes w16 (size_before kind (parts_of b).attributes + 4 + padded (length v)), slice_range b 4 (20 + size_before kind (parts_of b).attributes), v)) o
+    → IsCovered kind b head text value
+by_value kind b head text value None one m p e = absurd cc
+by_value kind b head text value (Some v) one m p e =
+    let before = size_before kind (parts_of b).attributes in
     let now : Three = (take 2 b ++ to_be_bytes w16 (before + 4 + padded (length v)), slice_range b 4 (20 + before), v) in
     let said : Three = (head, text, value) in
     let same : now ≡ said = sym (found_is said now e) in
     let head_is : take 2 b ++ to_be_bytes w16 (before + 4 + padded (length v)) ≡ head = ap (λ (x : Three). x.0) same in
     let text_is : slice_range b 4 (20 + before) ≡ text = ap (λ (x : Three). x.1) same in
     let value_is : v ≡ value = ap (λ (x : Three). x.2) same in
-    let Head : List ℕ → Type 0 = λ x. IsCovered b x (slice_range b 4 (20 + before)) v in
-    let Text : List ℕ → Type 0 = λ x. IsCovered b head x v in
-    let Value : List ℕ → Type 0 = λ x. IsCovered b head text x in
-    subst Value value_is (subst Text text_is (subst Head head_is (covered_ended b v m p)))
+    let Head : List ℕ → Type 0 = λ x. IsCovered kind b x (slice_range b 4 (20 + before)) v in
+    let Text : List ℕ → Type 0 = λ x. IsCovered kind b head x v in
+    let Value : List ℕ → Type 0 = λ x. IsCovered kind b head text x in
+    subst Value value_is (subst Text text_is (subst Head head_is (covered_ended kind b v one m p)))
 
-pub covered_by_places : (b head text value : List ℕ) → IsMessage b (parts_of b) → Some (head, text, value) ≡ covered_of b → IsCovered b head text value
+pub covered_by_places : (kind : ℕ) (b head text value : List ℕ) → (kind ≡ 8) ⊎ (kind ≡ 28) → IsMessage b (parts_of b) → Some (head, text, value) ≡ covered_of kind b → IsCovered kind b head text value
 unfolding covered_of
-covered_by_places b head text value m e = by_value b head text value (first_of 8 (parts_of b).attributes) m refl e
+covered_by_places kind b head text value one m e = by_value kind b head text value (first_of kind (parts_of b).attributes) one m refl e

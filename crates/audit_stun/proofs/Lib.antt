@@ -4,5 +4,6 @@ pub mod Cells
 pub mod MessageTypes
 pub mod Headers
 pub mod Covered
+pub mod Counting
 pub mod Xor
 pub mod Ended

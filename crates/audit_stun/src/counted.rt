@@ -1,19 +1,54 @@
 //! Which attributes of a message count.
 
-ghost use Rattle.std.specs.Prelude.{◌≡◌};
+ghost use Rattle.std.specs.Prelude.{◌≡◌, ◌∷◌, IsTrue, false};
 ghost use Rattle.std.specs.Iterator.{YieldsFirstBy, item_count};
 ghost use Rattle.audit_stun.specs.Parts.{attributes_in};
-ghost use Rattle.audit_stun.specs.Counted.{counted, comes_after_integrity};
+ghost use Rattle.audit_stun.specs.Counted.{counted};
+ghost use Rattle.audit_stun.specs.Left.{counts_behind, passed_with};
 
 use crate::attribute::{Attribute, split_attribute};
 use crate::numbers::attribute::{FINGERPRINT, MESSAGE_INTEGRITY, MESSAGE_INTEGRITY_SHA256};
 
-/// The attributes that count, in order: up to MESSAGE-INTEGRITY all, and after it those that may
-/// follow it.
+/// Which of the two integrity attributes, the last of those that count, came before.
+#[derive(Clone, Copy, Debug)]
+pub(crate) enum Passed {
+    Neither,
+    Integrity,
+    IntegritySha256,
+}
+
+impl Passed {
+    /// Whether an attribute of this type counts behind it.
+    fn counts(self, kind: u16) -> bool
+        ensures { result ≡ counts_behind self kind }
+    {
+        match self {
+            Passed::Neither => true,
+            Passed::Integrity => kind == MESSAGE_INTEGRITY_SHA256 || kind == FINGERPRINT,
+            Passed::IntegritySha256 => kind == FINGERPRINT,
+        }
+    }
+
+    /// With an attribute of this type, which counts behind it.
+    fn with(self, kind: u16) -> Passed
+        ensures { result ≡ passed_with self kind }
+    {
+        if kind == MESSAGE_INTEGRITY_SHA256 {
+            Passed::IntegritySha256
+        } else if kind == MESSAGE_INTEGRITY {
+            Passed::Integrity
+        } else {
+            self
+        }
+    }
+}
+
+/// The attributes that count, in order: up to an integrity attribute all, and after it those that
+/// may follow it.
 #[derive(Debug, Drop)]
 pub(crate) struct Counted<'a> {
     rest: &'a [u8],
-    after_integrity: bool,
+    passed: Passed,
 }
 
 impl<'a> Counted<'a> {
@@ -25,16 +60,9 @@ impl<'a> Counted<'a> {
     {
         Counted {
             rest: attributes,
-            after_integrity: false,
+            passed: Passed::Neither,
         }
     }
-}
-
-/// Whether an attribute of this type counts after MESSAGE-INTEGRITY too.
-fn may_follow_integrity(kind: u16) -> bool
-    ensures { result ≡ comes_after_integrity kind }
-{
-    kind == MESSAGE_INTEGRITY_SHA256 || kind == FINGERPRINT
 }
 
 impl<'a> Iterator for Counted<'a> {
@@ -48,15 +76,11 @@ impl<'a> Iterator for Counted<'a> {
 
     ghost remaining = { item_count counted_left };
 
-    #[tactic(auto, unfolding(crate::specs::Counted::counted))]
     fn next(&mut self) -> Option<Attribute<'a>> {
         while let Some((attribute, rest)) = split_attribute(self.rest) {
             self.rest = rest;
-            if !self.after_integrity {
-                self.after_integrity = attribute.kind == MESSAGE_INTEGRITY;
-                return Some(attribute);
-            }
-            if may_follow_integrity(attribute.kind) {
+            if self.passed.counts(attribute.kind) {
+                self.passed = self.passed.with(attribute.kind);
                 return Some(attribute);
             }
         }

@@ -1,6 +1,6 @@
 //! A message, and what it says.
 
-ghost use Rattle.std.specs.Prelude.{◌≡◌, option_copied, option_map, IfSome, take, drop};
+ghost use Rattle.std.specs.Prelude.{◌≡◌, ◌⊎◌, option_copied, option_map, IfSome, take, drop};
 ghost use Rattle.std.specs.Int.{w16, from_be_bytes};
 ghost use Rattle.audit_stun.specs.Left.{counted_left};
 ghost use Rattle.audit_stun.specs.Parts.{parts_of};
@@ -12,7 +12,7 @@ use crate::attribute::split_attribute;
 use crate::class::{Class, class_in, method_in};
 use crate::counted::Counted;
 use crate::numbers::HEADER_LENGTH;
-use crate::numbers::attribute::{MESSAGE_INTEGRITY, XOR_PEER_ADDRESS};
+use crate::numbers::attribute::{MESSAGE_INTEGRITY, MESSAGE_INTEGRITY_SHA256, XOR_PEER_ADDRESS};
 use crate::peers::Peers;
 use std::marker::Model;
 
@@ -82,7 +82,8 @@ impl<'a> Message<'a> {
     }
 
     /// The value of the first attribute of this type that counts. What follows MESSAGE-INTEGRITY
-    /// does not count, but for MESSAGE-INTEGRITY-SHA256 and FINGERPRINT (RFC 8489, section 14.5).
+    /// does not count, but for MESSAGE-INTEGRITY-SHA256 and FINGERPRINT, and after
+    /// MESSAGE-INTEGRITY-SHA256 only FINGERPRINT does (RFC 8489, sections 14.5 and 14.6).
     #[tactic(auto, unfolding(crate::specs::Counted::first_of))]
     pub fn first(&self, kind: u16) -> Option<&'a [u8]>
         ensures { option_copied result ≡ first_of kind (parts_of self.now).attributes }
@@ -103,25 +104,51 @@ impl<'a> Message<'a> {
         Peers::new(self.counted())
     }
 
-    /// What MESSAGE-INTEGRITY covers: the first four bytes, with the length that the message would
-    /// have if it ended with this attribute, and the bytes from there to the attribute. Then its
-    /// value (RFC 8489, section 14.5).
-    #[tactic(auto, unfolding(crate::specs::Covered::covered_of))]
+    /// What MESSAGE-INTEGRITY covers, if it counts: the first four bytes, with the length that the
+    /// message would have if it ended with this attribute, and the bytes from there to the
+    /// attribute. Then its value (RFC 8489, section 14.5).
     pub fn covered(&self) -> Option<([u8; 4], &'a [u8], &'a [u8])>
         ensures places { option_map (λ found. (found.0, found.1.now, found.2.now)) result
-            ≡ covered_of self.now }
+            ≡ covered_of MESSAGE_INTEGRITY self.now }
         // With the attribute at its end, the text is a message of its own.
         ensures ended { IfSome result
-            (λ found. IsCovered self.now found.0 found.1.now found.2.now) }
+            (λ found. IsCovered MESSAGE_INTEGRITY self.now found.0 found.1.now found.2.now) }
+    {
+        self.covered_by(MESSAGE_INTEGRITY)
+    }
+
+    /// What MESSAGE-INTEGRITY-SHA256 covers, likewise (RFC 8489, section 14.6). A MESSAGE-INTEGRITY
+    /// in front of it is covered too.
+    pub fn covered256(&self) -> Option<([u8; 4], &'a [u8], &'a [u8])>
+        ensures places { option_map (λ found. (found.0, found.1.now, found.2.now)) result
+            ≡ covered_of MESSAGE_INTEGRITY_SHA256 self.now }
+        ensures ended { IfSome result
+            (λ found. IsCovered MESSAGE_INTEGRITY_SHA256 self.now found.0 found.1.now found.2.now) }
+    {
+        self.covered_by(MESSAGE_INTEGRITY_SHA256)
+    }
+
+    /// What the integrity attribute of this type covers.
+    #[tactic(auto, unfolding(crate::specs::Covered::covered_of))]
+    fn covered_by(&self, kind: u16) -> Option<([u8; 4], &'a [u8], &'a [u8])>
+        requires { (kind ≡ MESSAGE_INTEGRITY) ⊎ (kind ≡ MESSAGE_INTEGRITY_SHA256) }
+        ensures places { option_map (λ found. (found.0, found.1.now, found.2.now)) result
+            ≡ covered_of kind self.now }
+        ensures ended { IfSome result
+            (λ found. IsCovered kind self.now found.0 found.1.now found.2.now) }
     {
         let mut rest = self.body();
         while let Some((attribute, after)) = split_attribute(rest) {
-            if attribute.kind == MESSAGE_INTEGRITY {
+            if attribute.kind == kind {
                 let start = self.bytes.len() - rest.len();
                 let length = self.bytes.len() - after.len() - HEADER_LENGTH;
                 let [high, low] = (length as u16).to_be_bytes();
                 let head = [self.bytes[0], self.bytes[1], high, low];
                 return Some((head, &self.bytes[4..start], attribute.value));
+            }
+            // Behind it neither attribute counts.
+            if attribute.kind == MESSAGE_INTEGRITY_SHA256 {
+                return None;
             }
             rest = after;
         }

@@ -125,6 +125,42 @@ fn what_counts(rt: HostRuntime) -> Result<(), Fail> {
     Ok(())
 }
 
+/// A request with PASSWORD-ALGORITHM whose MESSAGE-INTEGRITY-SHA256 stands in front.
+const AFTER_SHA256: [u8; 60] = [
+    0x00, 0x03, 0x00, 0x28, // Allocate request
+    0x21, 0x12, 0xA4, 0x42, // magic cookie
+    0, 0, 0, 0, 0, 0, 0, 0, 0, 0, 0, 1, // transaction id
+    0x00, 0x1D, 0x00, 0x04, 0, 2, 0, 0, // PASSWORD-ALGORITHM
+    0x00, 0x1C, 0x00, 0x04, 6, 6, 6, 6, // MESSAGE-INTEGRITY-SHA256
+    0x00, 0x08, 0x00, 0x04, 7, 7, 7, 7, // MESSAGE-INTEGRITY
+    0x00, 0x1C, 0x00, 0x04, 5, 5, 5, 5, // another MESSAGE-INTEGRITY-SHA256
+    0x80, 0x28, 0x00, 0x04, 8, 8, 8, 8, // FINGERPRINT
+];
+
+#[test]
+fn two_integrities(rt: HostRuntime) -> Result<(), Fail> {
+    let both = message(&AFTER_INTEGRITY).ok_or("a message")?;
+    let (head, text, value) = both.covered256().ok_or("an integrity")?;
+    assert_eq!(rt; head, [0x00, 0x16, 0x00, 0x38]);
+    assert_eq!(rt; text, &AFTER_INTEGRITY[4..68]);
+    assert_eq!(rt; value, [6, 6, 6, 6].as_slice());
+    let one = message(&AFTER_SHA256).ok_or("a message")?;
+    for (kind, want) in [
+        (PASSWORD_ALGORITHM, Some([0, 2, 0, 0].as_slice())),
+        (MESSAGE_INTEGRITY_SHA256, Some([6, 6, 6, 6].as_slice())),
+        (MESSAGE_INTEGRITY, None),
+        (FINGERPRINT, Some([8, 8, 8, 8].as_slice())),
+    ] {
+        assert_eq!(rt; one.first(kind), want, "{kind}");
+    }
+    assert!(rt; one.covered().is_none());
+    let (head, text, value) = one.covered256().ok_or("an integrity")?;
+    assert_eq!(rt; head, [0x00, 0x03, 0x00, 0x10]);
+    assert_eq!(rt; text, &AFTER_SHA256[4..28]);
+    assert_eq!(rt; value, [6, 6, 6, 6].as_slice());
+    Ok(())
+}
+
 #[test]
 fn channel_data_and_its_padding(rt: HostRuntime) {
     for (payload, want) in [

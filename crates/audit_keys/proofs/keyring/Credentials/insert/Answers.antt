@@ -3,6 +3,7 @@ use Rattle.std.specs.Prelude.{IsSome, ◌&&◌}
 use Rattle.std.specs.Str.{bytes_eq}
 use Rattle.std.specs.Global.{Vec}
 use Rattle.std.specs.BTreeMap.{BTreeMap, UpdatesBy}
+use Rattle.audit_keys.specs.declared.keys.Keys.{Keys}
 use Rattle.audit_keys.specs.KeyFor.{key_for}
 use Rattle.audit_keys.proofs.Keyrings.{by_bytes, vec_cmp, find, in_old_realm, in_new_realm}
 use Rattle.audit_keys.proofs.keyring.Credentials.insert.Goals as goal
@@ -18,10 +19,10 @@ returns-in-Some-clause-ok c = λ u r.
     let realm = c.args.credential.realm.now in
     let realms = c.args.self.now.realms in
     let users = c.insert.new.self in
-    in_old_realm realms (c.get_mut.follows.lender users) c.in-Some.users.now users user realm c.long_term_key-key.result c.in-Some.ensures.value
-    (at_bytes c.in_ok-user.user.items user c.in-Some.users.now users (Some c.long_term_key-key.result) c.in_ok-user.ensures.items c.in_ok-insert.ensures.updates)
+    in_old_realm realms (c.get_mut.follows.lender users) c.in-Some.users.now users user realm c.keys_of-keys.result c.in-Some.ensures.value
+    (at_bytes c.in_ok-user.user.items user c.in-Some.users.now users (Some c.keys_of-keys.result) c.in_ok-user.ensures.items c.in_ok-insert.ensures.updates)
     ((c.get_mut.follows.holds users).3 (subst IsSome c.in-Some.ensures.value refl)) u r
-    ∙ ap (λ (k : List ℕ). cond (bytes_eq user u && bytes_eq realm r) (Some k) (find realms u r)) c.long_term_key-key.ensures
+    ∙ ap (λ (k : Keys). cond (bytes_eq user u && bytes_eq realm r) (Some k) (find realms u r)) c.keys_of-keys.ensures
 
 pub returns-clause-ok : goal.returns-clause-ok
 unfolding key_for
@@ -30,8 +31,8 @@ returns-clause-ok c = λ u r.
     let realm = c.args.credential.realm.now in
     let realms = c.args.self.now.realms in
     let users = c.insert-2.new.self in
-    in_new_realm realms c.insert-3.new.self c.new-users.result users user realm c.long_term_key-key.result c.in_default.ensures.value c.new-users.ensures.empty
-    (at_bytes c.in_ok-user.user.items user c.new-users.result users (Some c.long_term_key-key.result) c.in_ok-user.ensures.items c.in_ok-insert-2.ensures.updates)
-    (subst (λ (m : BTreeMap (Vec ℕ) (BTreeMap (Vec ℕ) (List ℕ))). UpdatesBy vec_cmp (by_bytes realm) m c.insert-3.new.self (Some users)) c.get_mut.follows.holds-at-none
+    in_new_realm realms c.insert-3.new.self c.new-users.result users user realm c.keys_of-keys.result c.in_default.ensures.value c.new-users.ensures.empty
+    (at_bytes c.in_ok-user.user.items user c.new-users.result users (Some c.keys_of-keys.result) c.in_ok-user.ensures.items c.in_ok-insert-2.ensures.updates)
+    (subst (λ (m : BTreeMap (Vec ℕ) (BTreeMap (Vec ℕ) Keys)). UpdatesBy vec_cmp (by_bytes realm) m c.insert-3.new.self (Some users)) c.get_mut.follows.holds-at-none
     (at_bytes c.in_ok-realm.realm.items realm c.get_mut.follows.lender-at-none c.insert-3.new.self (Some users) c.in_ok-realm.ensures.items c.in_ok-insert-3.ensures.updates)) u r
-    ∙ ap (λ (k : List ℕ). cond (bytes_eq user u && bytes_eq realm r) (Some k) (find realms u r)) c.long_term_key-key.ensures
+    ∙ ap (λ (k : Keys). cond (bytes_eq user u && bytes_eq realm r) (Some k) (find realms u r)) c.keys_of-keys.ensures
