@@ -5,7 +5,8 @@
 
 Each line of EDGES is a capture of a Binding request and its success, its certificate or its policy, changed in one place, with the
 status and the answer that the formats ask for. Then every front of the capture is audited; standard output takes fewer and fewer
-bytes; and each read, write and opening of a file fails in turn, and gives fewer bytes than asked for (tests/failing_io.c; needs gcc).
+bytes of each report and of a certificate; and each read, write and opening of a file fails in turn, of whole files and of such that give
+one byte at a time (tests/failing_io.c; needs gcc).
 """
 
 import pathlib
@@ -26,6 +27,9 @@ CERTIFICATE = f"turnaudit-certificate 1\n{LANE}{EVENTS}end\n"
 EMPTY = "turnaudit-certificate 1\nend\n"
 CONFORMING = "turnaudit-report 1\nconforming 2 datagrams 1 lanes\n"
 NOT_SHOWN = "turnaudit-report 1\nnot shown\n"
+OTHER_ADDRESS = (
+    NOT_SHOWN + "rule R17 mapped address\nphase 2 lane 0 event 1 moment 1000000 tie 1\ndatagram 0.0 198.51.100.7:40000 to 192.0.2.1:3478 20 bytes\n"
+)
 
 REQUEST = bytes.fromhex("00010000 2112a442 000102030405060708090a0b")
 SUCCESS = bytes.fromhex("0101000c 2112a442 000102030405060708090a0b 0020 0008 0001 bd52 e721c045")
@@ -63,6 +67,8 @@ def packet(ticks, data, options=b"", captured=None):
 
 ASKED, ANSWERED = packet(1000, frame(True, REQUEST)), packet(1500, frame(False, SUCCESS))
 CAPTURE = SECTION + interface() + ASKED + ANSWERED
+# The success tells another port.
+BROKEN = SECTION + interface() + ASKED + packet(1500, frame(False, SUCCESS.replace(bytes.fromhex("bd52"), bytes.fromhex("bd53"))))
 THREE_BYTES = frame(True, b"abc")
 
 
@@ -74,6 +80,17 @@ def with_length(number):
 def clocked(ticks, options=b""):
     """A capture of three bytes to the server, by a clock of these options."""
     return SECTION + interface(options) + packet(ticks, THREE_BYTES)
+
+
+def asked_by(length, rest):
+    """The capture whose request has this length and these bytes behind its header."""
+    request = REQUEST[:2] + struct.pack(">H", length) + REQUEST[4:] + rest
+    return SECTION + interface() + packet(1000, frame(True, request)) + ANSWERED
+
+
+def not_an_answer(size):
+    """What is said of a request of this size that is no message."""
+    return 1, NOT_SHOWN + f"rule R1 not an answer\nphase 2 lane 0 event 1 moment 1000000 tie 1\ndatagram 0.0 198.51.100.7:40000 to 192.0.2.1:3478 {size} bytes\n"
 
 
 def refused(code, what="capture 0"):
@@ -99,6 +116,10 @@ EDGES = [
      (0, "turnaudit-report 1\nconforming 1 datagrams 0 lanes\n")),
     ("stamp 0 with offset -1", clocked(0, option(14, b"\xff" * 8)), EMPTY, POLICY, refused("C9")),
     ("three bytes dropped", clocked(1000), "turnaudit-certificate 1\ndrop 0.0 1000000 0\nend\n", POLICY, (0, "turnaudit-report 1\nconforming 1 datagrams 0 lanes\n")),
+    ("a request with an attribute", asked_by(8, bytes.fromhex("8022000461626364")), CERTIFICATE, POLICY, (0, CONFORMING)),
+    ("attribute of length 0xFFFF", asked_by(8, bytes.fromhex("8022ffff61626364")), CERTIFICATE, POLICY, not_an_answer(28)),
+    ("message length 6", asked_by(6, bytes.fromhex("802200026162")), CERTIFICATE, POLICY, not_an_answer(26)),
+    ("message length past the payload", asked_by(4, b""), CERTIFICATE, POLICY, not_an_answer(20)),
     ("greatest moment and tie", CAPTURE, CERTIFICATE.replace("0.0 1000000 0", "0.0 18446744073709551615 4294967295"), POLICY,
      (1, NOT_SHOWN + "rule S6 lane order\nphase 1 lane 0 event 1 moment 1000000 tie 1\ndatagram 0.0 198.51.100.7:40000 to 192.0.2.1:3478 20 bytes\n")),
     ("moment past 64 bits", CAPTURE, CERTIFICATE.replace("0.0 1000000 0", "0.0 18446744073709551616 0"), POLICY, refused("T3", "certificate line 3")),
@@ -130,6 +151,15 @@ class Tries:
     def check(self, **more):
         return self.run(["check", "--policy", "policy", "--cert", "cert", "capture"], **more)
 
+    def has_room(self, words, room, whole, answer):
+        """That with room for so many bytes these are the front of the whole text, with this status and line."""
+        # The limit holds for the program alone; SIGXFSZ is ignored as this process ignores it, so that the write fails.
+        with open(self.place / "out", "wb") as out:
+            ran = self.run(words, capture_output=False, stdout=out, stderr=subprocess.PIPE, restore_signals=False,
+                           preexec_fn=lambda: resource.setrlimit(resource.RLIMIT_FSIZE, (room, room)))
+        written = (self.place / "out").read_bytes()
+        self.tell(f"{words[0]}, room for {room} of {len(whole)} bytes", written == whole[:room] and (ran.returncode, ran.stderr) == answer, ran)
+
     def tell(self, name, right, ran):
         if right:
             self.right += 1
@@ -160,17 +190,15 @@ def fronts(tries):
 
 
 def little_room(tries):
-    """Standard output is a file that takes so many bytes and no more."""
-    tries.write(CAPTURE, CERTIFICATE, POLICY)
-    whole = CONFORMING.encode()
-    for room in range(len(whole) + 1):
-        # The limit holds for the program alone; SIGXFSZ is ignored as this process ignores it, so that the write fails.
-        with open(tries.place / "out", "wb") as out:
-            ran = tries.check(capture_output=False, stdout=out, stderr=subprocess.PIPE, restore_signals=False,
-                              preexec_fn=lambda: resource.setrlimit(resource.RLIMIT_FSIZE, (room, room)))
-        written = (tries.place / "out").read_bytes()
-        status, said = (0, b"") if room == len(whole) else (4, b"turnaudit: write failed\n")
-        tries.tell(f"room for {room} bytes", written == whole[:room] and (ran.returncode, ran.stderr) == (status, said), ran)
+    """Standard output is a file that takes so many bytes and no more: of both reports, and of a certificate."""
+    check = ["check", "--policy", "policy", "--cert", "cert", "capture"]
+    found = ["find", "--policy", "policy", "capture"]
+    for words, capture, full, report in [(check, CAPTURE, 0, CONFORMING), (check, BROKEN, 1, OTHER_ADDRESS), (found, CAPTURE, 0, None)]:
+        tries.write(capture, CERTIFICATE, POLICY)
+        whole = tries.run(words).stdout if report is None else report.encode()
+        tries.has_room(words, len(whole), whole, (full, b""))
+        for room in range(len(whole)):
+            tries.has_room(words, room, whole, (4, b"turnaudit: write failed\n"))
 
 
 def failing_files(tries):
@@ -186,17 +214,24 @@ def failing_files(tries):
         whole = tries.run(words).stdout
         by_one_byte = tries.run(words, env={"LD_PRELOAD": str(library), "SHORT": "1"})
         tries.tell(f"{words[0]}, one byte at a time", (by_one_byte.returncode, by_one_byte.stdout, by_one_byte.stderr) == (0, whole, b""), by_one_byte)
-        number = 0
-        while True:
-            number += 1
-            ran = tries.run(words, env={"LD_PRELOAD": str(library), "FAIL_AT": str(number)})
-            if ran.returncode == 0:
-                tries.tell(f"{words[0]}, no call failed", ran.stdout == whole and number > 6, ran)
-                break
-            said = ran.stderr in (b"turnaudit: read failed\n", b"turnaudit: write failed\n")
-            # Where the line itself can't be written, it is missing.
-            said = said or not ran.stderr and ran.returncode == 4
-            tries.tell(f"{words[0]}, call {number} fails", ran.returncode == 4 and whole.startswith(ran.stdout) and said, ran)
+        each_call_fails(tries, words, whole, {"LD_PRELOAD": str(library)})
+    # Every piece of every file is one byte.
+    each_call_fails(tries, check, CONFORMING.encode(), {"LD_PRELOAD": str(library), "SHORT": "1"})
+
+
+def each_call_fails(tries, words, whole, environment):
+    number = 0
+    while True:
+        number += 1
+        ran = tries.run(words, env={**environment, "FAIL_AT": str(number)})
+        if ran.returncode == 0:
+            tries.tell(f"{words[0]}, no call failed", ran.stdout == whole and number > 6, ran)
+            return
+        # What can't be read gives no report, and what can't be written a front of it. Where the line itself can't be written, it is missing.
+        right = (not ran.stdout and ran.stderr == b"turnaudit: read failed\n") or (
+            whole.startswith(ran.stdout) and ran.stderr in (b"turnaudit: write failed\n", b"")
+        )
+        tries.tell(f"{words[0]}, call {number} fails", ran.returncode == 4 and right, ran)
 
 
 def main():

@@ -3,7 +3,7 @@
 
     python3 tests/live.py PROGRAM
 
-What each capture in examples/ is answered stands in its folder; of those that aren't shown to conform the rule is compared. A growing file is written
+What each capture in examples/ is answered stands in its folder, and is what `audit` says; of those that aren't shown to conform the rule is compared. A growing file is written
 by this process while the program reads it, and the program waits five seconds without a byte before it takes the file to have ended. Through pipes the
 program reads in each turn just what this process writes then. Where dumpcap is installed and may capture, it writes one of the captures.
 """
@@ -50,8 +50,8 @@ class Tries:
         self.failed = 0
         self.lock = threading.Lock()
 
-    def start(self, words):
-        return subprocess.Popen([self.program, "live", *map(str, words)], stdout=subprocess.PIPE, stderr=subprocess.PIPE, text=True)
+    def start(self, words, command="live"):
+        return subprocess.Popen([self.program, command, *map(str, words)], stdout=subprocess.PIPE, stderr=subprocess.PIPE, text=True)
 
     def tell(self, name, wanted, given):
         """That what is given is what is wanted."""
@@ -122,6 +122,7 @@ def try_examples(tries):
         if not folder.is_dir():
             continue
         captures, wanted, words = captures_in(folder), answer_in(folder), words_in(folder)
+        tries.end(f"{folder.name} by audit", tries.start([*words, *captures], "audit"), wanted)
         tries.ask(f"{folder.name} whole", [*words, *captures], wanted, as_far_as_rule)
         most = max(capture.stat().st_size for capture in captures)
         arguments = (tries, f"{folder.name} in pieces", words, captures, max(most // 20, 1), 0.02, wanted)

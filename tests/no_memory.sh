@@ -1,6 +1,6 @@
 #!/bin/bash
 # no_memory.sh PROGRAM: each allocation of `audit`, `find`, `check` and `live` on a capture of a real server is refused in turn; the answer is status 3 and
-# one line each time, and nothing on standard output; with two workers that, or the answer of one. Of a certificate larger than what `find` gathers before it writes (64 KiB), some allocations are refused, and a
+# one line each time, and nothing on standard output; with several workers that, or the answer of one, also where two lanes break a rule. Of a certificate larger than what `find` gathers before it writes (64 KiB), some allocations are refused, and a
 # front of it may be out: with status 3 it is no certificate. With several workers on 24 clients the last allocations are refused in turn, and then the threads
 # from each number on: the answer is that of one thread, or status 3. It needs gcc.
 program=$(realpath "$1") || exit 1
@@ -11,18 +11,20 @@ gcc -shared -fPIC -O1 -o "$scratch/failing_malloc.so" failing_malloc.c -ldl || e
 cd ../examples/coturn-channels-two-files || exit 1
 failed=0
 
+inputs=(--policy policy --creds creds client.pcapng peer.pcapng)
+
 refuse_each() { # NAME WORDS.. : by several workers the answer may be that of one, too
     name=$1
     shift
     number=0
-    "$program" "$@" --policy policy --creds creds client.pcapng peer.pcapng > "$scratch/whole"
+    "$program" "$@" "${inputs[@]}" > "$scratch/whole"
+    status_of_whole=$?
     while true; do
         number=$((number + 1))
-        FAIL_AT=$number LD_PRELOAD="$scratch/failing_malloc.so" "$program" "$@" --policy policy --creds creds client.pcapng peer.pcapng \
-            > "$scratch/answer" 2> "$scratch/told"
+        FAIL_AT=$number LD_PRELOAD="$scratch/failing_malloc.so" "$program" "$@" "${inputs[@]}" > "$scratch/answer" 2> "$scratch/told"
         status=$?
         if grep -q '^allocations: ' "$scratch/told"; then break; fi
-        if [[ " $* " == *" --workers "* ]] && [ "$status" = 0 ] && cmp -s "$scratch/whole" "$scratch/answer"; then continue; fi
+        if [[ " $* " == *" --workers "* ]] && [ "$status" = "$status_of_whole" ] && cmp -s "$scratch/whole" "$scratch/answer" && [ ! -s "$scratch/told" ]; then continue; fi
         if [ "$status" != 3 ] || [ -s "$scratch/answer" ] || [ "$(cat "$scratch/told")" != "turnaudit: out of memory" ]; then
             failed=$((failed + 1))
             echo "failed: $name, allocation $number: status $status, $(head -c 200 "$scratch/told")"
@@ -38,7 +40,18 @@ refuse_each live live
 refuse_each "check by two workers" check --cert certificate --workers 2
 refuse_each "audit by two workers" audit --workers 2
 
-cd ../coturn-24-clients || exit 1
+# Both lanes break a rule, the second one earlier: by no refusal the first one's breach is told.
+cd ../../tests/two-lanes-broken || exit 1
+inputs=(--policy policy --cert certificate cap.pcapng)
+for workers in 1 2 7; do
+    refuse_each "check of two broken lanes, workers: $workers" check --workers "$workers"
+    if ! cmp -s "$scratch/whole" expected; then
+        failed=$((failed + 1))
+        echo "failed: two broken lanes, workers: $workers"
+    fi
+done
+
+cd ../../examples/coturn-24-clients || exit 1
 "$program" find --policy policy --creds creds cap.pcapng > "$scratch/certificate" || exit 1
 check_all() { # WORKERS: the answer and the status of `check` on the folder's capture
     LD_PRELOAD="$scratch/failing_malloc.so" "$program" check --policy policy --creds creds --cert "$scratch/certificate" --workers "$1" cap.pcapng \
