@@ -5,7 +5,7 @@ use super::memory::{Files, ask};
 use super::{CERTIFICATE, POLICY};
 use std::test::Fail;
 
-const RELEASE: &str = "turnaudit 0.1.0, proved with rattle-kit-13b logic dac8208d650f15bf\n";
+const RELEASE: &str = "turnaudit 0.1.0, proved with rattle-kit-13f logic dac8208d650f15bf\n";
 
 #[test]
 fn wrong_words_are_no_request(rt: HostRuntime) -> Result<(), Fail> {
