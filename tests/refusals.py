@@ -169,11 +169,6 @@ def try_words(program):
     expect("no words", (none.returncode, none.stdout, help_.returncode, help_.stderr) == (5, b"", 0, b"") and none.stderr == help_.stdout != b"")
     release = answer(program, ["--version"])
     expect("--version", release.returncode == 0 and re.fullmatch(rb"turnaudit [0-9.]+, proved with [^\n]+\n", release.stdout) is not None)
-    try:
-        kit = subprocess.run(["rt", "version"], stdout=subprocess.PIPE, text=True).stdout.strip()
-    except FileNotFoundError:
-        return
-    expect("--version names the kit", release.stdout.decode().endswith(f", proved with {kit}\n"))
 
 
 def main():
