@@ -70,10 +70,7 @@ fn named<'u, 'k>(users: &'k [CredRow<'_>], request: &Message<'u>) -> Option<Sign
 
 /// Whose request it is, if it is authentic: it has a nonce, and is signed under the key that it chooses of the user and the realm that it names
 /// (RFC 8489, section 9.2.4).
-pub fn authenticated<'u, 'k>(
-    act: &Act<'_, 'k>,
-    request: &Message<'u>,
-) -> Option<Signer<'u, 'k>>
+pub fn authenticated<'u, 'k>(act: &Act<'_, 'k>, request: &Message<'u>) -> Option<Signer<'u, 'k>>
     requires { request.now ≡ (situation act.now).arrives.payload }
     ensures { MatchOption result (IsByUser (situation act.now) → ⊥)
         (λ signer. IsByUser (situation act.now) × (first_of USERNAME (asked (situation act.now)).attributes ≡ Some signer.user.now)
