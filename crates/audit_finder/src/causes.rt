@@ -49,9 +49,10 @@ impl Cause {
     fn words(&self) -> [u64; 3] {
         match *self {
             Cause::Request { lane, id } => {
-                let [a, b, c, d, e, f, g, h, rest @ ..] = id;
+                let [a, b, c, d, e, f, g, h, i, j, k, l] = id;
                 let first = u64::from_le_bytes([a, b, c, d, e, f, g, h]);
-                [lane.0 as u64, first, u32::from_le_bytes(rest) as u64]
+                let last = u32::from_le_bytes([i, j, k, l]);
+                [lane.0 as u64, first, last as u64]
             }
             Cause::Send { lane, peer, digest } => {
                 [1 << 48 | lane.0 as u64, word_of(peer), digest]

@@ -81,7 +81,8 @@ fn seen_leaving(judge: &Judge<'_>, sighting: &Sighting) -> Seen {
         return Seen::Data(digest_of(payload));
     }
     let lane = judge.lane_of(sighting.to, sighting.from);
-    if let (Some(lane), Some((id, says))) = (lane, answer_of(payload)) {
+    if let (Some(lane), Some(answer)) = (lane, answer_of(payload)) {
+        let (id, says) = answer;
         return Seen::Answer(Transaction { lane, id }, says);
     }
     match data_given(payload) {
