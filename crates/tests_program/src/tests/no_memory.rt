@@ -4,6 +4,7 @@
 use super::POLICY;
 use super::messages::{REALM, USER, send, user_key};
 use super::sessions::{CLIENT, LISTEN, Session};
+use audit_keys::{Keys, long_term_key_sha256};
 use audit_model::{Addr, At, Key, Policy, Rule, SightId, Tenancy, read_policy};
 use audit_rules::{ActFault, CredRow, LaneTable, act};
 use audit_samples::BuildFault;
@@ -58,7 +59,10 @@ fn answered(
     let users = [CredRow {
         user: USER,
         realm: REALM,
-        key: user_key(),
+        key: Keys {
+            md5: user_key(),
+            sha256: long_term_key_sha256(USER, REALM, b"pass"),
+        },
     }];
     let at = At {
         key: Key {
