@@ -1,6 +1,6 @@
 -- The listen addresses and the relay ranges of a policy that was read don't meet.
-use Rattle.std.proofs.Common.{◌≡◌, inl, inr, ℕ, Bool, true, false, ◌||◌, cond, List, [], ◌∷◌, ◌++◌, length, Result, Ok, Err, refl, sym, ap, ◌∙◌, subst, arith}
-use Rattle.std.specs.Prelude.{◌⊎◌, nat_le, codes}
+use Rattle.std.proofs.Common.{◌≡◌, inl, inr, ℕ, Bool, true, false, ◌&&◌, ◌||◌, cond, List, [], ◌∷◌, ◌++◌, length, Result, Ok, Err, refl, sym, ap, ◌∙◌, subst, arith}
+use Rattle.std.specs.Prelude.{◌⊎◌, ◌*◌, nat_le, nat_lt, codes}
 use Rattle.std.specs.List.{list_any}
 use Rattle.std.specs.Str.{bytes_eq}
 use Rattle.std.proofs.lemmas.List.Folds.{list_any-append}
@@ -15,10 +15,10 @@ use Rattle.audit_model.specs.declared.policy_fault.PolicyFaultKind.{PolicyFaultK
 use Rattle.audit_model.specs.declared.policy_fault.PolicyFaultKind.TheVariants.{Line, Limit, Overlap}
 use Rattle.audit_model.specs.Lanes.{same_addr}
 use Rattle.audit_model.specs.Policy.{AreApart}
-use Rattle.audit_model.specs.PolicyLines.{Said, meets_said, after_listen, after_relay, after_setting, after_word, tolerance_of, of_word, listen_of, range_of}
-use Rattle.audit_model.specs.PolicyText.{after, unended, lacks, nothing_said, policy_read, policy_of}
+use Rattle.audit_model.specs.PolicyLines.{Said, meets_said, is_said_of, interface_of, after_listen, after_relay, after_skew, after_setting, after_word, tolerance_of, of_word, listen_of, range_of}
+use Rattle.audit_model.specs.PolicyText.{after, after_heading, unended, lacks, nothing_said, policy_read, policy_of}
 use Rattle.audit_model.specs.PortRange.{is_in, meet, lone}
-use Rattle.audit_text.specs.Token.{◌>>=◌, halves_of}
+use Rattle.audit_text.specs.Token.{◌>>=◌, halves_of, both_of, number_of}
 
 either_true : (a b : Bool) → (a || b) ≡ true → (a ≡ true) ⊎ (b ≡ true)
 either_true true b h = inl refl
@@ -111,17 +111,31 @@ set said word value apart =
     (by_choice (bytes_eq word (codes "grace-ms")) _ _ (with_word (tolerance_of said.grace value 600000 1000000) _ (λ grace. apart))
     (by_choice (bytes_eq word (codes "hold-ms")) _ _ (with_word (tolerance_of said.hold value 600000 1000000) _ (λ hold. apart)) tt))
 
+skewed : (said : Said) (value : List ℕ) → IsApart said → StaysApart (after_skew said value)
+unfolding after_skew
+skewed said value apart =
+    with_word (of_word (halves_of 32 value)) _ (λ halves.
+    by_choice (is_said_of said (interface_of halves.0)) _ _ tt
+    (with_word (of_word (both_of (interface_of halves.0) (number_of 18446744073709551615 halves.1))) _ (λ both.
+    by_choice (nat_lt 60000000 both.1 || nat_le 1024 (length said.skews)) (Err Limit) _ tt apart)))
+
+headed : (said : Said) (line : List ℕ) → IsApart said → StaysApart (after_heading said line)
+headed said line apart =
+    by_choice (bytes_eq line (codes "turnaudit-policy 2")) _ _ apart
+    (by_choice (bytes_eq line (codes "turnaudit-policy 1")) (Ok (record said { headed = true })) (Err Line) apart tt)
+
 worded : (said : Said) (line : List ℕ) → IsApart said → StaysApart (after_word said line)
 unfolding after_word
 worded said line apart =
     with_word (of_word (halves_of 32 line)) _ (λ halves.
     by_choice (bytes_eq halves.0 (codes "listen")) _ _ (listened said halves.1 apart)
-    (by_choice (bytes_eq halves.0 (codes "relay")) _ _ (relayed said halves.1 apart) (set said halves.0 halves.1 apart)))
+    (by_choice (bytes_eq halves.0 (codes "relay")) _ _ (relayed said halves.1 apart)
+    (by_choice (said.by_interface && bytes_eq halves.0 (codes "skew-of")) _ _ (skewed said halves.1 apart) (set said halves.0 halves.1 apart))))
 
 lined : (said : Said) (line : List ℕ) → IsApart said → StaysApart (after said line)
 unfolding after
 lined said line apart =
-    by_choice said.headed _ _ (worded said line apart) (by_choice (bytes_eq line (codes "turnaudit-policy 1")) (Ok (record said { headed = true })) (Err Line) apart tt)
+    by_choice said.headed _ _ (worded said line apart) (headed said line apart)
 
 -- the policy that is read, if one is
 abbrev GivesApart : Result Policy (LineFault PolicyFaultKind) → Type 0

@@ -2,6 +2,7 @@ pub mod AddressText
 pub mod Addr
 pub mod Fits
 pub mod Window
+pub mod Skews
 pub mod Event
 pub mod EventCount
 pub mod Lanes

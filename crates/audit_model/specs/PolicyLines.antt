@@ -1,9 +1,10 @@
 -- What one line of a policy says (after the heading): a word, a space and a value.
-use Rattle.std.specs.Prelude.{ℕ, ◌*◌, Bool, ◌||◌, ◌==◌, if◌then◌else◌, List, [], ◌∷◌, ◌++◌, length, nat_le, nat_lt, Option, Some, None, Result, Ok, Err, codes}
+use Rattle.std.specs.Prelude.{ℕ, ◌*◌, Bool, false, ◌&&◌, ◌||◌, ◌==◌, if◌then◌else◌, List, [], ◌∷◌, ◌++◌, length, nat_le, nat_lt, Option, Some, None, Result, Ok, Err, codes}
 use Rattle.std.specs.Str.{bytes_eq}
 use Rattle.std.specs.List.{list_any}
 use Rattle.audit_model.specs.declared.address.Addr.{Addr}
 use Rattle.audit_model.specs.declared.policy.PortRange.{PortRange}
+use Rattle.audit_model.specs.declared.policy.InterfaceSkew.{InterfaceSkew}
 use Rattle.audit_text.specs.declared.token.TokenFault.{TokenFault}
 use Rattle.audit_text.specs.declared.token.TokenFault.TheVariants as token
 use Rattle.audit_model.specs.declared.policy_fault.PolicyFaultKind.{PolicyFaultKind}
@@ -19,9 +20,11 @@ pub record Said : Type 0 where
   pub listen : List Addr
   pub relay : List PortRange
   pub skew : Option ℕ
+  pub skews : List InterfaceSkew
   pub grace : Option ℕ
   pub hold : Option ℕ
   pub headed : Bool
+  pub by_interface : Bool
 
 -- what goes on as a line's reading, where a word's did
 abbrev pub of_word : {A : Type 0} → Result A TokenFault → Result A PolicyFaultKind
@@ -65,6 +68,25 @@ tolerance_of None value most unit = do
   units ← of_word (number_of 18446744073709551615 value)
   if nat_lt most units then Err Limit else Ok (Some (units * unit))
 
+-- the number of an interface has 32 bits
+abbrev pub interface_of : List ℕ → Result ℕ TokenFault
+interface_of word = number_of 4294967295 word
+
+-- an earlier line has the skew of this interface, if it is one
+abbrev pub is_said_of : Said → Result ℕ TokenFault → Bool
+is_said_of said (Ok iface) = list_any (λ own. own.iface == iface) said.skews
+is_said_of said (Err fault) = false
+
+-- the skew of an interface, IFACE N: a second one is no line, whatever its N is
+unfoldable pub after_skew : Said → List ℕ → Result Said PolicyFaultKind
+after_skew said value = do
+  halves ← of_word (halves_of 32 value)
+  if is_said_of said (interface_of halves.0) then Err Line
+      else (do
+        both ← of_word (both_of (interface_of halves.0) (number_of 18446744073709551615 halves.1))
+        if nat_lt 60000000 both.1 || nat_le 1024 (length said.skews) then Err Limit
+            else Ok (record said { skews = said.skews ++ record { iface = both.0; skew = both.1 * 1000 } ∷ [] }))
+
 unfoldable pub after_setting : Said → List ℕ → List ℕ → Result Said PolicyFaultKind
 after_setting said word value =
     if bytes_eq word (codes "skew-us") then (do
@@ -83,4 +105,5 @@ unfoldable pub after_word : Said → List ℕ → Result Said PolicyFaultKind
 after_word said line = do
   halves ← of_word (halves_of 32 line)
   if bytes_eq halves.0 (codes "listen") then after_listen said halves.1
-      else (if bytes_eq halves.0 (codes "relay") then after_relay said halves.1 else after_setting said halves.0 halves.1)
+      else (if bytes_eq halves.0 (codes "relay") then after_relay said halves.1
+      else (if said.by_interface && bytes_eq halves.0 (codes "skew-of") then after_skew said halves.1 else after_setting said halves.0 halves.1))

@@ -10,11 +10,17 @@ use Rattle.audit_model.specs.declared.policy_fault.PolicyFaultKind.TheVariants.{
 use Rattle.audit_model.specs.PolicyLines.{Said, after_word}
 
 abbrev pub nothing_said : Said
-nothing_said = record { listen = []; relay = []; skew = None; grace = None; hold = None; headed = false }
+nothing_said = record { listen = []; relay = []; skew = None; skews = []; grace = None; hold = None; headed = false; by_interface = false }
+
+-- under the heading of version 2 a line may say the skew of an interface
+abbrev pub after_heading : Said → List ℕ → Result Said PolicyFaultKind
+after_heading said line =
+    if bytes_eq line (codes "turnaudit-policy 2") then Ok (record said { headed = true; by_interface = true })
+    else (if bytes_eq line (codes "turnaudit-policy 1") then Ok (record said { headed = true }) else Err Line)
 
 -- the heading is the first line
 unfoldable pub after : Said → List ℕ → Result Said PolicyFaultKind
-after said line = if said.headed then after_word said line else (if bytes_eq line (codes "turnaudit-policy 1") then Ok (record said { headed = true }) else Err Line)
+after said line = if said.headed then after_word said line else after_heading said line
 
 -- each line ends with an LF
 abbrev pub unended : Said → List ℕ → PolicyFaultKind
@@ -30,6 +36,7 @@ policy_said said = record {
   listen = said.listen;
   relay = said.relay;
   skew = unwrap_or said.skew 500000;
+  skews = said.skews;
   grace = unwrap_or said.grace 1000000000;
   hold = unwrap_or said.hold 2000000000;
 }

@@ -1,11 +1,12 @@
 //! Certificates: an order of all that was captured, lane by lane.
 
-ghost use Rattle.std.specs.Prelude.{◌≤◌, ◌+◌, length};
+ghost use Rattle.std.specs.Prelude.{◌≡◌, ◌≤◌, ◌+◌, length, true};
 ghost use Rattle.std.specs.List.{IsDistinct};
 ghost use Rattle.std.proofs.Props.{props};
 ghost use Rattle.audit_model.specs.EventCount.{event_count};
 ghost use Rattle.audit_model.specs.Lanes.{same_lane};
-ghost use Rattle.audit_model.specs.declared.certificate.TheConstants.{MAX_LANES, MAX_EVENTS};
+ghost use Rattle.audit_model.specs.Skews.{rise, skew_of};
+ghost use Rattle.audit_model.specs.declared.certificate.TheConstants.{MAX_LANES, MAX_EVENTS, MAX_SKEWS};
 
 use crate::address::Addr;
 use crate::event::{Event, Key};
@@ -14,6 +15,9 @@ use crate::sighting::SightId;
 
 /// How many lanes a certificate may have.
 pub const MAX_LANES: usize = 65_536;
+
+/// How many interfaces a certificate may have a skew of.
+pub const MAX_SKEWS: usize = 1_024;
 
 /// How many events and drops together.
 pub const MAX_EVENTS: usize = 50_331_648;
@@ -33,13 +37,39 @@ pub struct CertDrop {
     pub key: Key,
 }
 
+/// How far the moments on one interface lie from their stamps at the most.
+#[derive(Clone, Copy, Debug, PartialEq, Eq)]
+pub struct CertSkew {
+    /// The interface, as in a `SightId`. There need not be one of that number.
+    pub iface: u32,
+    pub microseconds: u64,
+}
+
 /// What is claimed of a capture: lanes, and the arrivals that were dropped, which count as the lane after the last.
 #[derive(Debug, Drop)]
 pub struct Certificate {
     pub lanes: Listed<CertLane>,
     pub drops: Listed<CertDrop>,
+    /// The interfaces on which moments lie nearer to their stamps than the policy asks, in rising order. No skew widens a window.
+    pub skews: Listed<CertSkew>,
     /// No two lanes have one client at one listen address.
     pub ghost distinct: { IsDistinct same_lane lanes } by { Prim.hlevel props },
     pub ghost few_lanes: { length lanes ≤ MAX_LANES },
     pub ghost few_events: { event_count lanes + length drops ≤ MAX_EVENTS },
+    /// The interfaces rise strictly.
+    pub ghost rising: { rise skews ≡ true },
+    pub ghost few_skews: { length skews ≤ MAX_SKEWS },
+}
+
+impl Certificate {
+    /// The skew that it has of the interface, in microseconds. It goes over the skews, 1,024 at the most.
+    pub fn skew_of(&self, iface: u32) -> Option<u64>
+        ensures { result ≡ skew_of self.now.skews iface }
+    {
+        self.skews
+            .as_slice()
+            .iter()
+            .find(|skew| skew.iface == iface)
+            .map(|skew| skew.microseconds)
+    }
 }

@@ -19,18 +19,20 @@ mod verdict;
 mod write_fault;
 
 pub use address::{Addr, read_ip, read_port};
-pub use certificate::{CertDrop, CertLane, Certificate, MAX_EVENTS, MAX_LANES};
+pub use certificate::{
+    CertDrop, CertLane, CertSkew, Certificate, MAX_EVENTS, MAX_LANES, MAX_SKEWS,
+};
 pub use event::{At, Event, Key};
 pub use extension::Extension;
 pub use lane_pairs::LanePairs;
 pub use listed::Listed;
 pub use pair::Pair;
-pub use policy::{Policy, PortRange};
+pub use policy::{InterfaceSkew, Policy, PortRange};
 pub use policy_fault::{PolicyFault, PolicyFaultKind};
 pub use policy_reader::{PolicyReader, read_policy};
 pub use policy_text::PolicyDraft;
 pub use rule::Rule;
-pub use sighting::{Side, SightId, Sighting, window};
+pub use sighting::{Side, SightId, Sighting, nanoseconds, window};
 pub use sink::{Sink, SinkFailed, put_all};
 pub use verdict::{Breach, Tenancy, Verdict};
 pub use write_fault::WriteFault;

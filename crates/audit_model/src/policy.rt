@@ -1,4 +1,4 @@
-//! The policy: which endpoints are the service, and the three tolerances.
+//! The policy: which endpoints are the service, and the tolerances.
 
 use crate::address::Addr;
 use crate::listed::Listed;
@@ -48,6 +48,15 @@ impl From<Addr> for PortRange {
     }
 }
 
+/// How far a datagram's moment on one interface may lie from its stamp.
+#[derive(Clone, Copy, Debug, PartialEq, Eq)]
+pub struct InterfaceSkew {
+    /// The interface, as in a `SightId`.
+    pub iface: u32,
+    /// In nanoseconds.
+    pub skew: u64,
+}
+
 /// What the auditor is told of the server. Lengths of time are nanoseconds.
 #[derive(Debug, Drop)]
 pub struct Policy {
@@ -55,8 +64,10 @@ pub struct Policy {
     pub listen: Listed<Addr>,
     /// From where the server relays.
     pub relay: Listed<PortRange>,
-    /// How far a datagram's moment may lie from its stamp.
+    /// How far a datagram's moment may lie from its stamp, on an interface that has no skew of its own.
     pub skew: u64,
+    /// The skews that interfaces have of their own. The first of an interface counts.
+    pub skews: Listed<InterfaceSkew>,
     /// How long after its end a lease may be used.
     pub grace: u64,
     /// How long the server may hold an arrival before it acts, and before what it gives leaves.
@@ -67,6 +78,7 @@ impl Policy {
     ghost use Rattle.std.specs.Prelude.{◌≡◌, ◌==◌, ◌↔◌, IsTrue, Any};
     ghost use Rattle.std.specs.List.{list_any};
     ghost use Rattle.audit_model.specs.Policy.{Listens, Relays, IsOfService, listens, relays, is_of_service};
+    ghost use Rattle.audit_model.specs.Skews.{skew_for};
 
     /// Whether clients send their requests to this address. It goes over at most 64 of them.
     pub fn listens(&self, addr: Addr) -> bool
@@ -93,6 +105,17 @@ impl Policy {
         ensures value { result ≡ is_of_service self.now ip }
     {
         self.listens_at_ip(ip) || self.relays_at_ip(ip)
+    }
+
+    /// How far a datagram's moment on this interface may lie from its stamp, in nanoseconds. It goes over the skews that
+    /// interfaces have of their own, at most 1,024 of them in a policy that was read.
+    pub fn skew_for(&self, iface: u32) -> u64
+        ensures { result ≡ skew_for self.now iface }
+    {
+        match self.skews.as_slice().iter().find(|own| own.iface == iface) {
+            Some(own) => own.skew,
+            None => self.skew,
+        }
     }
 
     fn listens_at_ip(&self, ip: u32) -> bool

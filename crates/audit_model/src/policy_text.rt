@@ -1,15 +1,15 @@
 //! The policy text: a heading, and then a setting a line.
 
-ghost use Rattle.std.specs.Prelude.{◌≡◌, ◌*◌, ◌^◌, ◌<◌, MatchResult, Ok};
+ghost use Rattle.std.specs.Prelude.{◌≡◌, ◌==◌, ◌*◌, ◌^◌, ◌<◌, MatchResult, Ok};
 ghost use Rattle.std.specs.List.{list_any};
 ghost use Rattle.audit_text.specs.Reading.{UnlessMemory};
 ghost use Rattle.audit_model.specs.PolicyFault.{is_memory};
 ghost use Rattle.audit_model.specs.PortRange.{is_in, meet};
-ghost use Rattle.audit_model.specs.PolicyLines.{listen_of, range_of, tolerance_of};
+ghost use Rattle.audit_model.specs.PolicyLines.{listen_of, range_of, interface_of, tolerance_of};
 
 use crate::address::{Addr, read_ip, read_port};
 use crate::listed::Listed;
-use crate::policy::{Policy, PortRange};
+use crate::policy::{InterfaceSkew, Policy, PortRange};
 use crate::policy_fault::PolicyFaultKind;
 use audit_text::{Lines, TokenFault, both, halves, number};
 use std::alloc::Global;
@@ -17,8 +17,14 @@ use std::marker::Model;
 
 const HEADING: &[u8; 18] = b"turnaudit-policy 1";
 
+/// Under it a line may say the skew of an interface.
+const SECOND_HEADING: &[u8; 18] = b"turnaudit-policy 2";
+
 /// How many listen lines a policy may have, and how many relay lines.
 const MAX_ENDPOINTS: usize = 64;
+
+/// How many interfaces may have a skew of their own.
+const MAX_INTERFACES: usize = 1_024;
 
 /// The greatest skew, in microseconds.
 const MAX_SKEW_US: u64 = 60_000_000;
@@ -45,10 +51,13 @@ pub struct PolicyDraft {
     listen: Listed<Addr>,
     relay: Listed<PortRange>,
     skew: Option<u64>,
+    skews: Listed<InterfaceSkew>,
     grace: Option<u64>,
     hold: Option<u64>,
     /// Whether the heading is there.
     headed: bool,
+    /// Whether it is the one under which a line may say the skew of an interface.
+    by_interface: bool,
 }
 
 impl Model for PolicyDraft {
@@ -60,9 +69,11 @@ impl Model for PolicyDraft {
       listen = draft.listen;
       relay = draft.relay;
       skew = draft.skew;
+      skews = draft.skews;
       grace = draft.grace;
       hold = draft.hold;
       headed = draft.headed;
+      by_interface = draft.by_interface;
     } };
 }
 
@@ -113,6 +124,16 @@ fn read_tolerance(
     Ok(Some(units * unit))
 }
 
+/// An interface, as in a `SightId`.
+fn read_interface(word: &[u8]) -> Result<u32, TokenFault>
+    ensures { result ≡ interface_of word.now }
+{
+    match number(word, 4_294_967_295) {
+        Ok(value) => Ok(value as u32),
+        Err(fault) => Err(fault),
+    }
+}
+
 /// Whether an address is one of the range.
 fn meets_listen(listen: &[Addr], range: &PortRange) -> bool
     ensures { result ≡ list_any (λ addr. is_in addr range.now) listen.now }
@@ -127,9 +148,16 @@ fn meets_relay(relay: &[PortRange], range: &PortRange) -> bool
     relay.iter().any(|other| range.meets(other))
 }
 
+/// Whether one of the skews is of the interface.
+fn has_skew(skews: &[InterfaceSkew], iface: u32) -> bool
+    ensures { result ≡ list_any (λ own. own.iface == iface) skews.now }
+{
+    skews.iter().any(|own| own.iface == iface)
+}
+
 impl PolicyDraft {
-    ghost use Rattle.audit_model.specs.PolicyLines.{after_listen, after_relay, after_setting, after_word, meets_said};
-    ghost use Rattle.audit_model.specs.PolicyText.{nothing_said, after, policy_said};
+    ghost use Rattle.audit_model.specs.PolicyLines.{after_listen, after_relay, after_skew, after_setting, after_word, meets_said, is_said_of};
+    ghost use Rattle.audit_model.specs.PolicyText.{nothing_said, after, after_heading, policy_said};
 
     pub fn new(alloc: Global) -> PolicyDraft
         ensures { result ≡ nothing_said }
@@ -138,9 +166,11 @@ impl PolicyDraft {
             listen: Listed::new(alloc),
             relay: Listed::new(alloc),
             skew: None,
+            skews: Listed::new(alloc),
             grace: None,
             hold: None,
             headed: false,
+            by_interface: false,
         }
     }
 
@@ -183,6 +213,35 @@ impl PolicyDraft {
         Ok(())
     }
 
+    /// Whether an earlier line has the skew of the interface that the word names.
+    fn is_said_of(&self, word: &[u8]) -> bool
+        ensures { result ≡ is_said_of self.now (interface_of word.now) }
+    {
+        match read_interface(word) {
+            Ok(iface) => has_skew(self.skews.as_slice(), iface),
+            Err(_) => false,
+        }
+    }
+
+    /// Takes in the skew of an interface, `IFACE N` with N in microseconds.
+    #[tactic(auto, unfolding(crate::specs::PolicyLines::after_skew))]
+    fn add_skew(&mut self, value: &[u8]) -> Result<(), PolicyFaultKind>
+        ensures { MatchResult result (λ _. after_skew self.old value.now ≡ Ok self.new)
+            (λ fault. UnlessMemory is_memory fault (after_skew self.old value.now)) }
+    {
+        let (iface, skew) = halves(value, b' ')?;
+        if self.is_said_of(iface) {
+            return Err(PolicyFaultKind::Line);
+        }
+        let (iface, units) = both(read_interface(iface), number(skew, u64::MAX))?;
+        if units > MAX_SKEW_US || self.skews.len() >= MAX_INTERFACES {
+            return Err(PolicyFaultKind::Limit);
+        }
+        let skew = units * NANOSECONDS_IN_US;
+        self.skews.push(InterfaceSkew { iface, skew })?;
+        Ok(())
+    }
+
     /// Takes in what a setting's line says.
     #[tactic(auto, unfolding(crate::specs::PolicyLines::after_setting))]
     fn add_setting(&mut self, word: &[u8], value: &[u8]) -> Result<(), PolicyFaultKind>
@@ -212,6 +271,8 @@ impl PolicyDraft {
             self.add_listen(value)
         } else if word == b"relay".as_slice() {
             self.add_relay(value)
+        } else if self.by_interface && word == b"skew-of".as_slice() {
+            self.add_skew(value)
         } else {
             self.add_setting(word, value)
         }
@@ -225,9 +286,24 @@ impl PolicyDraft {
             listen: self.listen,
             relay: self.relay,
             skew: self.skew.unwrap_or(DEFAULT_SKEW),
+            skews: self.skews,
             grace: self.grace.unwrap_or(DEFAULT_GRACE),
             hold: self.hold.unwrap_or(DEFAULT_HOLD),
         }
+    }
+
+    /// Takes in the heading, of either version.
+    fn add_heading(&mut self, line: &[u8]) -> Result<(), PolicyFaultKind>
+        ensures { MatchResult result (λ _. after_heading self.old line.now ≡ Ok self.new)
+            (λ fault. UnlessMemory is_memory fault (after_heading self.old line.now)) }
+    {
+        if line == SECOND_HEADING.as_slice() {
+            self.by_interface = true;
+        } else if line != HEADING.as_slice() {
+            return Err(PolicyFaultKind::Line);
+        }
+        self.headed = true;
+        Ok(())
     }
 
     /// Takes in a line: the heading first.
@@ -239,11 +315,7 @@ impl PolicyDraft {
         if self.headed {
             return self.add_line(line);
         }
-        if line != HEADING.as_slice() {
-            return Err(PolicyFaultKind::Line);
-        }
-        self.headed = true;
-        Ok(())
+        self.add_heading(line)
     }
 }
 

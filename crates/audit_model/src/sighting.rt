@@ -1,6 +1,7 @@
 //! Datagrams of the service, as an interface saw them.
 
 ghost use Rattle.std.specs.Prelude.{◌≡◌};
+ghost use Rattle.audit_model.specs.Skews.{nanoseconds_of};
 ghost use Rattle.audit_model.specs.Window.{first_moment, last_moment};
 
 use crate::address::Addr;
@@ -38,6 +39,13 @@ pub struct Sighting {
     pub from: Addr,
     pub to: Addr,
     pub side: Side,
+}
+
+/// A skew of so many microseconds, in nanoseconds: no more than the greatest u64.
+pub fn nanoseconds(microseconds: u64) -> u64
+    ensures { result ≡ nanoseconds_of microseconds }
+{
+    microseconds.saturating_mul(1_000)
 }
 
 /// The first and the last moment at which a datagram of this stamp may have been seen, in nanoseconds:
