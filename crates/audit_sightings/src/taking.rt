@@ -61,7 +61,7 @@ pub fn take_found(
         return Err(IntakeFaultKind::Limit);
     }
     let iface = INTERFACES_OF_FILE * file + packet.iface;
-    interfaces.push(iface, policy.skew, kept)
+    interfaces.push(iface, policy.skew_for(iface), kept)
 }
 
 /// Takes in packets of a file, in order, up to the first that is refused.

@@ -1,4 +1,7 @@
-use Rattle.std.proofs.Common.{◌+◌, ◌*◌, refl, sym, ap, ◌∙◌, Option, Ok}
+use Rattle.std.proofs.Common.{ℕ, ◌+◌, ◌*◌, length, refl, sym, ap, subst, ◌∙◌, Option, Ok}
+use Rattle.std.specs.Prelude.{OnOk}
+use Rattle.audit_sightings.specs.ByInterface.{of_interface, Adds}
+use Rattle.audit_sightings.specs.Sightings.{sighting_of}
 use Rattle.audit_sightings.specs.declared.service_datagram.ServiceDatagram.{ServiceDatagram as Declared}
 use Rattle.std.proofs.lemmas.Result.{on_ok_weaker}
 use Rattle.audit_pcapng.specs.Packets.{packet_of}
@@ -17,9 +20,10 @@ returns-in_default-clause-ok c =
 pub returns-clause-ok : goal.returns-clause-ok
 returns-clause-ok c =
     let found = sym c.requires.found ∙ ap view_found c.in-Ok.is ∙ ap (λ (k : Option Declared). view_found (Ok k)) c.in-Some.is in
+    let iface = 64 * c.args.file + c.args.packet.iface in
     on_ok_weaker c.push.result
     (TakesIn-kept c.args.policy.now c.args.interfaces.now c.push.new.self c.args.file (64 * c.args.file + c.args.packet.iface) (packet_of c.args.packet) (view c.in-Some.kept) found c.if-packet-ge-INTERFACES_OF_FILE.false refl)
-    c.push.ensures.ok
+    (subst (λ (skew : ℕ). OnOk c.push.result (Adds c.args.interfaces.now iface (sighting_of skew iface (length (of_interface c.args.interfaces.now iface)) (view c.in-Some.kept)) c.push.new.self)) c.skew_for.ensures c.push.ensures.ok)
 
 pub returns-clause-err : goal.returns-clause-err
 returns-clause-err c =
