@@ -13,15 +13,16 @@ use Rattle.audit_text.specs.declared.token.TokenFault.TheVariants.{Shape}
 use Rattle.audit_model.specs.declared.address.Addr.{Addr}
 use Rattle.audit_model.specs.declared.sighting.SightId.{SightId}
 use Rattle.audit_model.specs.declared.event.Key.{Key}
+use Rattle.audit_model.specs.declared.certificate.CertSkew.{CertSkew}
 use Rattle.audit_text.specs.Token.{◌>>=◌, cut_of, halves_of, both_of, number_of}
 use Rattle.audit_model.specs.AddressText.{octet_of, ip_of}
 use Rattle.audit_model.specs.Addr.{addr_of, addr_text}
 use Rattle.audit_text.proofs.Numbers.{own, number_only}
-use Rattle.audit_cert.specs.EventLine.{word32_of, word64_of, sight_id_of, event_key_of, placed_of}
+use Rattle.audit_cert.specs.EventLine.{word32_of, word64_of, sight_id_of, event_key_of, placed_of, cert_skew_of}
 use Rattle.audit_cert.specs.Spelling.{sight_text, key_text}
 use Rattle.audit_model.specs.Fits.{AddrFits}
-use Rattle.audit_cert.specs.Fits.{SightFits, KeyFits}
-use Rattle.audit_cert.proofs.Words.{placed_word, octets}
+use Rattle.audit_cert.specs.Fits.{SightFits, KeyFits, SkewFits}
+use Rattle.audit_cert.proofs.Words.{placed_word, skew_word, octets}
 
 pub bind_again : {A B E : Type 0} (r : Result A E) (f : A → Result B E) (x : A) (y : Result B E) → r ≡ Ok x → f x ≡ y → (r >>= f) ≡ y
 bind_again r f x y e h = ap (λ s. s >>= f) e ∙ h
@@ -93,6 +94,18 @@ key_again key fits =
     (bind_again (both_of (word64_of (decimal key.moment)) (word32_of (decimal key.tie))) (λ p. Ok (record { moment = p.0; tie = p.1 })) (key.moment, key.tie) (Ok key)
     (both_again _ _ key.moment key.tie (number_again 18446744073709551615 key.moment (omega (arith, fits.0)) (omega arith)) (number_again 4294967295 key.tie (omega (arith, fits.1)) (omega arith)))
     refl)
+
+pub cert_skew_again : (skew : CertSkew) → SkewFits skew → cert_skew_of (skew_word skew) ≡ Ok skew
+unfolding cert_skew_of
+cert_skew_again skew fits =
+    bind_again (halves_of 32 (skew_word skew)) (λ h. both_of (word32_of h.0) (word64_of h.1) >>= λ p. Ok (record { iface = p.0; microseconds = p.1 })) (decimal skew.iface, decimal skew.microseconds) (Ok skew)
+    (halves_at 32 (decimal skew.iface) (decimal skew.microseconds) (decimal_lacks 32 skew.iface refl (omega (arith, fits.0))))
+    (bind_again (both_of (word32_of (decimal skew.iface)) (word64_of (decimal skew.microseconds))) (λ p. Ok (record { iface = p.0; microseconds = p.1 })) (skew.iface, skew.microseconds) (Ok skew)
+    (both_again _ _ skew.iface skew.microseconds (number_again 4294967295 skew.iface (omega (arith, fits.0)) (omega arith)) (number_again 18446744073709551615 skew.microseconds (omega (arith, fits.1)) (omega arith)))
+    refl)
+
+pub skew_lacks : (skew : CertSkew) → SkewFits skew → Lacks 10 (skew_word skew)
+skew_lacks skew fits = lacks_both 10 (decimal skew.iface) (32 ∷ decimal skew.microseconds) (decimal_lacks 10 skew.iface refl (omega (arith, fits.0))) (decimal_lacks 10 skew.microseconds refl (omega (arith, fits.1)))
 
 pub sight_lacks : (separator : ℕ) (sight : SightId) → is_ascii_digit separator ≡ false → eqb 46 separator ≡ false → SightFits sight → Lacks separator (sight_text sight)
 sight_lacks separator sight plain dot fits =

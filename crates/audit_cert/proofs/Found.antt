@@ -1,5 +1,5 @@
 -- A line that is read is the line that is spelled.
-use Rattle.std.proofs.Common.{◌≡◌, ℕ, ◌<◌, true, false, cond, List, [], ◌∷◌, ◌++◌, length, Result, Ok, Err, codes, inl, inr, sym, ap, subst, ◌∙◌, append_assoc, append-nil, arith}
+use Rattle.std.proofs.Common.{◌≡◌, ℕ, ◌<◌, true, false, cond, List, [], ◌∷◌, ◌++◌, length, Result, Ok, Err, codes, decimal, inl, inr, refl, sym, ap, subst, ◌∙◌, append_assoc, append-nil, arith}
 use Rattle.std.specs.Str.{bytes_eq}
 use Rattle.std.specs.List.{flat_map, IsDistinct}
 use Rattle.std.specs.Cmp.Lexicographic.{same_text}
@@ -14,6 +14,7 @@ use Rattle.audit_model.specs.declared.event.Event.{Event}
 use Rattle.audit_model.specs.declared.event.Event.TheVariants.{In, Act, Out}
 use Rattle.audit_model.specs.declared.certificate.CertLane.{CertLane}
 use Rattle.audit_model.specs.declared.certificate.CertDrop.{CertDrop}
+use Rattle.audit_model.specs.declared.certificate.CertSkew.{CertSkew}
 use Rattle.audit_text.specs.Token.{◌>>=◌, halves_of, both_of}
 use Rattle.audit_model.specs.Addr.{addr_text}
 use Rattle.audit_model.proofs.Apart.{apart_push}
@@ -21,9 +22,9 @@ use Rattle.audit_cert.specs.DraftView.{Drafted}
 use Rattle.audit_cert.specs.EventLine.{sight_id_of, placed_of, act_of, event_of}
 use Rattle.audit_model.specs.Lanes.{same_lane, has_pair}
 use Rattle.audit_cert.specs.CertLines.{with_event}
-use Rattle.audit_cert.specs.Spelling.{sight_text, event_line, lane_line, lane_lines, drop_line}
+use Rattle.audit_cert.specs.Spelling.{sight_text, event_line, lane_line, lane_lines, drop_line, skew_line}
 use Rattle.audit_cert.proofs.Steps.{bind_ok, both_ok, guard_true, chosen, ok_is}
-use Rattle.audit_cert.proofs.Words.{joins, sight_found, placed_word, placed_found}
+use Rattle.audit_cert.proofs.Words.{joins, sight_found, placed_word, placed_found, skew_word}
 use Rattle.audit_cert.proofs.Drafts.{apart_with_event}
 
 -- ---- events, without the line's end
@@ -89,9 +90,13 @@ body said = flat_map lane_lines said.lanes ++ flat_map drop_line said.drops
 pub record Adds (said : Drafted) (line : List ℕ) (next : Drafted) : Type 0 where
   pub lines : body next ≡ body said ++ (line ++ 10 ∷ [])
   pub apart : IsDistinct same_lane said.lanes → IsDistinct same_lane next.lanes
+  pub skews : next.skews ≡ said.skews
 
-single : {X : Type 0} (f : X → List ℕ) (xs : List X) (x : X) → flat_map f (xs ++ x ∷ []) ≡ flat_map f xs ++ f x
+pub single : {X : Type 0} (f : X → List ℕ) (xs : List X) (x : X) → flat_map f (xs ++ x ∷ []) ≡ flat_map f xs ++ f x
 single f xs x = flat_map-append f xs (x ∷ []) ∙ ap (λ (l : List ℕ). flat_map f xs ++ l) (append-nil (f x))
+
+pub skew_ended : (skew : CertSkew) → skew_line skew ≡ (codes "skew" ++ 32 ∷ skew_word skew) ++ 10 ∷ []
+skew_ended skew = ap (λ (l : List ℕ). codes "skew " ++ l) (sym (append_assoc (decimal skew.iface) (32 ∷ decimal skew.microseconds) (10 ∷ [])))
 
 abbrev pub empty_lane : Addr → Addr → CertLane
 empty_lane client listen = record { events = []; client = client; listen = listen }
@@ -110,6 +115,7 @@ adds_lane said client listen none new =
           ∙ ap (λ (l : List ℕ). lanes ++ l) (lane_ended client listen)
           ∙ ap (λ (l : List ℕ). l ++ ((codes "lane" ++ 32 ∷ (addr_text client ++ 32 ∷ addr_text listen)) ++ 10 ∷ [])) (sym (append-nil lanes) ∙ ap (λ (l : List ℕ). lanes ++ l) (sym drops));
       apart = λ apart. apart_push said.lanes (empty_lane client listen) apart new;
+      skews = refl;
     }
 
 lines_with_event : (event : Event) (lanes : List CertLane) → 0 < length lanes → flat_map lane_lines (with_event event lanes) ≡ flat_map lane_lines lanes ++ event_line event
@@ -131,6 +137,7 @@ adds_event said event some none =
           ∙ ap (λ (l : List ℕ). lanes ++ l) (event_ended event)
           ∙ ap (λ (l : List ℕ). l ++ (event_word event ++ 10 ∷ [])) (sym (append-nil lanes) ∙ ap (λ (l : List ℕ). lanes ++ l) (sym drops));
       apart = apart_with_event event said.lanes;
+      skews = refl;
     }
 
 pub adds_drop : (said : Drafted) (drop : CertDrop) → Adds said (codes "drop" ++ 32 ∷ placed_word drop.sight drop.key) (record said { drops = said.drops ++ drop ∷ [] })
@@ -139,4 +146,5 @@ adds_drop said drop = record {
       ∙ sym (append_assoc (flat_map lane_lines said.lanes) (flat_map drop_line said.drops) (drop_line drop))
       ∙ ap (λ (l : List ℕ). body said ++ (codes "drop " ++ l)) (sym (append_assoc (sight_text drop.sight) _ (10 ∷ [])));
   apart = λ apart. apart;
+  skews = refl;
 }

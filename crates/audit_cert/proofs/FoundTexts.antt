@@ -9,6 +9,7 @@ use Rattle.audit_model.specs.declared.address.Addr.{Addr}
 use Rattle.audit_model.specs.declared.event.Event.{Event}
 use Rattle.audit_model.specs.declared.sighting.SightId.{SightId}
 use Rattle.audit_model.specs.declared.event.Key.{Key}
+use Rattle.audit_model.specs.declared.certificate.CertSkew.{CertSkew}
 use Rattle.audit_text.specs.Token.{◌>>=◌, halves_of, both_of}
 use Rattle.audit_text.specs.Lines.{Pieces, pieces}
 use Rattle.audit_model.specs.Addr.{addr_of, addr_text}
@@ -16,19 +17,19 @@ use Rattle.audit_text.specs.declared.line_fault.LineFault.{LineFault}
 use Rattle.audit_text.specs.Reading.{line_after, at_line, taken_in, end_of}
 use Rattle.audit_cert.specs.declared.lines.Stage.TheVariants as stage
 use Rattle.audit_cert.specs.declared.fault.CertFaultKind.{CertFaultKind}
-use Rattle.audit_cert.specs.declared.fault.CertFaultKind.TheVariants.{Heading, Line, LaneDouble, Limit}
+use Rattle.audit_cert.specs.declared.fault.CertFaultKind.TheVariants.{Heading, Line, LaneDouble, SkewOrder, Limit}
 use Rattle.audit_cert.specs.CertFault.{of_word}
 use Rattle.audit_cert.specs.DraftView.{Drafted, Progress, nothing_said}
-use Rattle.audit_cert.specs.EventLine.{placed_of, event_of}
+use Rattle.audit_cert.specs.EventLine.{placed_of, cert_skew_of, event_of}
 use Rattle.audit_model.specs.Lanes.{same_lane, has_pair}
-use Rattle.audit_cert.specs.CertLines.{with_event, said_count, after_lane, after_event, after_drop, after_line}
-use Rattle.audit_cert.specs.CertText.{begun, after, unended, lacks, said_in, cert_of}
-use Rattle.audit_cert.specs.Spelling.{lane_lines, drop_line, spelling}
+use Rattle.audit_cert.specs.CertLines.{with_event, said_count, is_after_skews, after_lane, after_event, after_drop, after_skew, after_line}
+use Rattle.audit_cert.specs.CertText.{begun, after, after_other, after_skews, among_skews, unended, lacks, said_in, cert_of}
+use Rattle.audit_cert.specs.Spelling.{lane_lines, drop_line, skew_line, front, spelling}
 use Rattle.audit_cert.proofs.Steps.{bind_ok, both_ok, word_ok, guard_false, guard_true, chosen, ok_is}
-use Rattle.audit_cert.proofs.Words.{halves_found, joins, placed_word, placed_found, addr_found}
-use Rattle.audit_cert.proofs.Found.{event_word, event_found, begins, body, Adds, empty_lane, adds_lane, adds_event, adds_drop}
+use Rattle.audit_cert.proofs.Words.{halves_found, joins, placed_word, placed_found, skew_word, cert_skew_found, addr_found}
+use Rattle.audit_cert.proofs.Found.{event_word, event_found, begins, body, Adds, empty_lane, adds_lane, adds_event, adds_drop, single, skew_ended}
 use Rattle.audit_cert.proofs.Drafts.{none_apart}
-use Rattle.audit_cert.proofs.Texts.{in_lines, read_from}
+use Rattle.audit_cert.proofs.Texts.{in_lines, in_skews, read_from}
 
 abbrev pub Said : Type 0
 Said = Result Drafted CertFaultKind
@@ -127,6 +128,7 @@ joined_pieces (b ∷ bs) = rejoined b bs (pieces bs) (eqb b 10) refl (joined_pie
 pub record Reads (said : Drafted) (text : List ℕ) (all : Drafted) : Type 0 where
   pub lines : body said ++ text ≡ body all ++ codes "end\n"
   pub apart : IsDistinct same_lane said.lanes → IsDistinct same_lane all.lanes
+  pub skews : all.skews ≡ said.skews
 
 abbrev Whole : Type 0
 Whole = Result Drafted (LineFault CertFaultKind)
@@ -145,6 +147,7 @@ end_found line said all piece [] [] same e =
     subst (λ (d : Drafted). Reads said (piece ++ 10 ∷ []) d) (ok_is said all e) (record {
       lines = ap (λ (l : List ℕ). body said ++ (l ++ 10 ∷ [])) (same_text piece (codes "end") (sym same));
       apart = λ apart. apart;
+      skews = refl;
     })
 end_found line said all piece (b ∷ bs) [] same e = absurd cc
 end_found line said all piece next (x ∷ more) same e = absurd cc
@@ -175,7 +178,79 @@ lines_found line said all piece (next ∷ more) e =
                 ∙ sym (append_assoc (body said) (piece ++ 10 ∷ []) (joined next more))
                 ∙ ap (λ (l : List ℕ). l ++ joined next more) (sym adds.lines) ∙ rest.lines;
             apart = λ apart. rest.apart (adds.apart apart);
+            skews = rest.skews ∙ adds.skews;
           }
+    ] refl e
+
+-- ---- skews
+
+abbrev pub of_skews : List CertSkew → Drafted
+of_skews skews = record { lanes = []; drops = []; skews = skews }
+
+abbrev pub skew_kept : Drafted → CertSkew → Said
+skew_kept said skew = cond (is_after_skews said.skews skew.iface) (cond (leb 1024 (length said.skews)) (Err Limit) (Ok (record said { skews = said.skews ++ skew ∷ [] }))) (Err SkewOrder)
+
+skew_found : (skews : List CertSkew) (next : Drafted) (words : List ℕ) → after_skew (of_skews skews) words ≡ Ok next → (skew : CertSkew) × (words ≡ skew_word skew) × (of_skews (skews ++ skew ∷ []) ≡ next)
+unfolding after_skew
+skew_found skews next words e =
+    let p = bind_ok (of_word (cert_skew_of words)) (skew_kept (of_skews skews)) next e in
+    let made : Drafted = of_skews (skews ++ p.0 ∷ []) in
+    let order = guard_true (is_after_skews skews p.0.iface) SkewOrder (cond (leb 1024 (length skews)) (Err Limit) (Ok made)) next p.2 in
+    let room = guard_false (leb 1024 (length skews)) Limit (Ok made) next order.1 in
+    (p.0, cert_skew_found words p.0 (word_ok _ p.0 p.1), ok_is made next room.1)
+
+-- the lines still to come are those of the skews and of what they add, and `end`
+pub record ReadsSkews (skews : List CertSkew) (text : List ℕ) (all : Drafted) : Type 0 where
+  pub lines : flat_map skew_line skews ++ text ≡ flat_map skew_line all.skews ++ (body all ++ codes "end\n")
+  pub some : eqb (length all.skews) 0 ≡ false
+  pub apart : IsDistinct same_lane all.lanes
+
+-- the first line that is no skew
+behind_found : (line : ℕ) (skews : List CertSkew) (all : Drafted) (piece next : List ℕ) (more : List (List ℕ)) → then_rest line (after_skews (of_skews skews) piece) next more ≡ Ok all →
+    ReadsSkews skews (joined piece (next ∷ more)) all
+unfolding after
+behind_found line skews all piece next more e =
+    elim (eqb (length skews) 0) as (λ t. eqb (length skews) 0 ≡ t → then_rest line (cond t (Err Line) (after_other (of_skews skews) piece)) next more ≡ Ok all → ReadsSkews skews (joined piece (next ∷ more)) all) [
+      | true ↦ λ is k. absurd cc
+      | false ↦ λ is k.
+          let r = lines_found line (of_skews skews) all piece (next ∷ more) k in
+          record {
+            lines = ap (λ (l : List ℕ). flat_map skew_line skews ++ l) r.lines ∙ ap (λ (ss : List CertSkew). flat_map skew_line ss ++ (body all ++ codes "end\n")) (sym r.skews);
+            some = ap (λ (ss : List CertSkew). eqb (length ss) 0) r.skews ∙ is;
+            apart = r.apart (none_apart [] refl);
+          }
+    ] refl e
+
+next_skew : (line : ℕ) (taken : Said) (next : List ℕ) (more : List (List ℕ)) (all : Drafted) → then_rest line (taken >>= (λ s. Ok (in_skews s))) next more ≡ Ok all →
+    (x : Drafted) × (taken ≡ Ok x) × (from_pieces (line_after line) (in_skews x) next more ≡ Ok all)
+next_skew line (Ok x) next more all e = (x, refl, e)
+next_skew line (Err kind) next more all e = absurd cc
+
+one_skew : (skew : CertSkew) (skews : List CertSkew) (piece rest : List ℕ) → piece ≡ codes "skew" ++ 32 ∷ skew_word skew →
+    flat_map skew_line skews ++ (piece ++ 10 ∷ rest) ≡ flat_map skew_line (skews ++ skew ∷ []) ++ rest
+one_skew skew skews piece rest is =
+    ap (λ (l : List ℕ). flat_map skew_line skews ++ (l ++ 10 ∷ rest)) is
+    ∙ ap (λ (l : List ℕ). flat_map skew_line skews ++ l) (sym (append_assoc (codes "skew" ++ 32 ∷ skew_word skew) (10 ∷ []) rest) ∙ ap (λ (l : List ℕ). l ++ rest) (sym (skew_ended skew)))
+    ∙ sym (append_assoc (flat_map skew_line skews) (skew_line skew) rest)
+    ∙ ap (λ (l : List ℕ). l ++ rest) (sym (single skew_line skews skew))
+
+skews_found : (line : ℕ) (skews : List CertSkew) (all : Drafted) (piece : List ℕ) (more : List (List ℕ)) → from_pieces line (in_skews (of_skews skews)) piece more ≡ Ok all → ReadsSkews skews (joined piece more) all
+unfolding after
+skews_found line skews all [] [] e = absurd cc
+skews_found line skews all (b ∷ bs) [] e = absurd cc
+skews_found line skews all piece (next ∷ more) e =
+    elim (halves_of 32 piece) as (λ r. halves_of 32 piece ≡ r → then_rest line (among_skews r (of_skews skews) piece) next more ≡ Ok all → ReadsSkews skews (joined piece (next ∷ more)) all) [
+      | Err fault ↦ λ is k. behind_found line skews all piece next more k
+      | Ok h ↦ λ is k. elim (bytes_eq h.0 (codes "skew")) as (λ t. bytes_eq h.0 (codes "skew") ≡ t →
+          then_rest line (cond t (after_skew (of_skews skews) h.1 >>= (λ s. Ok (in_skews s))) (after_skews (of_skews skews) piece)) next more ≡ Ok all → ReadsSkews skews (joined piece (next ∷ more)) all) [
+            | false ↦ λ other k. behind_found line skews all piece next more k
+            | true ↦ λ same k.
+                let x = next_skew line (after_skew (of_skews skews) h.1) next more all k in
+                let f = skew_found skews x.0 h.1 x.1 in
+                let rest = skews_found (line_after line) (skews ++ f.0 ∷ []) all next more (subst (λ (d : Drafted). from_pieces (line_after line) (in_skews d) next more ≡ Ok all) (sym f.2) x.2) in
+                let text : piece ≡ codes "skew" ++ 32 ∷ skew_word f.0 = begins piece h.0 h.1 (codes "skew") _ (halves_found 32 piece h is) same f.1 in
+                record { lines = one_skew f.0 skews piece (joined next more) text ∙ rest.lines; some = rest.some; apart = rest.apart }
+          ] refl k
     ] refl e
 
 -- ---- the whole
@@ -184,21 +259,47 @@ pub record IsFound (text : List ℕ) (all : Drafted) : Type 0 where
   pub spelled : text ≡ spelling all
   pub apart : IsDistinct same_lane all.lanes
 
+-- the heading of version 2
+pub front_some : (skews : List CertSkew) → eqb (length skews) 0 ≡ false → front skews ≡ codes "turnaudit-certificate 2\n" ++ flat_map skew_line skews
+front_some [] some = absurd cc
+front_some (skew ∷ more) some = refl
+
+second_found : (first next : List ℕ) (more : List (List ℕ)) (all : Drafted) → bytes_eq first (codes "turnaudit-certificate 2") ≡ true → from_pieces 2 (in_skews nothing_said) next more ≡ Ok all → IsFound (joined first (next ∷ more)) all
+second_found first next more all is k =
+    let r = skews_found 2 [] all next more k in
+    let lines : List ℕ = flat_map lane_lines all.lanes ++ (flat_map drop_line all.drops ++ codes "end\n") in
+    record {
+      spelled = ap (λ (l : List ℕ). l ++ 10 ∷ joined next more) (same_text first (codes "turnaudit-certificate 2") (sym is))
+          ∙ ap (λ (l : List ℕ). codes "turnaudit-certificate 2\n" ++ l) (r.lines ∙ ap (λ (l : List ℕ). flat_map skew_line all.skews ++ l) (append_assoc (flat_map lane_lines all.lanes) (flat_map drop_line all.drops) (codes "end\n")))
+          ∙ sym (append_assoc (codes "turnaudit-certificate 2\n") (flat_map skew_line all.skews) lines)
+          ∙ ap (λ (l : List ℕ). l ++ lines) (sym (front_some all.skews r.some));
+      apart = r.apart;
+    }
+
+first_found : (first next : List ℕ) (more : List (List ℕ)) (all : Drafted) → bytes_eq first (codes "turnaudit-certificate 1") ≡ true → from_pieces 2 (in_lines nothing_said) next more ≡ Ok all → IsFound (joined first (next ∷ more)) all
+first_found first next more all is k =
+    let r = lines_found 2 nothing_said all next more k in
+    let lines : List ℕ = flat_map lane_lines all.lanes ++ (flat_map drop_line all.drops ++ codes "end\n") in
+    record {
+      spelled = ap (λ (l : List ℕ). l ++ 10 ∷ joined next more) (same_text first (codes "turnaudit-certificate 1") (sym is))
+          ∙ ap (λ (l : List ℕ). codes "turnaudit-certificate 1\n" ++ l) (r.lines ∙ append_assoc (flat_map lane_lines all.lanes) (flat_map drop_line all.drops) (codes "end\n"))
+          ∙ ap (λ (l : List ℕ). l ++ lines) (sym (ap front r.skews));
+      apart = r.apart (none_apart [] refl);
+    }
+
 heading_found : (first : List ℕ) (more : List (List ℕ)) (all : Drafted) → from_pieces 1 begun first more ≡ Ok all → IsFound (joined first more) all
 unfolding after
 heading_found [] [] all e = absurd cc
 heading_found (b ∷ bs) [] all e = absurd cc
 heading_found first (next ∷ more) all e =
     elim (bytes_eq first (codes "turnaudit-certificate 1")) as (λ t. bytes_eq first (codes "turnaudit-certificate 1") ≡ t →
-    then_rest 1 (cond t (Ok (in_lines nothing_said)) (Err Heading)) next more ≡ Ok all → IsFound (joined first (next ∷ more)) all) [
-      | true ↦ λ is k.
-          let r = lines_found 2 nothing_said all next more k in
-          record {
-            spelled = ap (λ (l : List ℕ). l ++ 10 ∷ joined next more) (same_text first (codes "turnaudit-certificate 1") (sym is))
-                ∙ ap (λ (l : List ℕ). codes "turnaudit-certificate 1\n" ++ l) (r.lines ∙ append_assoc (flat_map lane_lines all.lanes) (flat_map drop_line all.drops) (codes "end\n"));
-            apart = r.apart (none_apart [] refl);
-          }
-      | false ↦ λ is k. absurd cc
+    then_rest 1 (cond t (Ok (in_lines nothing_said)) (cond (bytes_eq first (codes "turnaudit-certificate 2")) (Ok (in_skews nothing_said)) (Err Heading))) next more ≡ Ok all → IsFound (joined first (next ∷ more)) all) [
+      | true ↦ λ is k. first_found first next more all is k
+      | false ↦ λ not k. elim (bytes_eq first (codes "turnaudit-certificate 2")) as (λ t. bytes_eq first (codes "turnaudit-certificate 2") ≡ t →
+          then_rest 1 (cond t (Ok (in_skews nothing_said)) (Err Heading)) next more ≡ Ok all → IsFound (joined first (next ∷ more)) all) [
+            | true ↦ λ is j. second_found first next more all is j
+            | false ↦ λ is j. absurd cc
+          ] refl k
     ] refl e
 
 pub cert_found : (text : List ℕ) (all : Drafted) → cert_of text ≡ Ok all → IsFound text all

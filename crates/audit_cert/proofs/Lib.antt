@@ -1,4 +1,5 @@
 pub mod Drafts
+pub mod Skews
 pub mod Texts
 pub mod Writings
 pub mod Steps
@@ -8,4 +9,5 @@ pub mod FoundTexts
 pub mod Laws
 pub mod Again
 pub mod AgainLines
+pub mod AgainSkews
 pub mod AgainTexts

@@ -16,15 +16,24 @@ use Rattle.audit_cert.specs.CertText.{after, unended, lacks, said_in}
 abbrev pub heading : List ℕ
 heading = codes "turnaudit-certificate 1"
 
+abbrev pub second_heading : List ℕ
+second_heading = codes "turnaudit-certificate 2"
+
 -- what the lines of a text make of what is said, the heading read
 abbrev pub in_lines : Drafted → Progress
 in_lines said = record { stage = stage.Lines; said = said }
+
+abbrev pub in_skews : Drafted → Progress
+in_skews said = record { stage = stage.Skews; said = said }
 
 abbrev pub read_from : ℕ → Progress → Pieces → Result Drafted (LineFault CertFaultKind)
 read_from line progress p = said_in (end_of unended lacks (read_on after line progress p))
 
 abbrev pub read_rest : ℕ → Drafted → List ℕ → Result Drafted (LineFault CertFaultKind)
 read_rest line said text = read_from line (in_lines said) (pieces text)
+
+abbrev pub read_skews : ℕ → Drafted → List ℕ → Result Drafted (LineFault CertFaultKind)
+read_skews line said text = read_from line (in_skews said) (pieces text)
 
 -- a line, an LF and a text
 pub pieces-line : (line rest : List ℕ) → has_lf line ≡ false → pieces (line ++ 10 ∷ rest) ≡ record { first = line; more = (pieces rest).first ∷ (pieces rest).more }

@@ -9,11 +9,12 @@ use Rattle.audit_text.specs.declared.token.TokenFault.TheVariants.{Shape}
 use Rattle.audit_model.specs.declared.address.Addr.{Addr}
 use Rattle.audit_model.specs.declared.sighting.SightId.{SightId}
 use Rattle.audit_model.specs.declared.event.Key.{Key}
+use Rattle.audit_model.specs.declared.certificate.CertSkew.{CertSkew}
 use Rattle.audit_text.specs.Token.{◌>>=◌, cut_of, halves_of, both_of, number_of}
 use Rattle.audit_model.specs.AddressText.{octet_of, ip_of}
 use Rattle.audit_model.specs.Addr.{addr_of, addr_text, octets_text}
 use Rattle.audit_text.proofs.Numbers.{number_found}
-use Rattle.audit_cert.specs.EventLine.{word32_of, word64_of, sight_id_of, event_key_of, placed_of}
+use Rattle.audit_cert.specs.EventLine.{word32_of, word64_of, sight_id_of, event_key_of, placed_of, cert_skew_of}
 use Rattle.audit_cert.specs.Spelling.{sight_text, key_text}
 use Rattle.audit_cert.proofs.Steps.{bind_ok, both_ok, ok_is, if_ok}
 
@@ -83,6 +84,24 @@ key_found word key e =
     let first = number_is 18446744073709551615 a.0.0 b.0.0 (omega arith) both.0 in
     let second = number_is 4294967295 a.0.1 b.0.1 (omega arith) both.1 in
     subst (λ (s : Key). word ≡ key_text s) (ok_is (record { moment = b.0.0; tie = b.0.1 }) key b.2)
+    (joins 32 word a.0 (decimal b.0.0) (decimal b.0.1) a.1 first.1 second.1)
+
+-- a skew, without the line's first word and its end
+abbrev pub skew_word : CertSkew → List ℕ
+skew_word skew = decimal skew.iface ++ 32 ∷ decimal skew.microseconds
+
+abbrev skew_made : ℕ × ℕ → Result CertSkew TokenFault
+skew_made p = Ok (record { iface = p.0; microseconds = p.1 })
+
+pub cert_skew_found : (words : List ℕ) (skew : CertSkew) → cert_skew_of words ≡ Ok skew → words ≡ skew_word skew
+unfolding cert_skew_of
+cert_skew_found word skew e =
+    let a = bind_ok (halves_of 32 word) (λ h. both_of (word32_of h.0) (word64_of h.1) >>= skew_made) skew e in
+    let b = bind_ok (both_of (word32_of a.0.0) (word64_of a.0.1)) skew_made skew a.2 in
+    let both = both_ok (word32_of a.0.0) (word64_of a.0.1) b.0 b.1 in
+    let first = number_is 4294967295 a.0.0 b.0.0 (omega arith) both.0 in
+    let second = number_is 18446744073709551615 a.0.1 b.0.1 (omega arith) both.1 in
+    subst (λ (s : CertSkew). word ≡ skew_word s) (ok_is (record { iface = b.0.0; microseconds = b.0.1 }) skew b.2)
     (joins 32 word a.0 (decimal b.0.0) (decimal b.0.1) a.1 first.1 second.1)
 
 -- a sighting and its key, without the line's end

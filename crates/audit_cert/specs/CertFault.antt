@@ -3,7 +3,7 @@ use Rattle.std.specs.Prelude.{ℕ, Bool, true, false, List, Result, Ok, Err, cod
 use Rattle.audit_text.specs.declared.token.TokenFault.{TokenFault}
 use Rattle.audit_text.specs.declared.token.TokenFault.TheVariants as token
 use Rattle.audit_cert.specs.declared.fault.CertFaultKind.{CertFaultKind}
-use Rattle.audit_cert.specs.declared.fault.CertFaultKind.TheVariants.{Heading, Line, Number, LaneDouble, Limit, EndMissing, Memory}
+use Rattle.audit_cert.specs.declared.fault.CertFaultKind.TheVariants.{Heading, Line, Number, LaneDouble, Limit, EndMissing, Memory, SkewOrder}
 
 -- the number under which users know a fault
 abbrev pub cert_code_of : CertFaultKind → List ℕ
@@ -14,6 +14,7 @@ cert_code_of LaneDouble = codes "T4"
 cert_code_of Limit = codes "T5"
 cert_code_of EndMissing = codes "T6"
 cert_code_of Memory = codes "T7"
+cert_code_of SkewOrder = codes "T8"
 
 abbrev pub cert_fault_of : TokenFault → CertFaultKind
 cert_fault_of token.Shape = Line
@@ -32,3 +33,4 @@ is_memory Number = false
 is_memory LaneDouble = false
 is_memory Limit = false
 is_memory EndMissing = false
+is_memory SkewOrder = false

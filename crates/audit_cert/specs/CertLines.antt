@@ -1,5 +1,5 @@
 -- What one line of a certificate says (after the heading): a word, a space and more words.
-use Rattle.std.specs.Prelude.{ℕ, ◌+◌, ◌&&◌, ◌==◌, if◌then◌else◌, List, [], ◌∷◌, ◌++◌, length, nat_lt, nat_le, Result, Ok, Err, codes}
+use Rattle.std.specs.Prelude.{ℕ, ◌+◌, Bool, true, ◌&&◌, ◌==◌, if◌then◌else◌, List, [], ◌∷◌, ◌++◌, length, nat_lt, nat_le, Result, Ok, Err, codes}
 use Rattle.std.specs.Str.{bytes_eq}
 use Rattle.audit_text.specs.Token.{◌>>=◌, halves_of, both_of}
 use Rattle.audit_model.specs.Addr.{addr_of}
@@ -7,11 +7,12 @@ use Rattle.audit_model.specs.EventCount.{event_count}
 use Rattle.audit_model.specs.Lanes.{has_pair}
 use Rattle.audit_model.specs.declared.event.Event.{Event}
 use Rattle.audit_model.specs.declared.certificate.CertLane.{CertLane}
+use Rattle.audit_model.specs.declared.certificate.CertSkew.{CertSkew}
 use Rattle.audit_cert.specs.declared.fault.CertFaultKind.{CertFaultKind}
-use Rattle.audit_cert.specs.declared.fault.CertFaultKind.TheVariants.{Line, LaneDouble, Limit}
+use Rattle.audit_cert.specs.declared.fault.CertFaultKind.TheVariants.{Line, LaneDouble, SkewOrder, Limit}
 use Rattle.audit_cert.specs.CertFault.{of_word}
 use Rattle.audit_cert.specs.DraftView.{Drafted}
-use Rattle.audit_cert.specs.EventLine.{placed_of, event_of}
+use Rattle.audit_cert.specs.EventLine.{placed_of, cert_skew_of, event_of}
 
 -- the lanes with one event more in the last of them
 abbrev pub with_event : Event → List CertLane → List CertLane
@@ -47,6 +48,20 @@ after_drop said words = do
   placed ← of_word (placed_of words)
   if nat_le 50331648 (said_count said) then Err Limit
       else Ok (record said { drops = said.drops ++ record { sight = placed.0; key = placed.1 } ∷ [] })
+
+-- the interface is greater than that of the last of the skews
+abbrev pub is_after_skews : List CertSkew → ℕ → Bool
+is_after_skews [] iface = true
+is_after_skews (skew ∷ []) iface = nat_lt skew.iface iface
+is_after_skews (skew ∷ next ∷ more) iface = is_after_skews (next ∷ more) iface
+
+-- the skew of one interface more
+unfoldable pub after_skew : Drafted → List ℕ → Result Drafted CertFaultKind
+after_skew said words = do
+  skew ← of_word (cert_skew_of words)
+  if is_after_skews said.skews skew.iface
+      then (if nat_le 1024 (length said.skews) then Err Limit else Ok (record said { skews = said.skews ++ skew ∷ [] }))
+      else Err SkewOrder
 
 -- what is said with one line more, or the line's fault
 unfoldable pub after_line : Drafted → List ℕ → Result Drafted CertFaultKind

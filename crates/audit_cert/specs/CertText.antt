@@ -1,8 +1,9 @@
--- A certificate text: a heading, lines of lanes and drops, and `end`, each ended by an LF.
-use Rattle.std.specs.Prelude.{◌≡◌, ℕ, if◌then◌else◌, List, Option, Some, None, Result, Ok, Err, codes}
+-- A certificate text: a heading, lines of skews in version 2, lines of lanes and drops, and `end`, each ended by an LF.
+use Rattle.std.specs.Prelude.{◌≡◌, ℕ, ◌==◌, if◌then◌else◌, List, length, Option, Some, None, Result, Ok, Err, codes}
 use Rattle.std.specs.Str.{bytes_eq}
 use Rattle.audit_text.specs.declared.line_fault.LineFault.{LineFault}
-use Rattle.audit_text.specs.Token.{◌>>=◌}
+use Rattle.audit_text.specs.Token.{◌>>=◌, halves_of}
+use Rattle.audit_text.specs.declared.token.TokenFault.{TokenFault}
 use Rattle.audit_text.specs.Reading.{SoFar, read_text}
 use Rattle.audit_text.specs.Readers as readers
 use Rattle.audit_cert.specs.declared.lines.Stage.{Stage}
@@ -10,19 +11,43 @@ use Rattle.audit_cert.specs.declared.lines.Stage.TheVariants as stage
 use Rattle.audit_cert.specs.declared.fault.CertFaultKind.{CertFaultKind}
 use Rattle.audit_cert.specs.declared.fault.CertFaultKind.TheVariants.{Heading, Line, EndMissing}
 use Rattle.audit_cert.specs.DraftView.{Drafted, Progress, nothing_said}
-use Rattle.audit_cert.specs.CertLines.{after_line}
+use Rattle.audit_cert.specs.CertLines.{after_line, after_skew}
 
 abbrev pub begun : Progress
 begun = record { stage = stage.Heading; said = nothing_said }
 
--- the heading comes first, and after `end` the text is over
-abbrev pub after_in : Stage → Drafted → List ℕ → Result Progress CertFaultKind
-after_in stage.Heading said line = if bytes_eq line (codes "turnaudit-certificate 1") then Ok (record { stage = stage.Lines; said = said }) else Err Heading
-after_in stage.Lines said line =
+-- version 1 has no skews, and version 2 has some
+abbrev pub after_heading : Drafted → List ℕ → Result Progress CertFaultKind
+after_heading said line =
+    if bytes_eq line (codes "turnaudit-certificate 1") then Ok (record { stage = stage.Lines; said = said })
+    else (if bytes_eq line (codes "turnaudit-certificate 2") then Ok (record { stage = stage.Skews; said = said }) else Err Heading)
+
+-- a line of a lane or a drop, or `end`
+abbrev pub after_other : Drafted → List ℕ → Result Progress CertFaultKind
+after_other said line =
     if bytes_eq line (codes "end") then Ok (record { stage = stage.Ended; said = said })
     else (do
       next ← after_line said line
       Ok (record { stage = stage.Lines; said = next }))
+
+-- the first line that is no skew comes after one
+abbrev pub after_skews : Drafted → List ℕ → Result Progress CertFaultKind
+after_skews said line = if length said.skews == 0 then Err Line else after_other said line
+
+-- as long as the skews go on, with the line's first word and what stands behind it
+abbrev pub among_skews : Result (List ℕ × List ℕ) TokenFault → Drafted → List ℕ → Result Progress CertFaultKind
+among_skews (Ok halves) said line =
+    if bytes_eq halves.0 (codes "skew") then (do
+      next ← after_skew said halves.1
+      Ok (record { stage = stage.Skews; said = next }))
+    else after_skews said line
+among_skews (Err fault) said line = after_skews said line
+
+-- the heading comes first, and after `end` the text is over
+abbrev pub after_in : Stage → Drafted → List ℕ → Result Progress CertFaultKind
+after_in stage.Heading said line = after_heading said line
+after_in stage.Skews said line = among_skews (halves_of 32 line) said line
+after_in stage.Lines said line = after_other said line
 after_in stage.Ended said line = Err Line
 
 unfoldable pub after : Progress → List ℕ → Result Progress CertFaultKind
@@ -31,6 +56,7 @@ after progress line = after_in progress.stage progress.said line
 -- each line ends with an LF
 abbrev pub unended_in : Stage → CertFaultKind
 unended_in stage.Heading = Heading
+unended_in stage.Skews = Line
 unended_in stage.Lines = Line
 unended_in stage.Ended = Line
 
@@ -40,6 +66,7 @@ unended progress rest = unended_in progress.stage
 -- the heading and `end` have to be there
 abbrev pub lacks_in : Stage → Option CertFaultKind
 lacks_in stage.Heading = Some Heading
+lacks_in stage.Skews = Some EndMissing
 lacks_in stage.Lines = Some EndMissing
 lacks_in stage.Ended = None
 

@@ -1,4 +1,4 @@
--- The words of an event line: a sighting `IFACE.INDEX`, and a key `MOMENT TIE`.
+-- The words of a line: a sighting `IFACE.INDEX`, a key `MOMENT TIE`, and a skew `IFACE N`.
 use Rattle.std.specs.Prelude.{ℕ, List, Result, Ok, Err, codes, if◌then◌else◌}
 use Rattle.std.specs.Str.{bytes_eq}
 use Rattle.audit_text.specs.declared.token.TokenFault.TheVariants.{Shape}
@@ -6,6 +6,7 @@ use Rattle.audit_text.specs.Token.{◌>>=◌, halves_of, both_of, number_of}
 use Rattle.audit_text.specs.declared.token.TokenFault.{TokenFault}
 use Rattle.audit_model.specs.declared.sighting.SightId.{SightId}
 use Rattle.audit_model.specs.declared.event.Key.{Key}
+use Rattle.audit_model.specs.declared.certificate.CertSkew.{CertSkew}
 use Rattle.audit_model.specs.declared.event.Event.{Event}
 use Rattle.audit_model.specs.declared.event.Event.TheVariants.{In, Act, Out}
 
@@ -29,6 +30,13 @@ event_key_of words = do
   halves ← halves_of 32 words
   both ← both_of (word64_of halves.0) (word32_of halves.1)
   Ok (record { moment = both.0; tie = both.1 })
+
+-- IFACE N, with N in microseconds
+unfoldable pub cert_skew_of : List ℕ → Result CertSkew TokenFault
+cert_skew_of words = do
+  halves ← halves_of 32 words
+  both ← both_of (word32_of halves.0) (word64_of halves.1)
+  Ok (record { iface = both.0; microseconds = both.1 })
 
 -- IFACE.INDEX MOMENT TIE
 unfoldable pub placed_of : List ℕ → Result (SightId × Key) TokenFault

@@ -1,5 +1,5 @@
--- What has a spelling: a certificate whose numbers are of their types, within the limits, with no two lanes of one pair.
-use Rattle.std.specs.Prelude.{◌≤◌, ◌<◌, ◌^◌, length}
+-- What has a spelling: a certificate whose numbers are of their types, within the limits, with no two lanes of one pair and skews in rising order.
+use Rattle.std.specs.Prelude.{◌≡◌, ◌≤◌, ◌<◌, ◌^◌, true, length}
 use Rattle.std.specs.List.{AllByRecursion, IsDistinct}
 use Rattle.audit_model.specs.Fits.{AddrFits}
 use Rattle.audit_model.specs.declared.sighting.SightId.{SightId}
@@ -8,8 +8,10 @@ use Rattle.audit_model.specs.declared.event.Event.{Event}
 use Rattle.audit_model.specs.declared.event.Event.TheVariants.{In, Act, Out}
 use Rattle.audit_model.specs.declared.certificate.CertLane.{CertLane}
 use Rattle.audit_model.specs.declared.certificate.CertDrop.{CertDrop}
-use Rattle.audit_model.specs.declared.certificate.TheConstants.{MAX_LANES, MAX_EVENTS}
+use Rattle.audit_model.specs.declared.certificate.CertSkew.{CertSkew}
+use Rattle.audit_model.specs.declared.certificate.TheConstants.{MAX_LANES, MAX_EVENTS, MAX_SKEWS}
 use Rattle.audit_model.specs.Lanes.{same_lane}
+use Rattle.audit_model.specs.Skews.{rise}
 use Rattle.audit_cert.specs.DraftView.{Drafted}
 use Rattle.audit_cert.specs.CertLines.{said_count}
 
@@ -32,9 +34,15 @@ pub record LaneFits (lane : CertLane) : Type 0 where
 abbrev pub DropFits : CertDrop → Type 0
 DropFits drop = SightFits drop.sight × KeyFits drop.key
 
+abbrev pub SkewFits : CertSkew → Type 0
+SkewFits skew = (skew.iface < 2 ^ 32) × (skew.microseconds < 2 ^ 64)
+
 pub record IsCertificate (said : Drafted) : Type 0 where
   pub lanes : AllByRecursion LaneFits said.lanes
   pub drops : AllByRecursion DropFits said.drops
   pub distinct : IsDistinct same_lane said.lanes
   pub few_lanes : length said.lanes ≤ MAX_LANES
   pub few_events : said_count said ≤ MAX_EVENTS
+  pub skews : AllByRecursion SkewFits said.skews
+  pub rising : rise said.skews ≡ true
+  pub few_skews : length said.skews ≤ MAX_SKEWS

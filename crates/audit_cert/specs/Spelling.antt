@@ -1,5 +1,5 @@
 -- The one spelling of each certificate. A decimal number has no leading zero.
-use Rattle.std.specs.Prelude.{ℕ, List, ◌++◌, codes, decimal}
+use Rattle.std.specs.Prelude.{ℕ, List, [], ◌∷◌, ◌++◌, codes, decimal}
 use Rattle.std.specs.List.{flat_map}
 use Rattle.audit_model.specs.Addr.{addr_text}
 use Rattle.audit_model.specs.declared.sighting.SightId.{SightId}
@@ -8,6 +8,7 @@ use Rattle.audit_model.specs.declared.event.Event.{Event}
 use Rattle.audit_model.specs.declared.event.Event.TheVariants.{In, Act, Out}
 use Rattle.audit_model.specs.declared.certificate.CertLane.{CertLane}
 use Rattle.audit_model.specs.declared.certificate.CertDrop.{CertDrop}
+use Rattle.audit_model.specs.declared.certificate.CertSkew.{CertSkew}
 use Rattle.audit_model.specs.declared.certificate.Certificate.{Certificate}
 use Rattle.audit_cert.specs.DraftView.{Drafted}
 
@@ -39,11 +40,19 @@ drop_line drop = codes "drop " ++ placed_text drop.sight drop.key
 abbrev pub lane_lines : CertLane → List ℕ
 lane_lines lane = lane_line lane ++ flat_map event_line lane.events
 
--- the heading, the lanes, the drops and `end`
+abbrev pub skew_line : CertSkew → List ℕ
+skew_line skew = codes "skew " ++ (decimal skew.iface ++ (codes " " ++ (decimal skew.microseconds ++ codes "\n")))
+
+-- version 1 without skews, and version 2 with them
+abbrev pub front : List CertSkew → List ℕ
+front [] = codes "turnaudit-certificate 1\n"
+front (skew ∷ more) = codes "turnaudit-certificate 2\n" ++ flat_map skew_line (skew ∷ more)
+
+-- the heading, the skews, the lanes, the drops and `end`
 abbrev pub spelling : Drafted → List ℕ
 spelling said =
-    codes "turnaudit-certificate 1\n" ++ (flat_map lane_lines said.lanes ++ (flat_map drop_line said.drops ++ codes "end\n"))
+    front said.skews ++ (flat_map lane_lines said.lanes ++ (flat_map drop_line said.drops ++ codes "end\n"))
 
 -- what a certificate says
 abbrev pub said_by : Certificate → Drafted
-said_by certificate = record { lanes = certificate.lanes; drops = certificate.drops }
+said_by certificate = record { lanes = certificate.lanes; drops = certificate.drops; skews = certificate.skews }

@@ -3,12 +3,13 @@
 ghost use Rattle.std.specs.Prelude.{◌≡◌, ◌<◌, false, [], ◌∷◌, ◌++◌, length, vec_len, vec_capacity, OnOk, OnErr};
 ghost use Rattle.std.specs.List.{IsDistinct};
 ghost use Rattle.audit_model.specs.Lanes.{same_lane, has_pair};
-ghost use Rattle.audit_cert.specs.CertLines.{with_event};
+ghost use Rattle.audit_cert.specs.CertLines.{with_event, is_after_skews};
 
-use crate::event_line::{read_event, read_placed};
+use crate::event_line::{read_event, read_placed, read_skew};
 use crate::fault::CertFaultKind;
 use audit_model::{
-    Addr, CertDrop, CertLane, Certificate, Event, LanePairs, Listed, MAX_EVENTS, MAX_LANES,
+    Addr, CertDrop, CertLane, CertSkew, Certificate, Event, LanePairs, Listed, MAX_EVENTS,
+    MAX_LANES, MAX_SKEWS,
 };
 use audit_text::{both, halves};
 use std::alloc::{AllocFailed, Global};
@@ -20,6 +21,7 @@ pub struct CertificateDraft {
     alloc: Global,
     lanes: Vec<CertLane>,
     drops: Listed<CertDrop>,
+    skews: Listed<CertSkew>,
     /// The client and the listen address of each lane.
     pairs: LanePairs,
     /// How many events and drops there are.
@@ -60,12 +62,22 @@ fn push_lane(lanes: &mut Vec<CertLane>, lane: CertLane)
     lanes.push_reserved(lane);
 }
 
+/// Whether the interface is greater than that of the last of the skews.
+fn is_after(skews: &[CertSkew], iface: u32) -> bool
+    ensures { result ≡ is_after_skews skews.now iface }
+{
+    match skews.last() {
+        Some(last) => last.iface < iface,
+        None => true,
+    }
+}
+
 impl CertificateDraft {
-    ghost use Rattle.std.specs.Prelude.{Ok, MatchResult};
+    ghost use Rattle.std.specs.Prelude.{Ok, MatchResult, not, ◌==◌};
     ghost use Rattle.audit_text.specs.Reading.{UnlessMemory};
     ghost use Rattle.audit_cert.specs.CertFault.{is_memory};
     ghost use Rattle.audit_cert.specs.DraftView.{nothing_said};
-    ghost use Rattle.audit_cert.specs.CertLines.{after_lane, after_event, after_drop, after_line};
+    ghost use Rattle.audit_cert.specs.CertLines.{after_lane, after_event, after_drop, after_skew, after_line};
 
     #[tactic(auto, using(crate::proofs::Drafts::none_apart))]
     pub fn new(alloc: Global) -> CertificateDraft
@@ -75,6 +87,7 @@ impl CertificateDraft {
             alloc,
             lanes: Vec::new(alloc),
             drops: Listed::new(alloc),
+            skews: Listed::new(alloc),
             pairs: LanePairs::new(alloc),
             events: 0,
         }
@@ -142,6 +155,30 @@ impl CertificateDraft {
         Ok(())
     }
 
+    /// Whether a skew was said.
+    pub fn has_skews(&self) -> bool
+        ensures { result ≡ not (length self.now.skews == 0) }
+    {
+        !self.skews.is_empty()
+    }
+
+    /// Adds the skew of an interface.
+    #[tactic(auto, unfolding(crate::specs::CertLines::after_skew))]
+    pub fn add_skew(&mut self, words: &[u8]) -> Result<(), CertFaultKind>
+        ensures { MatchResult result (λ _. after_skew self.old words.now ≡ Ok self.new)
+            (λ fault. UnlessMemory is_memory fault (after_skew self.old words.now)) }
+    {
+        let skew = read_skew(words)?;
+        if !is_after(self.skews.as_slice(), skew.iface) {
+            return Err(CertFaultKind::SkewOrder);
+        }
+        if self.skews.len() >= MAX_SKEWS {
+            return Err(CertFaultKind::Limit);
+        }
+        self.skews.push(skew)?;
+        Ok(())
+    }
+
     /// Takes in what one line of a lane or a drop says.
     #[tactic(auto, unfolding(crate::specs::CertLines::after_line))]
     pub fn add_line(&mut self, line: &[u8]) -> Result<(), CertFaultKind>
@@ -162,10 +199,12 @@ impl CertificateDraft {
     pub fn certificate(self) -> Certificate
         ensures lanes { result.lanes ≡ self.lanes }
         ensures drops { result.drops ≡ self.drops }
+        ensures skews { result.skews ≡ self.skews }
     {
         Certificate {
             lanes: Listed::from(self.lanes),
             drops: self.drops,
+            skews: self.skews,
         }
     }
 }

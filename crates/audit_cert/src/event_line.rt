@@ -1,9 +1,9 @@
-//! The words of an event line.
+//! The words of a line.
 
 ghost use Rattle.std.specs.Prelude.{◌≡◌};
-ghost use Rattle.audit_cert.specs.EventLine.{word32_of, word64_of, sight_id_of, event_key_of, placed_of, act_of, event_of};
+ghost use Rattle.audit_cert.specs.EventLine.{word32_of, word64_of, sight_id_of, event_key_of, cert_skew_of, placed_of, act_of, event_of};
 
-use audit_model::{Event, Key, SightId};
+use audit_model::{CertSkew, Event, Key, SightId};
 use audit_text::{TokenFault, both, halves, number};
 
 /// A number of 32 bits.
@@ -41,6 +41,19 @@ fn read_key(words: &[u8]) -> Result<Key, TokenFault>
     let (moment, tie) = halves(words, b' ')?;
     let (moment, tie) = both(read_u64(moment), read_u32(tie))?;
     Ok(Key { moment, tie })
+}
+
+/// The skew of an interface, as `64 400`.
+#[tactic(auto, unfolding(crate::specs::EventLine::cert_skew_of))]
+pub fn read_skew(words: &[u8]) -> Result<CertSkew, TokenFault>
+    ensures { result ≡ cert_skew_of words.now }
+{
+    let (iface, microseconds) = halves(words, b' ')?;
+    let (iface, microseconds) = both(read_u32(iface), read_u64(microseconds))?;
+    Ok(CertSkew {
+        iface,
+        microseconds,
+    })
 }
 
 /// A sighting and its key, as `0.1 1500000 0`.

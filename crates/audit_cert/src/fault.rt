@@ -11,10 +11,11 @@ use thiserror::Error;
 /// What is wrong with a line of a certificate text.
 #[derive(Clone, Copy, Debug, PartialEq, Eq, Error)]
 pub enum CertFaultKind {
-    /// T1: another heading than `turnaudit-certificate 1`.
+    /// T1: another heading than `turnaudit-certificate 1` or `turnaudit-certificate 2`.
     #[error("T1 heading")]
     Heading,
-    /// T2: another shape, an event before any lane, a lane or an event after a drop, bytes after `end`, or no LF.
+    /// T2: another shape, an event before any lane, a lane or an event after a drop, a skew after a lane or a drop, none
+    /// behind the second heading, bytes after `end`, or no LF.
     #[error("T2 line")]
     Line,
     /// T3: a number with a leading zero or past its greatest value.
@@ -23,7 +24,7 @@ pub enum CertFaultKind {
     /// T4: a second lane of one client at one listen address.
     #[error("T4 lane double")]
     LaneDouble,
-    /// T5: over 65,536 lanes, or over 50,331,648 events and drops.
+    /// T5: over 65,536 lanes, over 50,331,648 events and drops, or over 1,024 skews.
     #[error("T5 limit")]
     Limit,
     /// T6: the text ends before its `end` line.
@@ -32,6 +33,9 @@ pub enum CertFaultKind {
     /// T7: there was no memory.
     #[error("T7 memory")]
     Memory,
+    /// T8: a skew whose interface isn't greater than that of the skew before.
+    #[error("T8 skew order")]
+    SkewOrder,
 }
 
 impl CertFaultKind {
@@ -49,6 +53,7 @@ impl CertFaultKind {
             CertFaultKind::Limit => "T5",
             CertFaultKind::EndMissing => "T6",
             CertFaultKind::Memory => "T7",
+            CertFaultKind::SkewOrder => "T8",
         }
     }
 }

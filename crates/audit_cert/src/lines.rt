@@ -1,16 +1,20 @@
-//! The certificate text: a heading, lines of lanes and drops, and `end`.
+//! The certificate text: a heading, skews in version 2, lines of lanes and drops, and `end`.
 
 ghost use Rattle.std.specs.Prelude.{◌≡◌, MatchResult, Ok};
 ghost use Rattle.audit_text.specs.Reading.{UnlessMemory};
+ghost use Rattle.audit_text.specs.Token.{halves_of};
 ghost use Rattle.audit_cert.specs.CertFault.{is_memory};
 
 use crate::draft::CertificateDraft;
 use crate::fault::CertFaultKind;
-use audit_text::Lines;
+use audit_text::{Lines, halves};
 use std::alloc::Global;
 use std::marker::Model;
 
 const HEADING: &[u8; 23] = b"turnaudit-certificate 1";
+
+/// Skews stand behind it.
+const SECOND_HEADING: &[u8; 23] = b"turnaudit-certificate 2";
 
 /// How long a line may be before its LF is there, in bytes. The longest that is right, an act, has 78.
 const LONGEST_LINE: usize = 1_024;
@@ -20,6 +24,8 @@ const LONGEST_LINE: usize = 1_024;
 pub enum Stage {
     /// The heading.
     Heading,
+    /// A skew, or once one was there also a line as below.
+    Skews,
     /// One of a lane or a drop, or `end`.
     Lines,
     /// None: `end` was there.
@@ -42,7 +48,7 @@ impl Model for CertificateLines {
 }
 
 impl CertificateLines {
-    ghost use Rattle.audit_cert.specs.CertText.{begun, after};
+    ghost use Rattle.audit_cert.specs.CertText.{begun, after, after_heading, after_other, after_skews, among_skews};
 
     /// No line yet. It takes no memory.
     pub fn new(alloc: Global) -> CertificateLines
@@ -54,6 +60,61 @@ impl CertificateLines {
         }
     }
 
+    fn add_heading(&mut self, line: &[u8]) -> Result<(), CertFaultKind>
+        ensures { MatchResult result (λ _. after_heading self.old.said line.now ≡ Ok self.new)
+            (λ fault. UnlessMemory is_memory fault (after_heading self.old.said line.now)) }
+    {
+        if line == HEADING.as_slice() {
+            self.stage = Stage::Lines;
+        } else if line == SECOND_HEADING.as_slice() {
+            self.stage = Stage::Skews;
+        } else {
+            return Err(CertFaultKind::Heading);
+        }
+        Ok(())
+    }
+
+    /// Takes in a line of a lane or a drop, or `end`.
+    fn add_other(&mut self, line: &[u8]) -> Result<(), CertFaultKind>
+        ensures { MatchResult result (λ _. after_other self.old.said line.now ≡ Ok self.new)
+            (λ fault. UnlessMemory is_memory fault (after_other self.old.said line.now)) }
+    {
+        if line == b"end".as_slice() {
+            self.stage = Stage::Ended;
+            return Ok(());
+        }
+        self.draft.add_line(line)?;
+        self.stage = Stage::Lines;
+        Ok(())
+    }
+
+    /// Takes in the first line that is no skew.
+    fn add_behind_skews(&mut self, line: &[u8]) -> Result<(), CertFaultKind>
+        ensures { MatchResult result (λ _. after_skews self.old.said line.now ≡ Ok self.new)
+            (λ fault. UnlessMemory is_memory fault (after_skews self.old.said line.now)) }
+    {
+        if !self.draft.has_skews() {
+            return Err(CertFaultKind::Line);
+        }
+        self.add_other(line)
+    }
+
+    /// Takes in a skew, or what stands behind the last of them.
+    fn add_among_skews(&mut self, line: &[u8]) -> Result<(), CertFaultKind>
+        ensures { MatchResult result (λ _. among_skews (halves_of 32 line.now) self.old.said line.now ≡ Ok self.new)
+            (λ fault. UnlessMemory is_memory fault (among_skews (halves_of 32 line.now) self.old.said line.now)) }
+    {
+        let Ok((word, words)) = halves(line, b' ') else {
+            return self.add_behind_skews(line);
+        };
+        if word != b"skew".as_slice() {
+            return self.add_behind_skews(line);
+        }
+        self.draft.add_skew(words)?;
+        self.stage = Stage::Skews;
+        Ok(())
+    }
+
     /// Takes in a line: the heading first, and none after `end`.
     #[tactic(auto, unfolding(crate::specs::CertText::after))]
     fn add(&mut self, line: &[u8]) -> Result<(), CertFaultKind>
@@ -61,20 +122,9 @@ impl CertificateLines {
             (λ fault. UnlessMemory is_memory fault (after self.old line.now)) }
     {
         match self.stage {
-            Stage::Heading => {
-                if line != HEADING.as_slice() {
-                    return Err(CertFaultKind::Heading);
-                }
-                self.stage = Stage::Lines;
-                Ok(())
-            }
-            Stage::Lines => {
-                if line == b"end".as_slice() {
-                    self.stage = Stage::Ended;
-                    return Ok(());
-                }
-                self.draft.add_line(line)
-            }
+            Stage::Heading => self.add_heading(line),
+            Stage::Skews => self.add_among_skews(line),
+            Stage::Lines => self.add_other(line),
             Stage::Ended => Err(CertFaultKind::Line),
         }
     }
@@ -114,14 +164,14 @@ impl Lines for CertificateLines {
     fn unended(&self, _rest: &[u8]) -> CertFaultKind {
         match self.stage {
             Stage::Heading => CertFaultKind::Heading,
-            Stage::Lines | Stage::Ended => CertFaultKind::Line,
+            Stage::Skews | Stage::Lines | Stage::Ended => CertFaultKind::Line,
         }
     }
 
     fn lacks(&self) -> Option<CertFaultKind> {
         match self.stage {
             Stage::Heading => Some(CertFaultKind::Heading),
-            Stage::Lines => Some(CertFaultKind::EndMissing),
+            Stage::Skews | Stage::Lines => Some(CertFaultKind::EndMissing),
             Stage::Ended => None,
         }
     }

@@ -2,9 +2,9 @@
 
 ghost use Rattle.std.specs.Prelude.{◌≡◌, ◌++◌, codes, decimal, IfOk, OnOk};
 ghost use Rattle.std.specs.String.{string_bytes};
-ghost use Rattle.audit_cert.specs.Spelling.{lane_line, event_line, drop_line, sight_text, placed_text};
+ghost use Rattle.audit_cert.specs.Spelling.{lane_line, event_line, drop_line, skew_line, sight_text, placed_text};
 
-use audit_model::{CertDrop, CertLane, Event, Key, SightId};
+use audit_model::{CertDrop, CertLane, CertSkew, Event, Key, SightId};
 use itoa::Buffer;
 use std::alloc::{AllocError, Global};
 
@@ -66,6 +66,17 @@ pub fn add_drop(line: &mut Vec<u8>, drop: &CertDrop) -> Result<(), AllocError>
 {
     line.extend_from_slice(b"drop ")?;
     add_placed(line, drop.sight, drop.key)
+}
+
+/// Adds the line of an interface's skew.
+pub fn add_skew(line: &mut Vec<u8>, skew: &CertSkew) -> Result<(), AllocError>
+    ensures { OnOk result (line.new.items ≡ line.old.items ++ skew_line skew.now) }
+{
+    line.extend_from_slice(b"skew ")?;
+    add_number(line, skew.iface as u64)?;
+    line.extend_from_slice(b" ")?;
+    add_number(line, skew.microseconds)?;
+    line.extend_from_slice(b"\n")
 }
 
 /// A lane's first line.

@@ -20,6 +20,16 @@ drop 64.0 1000000 0
 end
 ";
 
+/// Of two interfaces, with the greatest numbers.
+const CUT: &[u8; 152] = b"turnaudit-certificate 2
+skew 0 400
+skew 4294967295 18446744073709551615
+lane 198.51.100.7:40000 192.0.2.1:3478
+in 0.0 1000000 0
+drop 64.0 1000000 0
+end
+";
+
 /// Takes some bytes, one by one, and then fails, once.
 #[derive(Drop)]
 struct Narrow {
@@ -71,7 +81,7 @@ fn through(
 
 #[test]
 fn written_as_it_was_read(rt: HostRuntime) -> Result<(), Fail> {
-    for text in [BINDING.as_slice(), DROPPED.as_slice()] {
+    for text in [BINDING.as_slice(), DROPPED.as_slice(), CUT.as_slice()] {
         let (written, sink) = through(rt.alloc(), text, text.len())?;
         assert_eq!(rt; written, Ok(()));
         assert_eq!(rt; sink.bytes.as_slice(), text);
@@ -96,7 +106,7 @@ fn fault_of(rt: &HostRuntime, text: &[u8]) -> Option<(CertFaultKind, u64)> {
 
 #[test]
 fn first_fault(rt: HostRuntime) {
-    let cases: [(&[u8], CertFaultKind, u64); 9] = [
+    let cases: [(&[u8], CertFaultKind, u64); 17] = [
         (b"", CertFaultKind::Heading, 1),
         (b"turnaudit-certificate 1", CertFaultKind::Heading, 1),
         (b"turnaudit-certificate 1\n", CertFaultKind::EndMissing, 2),
@@ -122,6 +132,34 @@ fn first_fault(rt: HostRuntime) {
             CertFaultKind::Line,
             3,
         ),
+        (
+            b"turnaudit-certificate 1\nskew 0 1\nend\n",
+            CertFaultKind::Line,
+            2,
+        ),
+        (b"turnaudit-certificate 2\n", CertFaultKind::EndMissing, 2),
+        (b"turnaudit-certificate 2\nend\n", CertFaultKind::Line, 2),
+        (
+            b"turnaudit-certificate 2\nskew 0 1\ndrop 0.0 1 0\nskew 1 1\nend\n",
+            CertFaultKind::Line,
+            4,
+        ),
+        (
+            b"turnaudit-certificate 2\nskew 0 1\nskew 0 01\nend\n",
+            CertFaultKind::Number,
+            3,
+        ),
+        (
+            b"turnaudit-certificate 2\nskew 4294967296 1\nend\n",
+            CertFaultKind::Number,
+            2,
+        ),
+        (
+            b"turnaudit-certificate 2\nskew 1 1\nskew 1 1\nend\n",
+            CertFaultKind::SkewOrder,
+            3,
+        ),
+        (b"turnaudit-certificate 3\n", CertFaultKind::Heading, 1),
     ];
     for (text, kind, line) in cases {
         assert_eq!(rt; fault_of(&rt, text), Some((kind, line)));

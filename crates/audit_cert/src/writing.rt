@@ -4,14 +4,16 @@ ghost use Rattle.std.specs.Prelude.{◌≡◌, ◌++◌, codes, OnOk, OnErr, IfE
 ghost use Rattle.std.specs.List.{flat_map};
 ghost use Rattle.audit_model.specs.Sink.{followed_by, raised_by, IsFollowedByFront};
 ghost use Rattle.audit_model.specs.declared.write_fault.WriteFault.TheVariants as fault;
-ghost use Rattle.audit_cert.specs.Spelling.{lane_line, lane_lines, event_line, drop_line, spelling, said_by};
+ghost use Rattle.audit_cert.specs.Spelling.{lane_line, lane_lines, event_line, drop_line, skew_line, front, spelling, said_by};
 ghost use Rattle.audit_cert.specs.Writing.{Puts};
 
-use crate::spelling::{add_drop, add_event, text_of_lane};
-use audit_model::{CertDrop, CertLane, Certificate, Event, Sink, WriteFault, put_all};
+use crate::spelling::{add_drop, add_event, add_skew, text_of_lane};
+use audit_model::{CertDrop, CertLane, CertSkew, Certificate, Event, Sink, WriteFault, put_all};
 use std::alloc::Global;
 
 const HEADING_LINE: &[u8; 24] = b"turnaudit-certificate 1\n";
+
+const SECOND_HEADING_LINE: &[u8; 24] = b"turnaudit-certificate 2\n";
 
 const END_LINE: &[u8; 4] = b"end\n";
 
@@ -105,6 +107,36 @@ fn put_lanes_on<W: Sink>(
     put_drops_on(alloc, certificate.drops.as_slice(), out)
 }
 
+/// Puts a skew's line, which is made in the room of the one before.
+fn put_skew<W: Sink>(line: &mut Vec<u8>, skew: &CertSkew, out: &mut W) -> Result<(), WriteFault>
+    ensures { Puts (skew_line skew.now) result (record { taken = W.taken out.old; taken_now = W.taken out.new; failures = W.failures out.old; failures_now = W.failures out.new }) }
+{
+    line.clear();
+    add_skew(line, skew)?;
+    put(line.as_slice(), out)
+}
+
+fn put_skews<W: Sink>(alloc: Global, skews: &[CertSkew], out: &mut W) -> Result<(), WriteFault>
+    ensures { Puts (flat_map skew_line skews.now) result (record { taken = W.taken out.old; taken_now = W.taken out.new; failures = W.failures out.old; failures_now = W.failures out.new }) }
+{
+    let mut line = Vec::new(alloc);
+    for skew in skews {
+        put_skew(&mut line, skew, out)?;
+    }
+    Ok(())
+}
+
+/// Puts the heading, of version 2 where there are skews, and their lines.
+fn put_front<W: Sink>(alloc: Global, skews: &[CertSkew], out: &mut W) -> Result<(), WriteFault>
+    ensures { Puts (front skews.now) result (record { taken = W.taken out.old; taken_now = W.taken out.new; failures = W.failures out.old; failures_now = W.failures out.new }) }
+{
+    if skews.is_empty() {
+        return put(HEADING_LINE, out);
+    }
+    put(SECOND_HEADING_LINE, out)?;
+    put_skews(alloc, skews, out)
+}
+
 fn put_certificate<W: Sink>(
     alloc: Global,
     certificate: &Certificate,
@@ -112,7 +144,7 @@ fn put_certificate<W: Sink>(
 ) -> Result<(), WriteFault>
     ensures { Puts (spelling (said_by certificate.now)) result (record { taken = W.taken out.old; taken_now = W.taken out.new; failures = W.failures out.old; failures_now = W.failures out.new }) }
 {
-    put(HEADING_LINE, out)?;
+    put_front(alloc, certificate.skews.as_slice(), out)?;
     put_lanes_on(alloc, certificate, out)
 }
 

@@ -19,4 +19,6 @@ invariant_of-self-2 c =
       paired = λ client listen. c.self.invariant.paired client listen ∙ sym (ap (has_pair client listen) e ∙ pairs_with_event event lanes client listen);
       distinct = subst (IsDistinct same_lane) (sym e) (apart_with_event event lanes c.self.invariant.distinct);
       few_lanes = omega (arith, ap length e, length_with_event event lanes, c.self.invariant.few_lanes);
+      rising = c.self.invariant.rising;
+      few_skews = c.self.invariant.few_skews;
     }

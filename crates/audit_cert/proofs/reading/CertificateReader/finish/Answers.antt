@@ -14,5 +14,6 @@ returns-in-Ok c text stands =
     let took = c.in-Ok.ensures begun text (rw c.self.view_is stands) in
     let said : c.into_draft.result ≡ took.0.said = c.into_draft.ensures ∙ ap (λ (p : Progress). p.said) took.2 in
     ap said_in took.1 ∙ ap read_as (sym said)
-    ∙ ap (λ lanes. read_as (record { lanes = lanes; drops = c.into_draft.result.drops })) (sym c.certificate.ensures.lanes)
-    ∙ ap (λ drops. read_as (record { lanes = c.certificate.result.lanes; drops = drops })) (sym c.certificate.ensures.drops)
+    ∙ ap (λ lanes. read_as (record { lanes = lanes; drops = c.into_draft.result.drops; skews = c.into_draft.result.skews })) (sym c.certificate.ensures.lanes)
+    ∙ ap (λ drops. read_as (record { lanes = c.certificate.result.lanes; drops = drops; skews = c.into_draft.result.skews })) (sym c.certificate.ensures.drops)
+    ∙ ap (λ skews. read_as (record { lanes = c.certificate.result.lanes; drops = c.certificate.result.drops; skews = skews })) (sym c.certificate.ensures.skews)
