@@ -23,7 +23,7 @@ use Rattle.audit_placement.specs.FirstPlace.{places}
 use Rattle.audit_order.specs.Grown.{empty_lane}
 use Rattle.audit_order.specs.Growing.{listed, with_event, last_key, places_one, placing_count, IsSound}
 use Rattle.audit_placement.specs.Keys.{key_at}
-use Rattle.audit_order.proofs.CleanMore.{clean_more}
+use Rattle.audit_placement.proofs.CleanMore.{clean_more}
 use Rattle.audit_placement.proofs.CleanSteps.{all_left, all_right, times_append}
 use Rattle.audit_placement.proofs.Turns.{last_of, entries_push, lanes_push}
 

@@ -27,7 +27,7 @@ use Rattle.audit_order.specs.Growing.{listed, places_one, placing_count, IsSound
 use Rattle.audit_placement.specs.Keys.{key_at}
 use Rattle.audit_order.specs.Kept.{AreOf, Keeps, Stays}
 use Rattle.audit_placement.specs.Places.{Knows}
-use Rattle.audit_order.proofs.CleanMore.{clean_same}
+use Rattle.audit_placement.proofs.CleanMore.{clean_same}
 use Rattle.audit_placement.proofs.CleanSteps.{clean_tells, one_at_most}
 use Rattle.audit_order.proofs.GrowingSteps.{placing_cons, placing_append}
 use Rattle.audit_order.proofs.StaySteps.{clean_still}

@@ -1,4 +1,3 @@
-pub mod CleanMore
 pub mod GrowingSteps
 pub mod PortionSteps
 pub mod StaySteps

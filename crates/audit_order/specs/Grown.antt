@@ -24,9 +24,11 @@ with_events number [] events = []
 with_events number (lane ∷ lanes) events =
     record { events = lane.events ++ of_lane number events; client = lane.client; listen = lane.listen } ∷ with_events (number + 1) lanes events
 
+-- no window is cut in a certificate that grows
 pub record Extends (old : Certificate) (extension : Extension) (new : Certificate) : Type 0 where
   pub lanes : new.lanes ≡ with_events 0 (old.lanes ++ map empty_lane extension.lanes) extension.events
   pub drops : new.drops ≡ old.drops ++ extension.drops
+  pub skews : new.skews ≡ []
 
 -- the limits are kept, and the events' lanes are there
 pub record HasRoom (certificate : Certificate) (extension : Extension) : Type 0 where

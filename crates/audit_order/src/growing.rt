@@ -11,9 +11,8 @@ ghost use Rattle.audit_order.specs.Growing.{IsSound, last_key, places_one, with_
 ghost use Rattle.audit_order.specs.Kept.{Stays};
 ghost use Rattle.audit_placement.specs.Keys.{key_at};
 
-use crate::taking::note_event;
 use audit_model::{Addr, CertDrop, CertLane, Event, Extension, Key, Listed, Pair};
-use audit_placement::{LaneEnd, PlacedKeys};
+use audit_placement::{LaneEnd, PlacedKeys, note_event};
 use audit_sightings::Intake;
 use std::alloc::{AllocError, Global};
 

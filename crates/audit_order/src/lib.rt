@@ -4,7 +4,6 @@
 mod fitting;
 mod growing;
 mod portions;
-mod taking;
 
 pub use audit_placement::{Placement, by_lane_and_place, placed};
 pub use portions::Placing;

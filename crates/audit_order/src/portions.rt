@@ -42,10 +42,12 @@ pub struct Placing {
 fn no_certificate(alloc: Global) -> Certificate
     ensures lanes { result.lanes ≡ [] }
     ensures drops { result.drops ≡ [] }
+    ensures skews { result.skews ≡ [] }
 {
     Certificate {
         lanes: Listed::new(alloc),
         drops: Listed::new(alloc),
+        skews: Listed::new(alloc),
     }
 }
 
@@ -95,6 +97,7 @@ fn settle(alloc: Global, intake: &Intake, growing: Growing) -> Result<Settled, A
     requires few_events { event_count growing.lanes.items + length growing.drops ≤ MAX_EVENTS }
     ensures lanes { IfOk result (λ settled. settled.certificate.lanes ≡ growing.lanes.items) }
     ensures drops { IfOk result (λ settled. settled.certificate.drops ≡ growing.drops) }
+    ensures skews { IfOk result (λ settled. settled.certificate.skews ≡ []) }
     ensures places { IsSound (taken intake.now) growing → IfOk result (λ settled. AreOf (taken intake.now) settled.certificate settled.places) }
     ensures count { IsSound (taken intake.now) growing → IfOk result (λ settled. growing.count ≡ placing_count (entries settled.certificate)) }
     ensures least { IsSound (taken intake.now) growing → IfOk result (λ settled. IsLeast (ShowsPlaced (taken intake.now) settled.certificate) settled.breach) }
@@ -110,6 +113,7 @@ fn settle(alloc: Global, intake: &Intake, growing: Growing) -> Result<Settled, A
     let certificate = Certificate {
         lanes: Listed::from(lanes),
         drops,
+        skews: Listed::new(alloc),
     };
     let (places, breach) = judged(alloc, intake, &certificate, keys, clean)?;
     Ok(Settled {
@@ -124,6 +128,7 @@ impl Placing {
     pub fn new(alloc: Global) -> Placing
         ensures lanes { result.certificate.lanes ≡ [] }
         ensures drops { result.certificate.drops ≡ [] }
+        ensures skews { result.certificate.skews ≡ [] }
         ensures keeps { (taken : Taken) → Keeps taken result }
     {
         Placing {

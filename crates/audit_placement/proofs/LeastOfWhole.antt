@@ -7,8 +7,9 @@ use Rattle.audit_model.specs.Breach.{lesser}
 use Rattle.audit_model.specs.Least.{IsLeast}
 use Rattle.audit_model.proofs.Breaches.{none_more}
 use Rattle.audit_sightings.specs.Intake.{Taken}
+use Rattle.audit_placement.specs.Cuts.{ShowsCut}
 use Rattle.audit_placement.specs.Entries.{entries, lanes_entries, drop_entries}
-use Rattle.audit_placement.specs.Shows.{Shows, ShowsFrom, ShowsOutOfOrder, ShowsPlaced, ShowsAnUnplaced}
+use Rattle.audit_placement.specs.Shows.{Shows, ShowsByStamps, ShowsFrom, ShowsOutOfOrder, ShowsPlaced, ShowsAnUnplaced}
 use Rattle.audit_placement.proofs.LeastOfTwo.{least_both}
 use Rattle.audit_placement.proofs.Turns.{least_append}
 
@@ -28,9 +29,16 @@ least_placed taken certificate of_lanes of_drops of_neighbours of_entries least 
 -- and of what isn't placed
 pub least_whole : (taken : Taken) (certificate : Certificate) (of_placed of_unplaced least : Option Breach)
     → IsLeast (ShowsPlaced taken certificate) of_placed → IsLeast (ShowsAnUnplaced taken certificate) of_unplaced → least ≡ lesser of_placed of_unplaced
-    → IsLeast (Shows taken certificate) least
+    → IsLeast (ShowsByStamps taken certificate) least
 least_whole taken certificate of_placed of_unplaced least placed unplaced is =
     rw is (least_both (ShowsPlaced taken certificate) (ShowsAnUnplaced taken certificate) of_placed of_unplaced placed unplaced)
+
+-- and of what its skews cut off
+pub least_cut_too : (taken : Taken) (certificate : Certificate) (by_stamps of_cuts least : Option Breach)
+    → IsLeast (ShowsByStamps taken certificate) by_stamps → IsLeast (ShowsCut taken certificate) of_cuts → least ≡ lesser by_stamps of_cuts
+    → IsLeast (Shows taken certificate) least
+least_cut_too taken certificate by_stamps of_cuts least stamps cuts is =
+    rw is (least_both (ShowsByStamps taken certificate) (ShowsCut taken certificate) by_stamps of_cuts stamps cuts)
 
 nothing_known : (o : Option Breach) → IfNone o (Unit {0})
 nothing_known None = tt

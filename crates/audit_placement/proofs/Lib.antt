@@ -2,6 +2,7 @@ pub mod LeastOfTwo
 pub mod LeastOfChecks
 pub mod FirstPush
 pub mod Turns
+pub mod CutSteps
 pub mod NeighbourSteps
 pub mod UnplacedSteps
 pub mod Interfaces
@@ -11,3 +12,6 @@ pub mod TableGrowth
 pub mod InOrder
 pub mod AmongSteps
 pub mod CleanSteps
+pub mod CleanMore
+pub mod CleanNamed
+pub mod CleanTurns

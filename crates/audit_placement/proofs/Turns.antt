@@ -56,7 +56,7 @@ abbrev pub last_of : Option Key → List Event → Option Key
 last_of last [] = last
 last_of last (event ∷ events) = last_of (Some (key_of event)) events
 
-last_push : (last : Option Key) (events : List Event) (event : Event) → last_of last (events ++ event ∷ []) ≡ Some (key_of event)
+pub last_push : (last : Option Key) (events : List Event) (event : Event) → last_of last (events ++ event ∷ []) ≡ Some (key_of event)
 last_push last [] event = refl
 last_push last (e ∷ events) event = last_push (Some (key_of e)) events event
 

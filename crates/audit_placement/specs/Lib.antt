@@ -6,6 +6,7 @@ pub mod Places
 pub mod Clean
 pub mod FirstPlace
 pub mod Checks
+pub mod Cuts
 pub mod Shows
 pub mod Neighbours
 pub mod Among

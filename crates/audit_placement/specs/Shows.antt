@@ -10,6 +10,7 @@ use Rattle.audit_model.specs.Breach.{key_cmp}
 use Rattle.audit_sightings.specs.Intake.{Taken, interface_at}
 use Rattle.audit_placement.specs.declared.entry.Entry.{Entry}
 use Rattle.audit_placement.specs.Checks.{IsOneOf, breach_at, checks}
+use Rattle.audit_placement.specs.Cuts.{ShowsCut}
 use Rattle.audit_placement.specs.Entries.{entries}
 use Rattle.audit_placement.specs.FirstPlace.{first_place}
 
@@ -55,5 +56,10 @@ ShowsPlaced taken certificate breach = ShowsFrom taken [] (entries certificate) 
 abbrev pub ShowsAnUnplaced : Taken → Certificate → Breach → Type 0
 ShowsAnUnplaced taken certificate breach = ShowsNowhere taken (entries certificate) (length certificate.lanes) (length certificate.drops) breach
 
+-- by the windows of the stamps
+abbrev pub ShowsByStamps : Taken → Certificate → Breach → Type 0
+ShowsByStamps taken certificate breach = ShowsPlaced taken certificate breach ⊎ ShowsAnUnplaced taken certificate breach
+
+-- and by those to which the certificate cuts them
 abbrev pub Shows : Taken → Certificate → Breach → Type 0
-Shows taken certificate breach = ShowsPlaced taken certificate breach ⊎ ShowsAnUnplaced taken certificate breach
+Shows taken certificate breach = ShowsByStamps taken certificate breach ⊎ ShowsCut taken certificate breach

@@ -1,6 +1,8 @@
 //! Placement: whether a certificate places each sighting once, in its window and in order.
 #![tactic(auto)]
 
+mod clean;
+mod cuts;
 mod entry;
 mod events;
 mod first;
@@ -10,6 +12,7 @@ mod neighbours;
 mod places;
 mod single;
 mod table;
+mod taking;
 #[cfg(test)]
 mod tests;
 mod unplaced;
@@ -21,5 +24,6 @@ pub use keys::PlacedKeys;
 pub use laws::by_lane_and_place;
 pub use places::Places;
 pub use single::event_rule;
+pub use taking::note_event;
 pub use unplaced::unplaced_breach;
 pub use whole::{Placement, placed, placed_breach};

@@ -62,5 +62,6 @@ pub fn certificate(alloc: Global, datagrams: u32) -> Result<Certificate, AllocEr
     Ok(Certificate {
         lanes: Listed::from(lanes),
         drops: Listed::new(alloc),
+        skews: Listed::new(alloc),
     })
 }

@@ -1,7 +1,7 @@
 use Rattle.audit_sightings.specs.Intake.{taken}
 use Rattle.audit_placement.specs.Keys.{key_at}
 use Rattle.audit_placement.proofs.CleanSteps.{clean_shows_nothing}
-use Rattle.audit_order.proofs.StaySteps.{clean_named}
+use Rattle.audit_placement.proofs.CleanNamed.{clean_named}
 use Rattle.audit_order.proofs.portions.judged.Goals as goal
 
 pub returns-then-clean-clause-least : goal.returns-then-clean-clause-least

@@ -9,8 +9,10 @@ ghost use Rattle.audit_sightings.specs.Intake.{taken};
 ghost use Rattle.audit_placement.specs.Clean.{PlacesAt, Takes};
 ghost use Rattle.audit_placement.specs.Keys.{key_at};
 
+use crate::entry::LaneEnd;
+use crate::keys::PlacedKeys;
+use crate::single::event_rule;
 use audit_model::{Event, Key, SightId};
-use audit_placement::{LaneEnd, PlacedKeys, event_rule};
 use audit_sightings::Intake;
 
 /// Whether the key is greater than that of the sighting before it on the interface, where that is placed.

@@ -1,0 +1,91 @@
+//! Whether a certificate shows no breach of what it places, told in one pass over its events.
+
+ghost use Rattle.std.specs.Prelude.{◌++◌, [], ℕ, List, IfOk, IfSome};
+ghost use Rattle.std.specs.Bool.{OnTrue};
+ghost use Rattle.audit_placement.specs.declared.entry.Entry.{Entry};
+ghost use Rattle.audit_sightings.specs.Intake.{taken};
+ghost use Rattle.audit_placement.specs.Clean.{IsClean};
+ghost use Rattle.audit_placement.specs.Entries.{lane_entries, lanes_entries, drop_entries, entries};
+ghost use Rattle.audit_placement.specs.Keys.{key_at};
+
+use crate::entry::LaneEnd;
+use crate::keys::PlacedKeys;
+use crate::taking::note_event;
+use audit_model::{CertDrop, CertLane, Certificate, Event, Key, Pair};
+use audit_sightings::Intake;
+use std::alloc::{AllocError, Global};
+
+/// Notes what a lane's events place, and tells whether they show no breach behind what is noted.
+fn note_lane(intake: &Intake, keys: &mut PlacedKeys, lane: &CertLane) -> bool
+    ensures { (number : ℕ) (earlier : List Entry) → IsClean (taken intake.now) (key_at keys.old) earlier →
+        OnTrue result (IsClean (taken intake.now) (key_at keys.new) (earlier ++ lane_entries number lane.now)) }
+{
+    let pair = Pair {
+        client: lane.client,
+        listen: lane.listen,
+    };
+    let mut last: Option<Key> = None;
+    'events: for event in lane.events.as_slice() {
+        let end = LaneEnd {
+            pair: Some(pair),
+            last,
+        };
+        if !note_event(intake, keys, end, *event) {
+            return false;
+        }
+        last = Some(event.key());
+    }
+    true
+}
+
+/// The same of all lanes.
+fn note_lanes(intake: &Intake, keys: &mut PlacedKeys, lanes: &[CertLane]) -> bool
+    ensures { IsClean (taken intake.now) (key_at keys.old) [] → OnTrue result (IsClean (taken intake.now) (key_at keys.new) (lanes_entries 0 lanes.now)) }
+{
+    'lanes: for lane in lanes {
+        if !note_lane(intake, keys, lane) {
+            return false;
+        }
+    }
+    true
+}
+
+/// The same of the drops.
+fn note_drops(intake: &Intake, keys: &mut PlacedKeys, drops: &[CertDrop]) -> bool
+    ensures { (number : ℕ) (earlier : List Entry) → IsClean (taken intake.now) (key_at keys.old) earlier →
+        OnTrue result (IsClean (taken intake.now) (key_at keys.new) (earlier ++ drop_entries number drops.now)) }
+{
+    let mut last: Option<Key> = None;
+    'drops: for dropped in drops {
+        let end = LaneEnd { pair: None, last };
+        let arrival = Event::In {
+            sight: dropped.sight,
+            key: dropped.key,
+        };
+        if !note_event(intake, keys, end, arrival) {
+            return false;
+        }
+        last = Some(dropped.key);
+    }
+    true
+}
+
+/// The keys at which a certificate places sightings, where it shows no breach of what it places.
+/// It goes once over the events, and takes 16 bytes a sighting.
+pub fn clean_keys(
+    alloc: Global,
+    intake: &Intake,
+    certificate: &Certificate,
+) -> Result<Option<PlacedKeys>, AllocError>
+    ensures { IfOk result (λ found. IfSome found (λ keys. IsClean (taken intake.now) (key_at keys) (entries certificate.now))) }
+{
+    let mut keys = PlacedKeys::new(alloc);
+    keys.grow(alloc, intake)?;
+    if !note_lanes(intake, &mut keys, certificate.lanes.as_slice()) {
+        return Ok(None);
+    }
+    if !note_drops(intake, &mut keys, certificate.drops.as_slice()) {
+        return Ok(None);
+    }
+    Ok(Some(keys))
+}
