@@ -145,6 +145,7 @@ fn certificate_of(alloc: Global, found: Extension) -> Result<Certificate, AllocE
     ensures lanes { IfOk result (λ certificate. map pair_of certificate.lanes ≡ found.lanes) }
     ensures events { (taken : Taken) → All (λ e. NamesWhatIsThere taken e.1) found.events → IfOk result (λ certificate. AllNamed taken certificate.lanes) }
     ensures drops { (taken : Taken) → AreThere taken found.drops → IfOk result (λ certificate. AreThere taken certificate.drops) }
+    ensures skews { IfOk result (λ certificate. certificate.skews ≡ []) }
 {
     let mut lanes = empty_lanes(alloc, found.lanes.as_slice())?;
     let room = distribute(&mut lanes, found.events.as_slice())?;
@@ -153,6 +154,7 @@ fn certificate_of(alloc: Global, found: Extension) -> Result<Certificate, AllocE
     Ok(Certificate {
         lanes: Listed::from(lanes),
         drops: Listed::from(drops),
+        skews: Listed::new(alloc),
     })
 }
 
@@ -240,6 +242,7 @@ fn certificate_with(
     ensures lanes { IfOk result (λ certificate. map pair_of certificate.lanes ≡ lanes.now) }
     ensures events { IfOk result (λ certificate. AllNamed (taken intake.now) certificate.lanes) }
     ensures drops { IfOk result (λ certificate. AreThere (taken intake.now) certificate.drops) }
+    ensures skews { IfOk result (λ certificate. certificate.skews ≡ []) }
 {
     let found = extension(alloc, intake, lanes, portion)?;
     certificate_of(alloc, found)
@@ -258,6 +261,7 @@ pub fn find(
     ensures lanes { IfOk result (λ certificate. map pair_of certificate.lanes ≡ clients_of (taken intake.now)) }
     ensures events { IfOk result (λ certificate. AllNamed (taken intake.now) certificate.lanes) }
     ensures drops { IfOk result (λ certificate. AreThere (taken intake.now) certificate.drops) }
+    ensures skews { IfOk result (λ certificate. certificate.skews ≡ []) }
 {
     let clients = clients_in(alloc, intake)?;
     let lanes = clients.lanes();
@@ -275,6 +279,7 @@ pub fn find_once(
     ensures lanes { IfOk result (λ certificate. map pair_of certificate.lanes ≡ clients_of (taken intake.now)) }
     ensures events { IfOk result (λ certificate. AllNamed (taken intake.now) certificate.lanes) }
     ensures drops { IfOk result (λ certificate. AreThere (taken intake.now) certificate.drops) }
+    ensures skews { IfOk result (λ certificate. certificate.skews ≡ []) }
 {
     let clients = clients_in(alloc, intake)?;
     let once = in_one_walk(alloc, intake, credentials, &clients)?;
@@ -292,6 +297,7 @@ pub fn find_once_parallel<R: Threads + Sync>(
     ensures lanes { IfOk result (λ certificate. map pair_of certificate.lanes ≡ clients_of (taken intake.now)) }
     ensures events { IfOk result (λ certificate. AllNamed (taken intake.now) certificate.lanes) }
     ensures drops { IfOk result (λ certificate. AreThere (taken intake.now) certificate.drops) }
+    ensures skews { IfOk result (λ certificate. certificate.skews ≡ []) }
 {
     let clients = clients_in(alloc, intake)?;
     let walked = in_one_walk_by(rt, alloc, intake, credentials, &clients, workers)?;
@@ -309,6 +315,7 @@ pub fn find_parallel<R: Threads + Sync>(
     ensures lanes { IfOk result (λ certificate. map pair_of certificate.lanes ≡ clients_of (taken intake.now)) }
     ensures events { IfOk result (λ certificate. AllNamed (taken intake.now) certificate.lanes) }
     ensures drops { IfOk result (λ certificate. AreThere (taken intake.now) certificate.drops) }
+    ensures skews { IfOk result (λ certificate. certificate.skews ≡ []) }
 {
     let clients = clients_in(alloc, intake)?;
     let lanes = clients.lanes();

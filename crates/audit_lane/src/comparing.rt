@@ -4,7 +4,7 @@ ghost use Rattle.std.specs.Prelude.{◌≡◌, ◌↔◌, IsTrue, map};
 ghost use Rattle.audit_lane.specs.Content.{happening, user_of};
 
 use crate::input::LaneEvent;
-use audit_model::{Addr, Policy, PortRange};
+use audit_model::{Addr, InterfaceSkew, Policy, PortRange};
 use audit_rules::CredRow;
 use audit_sightings::Sighting;
 
@@ -16,6 +16,7 @@ pub fn same_policy(one: &Policy, other: &Policy) -> bool
         && one.hold == other.hold
         && same_addresses(one.listen.as_slice(), other.listen.as_slice())
         && same_ranges(one.relay.as_slice(), other.relay.as_slice())
+        && same_skews(one.skews.as_slice(), other.skews.as_slice())
 }
 
 fn same_addresses(one: &[Addr], other: &[Addr]) -> bool
@@ -33,6 +34,20 @@ fn same_addresses(one: &[Addr], other: &[Addr]) -> bool
 }
 
 fn same_ranges(one: &[PortRange], other: &[PortRange]) -> bool
+    ensures { IsTrue result ↔ (one.now ≡ other.now) }
+{
+    if one.len() != other.len() {
+        return false;
+    }
+    for i in 0..one.len() {
+        if one[i] != other[i] {
+            return false;
+        }
+    }
+    true
+}
+
+fn same_skews(one: &[InterfaceSkew], other: &[InterfaceSkew]) -> bool
     ensures { IsTrue result ↔ (one.now ≡ other.now) }
 {
     if one.len() != other.len() {

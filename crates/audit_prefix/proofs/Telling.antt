@@ -12,7 +12,9 @@ use Rattle.audit_model.specs.Least.{IsLeast}
 use Rattle.audit_rules.specs.Keys.{KeyFor}
 use Rattle.audit_sightings.specs.Intake.{Taken}
 use Rattle.audit_placement.specs.Entries.{lane_entries}
+use Rattle.audit_placement.specs.Cuts.{ShowsCut}
 use Rattle.audit_placement.specs.Shows.{Shows, ShowsPlaced, ShowsAnUnplaced}
+use Rattle.audit_placement.proofs.CutSteps.{none_cut}
 use Rattle.audit_server.specs.Step.{Step}
 use Rattle.audit_server.specs.Rules.{Rules}
 use Rattle.audit_model.specs.declared.pair.Pair.{Pair}
@@ -235,9 +237,14 @@ module _ (taken : Taken) (numbered : AreNumbered taken) (key_for : KeyFor) (cert
 
   -- ---- at the end
 
-  least_of_both : ((b : Breach) → ¬ ShowsPlaced taken certificate b) → (first : Option Breach) → IsLeast (ShowsAnUnplaced taken certificate) first → IsLeast (Shows taken certificate) first
-  least_of_both none None h = λ b k. elim k [ inl i ↦ none b i | inr j ↦ h b j ]
-  least_of_both none (Some first) h = (inr h.0, λ b k. elim k [ inl i ↦ absurd (none b i) | inr j ↦ h.1 b j ])
+  is_unplaced : ((b : Breach) → ¬ ShowsPlaced taken certificate b) → ((b : Breach) → ¬ ShowsCut taken certificate b) → (b : Breach) → Shows taken certificate b → ShowsAnUnplaced taken certificate b
+  is_unplaced none uncut b (inl (inl shown)) = absurd (none b shown)
+  is_unplaced none uncut b (inl (inr shown)) = shown
+  is_unplaced none uncut b (inr shown) = absurd (uncut b shown)
+
+  least_of_both : ((b : Breach) → ¬ ShowsPlaced taken certificate b) → certificate.skews ≡ [] → (first : Option Breach) → IsLeast (ShowsAnUnplaced taken certificate) first → IsLeast (Shows taken certificate) first
+  least_of_both none skews None h = λ b k. h b (is_unplaced none (none_cut taken certificate skews) b k)
+  least_of_both none skews (Some first) h = (inl (inr h.0), λ b k. h.1 b (is_unplaced none (none_cut taken certificate skews) b k))
 
   ends_judged : NoneTold → (found : Option Breach) → LeastOf (ForEach (OutcomeOfEnd taken key_for) lanes) found → LeastOf (ForEach (Outcome taken key_for) lanes) found
   ends_judged t found e = record { outcomes = e.outcomes; each = ends_all taken key_for lanes t.outcomes e.outcomes t.walked t.none e.each; least = e.least }
@@ -246,11 +253,11 @@ module _ (taken : Taken) (numbered : AreNumbered taken) (key_for : KeyFor) (cert
   last_phase t None = t.clashes
   last_phase t (Some b) = refl
 
-  pub verdict_at_the_end : LiveBreach taken key_for certificate None → (found : Option Breach) → LeftAtTheEnd taken key_for certificate found → IsVerdict taken key_for certificate found
-  verdict_at_the_end h found (Some b, least, rest) = (Some b, least_of_both (none_told h).placement (Some b) least, rest)
-  verdict_at_the_end h found (None, least, rest) =
+  pub verdict_at_the_end : certificate.skews ≡ [] → LiveBreach taken key_for certificate None → (found : Option Breach) → LeftAtTheEnd taken key_for certificate found → IsVerdict taken key_for certificate found
+  verdict_at_the_end skews h found (Some b, least, rest) = (Some b, least_of_both (none_told h).placement skews (Some b) least, rest)
+  verdict_at_the_end skews h found (None, least, rest) =
       let t : NoneTold = none_told h in
-      (None, least_of_both t.placement None least, (found, ends_judged t found rest, last_phase t found))
+      (None, least_of_both t.placement skews None least, (found, ends_judged t found rest, last_phase t found))
 
   -- ---- a verdict without a breach
 
@@ -258,7 +265,7 @@ module _ (taken : Taken) (numbered : AreNumbered taken) (key_for : KeyFor) (cert
   passes_of_verdict (Some b, least, rest) = absurd (not_some b rest)
   passes_of_verdict (None, least, (Some b, each, rest)) = absurd (not_some b rest)
   passes_of_verdict (None, least, (None, each, rest)) =
-      let placement : (b : Breach) → ¬ ShowsPlaced taken certificate b = λ b k. least b (inl k) in
+      let placement : (b : Breach) → ¬ ShowsPlaced taken certificate b = λ b k. least b (inl (inl k)) in
       record {
         placement = least;
         lanes = runs_all taken key_for 0 certificate.lanes (rise_lanes placement) (once_lanes placement) each.outcomes each.each (all_none taken key_for each.outcomes each.least);
@@ -267,7 +274,7 @@ module _ (taken : Taken) (numbered : AreNumbered taken) (key_for : KeyFor) (cert
 
   pub verdict_of_passes : Passes taken (rules_for taken key_for) certificate → IsVerdict taken key_for certificate None
   verdict_of_passes p =
-      let placement : (b : Breach) → ¬ ShowsPlaced taken certificate b = λ b k. p.placement b (inl k) in (
+      let placement : (b : Breach) → ¬ ShowsPlaced taken certificate b = λ b k. p.placement b (inl (inl k)) in (
         None,
         p.placement,
         (

@@ -67,9 +67,9 @@ pub fn none_told()
         LiveBreach taken key_for certificate None ↔ PassesSoFar taken (rules_for taken key_for) certificate }
 {}
 
-/// Where no breach is told of a certificate as it stands, the verdict is what is left to be asked at the end.
+/// Where no breach is told of a certificate without skews as it stands, the verdict is what is left to be asked at the end.
 pub fn verdict_at_the_end()
-    ensures { (taken : Taken) (key_for : KeyFor) (certificate : Certificate) (found : Option Breach) → AreNumbered taken →
+    ensures { (taken : Taken) (key_for : KeyFor) (certificate : Certificate) (found : Option Breach) → AreNumbered taken → certificate.skews ≡ [] →
         LiveBreach taken key_for certificate None → LeftAtTheEnd taken key_for certificate found → IsVerdict taken key_for certificate found }
 {}
 

@@ -41,6 +41,7 @@ use Rattle.audit_whole.specs.CaptureRun.{rules_for, IsSeen, MayBePlaced}
 use Rattle.audit_whole.specs.Conforms.{Conforms}
 use Rattle.audit_whole.specs.Passes.{Passes}
 use Rattle.audit_whole.proofs.Listing.{joined_is, numbered as lists_numbered, of_pairs, distinct_pairs}
+use Rattle.audit_whole.proofs.Cutting.{within_all, none_cut_of}
 use Rattle.audit_whole.proofs.Placement.{Sound, sound_of, shows_none}
 use Rattle.audit_whole.proofs.Conditions.{ActIsSeen, along_all, seen_all, ends_all, rise_all, count_all, sound_from}
 
@@ -169,6 +170,7 @@ module _ (taken : Taken) (numbered : AreNumbered taken) (key_for : KeyFor) (cert
           rise = rise;
           ends = ends_all taken numbered certificate s;
           meet = meet_in_lanes (glued certificate) home;
+          cuts = within_all taken certificate.skews (entries certificate) (λ b shown. p.placement b (inr shown));
         };
         run = record {
           placed = glued_count;
@@ -205,7 +207,7 @@ module _ (taken : Taken) (numbered : AreNumbered taken) (key_for : KeyFor) (cert
       (subst (λ (es : List Placed). InOneLane (sorted es)) (sym (joined_is certificate)) home)
       (subst (λ (es : List Placed). IsRun w (map step_of (sorted es))) (sym (joined_is certificate)) c.run.run) in
       record {
-        placement = shows_none taken numbered certificate s;
+        placement = shows_none taken numbered certificate s (none_cut_of taken certificate.skews (entries certificate) c.conditions.cuts);
         lanes = all_left (λ (l : List Placed). IsRun w (map step_of l)) (lanes_from 0 certificate.lanes) (the_drops certificate ∷ []) both.0;
         tenancies = nowhere_to (all_tenancies w (lanes_from 0 certificate.lanes)) (subst ClashNowhere (lane_tenancies w certificate) both.1);
       }

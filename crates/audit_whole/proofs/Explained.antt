@@ -1,11 +1,12 @@
 -- Every run that explains the captures is a conforming certificate that has a spelling.
-use Rattle.std.proofs.Common.{◌≡◌, ◌≤◌, ℕ, Bool, true, false, cond, List, length, map, sym, subst, arith}
+use Rattle.std.proofs.Common.{◌≡◌, ◌≤◌, ℕ, Bool, true, false, cond, List, [], length, map, sym, subst, arith}
 use Rattle.std.specs.Prelude.{is_some}
 use Rattle.std.specs.List.{AllByRecursion}
 use Rattle.audit_model.specs.declared.certificate.Certificate.{Certificate}
 use Rattle.audit_model.specs.declared.sighting.SightId.{SightId}
 use Rattle.audit_model.specs.Policy.{AreApart}
-use Rattle.audit_cert.specs.Fits.{LaneFits, DropFits, IsCertificate}
+use Rattle.audit_cert.specs.Fits.{LaneFits, DropFits, SkewFits, IsCertificate}
+use Rattle.audit_cert.specs.Spelling.{said_by}
 use Rattle.audit_sightings.specs.Intake.{Taken, sighting_at}
 use Rattle.audit_rules.specs.Keys.{KeyFor}
 use Rattle.audit_server.specs.Acting.{acting_pairs}
@@ -44,7 +45,7 @@ module _ (taken : Taken) (key_for : KeyFor) (steps : List Step) (apart : AreApar
   drops : AllByRecursion DropFits (map drop_of (of_lane (length (acting_pairs steps)) (tagged (lane_of_move steps) 0 steps)))
   drops = drops_fit (length (acting_pairs steps)) listed fit
 
-  pub explained : (c : Certificate) × Conforms taken (rules_for taken key_for) c × (glued_steps c ≡ steps) × IsCertificate (record { lanes = c.lanes; drops = c.drops })
+  pub explained : (c : Certificate) × Conforms taken (rules_for taken key_for) c × (glued_steps c ≡ steps) × IsCertificate (said_by c) × (c.skews ≡ [])
   explained =
       let w = all_written taken apart key_for steps r.run once few_clients (omega (arith, few)) r.order in
       let c : Certificate = w.0 in (
@@ -57,5 +58,9 @@ module _ (taken : Taken) (key_for : KeyFor) (steps : List Step) (apart : AreApar
           distinct = c.distinct;
           few_lanes = c.few_lanes;
           few_events = c.few_events;
+          skews = subst (AllByRecursion SkewFits) (sym w.5) tt;
+          rising = c.rising;
+          few_skews = c.few_skews;
         },
+        w.5,
       )

@@ -1,6 +1,7 @@
 pub mod Listing
 pub mod Placement
 pub mod Conditions
+pub mod Cutting
 pub mod Conforming
 pub mod Held
 pub mod Saying

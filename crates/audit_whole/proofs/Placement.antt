@@ -25,6 +25,7 @@ use Rattle.audit_placement.specs.Checks.{Check, IsOneOf, event_checks, checks, f
 use Rattle.audit_placement.specs.Clean.{IsFine, IsClean, times_placed, one_if}
 use Rattle.audit_placement.specs.Entries.{entries}
 use Rattle.audit_placement.specs.FirstPlace.{places, first_place, is_placed}
+use Rattle.audit_placement.specs.Cuts.{ShowsCut}
 use Rattle.audit_placement.specs.Shows.{Shows, ShowsFrom}
 use Rattle.audit_placement.proofs.CleanSteps.{clean_shows_nothing, times_cons, times_append}
 use Rattle.audit_placement.proofs.FirstPush.{same_is}
@@ -159,7 +160,7 @@ contained_at row x c = (c.0, slice_get-get_or row c.0 x c.1 ∙ ap Some c.2)
 module _ (taken : Taken) (numbered : AreNumbered taken) (certificate : Certificate) where
   pub sound_of : ((b : Breach) → ¬ Shows taken certificate b) → Sound taken (entries certificate)
   sound_of f =
-      let all : AllFrom taken [] (entries certificate) = unshown taken [] (entries certificate) (λ b k. f b (inl (inl k))) in
+      let all : AllFrom taken [] (entries certificate) = unshown taken [] (entries certificate) (λ b k. f b (inl (inl (inl k)))) in
       let own : AllByRecursion (OwnSound taken) (entries certificate) = own_all taken [] (entries certificate) all in
       record {
         own = own;
@@ -169,7 +170,7 @@ module _ (taken : Taken) (numbered : AreNumbered taken) (certificate : Certifica
           | false ↦ λ q.
               let next : SightId = record { iface = iface; index = index + 1 } in
               let x = has (sighting_at taken next) (placed_there taken (entries certificate) next own (is_there (first_place (entries certificate) next) at k)) in
-              absurd (f (breach_at at InterfaceOrder next) (inl (inr (
+              absurd (f (breach_at at InterfaceOrder next) (inl (inl (inr (
                 iface,
                 record {
                   index = index;
@@ -181,14 +182,14 @@ module _ (taken : Taken) (numbered : AreNumbered taken) (certificate : Certifica
                   not_greater = q;
                   told = refl;
                 },
-              ))))
+              )))))
         ] refl;
         all = λ s h. elim (is_some (first_place (entries certificate) s)) as (λ b. is_some (first_place (entries certificate) s) ≡ b → b ≡ true) [
           | true ↦ λ q. refl
           | false ↦ λ q.
               let x = has (sighting_at taken s) h in
               let id : x.0.id ≡ s = numbered s.iface s.index x.0 (in_row taken s x.0 x.1) in
-              absurd (f (breach_at (record { key = record { moment = x.0.stamp; tie = 0 }; lane = length certificate.lanes; place = length certificate.drops }) Unplaced x.0.id) (inr (
+              absurd (f (breach_at (record { key = record { moment = x.0.stamp; tie = 0 }; lane = length certificate.lanes; place = length certificate.drops }) Unplaced x.0.id) (inl (inr (
                 s.iface,
                 record {
                   sighting = x.0;
@@ -196,7 +197,7 @@ module _ (taken : Taken) (numbered : AreNumbered taken) (certificate : Certifica
                   nowhere = ap (first_place (entries certificate)) id ∙ no (first_place (entries certificate) s) q;
                   told = refl;
                 },
-              )))
+              ))))
         ] refl;
       } where
         no : {A : Type 0} (o : Option A) → is_some o ≡ false → o ≡ None
@@ -244,9 +245,10 @@ module _ (taken : Taken) (numbered : AreNumbered taken) (certificate : Certifica
         ap (λ x. is_gt (key_cmp x before)) (sym a.2) ∙ ap (λ x. is_gt (key_cmp a.0.key x)) (sym b.2) ∙ sound.order iface index b.0 a.0 b.1 a.1;
   }
 
-  pub shows_none : Sound taken (entries certificate) → (b : Breach) → ¬ Shows taken certificate b
-  shows_none sound b (inl shown) = clean_shows_nothing taken noted certificate (clean sound) b shown
-  shows_none sound b (inr (iface, u)) =
+  pub shows_none : Sound taken (entries certificate) → ((b : Breach) → ¬ ShowsCut taken certificate b) → (b : Breach) → ¬ Shows taken certificate b
+  shows_none sound uncut b (inr shown) = uncut b shown
+  shows_none sound uncut b (inl (inl shown)) = clean_shows_nothing taken noted certificate (clean sound) b shown
+  shows_none sound uncut b (inl (inr (iface, u))) =
       let c = contained_at (interface_at taken iface) u.sighting u.there in
       let id : u.sighting.id ≡ record { iface = iface; index = c.0 } = numbered iface c.0 u.sighting c.1 in
       let there : is_some (sighting_at taken (record { iface = iface; index = c.0 })) ≡ true = is_there (sighting_at taken (record { iface = iface; index = c.0 })) u.sighting (of_row taken iface c.0 u.sighting c.1) in

@@ -17,7 +17,7 @@ use Rattle.audit_model.specs.Policy.{AreApart}
 use Rattle.audit_sightings.specs.Intake.{Taken, sighting_at}
 use Rattle.audit_placement.specs.declared.entry.Entry.{Entry}
 use Rattle.audit_model.specs.declared.pair.Pair.{Pair}
-use Rattle.audit_placement.specs.Entries.{entries_from, lane_entries, lanes_entries, drop_entries, arrival_of}
+use Rattle.audit_placement.specs.Entries.{entries, entries_from, lane_entries, lanes_entries, drop_entries, arrival_of}
 use Rattle.audit_server.specs.Step.{Step, Move, In, Act, Out}
 use Rattle.audit_server.specs.Rules.{Rules}
 use Rattle.audit_server.specs.State.{State, at_first, after}
@@ -36,6 +36,7 @@ use Rattle.audit_server.proofs.Sorting.{all_of_sorted}
 use Rattle.audit_server.proofs.Meeting.{meet_in_lanes}
 use Rattle.audit_server.proofs.Once.{splits_all, ins, outs, both_counts, in_once, out_once, leaves, given_owes, fold_cut, run_cut}
 use Rattle.audit_whole.specs.Glued.{placed_of, lanes_from, by_lane, all_placed, glued, glued_steps}
+use Rattle.audit_whole.proofs.Cutting.{all_free}
 use Rattle.audit_whole.proofs.Listing.{joined_is}
 use Rattle.audit_whole.proofs.Writing.{lane_at, home_in, lane_of_move, tagged, placing, bump, count_from, event_by, event_of, arrival, drop_of, cert_lanes, distinct_acting, get_place, tagged_plain, tagged_all, all_placing, steps_placing, of_placing, placing_rises, both_all, follow_diag, follow_both, split_of_run_steps, any_split, named_at, there_at, Fine, gave_at, fine, parts, lists_are, sorted_parts, pairs_are, distinct_back}
 use Rattle.audit_rules.specs.Keys.{KeyFor}
@@ -254,6 +255,9 @@ module _ (taken : Taken) (apart : AreApart taken.policy) (key_for : KeyFor) wher
         distinct = distinct_back (cert_lanes 0 PS ES) (subst (IsDistinct same_client) (sym (pairs_are 0 PS ES)) (distinct_acting steps));
         few_lanes = subst (λ (m : ℕ). m ≤ 65536) (sym (count_lanes 0 PS)) few_clients;
         few_events = all_events;
+        skews = [];
+        rising = refl;
+        few_skews = omega arith;
       }
 
       lists : by_lane the_certificate ≡ parts 0 PS FS
@@ -281,8 +285,10 @@ module _ (taken : Taken) (apart : AreApart taken.policy) (key_for : KeyFor) wher
                 (lanes_ends 0 PS (λ i p k. subst (λ (m : ℕ). slice_get PS m ≡ Some p) (omega arith) k))
                 (drops_ends (length (cert_lanes 0 PS ES)) 0 None (map arrival_of (map drop_of (of_lane (length PS) ES))));
             meet = meet_in_lanes (glued the_certificate) (subst InOneLane (sym glued_is) (home_in steps, at_home));
+            cuts = all_free taken (entries the_certificate);
           }
 
       pub all_written : KeepOrder steps → (c : Certificate) × LaneConditions taken c × (glued_steps c ≡ steps)
           × (c.lanes ≡ cert_lanes 0 (acting_pairs steps) (tagged (lane_of_move steps) 0 steps)) × (c.drops ≡ map drop_of (of_lane (length (acting_pairs steps)) (tagged (lane_of_move steps) 0 steps)))
-      all_written order = (the_certificate, conditions order, steps_are, refl, refl)
+          × (c.skews ≡ [])
+      all_written order = (the_certificate, conditions order, steps_are, refl, refl, refl)

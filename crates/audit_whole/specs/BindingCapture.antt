@@ -21,7 +21,7 @@ the_pair = record { client = the_client; listen = the_server }
 
 -- with the default tolerances, in nanoseconds
 abbrev pub the_policy : Policy
-the_policy = record { listen = the_server ∷ []; relay = []; skew = 500000; grace = 1000000000; hold = 2000000000 }
+the_policy = record { listen = the_server ∷ []; relay = []; skew = 500000; skews = []; grace = 1000000000; hold = 2000000000 }
 
 -- the type, the length, the cookie, the transaction id
 abbrev pub request_payload : List ℕ

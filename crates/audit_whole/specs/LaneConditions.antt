@@ -1,6 +1,7 @@
 -- What is asked of a certificate beside the run: in which lane each event stands, and in which order.
-use Rattle.std.specs.Prelude.{◌≡◌, Option, Some, None, IsTrue}
+use Rattle.std.specs.Prelude.{◌≡◌, ◌≤◌, ℕ, List, Option, Some, None, IsTrue}
 use Rattle.std.specs.List.{AllByRecursion}
+use Rattle.audit_model.specs.declared.certificate.CertSkew.{CertSkew}
 use Rattle.audit_model.specs.declared.certificate.Certificate.{Certificate}
 use Rattle.audit_model.specs.declared.event.Event.{Event}
 use Rattle.audit_model.specs.declared.event.Event.TheVariants.{In, Act, Out}
@@ -11,6 +12,8 @@ use Rattle.audit_model.specs.declared.sighting.Side.TheVariants.{Arrives, Leaves
 use Rattle.audit_model.specs.declared.sighting.Sighting.{Sighting}
 use Rattle.audit_model.specs.Lanes.{same_pair}
 use Rattle.audit_model.specs.Policy.{listens}
+use Rattle.audit_model.specs.Skews.{nanoseconds_of, skew_of}
+use Rattle.audit_model.specs.Window.{first_moment, last_moment}
 use Rattle.audit_sightings.specs.Intake.{Taken, sighting_at}
 use Rattle.audit_placement.specs.declared.entry.Entry.{Entry}
 use Rattle.audit_placement.specs.Entries.{entries}
@@ -31,10 +34,23 @@ AreAtEnds taken (Some pair) (In sight key) = (s : Sighting) → sighting_at take
 AreAtEnds taken (Some pair) (Act sight gives key) = Unit {0}
 AreAtEnds taken (Some pair) (Out sight key) = (s : Sighting) → sighting_at taken sight ≡ Some s → IsAtEnds taken.policy pair Leaves s
 
+-- the moment is in the window that the certificate's skew of the interface gives the stamp, where it has one
+abbrev pub IsWithinSkew : Option ℕ → ℕ → Sighting → Type 0
+IsWithinSkew None moment s = Unit {0}
+IsWithinSkew (Some microseconds) moment s =
+    (first_moment s.stamp (nanoseconds_of microseconds) ≤ moment) × (moment ≤ last_moment s.stamp (nanoseconds_of microseconds))
+
+-- of what comes in or leaves
+abbrev pub AreWithinSkew : Taken → List CertSkew → Event → Type 0
+AreWithinSkew taken skews (In sight key) = (s : Sighting) → sighting_at taken sight ≡ Some s → IsWithinSkew (skew_of skews sight.iface) key.moment s
+AreWithinSkew taken skews (Act sight gives key) = Unit {0}
+AreWithinSkew taken skews (Out sight key) = (s : Sighting) → sighting_at taken sight ≡ Some s → IsWithinSkew (skew_of skews sight.iface) key.moment s
+
 -- Keys rise along each interface, in each lane and in the drops; a lane's datagrams are its client's; an act stands in its
--- arrival's lane, and a departure in the lane of its act.
+-- arrival's lane, and a departure in the lane of its act; and moments lie within the skews that the certificate itself has.
 pub record LaneConditions (taken : Taken) (certificate : Certificate) : Type 0 where
   pub along : KeysFollow (all_placed certificate)
   pub rise : AllByRecursion Rises (by_lane certificate)
   pub ends : AllByRecursion (λ (e : Entry). AreAtEnds taken e.pair e.event) (entries certificate)
   pub meet : MeetInLanes (glued certificate)
+  pub cuts : AllByRecursion (λ (e : Entry). AreWithinSkew taken certificate.skews e.event) (entries certificate)

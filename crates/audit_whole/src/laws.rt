@@ -1,6 +1,6 @@
 //! What holds of every certificate, by the definitions alone. No program calls these.
 
-ghost use Rattle.std.specs.Prelude.{◌≡◌, ◌≢◌, ◌≤◌, ◌↔◌, ◌++◌, ◌∷◌, ℕ, List, Some, IsTrue, length};
+ghost use Rattle.std.specs.Prelude.{◌≡◌, ◌≢◌, ◌≤◌, ◌↔◌, ◌++◌, ◌∷◌, ℕ, List, [], Some, IsTrue, length};
 ghost use Rattle.std.specs.List.{AllByRecursion};
 ghost use Rattle.audit_model.specs.declared.address.Addr.{Addr};
 ghost use Rattle.audit_model.specs.declared.certificate.Certificate.{Certificate};
@@ -11,6 +11,7 @@ ghost use Rattle.audit_model.specs.declared.sighting.SightId.{SightId};
 ghost use Rattle.audit_model.specs.declared.sighting.Sighting.{Sighting};
 ghost use Rattle.audit_model.specs.Policy.{AreApart, relays};
 ghost use Rattle.audit_cert.specs.Fits.{IsCertificate};
+ghost use Rattle.audit_cert.specs.Spelling.{said_by};
 ghost use Rattle.audit_rules.specs.Keys.{KeyFor};
 ghost use Rattle.audit_sightings.specs.Bounds.{IsBounded};
 ghost use Rattle.audit_sightings.specs.Intake.{Taken, AreNumbered, sighting_at, taken as taken_of};
@@ -72,13 +73,13 @@ pub fn headline()
 {}
 
 /// Every run that explains the captures, of no more clients than a certificate has lanes, is the glued list of a certificate
-/// that conforms and has a spelling: that a certificate is asked for excludes no run. `read_policy` gives policies whose listen
+/// without skews that conforms and has a spelling: that a certificate is asked for excludes no run. `read_policy` gives policies whose listen
 /// addresses are in no relay range.
 pub fn written()
     ensures { (taken : Taken) (key_for : KeyFor) (steps : List Step) → AreApart taken.policy → IsBounded taken →
         IsCaptureRun taken (rules_for taken key_for) steps → length (acting_pairs steps) ≤ MAX_LANES →
         (certificate : Certificate) × Conforms taken (rules_for taken key_for) certificate × (glued_steps certificate ≡ steps)
-        × IsCertificate (record { lanes = certificate.lanes; drops = certificate.drops }) }
+        × IsCertificate (said_by certificate) × (certificate.skews ≡ []) }
 {}
 
 /// So it is for whatever an intake has taken in: its limits hold.
@@ -86,7 +87,7 @@ pub fn written_of_intake(intake: &Intake)
     ensures { let taken = taken_of intake.now in (key_for : KeyFor) (steps : List Step) →
         AreApart taken.policy → IsCaptureRun taken (rules_for taken key_for) steps → length (acting_pairs steps) ≤ MAX_LANES →
         (certificate : Certificate) × Conforms taken (rules_for taken key_for) certificate × (glued_steps certificate ≡ steps)
-        × IsCertificate (record { lanes = certificate.lanes; drops = certificate.drops }) }
+        × IsCertificate (said_by certificate) × (certificate.skews ≡ []) }
 {
     written();
     sightings_are_bounded(intake);
