@@ -32,6 +32,7 @@ test:
 	python3 tests/hostile.py $(PROGRAM)
 	python3 tests/handed_on.py $(PROGRAM)
 	python3 tests/sha256.py $(PROGRAM)
+	python3 tests/skews.py $(PROGRAM)
 	python3 tests/live.py $(PROGRAM)
 	tests/no_memory.sh $(PROGRAM)
 	python3 tests/fuzz.py $(PROGRAM) --seconds 20 --seed 1 examples/*

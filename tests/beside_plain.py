@@ -146,8 +146,8 @@ def compare(program, workers, case, folder):
         return None
     policy = read_policy(folder / "policy")
     keys = read_credentials(folder / "creds" if case.users is not None else None)
-    lanes, drops = read_certificate(case.certificate)
-    plain = report(Checker(policy, keys, sightings_of(policy, case.captures), lanes, drops))
+    judged = read_certificate(case.certificate)
+    plain = report(Checker(policy, keys, sightings_of(policy, case.captures), *judged))
     return (ran.stdout, ran.returncode), plain
 
 

@@ -25,6 +25,7 @@ LANE = "lane 198.51.100.7:40000 192.0.2.1:3478\n"
 EVENTS = "in 0.0 1000000 0\nact 0.0 0.1 1000000 1\nout 0.1 1500000 0\n"
 CERTIFICATE = f"turnaudit-certificate 1\n{LANE}{EVENTS}end\n"
 EMPTY = "turnaudit-certificate 1\nend\n"
+SECOND_POLICY = POLICY.replace("turnaudit-policy 1", "turnaudit-policy 2")
 CONFORMING = "turnaudit-report 1\nconforming 2 datagrams 1 lanes\n"
 NOT_SHOWN = "turnaudit-report 1\nnot shown\n"
 OTHER_ADDRESS = (
@@ -93,6 +94,11 @@ def not_an_answer(size):
     return 1, NOT_SHOWN + f"rule R1 not an answer\nphase 2 lane 0 event 1 moment 1000000 tie 1\ndatagram 0.0 198.51.100.7:40000 to 192.0.2.1:3478 {size} bytes\n"
 
 
+def skewed(skew):
+    """The certificate with the skew of an interface."""
+    return CERTIFICATE.replace("turnaudit-certificate 1\n", f"turnaudit-certificate 2\nskew {skew}\n")
+
+
 def refused(code, what="capture 0"):
     return 2, f"turnaudit: refused {code} in {what}\n"
 
@@ -130,6 +136,14 @@ EDGES = [
     ("skew past a minute", CAPTURE, CERTIFICATE, POLICY + "skew-us 60000001\n", refused("P5", "policy line 4")),
     ("skew past 64 bits", CAPTURE, CERTIFICATE, POLICY + "skew-us 18446744073709551616\n", refused("P2", "policy line 4")),
     ("skew no number", CAPTURE, CERTIFICATE, POLICY + "skew-us x\n", refused("P1", "policy line 4")),
+    ("greatest interface", CAPTURE, CERTIFICATE, SECOND_POLICY + "skew-of 4294967295 60000000\n", (0, CONFORMING)),
+    ("interface past 32 bits", CAPTURE, CERTIFICATE, SECOND_POLICY + "skew-of 4294967296 0\n", refused("P2", "policy line 4")),
+    ("interface's skew past a minute", CAPTURE, CERTIFICATE, SECOND_POLICY + "skew-of 0 60000001\n", refused("P5", "policy line 4")),
+    ("interface's skew past 64 bits", CAPTURE, CERTIFICATE, SECOND_POLICY + "skew-of 0 18446744073709551616\n", refused("P2", "policy line 4")),
+    ("greatest skew of a certificate", CAPTURE, skewed("0 18446744073709551615"), POLICY, (0, CONFORMING)),
+    ("greatest interface of a certificate", CAPTURE, skewed("4294967295 0"), POLICY, (0, CONFORMING)),
+    ("interface of a certificate past 32 bits", CAPTURE, skewed("4294967296 0"), POLICY, refused("T3", "certificate line 2")),
+    ("skew of a certificate past 64 bits", CAPTURE, skewed("0 18446744073709551616"), POLICY, refused("T3", "certificate line 2")),
 ]
 
 

@@ -19,8 +19,9 @@ RANKS = {rule: rank for rank, rule in enumerate(TEXTS)}
 class Checker:
     """What is judged, and the breaches so far as (moment, tie, lane, rank, place, sight)."""
 
-    def __init__(self, policy, keys, sightings, lanes, drops):
-        self.policy, self.keys, self.sightings, self.lanes, self.drops = policy, keys, sightings, lanes, drops
+    def __init__(self, policy, keys, sightings, lanes, drops, skews):
+        self.policy, self.keys, self.sightings = policy, keys, sightings
+        self.lanes, self.drops, self.skews = lanes, drops, skews
 
     def rows(self):
         """Each lane's events, and the drops as a lane behind the others."""
@@ -77,8 +78,9 @@ class Checker:
             yield from self.faults_of_one(lane, event, sight, seen[0])
 
     def faults_of_one(self, lane, event, sight, sighting):
-        low, high = max(0, sighting.stamp - self.policy.skew), up_to(sighting.stamp + self.policy.skew)
-        if not low <= event.key[0] <= high:
+        skew = self.policy.skew_for(sight[0])
+        skew = min(skew, self.skews.get(sight[0], skew))
+        if not max(0, sighting.stamp - skew) <= event.key[0] <= up_to(sighting.stamp + skew):
             yield "S4", sight
         if lane == len(self.lanes):
             return

@@ -33,6 +33,7 @@ class Policy:
     listen: list = field(default_factory=list)
     relay: list = field(default_factory=list)
     skew: int = 500_000
+    skews: dict = field(default_factory=dict)
     grace: int = 1_000_000_000
     hold: int = 2_000_000_000
 
@@ -42,6 +43,9 @@ class Policy:
     def relays(self, endpoint):
         return any(ip == endpoint[0] and low <= endpoint[1] <= high for ip, low, high in self.relay)
 
+    def skew_for(self, interface):
+        return self.skews.get(interface, self.skew)
+
     def serves(self, endpoint):
         return self.listens(endpoint) or self.relays(endpoint)
 
@@ -49,13 +53,16 @@ class Policy:
 def read_policy(path):
     policy = Policy()
     for line in path.read_text().splitlines()[1:]:
-        word, value = line.split(" ")
+        word, value = line.split(" ", 1)
         if word == "listen":
             policy.listen.append(address(value))
         elif word == "relay":
             ip, ports = value.split(":")
             low, high = ports.split("-")
             policy.relay.append((number_of_ip(ip), int(low), int(high)))
+        elif word == "skew-of":
+            interface, skew = value.split(" ")
+            policy.skews[int(interface)] = int(skew) * 1_000
         else:
             name, unit = {"skew-us": ("skew", 1_000), "grace-ms": ("grace", 1_000_000), "hold-ms": ("hold", 1_000_000)}[word]
             setattr(policy, name, int(value) * unit)
@@ -88,16 +95,19 @@ class Lane:
 
 
 def read_certificate(text):
-    """Lanes and drops."""
-    lanes, drops = [], []
+    """Lanes and drops, and the skew in nanoseconds of each interface that has one."""
+    lanes, drops, skews = [], [], {}
     for line in text.splitlines()[1:-1]:
         kind, *words = line.split(" ")
+        if kind == "skew":
+            skews[int(words[0])] = up_to(int(words[1]) * 1_000)
+            continue
         if kind == "lane":
             lanes.append(Lane(address(words[0]), address(words[1])))
             continue
         sights = tuple(tuple(int(part) for part in word.split(".")) for word in words[:-2])
         (drops if kind == "drop" else lanes[-1].events).append(Event(kind, sights, (int(words[-2]), int(words[-1]))))
-    return lanes, drops
+    return lanes, drops, skews
 
 
 @dataclass

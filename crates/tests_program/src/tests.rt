@@ -15,6 +15,7 @@ mod openings;
 mod permissions;
 mod relays;
 mod sessions;
+mod skews;
 mod words;
 
 use captures::{SECTION, binding_capture, binding_parts};
@@ -227,7 +228,7 @@ fn policies_are_refused_by_number_and_line(rt: HostRuntime) -> Result<(), Fail> 
     for (policy, expected) in [
         ("", "turnaudit: refused P1 in policy line 1\n"),
         (
-            "turnaudit-policy 2\n",
+            "turnaudit-policy 3\n",
             "turnaudit: refused P1 in policy line 1\n",
         ),
         (

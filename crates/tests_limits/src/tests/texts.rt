@@ -1,6 +1,6 @@
 //! A policy, a certificate and credentials as large as they may be.
 
-use audit_cert::CertificateReader;
+use audit_cert::{CertFault, CertFaultKind, CertificateReader};
 use audit_keys::{CredFault, CredFaultKind, CredentialsReader};
 use audit_model::{PolicyFault, PolicyFaultKind, read_policy};
 use std::alloc::{AllocError, Global};
@@ -37,6 +37,63 @@ fn policy_of_128_endpoints(rt: HostRuntime) -> Result<(), Fail> {
     };
     assert_eq!(rt;
         read_policy(rt.alloc(), text.as_bytes()).err(),
+        Some(refused)
+    );
+    Ok(())
+}
+
+/// A policy with so many skews of interfaces.
+fn skews_text(alloc: Global, skews: u32) -> Result<String, AllocError> {
+    let mut text = String::from_str(alloc, "turnaudit-policy 2\nlisten 192.0.2.1:3478\n")?;
+    for number in 0..skews {
+        writeln!(text, "skew-of {number} {number}")?;
+    }
+    Ok(text)
+}
+
+#[test]
+fn policy_of_1024_skews(rt: HostRuntime) -> Result<(), Fail> {
+    let text = skews_text(rt.alloc(), 1_024)?;
+    let policy = read_policy(rt.alloc(), text.as_bytes())?;
+    assert_eq!(rt; policy.skews.len(), 1_024);
+    assert_eq!(rt; policy.skew_for(1_023), 1_023_000);
+    assert_eq!(rt; policy.skew_for(1_024), 500_000);
+    let text = skews_text(rt.alloc(), 1_025)?;
+    let refused = PolicyFault {
+        kind: PolicyFaultKind::Limit,
+        line: 1_027,
+    };
+    assert_eq!(rt;
+        read_policy(rt.alloc(), text.as_bytes()).err(),
+        Some(refused)
+    );
+    Ok(())
+}
+
+/// A certificate with so many skews, and nothing else.
+fn cut_text(alloc: Global, skews: u32) -> Result<String, AllocError> {
+    let mut text = String::from_str(alloc, "turnaudit-certificate 2\n")?;
+    for number in 0..skews {
+        writeln!(text, "skew {number} {number}")?;
+    }
+    text.push_str("end\n")?;
+    Ok(text)
+}
+
+#[test]
+fn certificate_of_1024_skews(rt: HostRuntime) -> Result<(), Fail> {
+    let text = cut_text(rt.alloc(), 1_024)?;
+    let certificate = audit_cert::read(rt.alloc(), text.as_bytes())?;
+    assert_eq!(rt; certificate.skews.len(), 1_024);
+    assert_eq!(rt; certificate.skew_of(1_023), Some(1_023));
+    assert_eq!(rt; certificate.skew_of(1_024), None);
+    let text = cut_text(rt.alloc(), 1_025)?;
+    let refused = CertFault {
+        kind: CertFaultKind::Limit,
+        line: 1_026,
+    };
+    assert_eq!(rt;
+        audit_cert::read(rt.alloc(), text.as_bytes()).err(),
         Some(refused)
     );
     Ok(())

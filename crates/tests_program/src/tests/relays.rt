@@ -7,7 +7,7 @@ use std::alloc::Global;
 use std::test::Fail;
 
 /// The client's datagrams up to a Send of `hello`, and the relayed datagram by a clock that is 400 microseconds early.
-const SENT: &str =
+pub const SENT: &str =
     "2d2d7207552ba149a78916e496393f2c18c1456f 8f4e8ba358e0fcd8fa9f14f364132ea7d836006d";
 
 /// A session with a challenge, an allocation and a permission.

@@ -46,6 +46,8 @@ pub struct Session {
     /// What is seen between the server and peers, where that has a capture of its own.
     peers: Option<Capture>,
     peer_count: u32,
+    /// The certificate's heading, and its skews where it has some.
+    pub front: &'static str,
     certificate: String,
 }
 
@@ -60,10 +62,8 @@ impl Session {
             client_count: 0,
             peers: None,
             peer_count: 0,
-            certificate: String::from_str(
-                alloc,
-                "turnaudit-certificate 1\nlane 198.51.100.7:40000 192.0.2.1:3478\n",
-            )?,
+            front: "turnaudit-certificate 1\n",
+            certificate: String::from_str(alloc, "lane 198.51.100.7:40000 192.0.2.1:3478\n")?,
         })
     }
 

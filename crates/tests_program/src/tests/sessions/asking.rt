@@ -56,7 +56,7 @@ impl Session {
 
     /// What `check` answers to the session.
     pub fn answer(&self, rt: &(impl Threads + Wait + Sync)) -> Result<Answer, AllocError> {
-        let certificate = format!(in self.alloc; "{}end\n", self.certificate)?;
+        let certificate = format!(in self.alloc; "{}{}end\n", self.front, self.certificate)?;
         self.answer_by(rt, certificate.as_str())
     }
 
