@@ -1,29 +1,14 @@
 -- What a certificate keeps of what is found.
-use Rattle.std.proofs.Common.{◌≡◌, ◌≤◌, ℕ, false, List, [], ◌∷◌, All, length, map, take, drop, refl, ap, arith}
-use Rattle.std.specs.Cmp.{IsEquivalence}
+use Rattle.std.proofs.Common.{◌≡◌, false, List, [], ◌∷◌, All, length, map, refl, ap, arith}
 use Rattle.std.specs.List.{IsDistinct, AllByRecursion}
-use Rattle.std.proofs.lemmas.List.{length-drop, length-take}
-use Rattle.std.proofs.lemmas.Cmp.{on_equiv, and_equiv}
 use Rattle.std.proofs.lemmas.List.Sums.{sum_by-cons}
 use Rattle.std.proofs.lemmas.List.Elements.{All-nil, All-cons}
-use Rattle.indexmap.proofs.MapLemmas.{distinct-take, distinct-drop}
 use Rattle.audit_model.specs.declared.certificate.CertLane.{CertLane}
 use Rattle.audit_model.specs.EventCount.{event_count}
 use Rattle.audit_model.specs.Lanes.{same_lane}
-use Rattle.audit_model.proofs.Apart.{same_addr_equiv}
 use Rattle.audit_sightings.specs.Intake.{Taken, NamesWhatIsThere}
-use Rattle.audit_finder.specs.Clients.{Pair, same}
+use Rattle.audit_clients.specs.Clients.{Pair, same}
 use Rattle.audit_finder.specs.Found.{pair_of, empty_lane, AllNamed}
-
-pub same_equiv : IsEquivalence same
-same_equiv = and_equiv (on_equiv (λ (p : Pair). p.0) same_addr_equiv) (on_equiv (λ (p : Pair). p.1) same_addr_equiv)
-
--- some of the pairs are apart where all are
-pub kept_apart : (first count : ℕ) (pairs : List Pair) → IsDistinct same pairs → IsDistinct same (drop first (take count pairs))
-kept_apart first count pairs apart = distinct-drop same_equiv first (take count pairs) (distinct-take same_equiv count pairs apart)
-
-pub kept_few : (first count : ℕ) (pairs : List Pair) → length (drop first (take count pairs)) ≤ count
-kept_few first count pairs = omega (arith, length-drop first (take count pairs), length-take count pairs)
 
 other_lanes : (lane : CertLane) (lanes : List CertLane) → AllByRecursion (λ p. same (pair_of lane) p ≡ false) (map pair_of lanes)
     → AllByRecursion (λ other. same_lane lane other ≡ false) lanes

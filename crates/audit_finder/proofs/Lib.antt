@@ -1,5 +1,2 @@
-mod Joining
 mod LaneEvents
 mod Found
-mod Places
-mod PairPlaces

@@ -1,3 +1,1 @@
-pub mod Clients
 pub mod Found
-pub mod Pairs

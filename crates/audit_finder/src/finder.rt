@@ -4,17 +4,15 @@ ghost use Rattle.std.specs.Prelude.{◌≡◌, ◌≤◌, [], take, drop, length
 ghost use Rattle.std.specs.List.{IsDistinct};
 ghost use Rattle.audit_sightings.specs.Intake.{taken, NamesWhatIsThere};
 ghost use Rattle.audit_model.specs.declared.certificate.TheConstants.{MAX_LANES};
-ghost use Rattle.audit_finder.specs.Clients.{same, with_new, row_lengths};
+ghost use Rattle.audit_clients.specs.Clients.{same, with_new, row_lengths};
 ghost use Rattle.audit_finder.specs.Found.{AreThere};
 
-use crate::clients::Clients;
 use crate::finding::extension;
-use crate::judge::Judge;
-use crate::portion::Portion;
-use crate::search::Search;
+use audit_clients::Clients;
 use audit_keys::Credentials;
 use audit_model::{Extension, Listed};
 use audit_sightings::Intake;
+use audit_walk::{Judge, Search};
 use std::alloc::{AllocError, Global};
 
 /// What was found so far of captures that grow.

@@ -5,20 +5,18 @@ ghost use Rattle.std.specs.List.{IsDistinct};
 ghost use Rattle.audit_model.specs.EventCount.{event_count};
 ghost use Rattle.audit_model.specs.declared.certificate.TheConstants.{MAX_LANES, MAX_EVENTS};
 ghost use Rattle.audit_sightings.specs.Intake.{Taken, taken, IsThere, NamesWhatIsThere};
-ghost use Rattle.audit_finder.specs.Clients.{same, clients_of, with_new};
+ghost use Rattle.audit_clients.specs.Clients.{same, clients_of, with_new};
 ghost use Rattle.audit_finder.specs.Found.{pair_of, empty_lane, AllNamed, AreThere};
 
-use crate::clients::Clients;
-use crate::judge::Judge;
-use crate::portion::Portion;
-use crate::search::Search;
 use crate::writing::written;
+use audit_clients::Clients;
 use audit_keys::Credentials;
 use audit_model::{
     Addr, CertDrop, CertLane, Certificate, Event, Extension, Listed, MAX_EVENTS, Side, SightId,
 };
 use audit_search::{Reading, best_round, best_round_by};
 use audit_sightings::Intake;
+use audit_walk::{Judge, Portion, Search};
 use std::alloc::{AllocError, Global};
 use std::thread::Threads;
 

@@ -1,10 +1,9 @@
 //! The events of what was found in passes, in the order of their keys.
 
-use crate::numbers::LaneNumber;
-use crate::portion::Portion;
-use audit_matching::{SeenNumber, Sights};
 use audit_model::{Event, Key};
-use audit_search::{Act, Reading, Round, Slot};
+use audit_search::{Act, Reading, Round};
+use audit_seen::{LaneNumber, SeenNumber, Sights, Slot};
+use audit_walk::Portion;
 use std::alloc::{AllocError, Global};
 
 /// The events so far.
@@ -47,7 +46,7 @@ fn acted(alloc: Global, round: &Round) -> Result<Vec<Option<LaneNumber>>, AllocE
     for (_, lane, _, arrival, _) in &round.acts {
         if let Some(place) = acted.get_mut(arrival.index()) {
             if place.is_none() {
-                *place = Some(LaneNumber(lane.0));
+                *place = Some(*lane);
             }
         }
     }
@@ -100,7 +99,7 @@ impl Writing<'_> {
             let (sight, gives) = (arrives.id, leaves.id);
             let key = self.tick();
             let event = Event::Act { sight, gives, key };
-            self.portion.push(LaneNumber(lane.0), event)?;
+            self.portion.push(*lane, event)?;
         }
         Ok(())
     }
@@ -125,7 +124,7 @@ impl Writing<'_> {
         if let Some(lane) = seen.lane.or(relayed.copied().flatten()) {
             let key = self.tick();
             let event = Event::Out { sight, key };
-            self.portion.push(LaneNumber(lane.0), event)?;
+            self.portion.push(lane, event)?;
         }
         Ok(())
     }

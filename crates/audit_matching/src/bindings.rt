@@ -1,9 +1,7 @@
 //! Which channels clients asked for.
 
-use crate::content::asked_channel;
-use crate::numbers::LaneNumber;
-use crate::seen::{Says, Sights};
 use audit_model::Addr;
+use audit_seen::{LaneNumber, Says, Sights, asked_channel};
 use audit_sightings::Intake;
 use std::alloc::{AllocError, Global};
 use std::collections::BTreeSet;

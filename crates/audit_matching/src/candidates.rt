@@ -1,14 +1,13 @@
 //! The pools whose arrivals a departure may answer.
 
 use crate::bindings::Bindings;
-use crate::content::{Gives, PoolKey};
-use crate::numbers::{LaneNumber, PoolNumber, SeenNumber};
-use crate::pool_numbers::PoolNumbers;
 use crate::pools::Pools;
-use crate::seen::{Says, Seen, Sights};
 use crate::tenancies::{Tenancies, Tenancy};
 use crate::times::Times;
 use audit_model::Addr;
+use audit_seen::{
+    Gives, LaneNumber, PoolKey, PoolNumber, PoolNumbers, Says, Seen, SeenNumber, Sights,
+};
 use std::alloc::{AllocError, Global};
 
 /// What departures are matched by.

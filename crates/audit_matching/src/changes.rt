@@ -1,10 +1,8 @@
 //! The answers that tell of allocations.
 
-use crate::content::Gives;
-use crate::numbers::{LaneNumber, SeenNumber};
-use crate::seen::{Seen, Sights};
 use crate::times::Times;
 use audit_model::Addr;
+use audit_seen::{Gives, LaneNumber, Seen, SeenNumber, Sights};
 use std::alloc::{AllocError, Global};
 
 /// An answer of a lane, by its time.

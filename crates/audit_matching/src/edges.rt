@@ -1,7 +1,7 @@
 //! Which arrivals have to stand before which departures.
 
 use crate::matching::Mates;
-use crate::numbers::SeenNumber;
+use audit_seen::SeenNumber;
 use std::alloc::{AllocError, Global};
 use std::collections::BTreeSet;
 

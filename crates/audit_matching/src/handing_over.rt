@@ -1,13 +1,11 @@
 //! Relayed addresses that go from one client to another.
 
 use crate::changes::Changes;
-use crate::content::Gives;
 use crate::edges::Edges;
 use crate::matching::Mates;
-use crate::numbers::{LaneNumber, SeenNumber};
-use crate::seen::{Says, Sights};
 use crate::times::Times;
 use audit_model::Addr;
+use audit_seen::{Gives, LaneNumber, Says, SeenNumber, Sights};
 use std::alloc::{AllocError, Global};
 
 /// How far an allocation is put behind others that can't have ended before it.

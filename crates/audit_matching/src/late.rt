@@ -1,8 +1,7 @@
 //! The moment at which each sighting is placed.
 
 use crate::edges::Edges;
-use crate::numbers::SeenNumber;
-use crate::seen::Sights;
+use audit_seen::{SeenNumber, Sights};
 use std::alloc::{AllocError, Global};
 
 /// The moment at which each sighting is placed: an arrival at its least one, a departure as late as its window, the next one on its

@@ -2,8 +2,7 @@
 
 use crate::edges::Edges;
 use crate::merge::Merge;
-use crate::numbers::SeenNumber;
-use crate::seen::{Seen, Sights};
+use audit_seen::{Seen, SeenNumber, Sights};
 use std::alloc::{AllocError, Global};
 
 /// How often arrivals are raised for the sake of their departures.

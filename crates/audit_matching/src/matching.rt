@@ -1,9 +1,8 @@
 //! Which arrival each departure most likely answers.
 
 use crate::candidates::Known;
-use crate::numbers::{LaneNumber, PoolNumber, SeenNumber};
-use crate::seen::{Seen, Sights};
 use crate::times::Times;
+use audit_seen::{LaneNumber, PoolNumber, Seen, SeenNumber, Sights};
 use std::alloc::{AllocError, Global};
 
 /// How many arrivals of a pool are looked at for one departure.

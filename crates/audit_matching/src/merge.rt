@@ -1,7 +1,6 @@
 //! The interfaces as they are merged, each by its next sighting.
 
-use crate::numbers::SeenNumber;
-use crate::seen::Sights;
+use audit_seen::{SeenNumber, Sights};
 use std::alloc::{AllocError, Global};
 use std::cmp::Reverse;
 use std::collections::{BTreeSet, BinaryHeap};

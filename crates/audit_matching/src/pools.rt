@@ -1,8 +1,6 @@
 //! Arrivals that are alike for an answer.
 
-use crate::numbers::{PoolNumber, SeenNumber};
-use crate::pool_numbers::PoolNumbers;
-use crate::seen::Sights;
+use audit_seen::{PoolNumber, PoolNumbers, SeenNumber, Sights};
 use std::alloc::{AllocError, Global};
 
 /// The arrivals of each pool in an order.

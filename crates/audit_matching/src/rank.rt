@@ -2,8 +2,7 @@
 
 use crate::edges::Edges;
 use crate::merge::Merge;
-use crate::numbers::SeenNumber;
-use crate::seen::Sights;
+use audit_seen::{SeenNumber, Sights};
 use std::alloc::{AllocError, Global};
 
 /// One order of all sightings, which keeps that of each interface.

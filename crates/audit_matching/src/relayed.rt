@@ -1,12 +1,10 @@
 //! The lanes of what leaves from relayed addresses.
 
 use crate::candidates::Known;
-use crate::content::Gives;
 use crate::matching::{COPIES, departures};
-use crate::numbers::{LaneNumber, PoolNumber, SeenNumber};
-use crate::seen::Says;
 use crate::tenancies::Tenancy;
 use audit_model::Addr;
+use audit_seen::{Gives, LaneNumber, PoolNumber, Says, SeenNumber};
 use std::alloc::{AllocError, Global};
 use std::collections::BTreeSet;
 

@@ -1,11 +1,9 @@
 //! Which client had which relayed address when, as far as the answers tell.
 
 use crate::changes::Changes;
-use crate::content::Gives;
-use crate::numbers::{LaneNumber, SeenNumber};
-use crate::seen::{Says, Seen, Sights};
 use crate::times::Times;
 use audit_model::Addr;
+use audit_seen::{Gives, LaneNumber, Says, Seen, SeenNumber, Sights};
 use std::alloc::{AllocError, Global};
 
 const NANOSECONDS: u64 = 1_000_000_000;

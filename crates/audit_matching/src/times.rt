@@ -1,7 +1,6 @@
 //! When sightings may have been.
 
-use crate::numbers::SeenNumber;
-use crate::seen::Sights;
+use audit_seen::{SeenNumber, Sights};
 use std::alloc::{AllocError, Global};
 
 /// About when a sighting was.

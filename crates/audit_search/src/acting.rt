@@ -1,11 +1,10 @@
 //! Acts of a lane, now or in a table that was ended.
 
 use crate::lane::{Attempt, Lane, Refused};
-use crate::slot::Slot;
 use crate::state::{Acted, Past, Progress};
-use audit_matching::{Gives, Seen, SeenNumber};
 use audit_model::Rule;
 use audit_rules::LaneTable;
+use audit_seen::{Gives, Seen, SeenNumber, Slot};
 use std::alloc::AllocError;
 
 /// What an act does to the table.

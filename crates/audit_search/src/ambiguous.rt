@@ -2,9 +2,8 @@
 
 use crate::lane::Lane;
 use crate::plans::Plan;
-use crate::slot::Slot;
 use crate::views::PoolRef;
-use audit_matching::{Gives, SeenNumber};
+use audit_seen::{Gives, SeenNumber, Slot};
 use std::alloc::AllocError;
 
 impl Lane<'_> {

@@ -1,7 +1,8 @@
 //! What is asked of a round beside what the sightings say.
 
 use crate::wishes::Wish;
-use audit_matching::{Banned, SeenNumber};
+use audit_matching::Banned;
+use audit_seen::SeenNumber;
 use std::alloc::AllocError;
 use std::collections::BTreeSet;
 

@@ -2,7 +2,7 @@
 
 use crate::round::Round;
 use crate::rounds::Climb;
-use audit_matching::SeenNumber;
+use audit_seen::SeenNumber;
 use std::alloc::AllocError;
 
 /// How many arrivals of one pool are looked at.

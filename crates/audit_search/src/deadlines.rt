@@ -3,8 +3,8 @@
 use crate::asked::Asked;
 use crate::lane::{Lane, relayed_of};
 use crate::needs::AHEAD;
-use crate::slot::Slot;
-use audit_matching::{Gives, Handover, LaneNumber, Mates, Order, SeenNumber};
+use audit_matching::{Handover, Mates, Order};
+use audit_seen::{Gives, LaneNumber, SeenNumber, Slot};
 use std::alloc::{AllocError, Global};
 use std::collections::{BTreeMap, BTreeSet};
 

@@ -1,9 +1,8 @@
 //! Acts that are owed, drawn forward so that a departure is accepted.
 
 use crate::lane::{Lane, Refused};
-use crate::slot::Slot;
-use audit_matching::SeenNumber;
 use audit_model::Rule;
+use audit_seen::{SeenNumber, Slot};
 use std::alloc::AllocError;
 
 /// How many acts are drawn forward for one departure.

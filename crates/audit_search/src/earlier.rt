@@ -2,11 +2,10 @@
 
 use crate::acting::Does;
 use crate::lane::{Attempt, Lane, Refused, relayed_of};
-use crate::slot::Slot;
 use crate::state::{Acted, Progress};
-use audit_matching::{Gives, Seen, SeenNumber};
 use audit_model::Rule;
 use audit_rules::LaneTable;
+use audit_seen::{Gives, Seen, SeenNumber, Slot};
 use std::alloc::AllocError;
 
 /// Why an answer can't be given before a table was ended, whatever it answers.

@@ -1,11 +1,10 @@
 //! Departures on which a lane can't act: by which arrival they are given all the same.
 
 use crate::lane::{Lane, Refused};
-use crate::slot::Slot;
 use crate::state::Acted;
 use crate::views::PoolRef;
-use audit_matching::{Gives, SeenNumber};
 use audit_model::{Addr, Rule};
+use audit_seen::{Gives, SeenNumber, Slot};
 use std::alloc::AllocError;
 
 /// How many arrivals of a pool are looked at.

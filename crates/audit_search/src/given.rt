@@ -4,8 +4,9 @@ use crate::asked::Asked;
 use crate::deadlines::Deadlines;
 use crate::views::{PoolRef, Views};
 use audit_keys::Credentials;
-use audit_matching::{Gives, Known, LaneNumber, Mates, Order, PoolKey, Says, Seen, SeenNumber};
+use audit_matching::{Known, Mates, Order};
 use audit_model::{Addr, SightId, Sighting};
+use audit_seen::{Gives, LaneNumber, PoolKey, Says, Seen, SeenNumber};
 use audit_sightings::Intake;
 use std::alloc::{AllocError, Global};
 

@@ -5,8 +5,8 @@ use crate::needs::AHEAD;
 use crate::state::State;
 use crate::sweep::{Choice, Fault, STEPS, Sweep};
 use crate::wishes::Wish;
-use audit_matching::{Gives, SeenNumber};
 use audit_model::Rule;
+use audit_seen::{Gives, SeenNumber};
 use std::alloc::AllocError;
 use std::collections::BTreeMap;
 

@@ -1,10 +1,9 @@
 //! Acts of a lane, judged by the rules.
 
 use crate::lane::{Lane, Refused};
-use crate::slot::Slot;
-use audit_matching::SeenNumber;
 use audit_model::{At, Key};
 use audit_rules::{ActFault, CredRow, LaneTable, act};
+use audit_seen::{SeenNumber, Slot};
 use std::alloc::AllocError;
 
 impl Lane<'_> {

@@ -1,12 +1,11 @@
 //! One lane: what it may act on.
 
 use crate::given::Given;
-use crate::slot::Slot;
 use crate::state::State;
 use crate::views::{PoolRef, Ranked};
-use audit_matching::{Gives, LaneNumber, Seen, SeenNumber};
 use audit_model::{Addr, Rule};
 use audit_rules::LaneTable;
+use audit_seen::{Gives, LaneNumber, Seen, SeenNumber, Slot};
 use std::alloc::AllocError;
 
 /// How many arrivals of a pool are tried for one departure.

@@ -3,8 +3,8 @@
 use crate::lane::{Lane, Refused};
 use crate::needs::AHEAD;
 use crate::wishes::{EACH, Wish};
-use audit_matching::{Gives, SeenNumber};
 use audit_model::Rule;
+use audit_seen::{Gives, SeenNumber};
 use std::alloc::AllocError;
 
 impl Lane<'_> {

@@ -1,9 +1,8 @@
 //! Which answers that are owed may help where a rule refuses an act.
 
 use crate::lane::{Lane, Refused};
-use crate::slot::Slot;
-use audit_matching::{Gives, SeenNumber};
 use audit_model::{Addr, Rule};
+use audit_seen::{Gives, SeenNumber, Slot};
 use audit_stun::{address, message};
 use std::alloc::AllocError;
 

@@ -3,9 +3,8 @@
 use crate::reading::Reading;
 use crate::round::Round;
 use crate::searched::Act;
-use crate::slot::Slot;
-use audit_matching::{Gives, LaneNumber, SeenNumber};
 use audit_model::Addr;
+use audit_seen::{Gives, LaneNumber, SeenNumber, Slot};
 use std::alloc::AllocError;
 
 /// Nanoseconds of a second.

@@ -2,9 +2,8 @@
 
 use crate::drawing::Draw;
 use crate::lane::{Lane, Refused};
-use crate::slot::Slot;
-use audit_matching::{Gives, SeenNumber};
 use audit_model::Rule;
+use audit_seen::{Gives, SeenNumber, Slot};
 use std::alloc::AllocError;
 
 /// How many tables that were ended are looked at.

@@ -2,10 +2,10 @@
 
 use audit_keys::Credentials;
 use audit_matching::{
-    Bindings, Edges, Known, Lanes, Mates, PoolNumbers, Pools, Sights, Tenancies, Times, lows,
-    match_up, places,
+    Bindings, Edges, Known, Mates, Pools, Tenancies, Times, lows, match_up, places,
 };
 use audit_model::Addr;
+use audit_seen::{Lanes, PoolNumbers, Sights};
 use audit_sightings::Intake;
 use std::alloc::{AllocError, Global};
 

@@ -1,10 +1,10 @@
 //! What one round found.
 
 use crate::searched::Act;
-use crate::slot::Slot;
 use crate::sweep::Fault;
 use crate::wishes::Wish;
-use audit_matching::{Edges, LaneNumber, Order, RelayedLanes, SeenNumber};
+use audit_matching::{Edges, Order, RelayedLanes};
+use audit_seen::{LaneNumber, SeenNumber, Slot};
 use std::alloc::{AllocError, Global};
 
 /// What one round found.

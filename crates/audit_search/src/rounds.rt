@@ -7,7 +7,7 @@ use crate::reading::{FirstKeys, Reading};
 use crate::round::Round;
 use crate::searched::AllSearched;
 use crate::wishes::Wish;
-use audit_matching::{LaneNumber, SeenNumber};
+use audit_seen::{LaneNumber, SeenNumber};
 use std::alloc::{AllocError, Global};
 use std::collections::{BTreeMap, BTreeSet};
 use std::thread::Threads;

@@ -1,10 +1,10 @@
 //! What was found of each lane, kept as long as all that its search goes by stays.
 
 use crate::given::Given;
-use crate::slot::Slot;
 use crate::sweep::{Fault, Found, search_lane};
 use crate::wishes::Wish;
-use audit_matching::{LaneNumber, Order, SeenNumber};
+use audit_matching::Order;
+use audit_seen::{LaneNumber, SeenNumber, Slot};
 use std::alloc::{AllocError, Global};
 use std::thread;
 use std::thread::Threads;

@@ -5,7 +5,7 @@ use crate::round::Round;
 use crate::rounds::Climb;
 use crate::sweep::Fault;
 use crate::wishes::Wish;
-use audit_matching::LaneNumber;
+use audit_seen::LaneNumber;
 use std::alloc::AllocError;
 use std::collections::BTreeSet;
 

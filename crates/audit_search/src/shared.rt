@@ -1,6 +1,7 @@
 //! Sightings of one lane by which another one goes, too.
 
-use audit_matching::{Handover, Known, LaneNumber, Mates, SeenNumber};
+use audit_matching::{Handover, Known, Mates};
+use audit_seen::{LaneNumber, SeenNumber};
 use std::alloc::{AllocError, Global};
 
 /// Sightings of one lane by which another one goes, too.

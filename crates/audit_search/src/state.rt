@@ -1,11 +1,10 @@
 //! What a lane's search has done so far.
 
-use crate::slot::Slot;
 use crate::trail::{Trail, Undo};
 use crate::views::PoolRef;
-use audit_matching::{LaneNumber, SeenNumber};
 use audit_model::Addr;
 use audit_rules::LaneTable;
+use audit_seen::{LaneNumber, SeenNumber, Slot};
 use std::alloc::{AllocError, Global};
 use std::collections::{BTreeMap, BTreeSet, VecDeque};
 

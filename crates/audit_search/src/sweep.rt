@@ -3,10 +3,9 @@
 use crate::given::Given;
 use crate::lane::{Lane, Refused};
 use crate::plans::{PAST, Plan};
-use crate::slot::Slot;
 use crate::state::Acted;
 use crate::wishes::Wish;
-use audit_matching::{LaneNumber, SeenNumber};
+use audit_seen::{LaneNumber, SeenNumber, Slot};
 use std::alloc::AllocError;
 use std::collections::{BTreeMap, VecDeque};
 

@@ -2,8 +2,8 @@
 
 use crate::state::Progress;
 use crate::views::PoolRef;
-use audit_matching::SeenNumber;
 use audit_rules::LaneTable;
+use audit_seen::SeenNumber;
 use std::alloc::{AllocError, Global};
 use std::collections::VecDeque;
 

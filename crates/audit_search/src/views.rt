@@ -2,7 +2,8 @@
 
 use crate::asked::Asked;
 use crate::shared::Shared;
-use audit_matching::{Known, LaneNumber, Order, PoolNumber, Says, Seen, SeenNumber};
+use audit_matching::{Known, Order};
+use audit_seen::{LaneNumber, PoolNumber, Says, Seen, SeenNumber};
 use audit_sightings::Intake;
 use std::alloc::{AllocError, Global};
 

@@ -4,8 +4,8 @@ use crate::lane::{Lane, Refused};
 use crate::leases::is_of_what_is_there;
 use crate::needs::{AHEAD, helps};
 use crate::views::PoolRef;
-use audit_matching::{Gives, LaneNumber, SeenNumber};
 use audit_model::Rule;
+use audit_seen::{Gives, LaneNumber, SeenNumber};
 use std::alloc::AllocError;
 
 /// What a lane asks for.

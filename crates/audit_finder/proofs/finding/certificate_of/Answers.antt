@@ -3,7 +3,7 @@ use Rattle.std.proofs.lemmas.List.{length-map}
 use Rattle.std.specs.List.{IsDistinct}
 use Rattle.audit_model.specs.EventCount.{event_count}
 use Rattle.audit_sightings.specs.Intake.{NamesWhatIsThere}
-use Rattle.audit_finder.specs.Clients.{Pair, same}
+use Rattle.audit_clients.specs.Clients.{Pair, same}
 use Rattle.audit_finder.specs.Found.{pair_of, AllNamed}
 use Rattle.audit_finder.proofs.Found.{lanes_apart, pairs_of_empty, none_in_empty, empty_named}
 use Rattle.audit_finder.proofs.finding.certificate_of.Goals as goal

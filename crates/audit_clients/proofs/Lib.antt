@@ -1,0 +1,4 @@
+mod Joining
+mod Kept
+mod Places
+mod PairPlaces

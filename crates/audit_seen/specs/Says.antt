@@ -1,0 +1,38 @@
+-- What a sighting says, and the pool that it is in or answers.
+use Rattle.std.specs.Prelude.{Bool, true, false, Option, None, Some}
+use Rattle.audit_seen.specs.declared.content.Gives.{Gives}
+use Rattle.audit_seen.specs.declared.numbers.PoolNumber.{PoolNumber}
+use Rattle.audit_seen.specs.declared.seen.Says.{Says}
+use Rattle.audit_seen.specs.declared.seen.Says.TheVariants as says
+
+-- whether it arrives
+abbrev pub is_arrival : Says → Bool
+is_arrival (says.Request pool) = true
+is_arrival (says.Sent pool) = true
+is_arrival (says.Received pool) = true
+is_arrival says.Nothing = true
+is_arrival (says.Gives gives pool) = false
+
+-- the pool that an arrival is in
+abbrev pub pool_in : Says → Option PoolNumber
+pool_in (says.Request pool) = Some pool
+pool_in (says.Sent pool) = Some pool
+pool_in (says.Received pool) = Some pool
+pool_in says.Nothing = None
+pool_in (says.Gives gives pool) = None
+
+-- the pool of the requests that a departure answers
+abbrev pub answered_pool : Says → Option PoolNumber
+answered_pool (says.Request pool) = None
+answered_pool (says.Sent pool) = None
+answered_pool (says.Received pool) = None
+answered_pool says.Nothing = None
+answered_pool (says.Gives gives pool) = pool
+
+-- what a departure gives
+abbrev pub given_by : Says → Option Gives
+given_by (says.Request pool) = None
+given_by (says.Sent pool) = None
+given_by (says.Received pool) = None
+given_by says.Nothing = None
+given_by (says.Gives gives pool) = Some gives

@@ -1,0 +1,211 @@
+//! The sightings, each read once.
+
+use crate::content::{Gives, PoolKey};
+use crate::lanes::Lanes;
+use crate::numbers::{LaneNumber, PoolNumber, SeenNumber};
+use crate::pool_numbers::PoolNumbers;
+use crate::said::said_by;
+use audit_model::{Policy, SightId, Sighting};
+use audit_sightings::Intake;
+use std::alloc::{AllocError, Global};
+
+/// What a sighting says.
+#[derive(Clone, Copy, Debug, PartialEq, Eq)]
+pub enum Says {
+    /// A request that arrives, and its pool.
+    Request(PoolNumber),
+    /// Data of a client that arrives, and its pool.
+    Sent(PoolNumber),
+    /// A peer's datagram that arrives, and its pool.
+    Received(PoolNumber),
+    /// An arrival that nothing answers.
+    Nothing,
+    /// A departure; that of a response with the pool of its requests.
+    Gives(Gives, Option<PoolNumber>),
+}
+
+/// A sighting, as far as its order goes by it.
+#[derive(Clone, Copy, Debug)]
+pub struct Seen {
+    /// The first and the last moment of its window, and when the capture says that it was seen.
+    pub lo: u64,
+    pub hi: u64,
+    pub stamp: u64,
+    pub says: Says,
+    /// The lane, of what goes between a client and its listen address.
+    pub lane: Option<LaneNumber>,
+    pub id: SightId,
+}
+
+impl Says {
+    /// The same, with the number of its pool, if it has one.
+    fn with_pool(self, pool: PoolNumber) -> Says {
+        match self {
+            Says::Request(_) => Says::Request(pool),
+            Says::Sent(_) => Says::Sent(pool),
+            Says::Received(_) => Says::Received(pool),
+            Says::Gives(gives, Some(_)) => Says::Gives(gives, Some(pool)),
+            Says::Nothing | Says::Gives(_, None) => self,
+        }
+    }
+}
+
+impl Seen {
+    ghost use Rattle.std.specs.Prelude.{◌≡◌};
+    ghost use Rattle.audit_seen.specs.Says.{is_arrival, pool_in, answered_pool, given_by};
+
+    pub fn arrives(&self) -> bool
+        ensures { result ≡ is_arrival self.now.says }
+    {
+        match self.says {
+            Says::Request(_) | Says::Sent(_) | Says::Received(_) | Says::Nothing => true,
+            Says::Gives(..) => false,
+        }
+    }
+
+    /// The pool that an arrival is in.
+    pub fn pool(&self) -> Option<PoolNumber>
+        ensures { result ≡ pool_in self.now.says }
+    {
+        match self.says {
+            Says::Request(pool) | Says::Sent(pool) | Says::Received(pool) => Some(pool),
+            Says::Nothing | Says::Gives(..) => None,
+        }
+    }
+
+    /// The pool of the requests that a response answers.
+    pub fn response_pool(&self) -> Option<PoolNumber>
+        ensures { result ≡ answered_pool self.now.says }
+    {
+        match self.says {
+            Says::Gives(_, pool) => pool,
+            Says::Request(_) | Says::Sent(_) | Says::Received(_) | Says::Nothing => None,
+        }
+    }
+
+    /// What a departure gives.
+    pub fn gives(&self) -> Option<Gives>
+        ensures { result ≡ given_by self.now.says }
+    {
+        match self.says {
+            Says::Gives(gives, _) => Some(gives),
+            Says::Request(_) | Says::Sent(_) | Says::Received(_) | Says::Nothing => None,
+        }
+    }
+
+    /// Whether the other one stands before it on the same interface.
+    pub fn is_behind(&self, other: &Seen) -> bool {
+        self.id.iface == other.id.iface && self.id.index > other.id.index
+    }
+}
+
+/// All sightings, interface by interface, by their numbers.
+#[derive(Drop)]
+pub struct Sights {
+    list: Vec<Seen>,
+    /// The number of the first sighting of each interface.
+    starts: Vec<u32>,
+}
+
+impl Sights {
+    ghost use Rattle.std.specs.Prelude.{◌≡◌, ◌<◌, IfSome, vec_len, length};
+
+    /// Reads each sighting. It takes n log n, and for each sighting as many steps as it has bytes.
+    pub fn read(
+        alloc: Global,
+        intake: &Intake,
+        lanes: &Lanes,
+    ) -> Result<(Sights, PoolNumbers), AllocError> {
+        let mut sights = Sights {
+            list: Vec::new(alloc),
+            starts: Vec::new(alloc),
+        };
+        let mut asked = Vec::new(alloc);
+        for iface in 0..intake.interfaces() {
+            sights.read_row(intake.policy(), intake.interface(iface), lanes, &mut asked)?;
+        }
+        asked.sort_unstable();
+        let mut numbers = PoolNumbers::new(alloc);
+        for (key, number) in &asked {
+            let pool = numbers.take(*key)?;
+            sights.set_pool(*number, pool);
+        }
+        Ok((sights, numbers))
+    }
+
+    /// Reads the sightings of an interface, and notes what each asks for or answers. The numbers of pools come later.
+    fn read_row(
+        &mut self,
+        policy: &Policy,
+        row: &[Sighting],
+        lanes: &Lanes,
+        asked: &mut Vec<(PoolKey, SeenNumber)>,
+    ) -> Result<(), AllocError> {
+        let start = u32::try_from(self.list.len()).map_err(|_| AllocError)?;
+        self.starts.push(start)?;
+        for sighting in row {
+            self.read_one(policy, sighting, lanes, asked)?;
+        }
+        Ok(())
+    }
+
+    fn read_one(
+        &mut self,
+        policy: &Policy,
+        sighting: &Sighting,
+        lanes: &Lanes,
+        asked: &mut Vec<(PoolKey, SeenNumber)>,
+    ) -> Result<(), AllocError> {
+        let number = u32::try_from(self.list.len()).map_err(|_| AllocError)?;
+        let said = said_by(policy, sighting, lanes);
+        if let Some(key) = said.key {
+            asked.push((key, SeenNumber(number)))?;
+        }
+        self.list.push(Seen {
+            lo: sighting.lo,
+            hi: sighting.hi,
+            stamp: sighting.stamp,
+            says: said.says,
+            lane: said.lane,
+            id: sighting.id,
+        })?;
+        Ok(())
+    }
+
+    /// Puts a sighting into a pool.
+    fn set_pool(&mut self, number: SeenNumber, pool: PoolNumber) {
+        if let Some(seen) = self.list.get_mut(number.index()) {
+            seen.says = seen.says.with_pool(pool);
+        }
+    }
+
+    pub fn get(&self, number: SeenNumber) -> Option<&Seen> {
+        self.list.get(number.index())
+    }
+
+    /// All of them, in the order of their numbers.
+    pub fn as_slice(&self) -> &[Seen]
+        ensures { length result.now ≡ vec_len self.now.list }
+    {
+        self.list.as_slice()
+    }
+
+    /// How many interfaces there are.
+    pub fn interfaces(&self) -> usize
+        ensures { result ≡ vec_len self.now.starts }
+    {
+        self.starts.len()
+    }
+
+    /// The number of the sighting at a place of an interface; none behind its last one.
+    pub fn at(&self, iface: usize, place: u32) -> Option<SeenNumber>
+        ensures { IfSome result (λ number. number.0 < vec_len self.now.list) }
+    {
+        let number = self.starts.get(iface)?.checked_add(place)?;
+        match self.starts.get(iface.saturating_add(1)) {
+            Some(end) if number >= *end => None,
+            _ if number as usize >= self.list.len() => None,
+            _ => Some(SeenNumber(number)),
+        }
+    }
+}

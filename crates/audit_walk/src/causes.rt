@@ -1,0 +1,117 @@
+//! What a datagram that arrives asks for, by which the departure that answers it is found.
+
+use audit_model::{Addr, Sighting};
+use audit_seen::LaneNumber;
+use audit_stun::numbers::attribute::{DATA, XOR_PEER_ADDRESS};
+use audit_stun::numbers::method;
+use audit_stun::{Class, address, channel_data, message};
+use std::hash::{DefaultHasher, Hasher};
+
+/// What an arrival asks for. Data stands by its digest: two that have one are told apart when they are judged.
+#[derive(Clone, Copy, Debug, PartialEq, Eq)]
+pub enum Cause {
+    /// A request of that transaction id.
+    Request {
+        lane: LaneNumber,
+        id: [u8; 12],
+    },
+    /// A Send indication (RFC 8656, section 11).
+    Send {
+        lane: LaneNumber,
+        peer: Addr,
+        digest: u64,
+    },
+    /// ChannelData to the server (RFC 8656, section 12).
+    Channel {
+        lane: LaneNumber,
+        number: u16,
+        digest: u64,
+    },
+    /// A peer's datagram to a relayed address.
+    Peer {
+        relayed: Addr,
+        peer: Addr,
+        digest: u64,
+    },
+}
+
+impl Cause {
+    /// A digest of it, by which those that ask for the same are found. Two others that have one are told apart when they are judged.
+    pub fn digest(&self) -> u64 {
+        let mut hasher = DefaultHasher::new();
+        for word in self.words() {
+            hasher.write_u64(word);
+        }
+        hasher.finish()
+    }
+
+    /// All that it has, and which of the four it is.
+    fn words(&self) -> [u64; 3] {
+        match *self {
+            Cause::Request { lane, id } => {
+                let [a, b, c, d, e, f, g, h, i, j, k, l] = id;
+                let first = u64::from_le_bytes([a, b, c, d, e, f, g, h]);
+                let last = u32::from_le_bytes([i, j, k, l]);
+                [lane.0 as u64, first, last as u64]
+            }
+            Cause::Send { lane, peer, digest } => {
+                [1 << 48 | lane.0 as u64, word_of(peer), digest]
+            }
+            Cause::Channel {
+                lane,
+                number,
+                digest,
+            } => [2 << 48 | lane.0 as u64, number as u64, digest],
+            Cause::Peer {
+                relayed,
+                peer,
+                digest,
+            } => [3 << 48 | word_of(relayed), word_of(peer), digest],
+        }
+    }
+}
+
+/// An address as the 48 bits that it has.
+fn word_of(address: Addr) -> u64 {
+    (address.ip as u64) << 16 | address.port as u64
+}
+
+/// A digest of data, by which equal data is found.
+pub fn digest_of(data: &[u8]) -> u64 {
+    let mut hasher = DefaultHasher::new();
+    hasher.write(data);
+    hasher.finish()
+}
+
+/// What a client's datagram asks for, if anything is answered to it.
+pub fn cause_of_client(lane: LaneNumber, payload: &[u8]) -> Option<Cause> {
+    if let Some((number, data, _)) = channel_data(payload) {
+        return Some(Cause::Channel {
+            lane,
+            number,
+            digest: digest_of(data),
+        });
+    }
+    let message = message(payload)?;
+    match message.class() {
+        Class::Request => Some(Cause::Request {
+            lane,
+            id: message.tid(),
+        }),
+        Class::Indication if message.method() == method::SEND => Some(Cause::Send {
+            lane,
+            peer: address(message.first(XOR_PEER_ADDRESS)?)?,
+            digest: digest_of(message.first(DATA)?),
+        }),
+        _ => None,
+    }
+}
+
+/// What a peer's datagram asks for.
+pub fn cause_of_peer(arrival: &Sighting) -> Cause {
+    Cause::Peer {
+        relayed: arrival.to,
+        peer: arrival.from,
+        digest: digest_of(arrival.payload.as_slice()),
+    }
+}

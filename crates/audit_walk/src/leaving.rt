@@ -1,0 +1,229 @@
+//! Departures, as they are placed.
+
+use crate::answers::Answer;
+use crate::causes::Cause;
+use crate::judge::Judge;
+use crate::numbers::{AnswerNumber, ArrivalNumber};
+use crate::portion::Portion;
+use crate::rows::Wait;
+use crate::said::Says;
+use crate::search::Search;
+use audit_model::{Addr, Event, SightId, Sighting};
+use audit_seen::LaneNumber;
+use std::alloc::AllocError;
+
+/// How many arrivals are tried for one departure, and how often it waits for one.
+pub(crate) const CANDIDATES: u32 = 64;
+
+/// How many answers that are kept back are given so that another one may be.
+const GIVEN_BEFORE: usize = 8;
+
+/// How many sightings behind a departure bound its latest moment.
+const LOOKED_AHEAD: u32 = 4;
+
+impl Search {
+    /// Places a success or an error, behind the act that gives it; or tells what it waits for.
+    pub(crate) fn place_answer(
+        &mut self,
+        judge: &Judge<'_>,
+        answer: AnswerNumber,
+        leaves: &Sighting,
+        portion: &mut Portion,
+    ) -> Result<Option<Wait>, AllocError> {
+        let Some(lane) = judge.lane_of(leaves.to, leaves.from) else {
+            return Ok(None);
+        };
+        let Some(known) = self.answers.get(answer).copied() else {
+            return Ok(None);
+        };
+        if !known.is_acted {
+            let request = match known.arrival {
+                Some(request) => Some(request),
+                None => self.request_for(judge, lane, leaves),
+            };
+            if let Some(request) = request {
+                if self.may_come(judge, request, leaves) {
+                    return Ok(Some(Wait::Arrival(request)));
+                }
+                if self.is_held_elsewhere(judge, answer) && self.has_time(judge, leaves) {
+                    return Ok(Some(Wait::Next));
+                }
+                self.answer_late(judge, lane, request, answer, portion)?;
+            }
+        }
+        let key = self.clock.tick();
+        let sight = leaves.id;
+        portion.push(lane, Event::Out { sight, key })?;
+        Ok(None)
+    }
+
+    /// Whether an answer makes an allocation whose address another client holds and hasn't asked to give up yet, or has to have
+    /// had before.
+    fn is_held_elsewhere(&self, judge: &Judge<'_>, answer: AnswerNumber) -> bool {
+        let Some(known) = self.answers.get(answer) else {
+            return false;
+        };
+        let Says::Allocated(relayed) = known.says else {
+            return false;
+        };
+        let is_held = match self.other_holder(known.lane, relayed) {
+            Some(holder) => match self.lanes.get(holder.index()) {
+                Some(of) => of.ending.is_none(),
+                None => false,
+            },
+            None => false,
+        };
+        is_held || self.has_to_follow(judge, known, relayed)
+    }
+
+    /// Whether another client has to have had an allocation's relayed address before, since it can have given it up before this
+    /// one is made, and this one isn't given up before the other one's is made.
+    pub(crate) fn has_to_follow(&self, judge: &Judge<'_>, answer: &Answer, relayed: Addr) -> bool {
+        let Some(leaves) = judge.intake.sighting(answer.sight) else {
+            return false;
+        };
+        let until = latest(judge, leaves);
+        let from = (relayed, self.earliest(judge), AnswerNumber(0));
+        for (address, moment, other) in self.allocations.range(from..).take(GIVEN_BEFORE) {
+            if *address != relayed || *moment >= until {
+                return false;
+            }
+            if let Some(other) = self.answers.get(*other) {
+                if other.lane != answer.lane
+                    && is_before(other.deleted_from, until)
+                    && !may_precede(judge, answer, other)
+                {
+                    return true;
+                }
+            }
+        }
+        false
+    }
+
+    /// Whether a departure can still wait.
+    pub(crate) fn has_time(&self, judge: &Judge<'_>, leaves: &Sighting) -> bool {
+        self.clock.moment() < latest(judge, leaves)
+    }
+
+    /// Whether an arrival has no key yet, and can have one before the departure.
+    pub(crate) fn may_come(
+        &self,
+        judge: &Judge<'_>,
+        number: ArrivalNumber,
+        leaves: &Sighting,
+    ) -> bool {
+        match self.arrivals.get(number) {
+            Some(arrival) if arrival.key.is_none() => {
+                match judge.intake.sighting(arrival.sight) {
+                    Some(sighting) => {
+                        sighting.lo <= latest(judge, leaves) && self.has_time(judge, leaves)
+                    }
+                    None => false,
+                }
+            }
+            _ => false,
+        }
+    }
+
+    /// The request that an answer is most likely to: one of its transaction, or else the client's last one.
+    fn request_for(
+        &mut self,
+        judge: &Judge<'_>,
+        lane: LaneNumber,
+        leaves: &Sighting,
+    ) -> Option<ArrivalNumber> {
+        let (id, _) = crate::said::answer_of(leaves.payload.as_slice())?;
+        let cause = Cause::Request { lane, id };
+        let earliest = self.earliest(judge);
+        let last = match self.lanes.get(lane.index()) {
+            Some(lane) => lane.last.request,
+            None => None,
+        };
+        self.arrivals
+            .first(&cause, earliest)
+            .or(self.arrivals.past(&cause, earliest))
+            .or(last)
+    }
+
+    /// The earliest moment of an arrival that may be answered now.
+    pub(crate) fn earliest(&self, judge: &Judge<'_>) -> u64 {
+        self.clock
+            .moment()
+            .saturating_sub(judge.intake.policy().hold)
+    }
+
+    /// Acts on a request now that its answer leaves. Where the server may not do that before it has given others that are kept
+    /// back, those come first.
+    fn answer_late(
+        &mut self,
+        judge: &Judge<'_>,
+        lane: LaneNumber,
+        number: ArrivalNumber,
+        answer: AnswerNumber,
+        portion: &mut Portion,
+    ) -> Result<(), AllocError> {
+        if self
+            .arrivals
+            .get(number)
+            .is_none_or(|arrival| arrival.key.is_none())
+        {
+            return Ok(());
+        }
+        if let Some(Says::Allocated(relayed)) = self.answers.says(answer) {
+            if let Some(holder) = self.other_holder(lane, relayed) {
+                self.end_now(judge, holder, portion)?;
+            }
+        }
+        for _ in 0..GIVEN_BEFORE {
+            if self.act_on(judge, lane, number, answer, portion)? {
+                return Ok(());
+            }
+            if !self.give_pending(judge, lane, answer, portion)? {
+                break;
+            }
+        }
+        let key = self.clock.tick();
+        self.commit_answer(judge, lane, number, answer, key, portion)
+    }
+
+    /// The sighting of an arrival.
+    pub(crate) fn sighting_of<'a>(
+        &self,
+        judge: &Judge<'a>,
+        number: ArrivalNumber,
+    ) -> Option<&'a Sighting> {
+        judge.intake.sighting(self.arrivals.get(number)?.sight)
+    }
+}
+
+/// Whether an allocation can have been given up before another one is made.
+fn may_precede(judge: &Judge<'_>, answer: &Answer, other: &Answer) -> bool {
+    match judge.intake.sighting(other.sight) {
+        Some(leaves) => is_before(answer.deleted_from, latest(judge, leaves)),
+        None => false,
+    }
+}
+
+/// Whether there is a moment, before another one.
+fn is_before(moment: Option<u64>, until: u64) -> bool {
+    match moment {
+        Some(moment) => moment < until,
+        None => false,
+    }
+}
+
+/// The latest moment of a departure: that of its window, or of the window of one that is close behind it on its interface.
+pub(crate) fn latest(judge: &Judge<'_>, leaves: &Sighting) -> u64 {
+    let SightId { iface, index } = leaves.id;
+    let mut moment = leaves.hi;
+    for behind in 1..=LOOKED_AHEAD {
+        let next = SightId {
+            iface,
+            index: index.saturating_add(behind),
+        };
+        if let Some(next) = judge.intake.sighting(next) {
+            moment = moment.min(next.hi);
+        }
+    }
+    moment
+}

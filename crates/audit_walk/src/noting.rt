@@ -1,0 +1,189 @@
+//! Sightings that are new.
+
+use crate::answers::Transaction;
+use crate::causes::Cause;
+use crate::judge::Judge;
+use crate::lanes::FoundLane;
+use crate::numbers::{AnswerNumber, ArrivalNumber};
+use crate::rows::{Role, Row};
+use crate::said::Says;
+use crate::search::Search;
+use crate::seeing::{Seen, all_seen_by, seen_of};
+use audit_clients::Clients;
+use audit_model::Sighting;
+use audit_seen::LaneNumber;
+use std::alloc::AllocError;
+use std::thread::Threads;
+
+/// How many sightings are kept at once with what they are.
+const AT_ONCE: usize = 262_144;
+
+impl Search {
+    /// Notes what the intake has gained.
+    pub(crate) fn note_new(&mut self, judge: &Judge<'_>) -> Result<(), AllocError> {
+        self.add_lanes(judge.clients)?;
+        for iface in 0..judge.intake.interfaces() {
+            self.add_row(iface)?;
+            self.note_row(judge, iface)?;
+        }
+        Ok(())
+    }
+
+    /// Adds the row of an interface, unless it is there.
+    fn add_row(&mut self, iface: u32) -> Result<(), AllocError> {
+        if self.rows.len() <= iface as usize {
+            self.rows.push(Row::new(self.alloc))?;
+        }
+        Ok(())
+    }
+
+    /// How many sightings of an interface were noted.
+    fn noted(&self, iface: u32) -> usize {
+        match self.rows.get(iface as usize) {
+            Some(row) => row.noted(),
+            None => 0,
+        }
+    }
+
+    /// Adds a lane for each client that has none yet.
+    fn add_lanes(&mut self, clients: &Clients) -> Result<(), AllocError> {
+        for (client, listen) in clients.lanes_from(self.lanes.len()) {
+            let Ok(number) = u32::try_from(self.lanes.len()) else {
+                return Ok(());
+            };
+            let lane = FoundLane::new(self.alloc, LaneNumber(number), *client, *listen);
+            self.lanes.push(lane)?;
+        }
+        Ok(())
+    }
+
+    /// Notes what each new sighting of an interface is.
+    fn note_row(&mut self, judge: &Judge<'_>, iface: u32) -> Result<(), AllocError> {
+        let noted = self.noted(iface);
+        for sighting in judge.intake.interface(iface).get(noted..).unwrap_or(&[]) {
+            self.note(judge, iface, sighting, seen_of(judge, sighting))?;
+        }
+        Ok(())
+    }
+
+    /// Notes what the intake has gained, where so many threads at the most tell what each sighting is.
+    pub fn note_new_by<R: Threads + Sync>(
+        &mut self,
+        rt: &R,
+        workers: u32,
+        judge: &Judge<'_>,
+    ) -> Result<(), AllocError> {
+        self.add_lanes(judge.clients)?;
+        for iface in 0..judge.intake.interfaces() {
+            self.add_row(iface)?;
+            let noted = self.noted(iface);
+            let sightings = judge.intake.interface(iface).get(noted..).unwrap_or(&[]);
+            for some in sightings.chunks(AT_ONCE) {
+                self.note_some_by(rt, workers, judge, iface, some)?;
+            }
+        }
+        Ok(())
+    }
+
+    /// Notes the next sightings of an interface.
+    fn note_some_by<R: Threads + Sync>(
+        &mut self,
+        rt: &R,
+        workers: u32,
+        judge: &Judge<'_>,
+        iface: u32,
+        sightings: &[Sighting],
+    ) -> Result<(), AllocError> {
+        let mut left = sightings.iter();
+        for part in all_seen_by(rt, workers, judge, sightings)? {
+            for seen in part? {
+                if let Some(sighting) = left.next() {
+                    self.note(judge, iface, sighting, seen)?;
+                }
+            }
+        }
+        Ok(())
+    }
+
+    /// Notes the next sighting of an interface, and what it is alone.
+    fn note(
+        &mut self,
+        judge: &Judge<'_>,
+        iface: u32,
+        sighting: &Sighting,
+        seen: Seen,
+    ) -> Result<(), AllocError> {
+        let role = match seen {
+            Seen::Arrival { lane, asks } => {
+                Role::Arrival(self.arrivals.add(sighting.id, lane, asks)?)
+            }
+            Seen::Answer(of, says) => Role::Answer(self.note_answer(judge, sighting, says, of)?),
+            Seen::Data(digest) => Role::Data(digest),
+        };
+        match self.rows.get_mut(iface as usize) {
+            Some(row) => row.note(role),
+            None => Ok(()),
+        }
+    }
+
+    /// Notes an answer, with the last request of its transaction that came before it by its interface, if that has no other.
+    fn note_answer(
+        &mut self,
+        judge: &Judge<'_>,
+        sighting: &Sighting,
+        says: Says,
+        of: Transaction,
+    ) -> Result<AnswerNumber, AllocError> {
+        let request = self.request_before(judge, sighting, of);
+        let before = match self.lanes.get(of.lane.index()) {
+            Some(lane) => lane.noted,
+            None => None,
+        };
+        let answer = self.answers.add(sighting.id, says, request, before, of)?;
+        if let Some(lane) = self.lanes.get_mut(of.lane.index()) {
+            lane.noted = Some(answer);
+            match says {
+                Says::Allocated(relayed) => {
+                    lane.noted_allocation = Some(answer);
+                    self.allocations.insert((relayed, sighting.lo, answer))?;
+                }
+                Says::Deleted => {
+                    if let Some(allocation) = lane.noted_allocation {
+                        lane.noted_allocation = None;
+                        if let Some(allocation) = self.answers.get_mut(allocation) {
+                            allocation.deleted_from = Some(sighting.lo);
+                        }
+                    }
+                }
+                _ => {}
+            }
+        }
+        if let Some(request) = request {
+            if let Some(arrival) = self.arrivals.get_mut(request) {
+                arrival.answer = Some(answer);
+            }
+        }
+        Ok(answer)
+    }
+
+    /// The last request of a transaction that came before an answer by the same interface, no longer ago than `hold`, if it has
+    /// no other answer.
+    fn request_before(
+        &self,
+        judge: &Judge<'_>,
+        answer: &Sighting,
+        of: Transaction,
+    ) -> Option<ArrivalNumber> {
+        let Transaction { lane, id } = of;
+        let number = self.arrivals.last(&Cause::Request { lane, id })?;
+        let arrival = self.arrivals.get(number)?;
+        if arrival.sight.iface != answer.id.iface || arrival.answer.is_some() {
+            return None;
+        }
+        let request = judge.intake.sighting(arrival.sight)?;
+        if answer.lo > request.lo.saturating_add(judge.intake.policy().hold) {
+            return None;
+        }
+        Some(number)
+    }
+}

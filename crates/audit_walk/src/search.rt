@@ -1,0 +1,249 @@
+//! The way through the sightings: the least moment first, interface by interface.
+
+ghost use Rattle.std.specs.Prelude.{◌≡◌, OnOk};
+
+use crate::answers::Answers;
+use crate::arrivals::Arrivals;
+use crate::clock::Clock;
+use crate::heads::Heads;
+use crate::judge::Judge;
+use crate::lanes::FoundLane;
+use crate::leaving::{CANDIDATES, latest};
+use crate::numbers::{AnswerNumber, ArrivalNumber};
+use crate::portion::Portion;
+use crate::rows::{Role, Row, Wait};
+use audit_model::{Addr, Sighting};
+use audit_seen::LaneNumber;
+use audit_sightings::Intake;
+use std::alloc::{AllocError, Global};
+use std::collections::{BTreeMap, BTreeSet};
+
+/// The lanes whose allocations had a relayed address: the last one, and another one before that.
+#[derive(Clone, Copy)]
+pub(crate) struct Holders {
+    pub(crate) last: LaneNumber,
+    pub(crate) before: Option<LaneNumber>,
+}
+
+/// What was found so far.
+#[derive(Drop)]
+pub struct Search {
+    pub(crate) lanes: Vec<FoundLane>,
+    pub(crate) rows: Vec<Row>,
+    pub(crate) arrivals: Arrivals,
+    pub(crate) answers: Answers,
+    pub(crate) heads: Heads,
+    /// Interfaces whose next departure waits for an arrival, by the arrival.
+    pub(crate) waiting: BTreeMap<ArrivalNumber, u32>,
+    /// Interfaces whose next departure waits for whatever comes next.
+    pub(crate) expecting: Vec<u32>,
+    /// Answers that make allocations and weren't given yet, by the relayed address and the least moment at which they leave.
+    pub(crate) allocations: BTreeSet<(Addr, u64, AnswerNumber)>,
+    /// Whose each relayed address is.
+    pub(crate) holders: BTreeMap<Addr, Holders>,
+    /// Arrivals that have a key, and no event yet.
+    pub(crate) undecided: Vec<ArrivalNumber>,
+    /// The last data of a client that arrived, of all lanes.
+    pub(crate) last_sent: Option<ArrivalNumber>,
+    pub(crate) clock: Clock,
+    /// Events are given past this moment.
+    pub given_to: Option<u64>,
+    pub(crate) alloc: Global,
+}
+
+impl Search {
+    /// Nothing was found yet. It takes no memory.
+    pub fn new(alloc: Global) -> Search
+        ensures { result.given_to ≡ None }
+    {
+        Search {
+            lanes: Vec::new(alloc),
+            rows: Vec::new(alloc),
+            arrivals: Arrivals::new(alloc),
+            answers: Answers::new(alloc),
+            heads: Heads::new(alloc),
+            waiting: BTreeMap::new(alloc),
+            expecting: Vec::new(alloc),
+            allocations: BTreeSet::new(alloc),
+            holders: BTreeMap::new(alloc),
+            undecided: Vec::new(alloc),
+            last_sent: None,
+            clock: Clock::new(),
+            given_to: None,
+            alloc,
+        }
+    }
+
+    /// Places the sightings that are new, and those that were left, up to the horizon.
+    pub fn go(&mut self, judge: &Judge<'_>, horizon: u64) -> Result<Portion, AllocError>
+        ensures { OnOk result (self.new.given_to ≡ Some horizon) }
+    {
+        self.note_new(judge)?;
+        if let Some(given_to) = self.given_to {
+            self.clock.reach(given_to.saturating_add(1));
+        }
+        let mut portion = Portion::new(self.alloc);
+        self.queue_rows(judge.intake)?;
+        self.go_on(judge, horizon, &mut portion)?;
+        self.decide(judge, horizon, &mut portion)?;
+        self.given_to = Some(horizon);
+        portion.sort();
+        Ok(portion)
+    }
+
+    /// Queues each interface that has a sighting without a key.
+    fn queue_rows(&mut self, intake: &Intake) -> Result<(), AllocError> {
+        for iface in 0..intake.interfaces() {
+            self.queue_row(intake, iface)?;
+        }
+        Ok(())
+    }
+
+    /// Queues an interface by the least moment of its next sighting; now, where that waited.
+    fn queue_row(&mut self, intake: &Intake, iface: u32) -> Result<(), AllocError> {
+        let Some(row) = self.rows.get(iface as usize) else {
+            return Ok(());
+        };
+        if row.queued.is_some() && row.wait.is_none() {
+            return Ok(());
+        }
+        let Some((sight, _)) = row.next(iface) else {
+            return Ok(());
+        };
+        let Some(sighting) = intake.sighting(sight) else {
+            return Ok(());
+        };
+        self.queue(iface, sighting.lo)
+    }
+
+    /// Queues an interface at a moment, or now where that is over.
+    fn queue(&mut self, iface: u32, moment: u64) -> Result<(), AllocError> {
+        let moment = moment.max(self.clock.moment());
+        if let Some(row) = self.rows.get_mut(iface as usize) {
+            row.queued = Some(moment);
+        }
+        self.heads.push(moment, iface)
+    }
+
+    /// Places sightings, the least moment first, up to the horizon.
+    fn go_on(
+        &mut self,
+        judge: &Judge<'_>,
+        horizon: u64,
+        portion: &mut Portion,
+    ) -> Result<(), AllocError> {
+        let (_, sightings) = judge.intake.counts();
+        // Each is queued at first, and twice each time that it waits.
+        for _ in 0..(2 * CANDIDATES as u64 + 4) * (sightings as u64 + 1) {
+            let Some((moment, iface)) = self.heads.pop(horizon) else {
+                return Ok(());
+            };
+            if self.is_queued_at(iface, moment) {
+                self.clock.reach(moment);
+                self.try_next(judge, iface, portion)?;
+            }
+        }
+        Ok(())
+    }
+
+    /// Whether an interface stands among the heads at that moment, and not at another one since.
+    fn is_queued_at(&self, iface: u32, moment: u64) -> bool {
+        match self.rows.get(iface as usize) {
+            Some(row) => row.queued == Some(moment),
+            None => false,
+        }
+    }
+
+    /// Places the next sighting of an interface, or lets it wait.
+    fn try_next(
+        &mut self,
+        judge: &Judge<'_>,
+        iface: u32,
+        portion: &mut Portion,
+    ) -> Result<(), AllocError> {
+        let Some(row) = self.rows.get_mut(iface as usize) else {
+            return Ok(());
+        };
+        row.queued = None;
+        row.wait = None;
+        let Some((sight, role)) = row.next(iface) else {
+            return Ok(());
+        };
+        let Some(sighting) = judge.intake.sighting(sight) else {
+            return Ok(());
+        };
+        let wait = match role {
+            Role::Arrival(number) => {
+                self.place_arrival(judge, number, sighting, portion)?;
+                None
+            }
+            Role::Answer(number) => self.place_answer(judge, number, sighting, portion)?,
+            Role::Data(digest) => self.place_data(judge, sighting, digest, portion)?,
+        };
+        match wait {
+            Some(wait) => self.wait(judge, iface, wait, sighting),
+            None => {
+                if let Some(row) = self.rows.get_mut(iface as usize) {
+                    row.advance();
+                }
+                self.queue_row(judge.intake, iface)?;
+                self.wake_expecting()
+            }
+        }
+    }
+
+    /// Lets the next departure of an interface wait, till its latest moment at the most. Where another one waits for that
+    /// arrival, or it has waited often, it is not woken by it.
+    fn wait(
+        &mut self,
+        judge: &Judge<'_>,
+        iface: u32,
+        wait: Wait,
+        leaves: &Sighting,
+    ) -> Result<(), AllocError> {
+        let mut wait = wait;
+        if let Wait::Arrival(number) = wait {
+            if self.waiting.contains_key(&number) {
+                wait = Wait::Next;
+            } else {
+                self.waiting.insert(number, iface)?;
+            }
+        }
+        if let Some(row) = self.rows.get_mut(iface as usize) {
+            row.wait = Some(wait);
+            row.waits = row.waits.saturating_add(1);
+            if wait == Wait::Next && row.waits < CANDIDATES {
+                self.expecting.push(iface)?;
+            }
+        }
+        self.queue(iface, latest(judge, leaves))
+    }
+
+    /// Queues the interface whose next departure waits for an arrival, if there is one.
+    pub(crate) fn wake(&mut self, number: ArrivalNumber) -> Result<(), AllocError> {
+        match self.waiting.remove(&number) {
+            Some(iface) => self.wake_row(iface, Wait::Arrival(number)),
+            None => Ok(()),
+        }
+    }
+
+    /// Queues the interfaces whose next departures wait for whatever comes next.
+    fn wake_expecting(&mut self) -> Result<(), AllocError> {
+        if self.expecting.is_empty() {
+            return Ok(());
+        }
+        let expecting = std::mem::replace(&mut self.expecting, Vec::new(self.alloc));
+        for iface in expecting {
+            self.wake_row(iface, Wait::Next)?;
+        }
+        Ok(())
+    }
+
+    /// Queues an interface now, if its next departure waits for that.
+    fn wake_row(&mut self, iface: u32, wait: Wait) -> Result<(), AllocError> {
+        match self.rows.get(iface as usize) {
+            Some(row) if row.wait == Some(wait) => self.queue(iface, 0),
+            _ => Ok(()),
+        }
+    }
+}

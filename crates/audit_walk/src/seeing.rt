@@ -1,0 +1,92 @@
+//! What sightings are alone, whatever comes before them.
+
+use crate::answers::Transaction;
+use crate::causes::{cause_of_client, cause_of_peer, digest_of};
+use crate::judge::Judge;
+use crate::said::{Says, answer_of, data_given};
+use audit_model::{Side, Sighting};
+use audit_seen::LaneNumber;
+use std::alloc::AllocError;
+use std::thread;
+use std::thread::Threads;
+
+/// What a sighting is, as far as it takes no other to tell.
+#[derive(Clone, Copy, Debug)]
+pub enum Seen {
+    /// A datagram that arrives: the client's lane, and the digest of what it asks for.
+    Arrival {
+        lane: Option<LaneNumber>,
+        asks: Option<u64>,
+    },
+    /// A success or an error.
+    Answer(Transaction, Says),
+    /// Data that leaves, with its digest.
+    Data(u64),
+}
+
+/// What each of some sightings is, in order.
+fn all_seen(judge: &Judge<'_>, sightings: &[Sighting]) -> Result<Vec<Seen>, AllocError> {
+    let mut all = Vec::with_capacity(judge.alloc, sightings.len())?;
+    for sighting in sightings {
+        all.push(seen_of(judge, sighting))?;
+    }
+    Ok(all)
+}
+
+/// What each of some sightings is, in order and in as many parts as there are threads at the most.
+pub fn all_seen_by<R: Threads + Sync>(
+    rt: &R,
+    workers: u32,
+    judge: &Judge<'_>,
+    sightings: &[Sighting],
+) -> Result<Vec<Result<Vec<Seen>, AllocError>>, AllocError> {
+    let size = sightings.len() / workers.max(1) as usize + 1;
+    thread::map_chunks(
+        rt,
+        judge.alloc,
+        sightings,
+        size,
+        &|_, part| all_seen(judge, part),
+    )
+}
+
+/// What a sighting is. It goes once over its payload.
+pub fn seen_of(judge: &Judge<'_>, sighting: &Sighting) -> Seen {
+    match sighting.side {
+        Side::Arrives => seen_arriving(judge, sighting),
+        Side::Leaves => seen_leaving(judge, sighting),
+    }
+}
+
+fn seen_arriving(judge: &Judge<'_>, sighting: &Sighting) -> Seen {
+    if !judge.intake.policy().listens(sighting.to) {
+        let asks = Some(cause_of_peer(sighting).digest());
+        return Seen::Arrival { lane: None, asks };
+    }
+    let lane = judge.lane_of(sighting.from, sighting.to);
+    let cause = match lane {
+        Some(lane) => cause_of_client(lane, sighting.payload.as_slice()),
+        None => None,
+    };
+    let asks = match cause {
+        Some(cause) => Some(cause.digest()),
+        None => None,
+    };
+    Seen::Arrival { lane, asks }
+}
+
+fn seen_leaving(judge: &Judge<'_>, sighting: &Sighting) -> Seen {
+    let payload = sighting.payload.as_slice();
+    if !judge.intake.policy().listens(sighting.from) {
+        return Seen::Data(digest_of(payload));
+    }
+    let lane = judge.lane_of(sighting.to, sighting.from);
+    if let (Some(lane), Some(answer)) = (lane, answer_of(payload)) {
+        let (id, says) = answer;
+        return Seen::Answer(Transaction { lane, id }, says);
+    }
+    match data_given(payload) {
+        Some((_, data)) => Seen::Data(digest_of(data)),
+        None => Seen::Data(0),
+    }
+}
