@@ -127,6 +127,19 @@ impl Lane<'_> {
         self.state.act(departure, acted)
     }
 
+    /// Whether no order helps a departure that is refused: a response that nobody asked for, or one that doesn't answer its only request for what
+    /// the two say, whatever the server has.
+    pub(crate) fn is_hopeless(&self, departure: SeenNumber, refused: Refused) -> bool {
+        let Some(pool) = self.response_ref(departure) else {
+            return false;
+        };
+        match self.given.views.arrivals(self.number, pool).len() {
+            0 => true,
+            1 => is_of_content(refused),
+            _ => false,
+        }
+    }
+
     /// Acts on a departure behind the lane's fault: by the rules where they allow it, else by any arrival.
     pub(crate) fn act_anyhow(&mut self, departure: SeenNumber) -> Result<(), AllocError> {
         let slot = Slot::before(self.given.rank(departure));
@@ -141,4 +154,18 @@ impl Lane<'_> {
         }
         Ok(())
     }
+}
+
+/// Whether a rule asks for nothing that the server has or had, in each answer that asks for it.
+fn is_of_content(refused: Refused) -> bool {
+    matches!(
+        refused,
+        Refused::Rule(
+            Rule::NotAuthentic
+                | Rule::ChannelNumber
+                | Rule::MappedAddress
+                | Rule::ResponseIntegrity
+                | Rule::Malformed
+        )
+    )
 }

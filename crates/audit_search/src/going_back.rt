@@ -167,6 +167,7 @@ impl Sweep<'_> {
             departure,
             refused,
             low: self.lane.given.low(departure),
+            is_hopeless: self.lane.is_hopeless(departure, refused),
         });
         Ok(())
     }

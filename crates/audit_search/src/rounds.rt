@@ -106,6 +106,11 @@ impl Scored {
         self.score.0 == usize::MAX && self.score.1 == usize::MAX
     }
 
+    /// Whether no order helps any of its faults, and nothing else is wrong.
+    fn is_hopeless(&self) -> bool {
+        self.score.1 == usize::MAX && self.round.faults.iter().all(|fault| fault.1.is_hopeless)
+    }
+
     /// The better one of the two, the older one of two that are alike.
     fn or_older(self, older: Option<Scored>) -> Scored {
         match older {
@@ -184,9 +189,9 @@ impl<'a> Climb<'a> {
         Ok(())
     }
 
-    /// Goes to the next round, or to the next turn where lanes ask for nothing more.
+    /// Goes to the next round, or to the next turn where lanes ask for nothing more; ends where nothing is wrong, or nothing that an order helps.
     fn go_on(&mut self, best: &Scored, is_more: bool) -> Result<(), AllocError> {
-        if best.is_whole() {
+        if best.is_whole() || best.is_hopeless() {
             self.is_over = true;
         } else if is_more && self.left > 0 {
             self.left -= 1;

@@ -41,6 +41,8 @@ pub struct Fault {
     pub refused: Refused,
     /// The least moment of the departure.
     pub low: u64,
+    /// Whether no order helps.
+    pub is_hopeless: bool,
 }
 
 /// What the search of a lane found: the act for each departure, and the first departure on which the lane couldn't act in any order that
