@@ -11,6 +11,7 @@ use audit_order::Placing;
 use audit_samples::{BuildFault, Capture, UdpDatagram};
 use audit_sightings::Intake;
 use std::alloc::{AllocError, Global};
+use std::process::Abort;
 use std::test::Fail;
 
 const SERVER: Addr = Addr {
@@ -68,16 +69,27 @@ fn key(moment: u64) -> Key {
     Key { moment, tie: 0 }
 }
 
-fn portion(
-    alloc: Global,
-    lanes: &[(Addr, Addr)],
-    events: &[(u32, Event)],
-    drops: &[CertDrop],
-) -> Result<Extension, AllocError> {
+/// What a certificate gains.
+#[derive(Clone, Copy)]
+struct Gained<'a> {
+    lanes: &'a [(Addr, Addr)],
+    events: &'a [(u32, Event)],
+    drops: &'a [CertDrop],
+}
+
+/// What is told once that is added: whether a rule is broken, how many sightings are placed, and the first that isn't.
+#[derive(Clone, Copy, Debug, PartialEq, Eq)]
+struct Told {
+    answer: Result<(), Breach>,
+    count: u32,
+    unplaced: Option<SightId>,
+}
+
+fn portion(alloc: Global, gained: Gained<'_>) -> Result<Extension, AllocError> {
     Ok(Extension {
-        lanes: Listed::from(Vec::from_slice(alloc, lanes)?),
-        events: Listed::from(Vec::from_slice(alloc, events)?),
-        drops: Listed::from(Vec::from_slice(alloc, drops)?),
+        lanes: Listed::from(Vec::from_slice(alloc, gained.lanes)?),
+        events: Listed::from(Vec::from_slice(alloc, gained.events)?),
+        drops: Listed::from(Vec::from_slice(alloc, gained.drops)?),
     })
 }
 
@@ -96,22 +108,60 @@ fn added(
     Ok(placing.add(intake, portion)?)
 }
 
-#[test]
-fn portions_are_placed_as_they_come(rt: HostRuntime) -> Result<(), Fail> {
+/// Adds what a certificate gains, and tells what comes of it.
+fn told_of(
+    alloc: Global,
+    placing: &mut Placing,
+    intake: &Intake,
+    gained: Gained<'_>,
+) -> Result<Told, Fail>
+    requires { Keeps (taken intake.now) placing.old }
+    ensures { OnOk result (Keeps (taken intake.now) placing.new) }
+{
+    let portion = portion(alloc, gained)?;
+    let answer = added(placing, intake, &portion)?;
+    Ok(Told {
+        answer,
+        count: placing.count(),
+        unplaced: placing.unplaced(intake).map(|breach| breach.sight),
+    })
+}
+
+/// That what a certificate gains, portion by portion, is told as it says.
+fn play(rt: &(impl Abort + AllocGlobal), portions: &[(Gained<'_>, Told)]) -> Result<(), Fail> {
     let alloc = rt.alloc();
     let intake = intake(alloc, capture(alloc)?.bytes())?;
     let mut placing = Placing::new(alloc);
-    let request = Event::In {
-        sight: sight(0),
-        key: key(1_000_000_000),
-    };
-    let first = portion(alloc, &[(CLIENT, SERVER)], &[(0, request)], &[])?;
-    assert_eq!(rt; added(&mut placing, &intake, &first)?, Ok(()));
-    assert_eq!(rt; placing.count(), 1);
-    let unplaced = placing
-        .unplaced(&intake)
-        .map(|breach| (breach.rule, breach.sight));
-    assert_eq!(rt; unplaced, Some((Rule::Unplaced, sight(1))));
+    'portions: for (gained, told) in portions {
+        assert_eq!(rt; told_of(alloc, &mut placing, &intake, *gained)?, *told);
+    }
+    Ok(())
+}
+
+/// An event that places the arrival of a sighting at a moment.
+fn arrives(index: u32, moment: u64) -> Event {
+    Event::In {
+        sight: sight(index),
+        key: key(moment),
+    }
+}
+
+/// The breach of a rule by the first event of the second lane.
+fn broken(moment: u64, index: u32, rule: Rule) -> Breach {
+    Breach {
+        at: At {
+            key: key(moment),
+            lane: 1,
+            place: 0,
+        },
+        sight: sight(index),
+        rule,
+        phase: 1,
+    }
+}
+
+#[test]
+fn portions_are_placed_as_they_come(rt: HostRuntime) -> Result<(), Fail> {
     let act = Event::Act {
         sight: sight(0),
         gives: sight(1),
@@ -125,94 +175,107 @@ fn portions_are_placed_as_they_come(rt: HostRuntime) -> Result<(), Fail> {
         sight: sight(2),
         key: key(1_000_400_000),
     };
-    let second = portion(alloc, &[], &[(0, act), (0, answer)], &[dropped])?;
-    assert_eq!(rt; added(&mut placing, &intake, &second)?, Ok(()));
-    assert_eq!(rt; placing.count(), 3);
-    assert_eq!(rt; placing.unplaced(&intake), None);
-    Ok(())
+    let first = Gained {
+        lanes: &[(CLIENT, SERVER)],
+        events: &[(0, arrives(0, 1_000_000_000))],
+        drops: &[],
+    };
+    let second = Gained {
+        lanes: &[],
+        events: &[(0, act), (0, answer)],
+        drops: &[dropped],
+    };
+    let one = Told {
+        answer: Ok(()),
+        count: 1,
+        unplaced: Some(sight(1)),
+    };
+    let all = Told {
+        answer: Ok(()),
+        count: 3,
+        unplaced: None,
+    };
+    play(&rt, &[(first, one), (second, all)])
 }
 
 #[test]
 fn a_first_placement_that_comes_later_makes_the_earlier_one_the_second(
     rt: HostRuntime,
 ) -> Result<(), Fail> {
-    let alloc = rt.alloc();
-    let intake = intake(alloc, capture(alloc)?.bytes())?;
-    let mut placing = Placing::new(alloc);
-    let request = Event::In {
-        sight: sight(0),
-        key: key(1_000_000_000),
+    let first = Gained {
+        lanes: &[(OTHER, SERVER), (CLIENT, SERVER)],
+        events: &[(1, arrives(0, 1_000_000_000))],
+        drops: &[],
     };
-    let lanes = [(OTHER, SERVER), (CLIENT, SERVER)];
-    let first = portion(alloc, &lanes, &[(1, request)], &[])?;
-    assert_eq!(rt; added(&mut placing, &intake, &first)?, Ok(()));
-    let again = Event::In {
-        sight: sight(0),
-        key: key(1_000_100_000),
+    let again = Gained {
+        lanes: &[],
+        events: &[(0, arrives(0, 1_000_100_000))],
+        drops: &[],
     };
-    let second = portion(alloc, &[], &[(0, again)], &[])?;
-    let told = Breach {
-        at: At {
-            key: key(1_000_000_000),
-            lane: 1,
-            place: 0,
-        },
-        sight: sight(0),
-        rule: Rule::PlacedTwice,
-        phase: 1,
+    let no_events = [];
+    let nothing = Gained {
+        lanes: &[],
+        events: &no_events,
+        drops: &[],
     };
-    assert_eq!(rt; added(&mut placing, &intake, &second)?, Err(told));
-    let nothing = portion(alloc, &[], &[], &[])?;
-    assert_eq!(rt; added(&mut placing, &intake, &nothing)?, Err(told));
-    let unplaced = placing.unplaced(&intake).map(|breach| breach.sight);
-    assert_eq!(rt; unplaced, Some(sight(1)));
-    Ok(())
+    let one = Told {
+        answer: Ok(()),
+        count: 1,
+        unplaced: Some(sight(1)),
+    };
+    let twice = Told {
+        answer: Err(broken(1_000_000_000, 0, Rule::PlacedTwice)),
+        count: 2,
+        unplaced: Some(sight(1)),
+    };
+    play(&rt, &[(first, one), (again, twice), (nothing, twice)])
 }
 
 #[test]
 fn a_neighbour_that_comes_later_shows_the_order(rt: HostRuntime) -> Result<(), Fail> {
-    let alloc = rt.alloc();
-    let intake = intake(alloc, capture(alloc)?.bytes())?;
-    let mut placing = Placing::new(alloc);
-    let of_other = Event::In {
-        sight: sight(2),
-        key: key(1_000_100_000),
-    };
-    let lanes = [(CLIENT, SERVER), (OTHER, SERVER)];
-    let first = portion(alloc, &lanes, &[(1, of_other)], &[])?;
-    assert_eq!(rt; added(&mut placing, &intake, &first)?, Ok(()));
     let answer = Event::Out {
         sight: sight(1),
         key: key(1_000_100_000),
     };
-    let second = portion(alloc, &[], &[(0, answer)], &[])?;
-    let told = Breach {
-        at: At {
-            key: key(1_000_100_000),
-            lane: 1,
-            place: 0,
-        },
-        sight: sight(2),
-        rule: Rule::InterfaceOrder,
-        phase: 1,
+    let of_other = Gained {
+        lanes: &[(CLIENT, SERVER), (OTHER, SERVER)],
+        events: &[(1, arrives(2, 1_000_100_000))],
+        drops: &[],
     };
-    assert_eq!(rt; added(&mut placing, &intake, &second)?, Err(told));
-    Ok(())
+    let of_client = Gained {
+        lanes: &[],
+        events: &[(0, answer)],
+        drops: &[],
+    };
+    let one = Told {
+        answer: Ok(()),
+        count: 1,
+        unplaced: Some(sight(0)),
+    };
+    let two = Told {
+        answer: Err(broken(1_000_100_000, 2, Rule::InterfaceOrder)),
+        count: 2,
+        unplaced: Some(sight(0)),
+    };
+    play(&rt, &[(of_other, one), (of_client, two)])
+}
+
+/// Whether a portion with these lanes and one event, of that lane, fits a certificate that has nothing.
+fn fits(alloc: Global, lanes: &[(Addr, Addr)], lane: u32) -> Result<bool, Fail> {
+    let gained = Gained {
+        lanes,
+        events: &[(lane, arrives(0, 1_000_000_000))],
+        drops: &[],
+    };
+    Ok(Placing::new(alloc).fits(&portion(alloc, gained)?)?)
 }
 
 #[test]
 fn what_does_not_fit_is_told(rt: HostRuntime) -> Result<(), Fail> {
     let alloc = rt.alloc();
-    let placing = Placing::new(alloc);
-    let request = Event::In {
-        sight: sight(0),
-        key: key(1_000_000_000),
-    };
-    let fitting = portion(alloc, &[(CLIENT, SERVER)], &[(0, request)], &[])?;
-    assert_eq!(rt; placing.fits(&fitting)?, true);
-    let of_no_lane = portion(alloc, &[(CLIENT, SERVER)], &[(1, request)], &[])?;
-    assert_eq!(rt; placing.fits(&of_no_lane)?, false);
-    let twice = portion(alloc, &[(CLIENT, SERVER), (CLIENT, SERVER)], &[], &[])?;
-    assert_eq!(rt; placing.fits(&twice)?, false);
+    let pair = (CLIENT, SERVER);
+    assert_eq!(rt; fits(alloc, &[pair], 0)?, true);
+    assert_eq!(rt; fits(alloc, &[pair], 1)?, false);
+    assert_eq!(rt; fits(alloc, &[pair, pair], 0)?, false);
     Ok(())
 }
