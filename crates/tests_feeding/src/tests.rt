@@ -1,9 +1,10 @@
 //! What `feed` takes in of many datagrams, and that `feed_parallel` takes in the same. Below 1 MiB neither starts a thread.
 
-use audit_model::{Addr, Side, SightId, read_policy};
+use audit_model::{Addr, Side, SightId, Sighting, read_policy};
 use audit_samples::{BuildFault, Capture, UdpDatagram};
 use audit_sightings::{Intake, IntakeFault, IntakeFaultKind};
 use std::alloc::{AllocError, Global};
+use std::process::Abort;
 use std::test::*;
 use std::thread::Threads;
 
@@ -84,6 +85,29 @@ fn with_fragment(alloc: Global, capture: &Capture, before: usize) -> Result<Vec<
     Ok(bytes)
 }
 
+/// What a sighting is, but for its payload.
+fn facts(sighting: &Sighting) -> ((SightId, Side), (Addr, Addr), (u64, u64, u64)) {
+    (
+        (sighting.id, sighting.side),
+        (sighting.from, sighting.to),
+        (sighting.stamp, sighting.lo, sighting.hi),
+    )
+}
+
+/// That both have so many sightings, the same ones, each with the number of its pair.
+fn assert_same(rt: &impl Abort, one: &Intake, many: &Intake, sightings: u32) -> Result<(), Fail> {
+    for index in 0..sightings {
+        let id = SightId { iface: 0, index };
+        let by_one = one.sighting(id).ok_or("it is there")?;
+        let by_many = many.sighting(id).ok_or("it is there")?;
+        let number = u64::from(index) / 2;
+        assert_eq!(rt; by_one.payload.as_slice(), number.to_be_bytes().as_slice());
+        assert_eq!(rt; by_many.payload.as_slice(), by_one.payload.as_slice());
+        assert_eq!(rt; facts(by_many), facts(by_one));
+    }
+    Ok(())
+}
+
 #[test]
 fn as_many_threads_take_them_in(rt: HostRuntime) -> Result<(), Fail> {
     let alloc = rt.alloc();
@@ -91,22 +115,12 @@ fn as_many_threads_take_them_in(rt: HostRuntime) -> Result<(), Fail> {
         let capture = capture(alloc, pairs)?;
         let (one, fed_by_one) = fed(alloc, capture.bytes())?;
         let (many, fed_by_many) = fed_parallel(&rt, alloc, capture.bytes())?;
-        assert_eq!(rt; fed_by_one, Ok(()));
-        assert_eq!(rt; fed_by_many, Ok(()));
-        assert_eq!(rt; one.counts(), (1, sightings));
-        assert_eq!(rt; many.counts(), (1, sightings));
-        for index in 0..sightings {
-            let id = SightId { iface: 0, index };
-            let by_one = one.sighting(id).ok_or("it is there")?;
-            let by_many = many.sighting(id).ok_or("it is there")?;
-            let number = u64::from(index) / 2;
-            assert_eq!(rt; by_many.payload.as_slice(), number.to_be_bytes().as_slice());
-            assert_eq!(rt; by_many.payload.as_slice(), by_one.payload.as_slice());
-            assert_eq!(rt; (by_many.id, by_many.side), (by_one.id, by_one.side));
-            assert_eq!(rt; (by_many.from, by_many.to), (by_one.from, by_one.to));
-            assert_eq!(rt; (by_many.lo, by_many.hi), (by_one.lo, by_one.hi));
-            assert_eq!(rt; by_many.stamp, by_one.stamp);
-        }
+        assert_eq!(rt; (fed_by_one, fed_by_many), (Ok(()), Ok(())));
+        assert_eq!(rt;
+            (one.counts(), many.counts()),
+            ((1, sightings), (1, sightings))
+        );
+        assert_same(&rt, &one, &many, sightings)?;
         many.finish()?;
     }
     Ok(())
@@ -120,19 +134,17 @@ fn what_comes_before_a_fragment_is_kept(rt: HostRuntime) -> Result<(), Fail> {
         let bytes = with_fragment(alloc, &capture, kept as usize)?;
         let (one, fed_by_one) = fed(alloc, &bytes)?;
         let (many, fed_by_many) = fed_parallel(&rt, alloc, &bytes)?;
-        let fragment = IntakeFault {
+        let fragment = Err(IntakeFault {
             kind: IntakeFaultKind::Fragment,
             file: 0,
-        };
-        let failed = IntakeFault {
+        });
+        let failed = Err(IntakeFault {
             kind: IntakeFaultKind::Failed,
             file: 0,
-        };
-        assert_eq!(rt; fed_by_one, Err(fragment));
-        assert_eq!(rt; fed_by_many, Err(fragment));
-        assert_eq!(rt; one.counts(), (1, kept));
-        assert_eq!(rt; many.counts(), (1, kept));
-        assert_eq!(rt; many.finish(), Err(failed));
+        });
+        assert_eq!(rt; (fed_by_one, fed_by_many), (fragment, fragment));
+        assert_eq!(rt; (one.counts(), many.counts()), ((1, kept), (1, kept)));
+        assert_eq!(rt; many.finish(), failed);
     }
     Ok(())
 }

@@ -146,21 +146,31 @@ fn is_by_two(closed: &Closed<'_>) -> bool {
         && closed.claimants.get(second.input().number() as usize) == Some(other)
 }
 
+/// The verdict of two workers that meet, whether one missed the other, and whether each entered a lane.
+fn met<R: Clock + Threads + Wait + Sync>(
+    rt: &R,
+    alloc: Global,
+    intake: &Intake,
+    users: &Credentials,
+    certificate: &Certificate,
+) -> Result<(Verdict, u64, bool), Fail> {
+    let gate = Meeting::new(rt);
+    let judged = check_parallel(rt, alloc, intake, users, certificate, 2, &gate)?;
+    let is_each = judged.closed.is_some_and(|closed| is_by_two(&closed));
+    Ok((judged.verdict, gate.missed.load(Ordering::SeqCst), is_each))
+}
+
 #[test]
 fn two_workers_judge_two_lanes_at_once(rt: HostRuntime) -> Result<(), Fail> {
     let alloc = rt.alloc();
     let intake = intake(alloc, false)?;
     let users = Credentials::read(alloc, b"")?;
     let certificate = read(alloc, PASSING)?;
-    let gate = Meeting::new(&rt);
-    let judged = check_parallel(&rt, alloc, &intake, &users, &certificate, 2, &gate)?;
-    assert_eq!(rt; gate.missed.load(Ordering::SeqCst), 0);
+    let verdict = check(alloc, &intake, &users, &certificate)?;
     assert_eq!(rt;
-        judged.verdict,
-        check(alloc, &intake, &users, &certificate)?
+        met(&rt, alloc, &intake, &users, &certificate)?,
+        (verdict, 0, true)
     );
-    let closed = judged.closed.ok_or("no book")?;
-    assert!(rt; is_by_two(&closed));
     Ok(())
 }
 
@@ -191,8 +201,9 @@ fn any_number_of_workers_tells_the_least_breach(rt: HostRuntime) -> Result<(), F
         return Err(Fail::new("no breach"));
     };
     assert_eq!(rt; (breach.phase, breach.at.lane), (2, 1));
-    assert!(rt; gives(&rt, alloc, &intake, &certificate, 1, verdict)?);
-    assert!(rt; gives(&rt, alloc, &intake, &certificate, 2, verdict)?);
-    assert!(rt; gives(&rt, alloc, &intake, &certificate, 7, verdict)?);
+    let by_one = gives(&rt, alloc, &intake, &certificate, 1, verdict)?;
+    let by_two = gives(&rt, alloc, &intake, &certificate, 2, verdict)?;
+    let by_seven = gives(&rt, alloc, &intake, &certificate, 7, verdict)?;
+    assert_eq!(rt; (by_one, by_two, by_seven), (true, true, true));
     Ok(())
 }
