@@ -1,11 +1,12 @@
 #!/usr/bin/env python3
 """Captures that strangers would make to keep the program busy, beside ordinary ones of as many datagrams of the same size.
 
-    python3 bench/attacks.py PROGRAM [--scale 1]
+    python3 bench/attacks.py PROGRAM [--scale 4]
 
 Each is built at n and at 4n datagrams and timed by `audit`, `find`, and `check` with the certificate that `find` writes: processor
 seconds, the least of three runs. It prints, of each, the seconds, how many times those at n the ones at 4n are, and how many times
-the ordinary ones. It fails where 4n takes over 5 times as long as n, or an attack takes over 8 times as long as the ordinary capture.
+the ordinary ones. It fails where 4n takes over 6 times as long as n (n log n and the caches come to 5, what is quadratic to 16), or an attack
+takes over 8 times as long as the ordinary capture. It takes some four minutes.
 
   users       one client with an allocation, and a Refresh by another user each time, answered by 441
   clients     every request by another client, their addresses in order, and each answered
@@ -272,7 +273,7 @@ def timed(program, folder):
 def main():
     words = argparse.ArgumentParser(description="Times captures that strangers would make to keep the program busy.")
     words.add_argument("program", type=pathlib.Path)
-    words.add_argument("--scale", type=float, default=1)
+    words.add_argument("--scale", type=float, default=4)
     asked = words.parse_args()
     program = asked.program.resolve()
     # The datagrams at n, and how many bytes of data each has.
@@ -296,7 +297,7 @@ def main():
                 one, four = (time[name] for time in times)
                 grows, worse = four / one, four / plain[datagrams][name]
                 print(f"{build.__name__:16}{datagrams:>10}{name:>9}{one:>9.2f}{four:>9.2f}{grows:>9.1f}{worse:>13.1f}", flush=True)
-                if build is not ordinary and (grows > 5 or worse > 8):
+                if build is not ordinary and (grows > 6 or worse > 8):
                     failed += 1
     print(f"{failed} failed")
     return 1 if failed else 0
