@@ -156,11 +156,14 @@ impl Answers {
 
     /// The first of the transaction that no request has.
     pub fn first(&self, of: &Transaction) -> Option<AnswerNumber> {
-        Some(AnswerNumber(self.queues.first(of.digest())?))
+        let queue = self.queues.of(of.digest())?;
+        Some(AnswerNumber(self.queues.first(queue)?))
     }
 
     /// Takes the first of the transaction out.
     pub fn skip(&mut self, of: &Transaction) {
-        self.queues.skip(of.digest());
+        if let Some(queue) = self.queues.of(of.digest()) {
+            self.queues.skip(queue);
+        }
     }
 }

@@ -65,11 +65,11 @@ impl Arrivals {
 
     /// The first that asks for this, those left out that were acted on or came too long ago.
     pub fn first(&mut self, cause: &Cause, earliest: u64) -> Option<ArrivalNumber> {
-        let digest = cause.digest();
+        let queue = self.queues.of(cause.digest())?;
         for _ in 0..self.list.len() {
-            let first = ArrivalNumber(self.queues.first(digest)?);
+            let first = ArrivalNumber(self.queues.first(queue)?);
             match self.get(first) {
-                Some(arrival) if is_past(arrival, earliest) => self.queues.skip(digest),
+                Some(arrival) if is_past(arrival, earliest) => self.queues.skip(queue),
                 _ => return Some(first),
             }
         }
@@ -78,7 +78,8 @@ impl Arrivals {
 
     /// The last that asked for this and was acted on, unless it came too long ago.
     pub fn past(&self, cause: &Cause, earliest: u64) -> Option<ArrivalNumber> {
-        let past = ArrivalNumber(self.queues.past(cause.digest())?);
+        let queue = self.queues.of(cause.digest())?;
+        let past = ArrivalNumber(self.queues.past(queue)?);
         if self.get(past)?.key?.moment < earliest {
             return None;
         }
@@ -87,7 +88,8 @@ impl Arrivals {
 
     /// The last that asks for this, of all that were added.
     pub fn last(&self, cause: &Cause) -> Option<ArrivalNumber> {
-        Some(ArrivalNumber(self.queues.last(cause.digest())?))
+        let queue = self.queues.of(cause.digest())?;
+        Some(ArrivalNumber(self.queues.last(queue)?))
     }
 
     /// The next that asks for the same.

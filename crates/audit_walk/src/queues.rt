@@ -3,6 +3,10 @@
 use crate::digests::Digests;
 use std::alloc::{AllocError, Global};
 
+/// The number of a queue.
+#[derive(Clone, Copy, Debug, PartialEq, Eq)]
+pub struct QueueNumber(u32);
+
 /// The ends of one queue.
 #[derive(Clone, Copy)]
 struct Ends {
@@ -13,7 +17,7 @@ struct Ends {
 }
 
 /// Numbers of items, from 0 in the order in which they came, each in the queue of its digest if it has one.
-/// Every call takes logarithmic time in the number of digests at the most, and mostly takes the same time.
+/// To find a queue, or to add an item, takes logarithmic time in the number of digests at the most, and mostly takes the same time.
 #[derive(Drop)]
 pub struct Queues {
     /// The number of the queue of each digest.
@@ -76,23 +80,28 @@ impl Queues {
         Ok(())
     }
 
-    fn ends_of(&self, digest: u64) -> Option<&Ends> {
-        self.ends.get(self.numbers.get(digest)? as usize)
+    /// The queue of a digest, if there is one.
+    pub fn of(&self, digest: u64) -> Option<QueueNumber> {
+        Some(QueueNumber(self.numbers.get(digest)?))
+    }
+
+    fn ends_of(&self, queue: QueueNumber) -> Option<&Ends> {
+        self.ends.get(queue.0 as usize)
     }
 
     /// The first item of a queue.
-    pub fn first(&self, digest: u64) -> Option<u32> {
-        self.ends_of(digest)?.first
+    pub fn first(&self, queue: QueueNumber) -> Option<u32> {
+        self.ends_of(queue)?.first
     }
 
     /// The item that was added to a queue last.
-    pub fn last(&self, digest: u64) -> Option<u32> {
-        Some(self.ends_of(digest)?.last)
+    pub fn last(&self, queue: QueueNumber) -> Option<u32> {
+        Some(self.ends_of(queue)?.last)
     }
 
     /// The item that was taken out of a queue last.
-    pub fn past(&self, digest: u64) -> Option<u32> {
-        self.ends_of(digest)?.past
+    pub fn past(&self, queue: QueueNumber) -> Option<u32> {
+        self.ends_of(queue)?.past
     }
 
     /// The item behind an item in its queue.
@@ -100,12 +109,9 @@ impl Queues {
         *self.behind.get(number as usize)?
     }
 
-    /// Takes the first item out of its queue.
-    pub fn skip(&mut self, digest: u64) {
-        let Some(queue) = self.numbers.get(digest) else {
-            return;
-        };
-        if let Some(ends) = self.ends.get_mut(queue as usize) {
+    /// Takes the first item out of a queue.
+    pub fn skip(&mut self, queue: QueueNumber) {
+        if let Some(ends) = self.ends.get_mut(queue.0 as usize) {
             if let Some(first) = ends.first {
                 ends.past = Some(first);
                 ends.first = match self.behind.get(first as usize) {
