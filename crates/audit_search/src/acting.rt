@@ -98,13 +98,14 @@ impl Lane<'_> {
         match (does, before) {
             (Does::Nothing, _) => {}
             (Does::Changes, before) => {
-                progress.changed = slot;
+                progress.changed = (slot, moment);
                 progress.weight = progress.weight.saturating_add(self.weight_of(arrival));
                 self.state.changed_from(before)?;
             }
             (Does::Ends, Some(table))
                 if table.running().is_some() || self.state.table.running().is_some() => {
-                progress.changed = slot;
+                let changed = progress.changed;
+                progress.changed = (slot, moment);
                 progress.weight = 0;
                 self.state.ended_from(Past {
                     table,
@@ -112,6 +113,7 @@ impl Lane<'_> {
                     turn,
                     moment,
                     by: arrival,
+                    changed,
                 })?;
             }
             (Does::Ends, _) => {}

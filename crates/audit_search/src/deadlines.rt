@@ -4,7 +4,7 @@ use crate::asked::Asked;
 use crate::lane::{Lane, relayed_of};
 use crate::needs::AHEAD;
 use audit_matching::{Handover, Mates, Order};
-use audit_seen::{Gives, LaneNumber, SeenNumber, Slot};
+use audit_seen::{Gives, LaneNumber, SeenNumber, Sights, Slot};
 use std::alloc::{AllocError, Global};
 use std::collections::{BTreeMap, BTreeSet};
 
@@ -30,6 +30,7 @@ impl Deadlines {
     /// Those of handovers.
     pub fn of(
         alloc: Global,
+        sights: &Sights,
         handovers: &[Handover],
         mates: &Mates,
         order: &Order,
@@ -42,8 +43,15 @@ impl Deadlines {
             seconds: BTreeSet::new(alloc),
         };
         for handover in handovers {
-            let next = order.rank(handover.next);
+            if asked.precedes.contains(&(handover.next, handover.maker)) {
+                continue;
+            }
             deadlines.seconds.insert(handover.next)?;
+            // A handover stands before the answer, or before a departure where that is asked.
+            let by = asked
+                .handed_over_before(handover.next)
+                .unwrap_or(handover.next);
+            let next = order.rank(by).min(order.rank(handover.next));
             let Some(ender) = handover.ender else {
                 continue;
             };
@@ -55,7 +63,7 @@ impl Deadlines {
                 let (slot, last) = if is_soon {
                     (Slot::behind(order.rank(request)), request)
                 } else {
-                    (Slot::first(next), handover.next)
+                    (Slot::first(next), by)
                 };
                 let moment = at.get(last.index()).copied().unwrap_or(0);
                 deadlines
@@ -67,6 +75,13 @@ impl Deadlines {
                     slot.min(Slot::before(order.rank(ender)).next())
                 };
                 deadlines.not_before.insert(handover.next, behind)?;
+            }
+        }
+        for (maker, next) in &asked.precedes {
+            if let Some(lane) = sights.get(*maker).and_then(|seen| seen.lane) {
+                let slot = Slot::first(order.rank(*next));
+                let moment = at.get(next.index()).copied().unwrap_or(0);
+                deadlines.list.push((lane, slot, *maker, moment))?;
             }
         }
         deadlines.list.sort_unstable();

@@ -8,17 +8,6 @@ use audit_rules::LaneTable;
 use audit_seen::{Gives, Seen, SeenNumber, Slot};
 use std::alloc::AllocError;
 
-/// Why an answer can't be given before a table was ended, whatever it answers.
-fn refused_before_end(gives: Option<Gives>, does: Does, is_usable: bool) -> Option<Refused> {
-    match gives {
-        Some(Gives::Deleted) if is_usable => Some(Refused::Rule(Rule::NoAllocation)),
-        Some(Gives::Allocated { .. }) if does == Does::Ends => {
-            Some(Refused::Rule(Rule::AllocationPresent))
-        }
-        _ => None,
-    }
-}
-
 impl Lane<'_> {
     /// Acts on an answer that makes or keeps an allocation, or binds a channel, at its request, or right behind the last act; tells whether
     /// it did.
@@ -35,7 +24,7 @@ impl Lane<'_> {
             )
         );
         let given = self.given;
-        let is_asked = given.asked.at_requests.contains(&departure);
+        let is_asked = given.asked.is_early_itself(departure);
         if !is_one || (given.deadlines.is_second(departure) && !is_asked) {
             return Ok(false);
         }
@@ -46,6 +35,11 @@ impl Lane<'_> {
             Slot::behind(self.given.rank(arrival)),
             self.given.at(arrival),
         );
+        let late = match given.asked.over_before(departure) {
+            Some(by) => self.slot_before(departure, by),
+            None => None,
+        };
+        let own = late.map_or(own, |late| own.max(late));
         let (slot, moment) = own.max(self.state.progress.last);
         if slot >= before || slot < given.deadlines.not_before(departure) {
             return Ok(false);
@@ -58,6 +52,23 @@ impl Lane<'_> {
             }
             Err(_) => Ok(false),
         }
+    }
+
+    /// Acts at their requests on the answers that leave behind a departure, and of which that is asked.
+    pub(crate) fn act_on_asked(&mut self, departure: SeenNumber) -> Result<(), AllocError> {
+        let given = self.given;
+        if !given.asked.has_early() {
+            return Ok(());
+        }
+        let before = Slot::before(given.rank(departure));
+        for answer in self.owed_behind(departure)? {
+            if given.asked.is_early_itself(answer) {
+                if let Some(seen) = given.seen(answer) {
+                    let _is_acted = self.act_early(answer, seen, before)?;
+                }
+            }
+        }
+        Ok(())
     }
 
     /// Judges an act in the lane's table, and changes that; gives what is kept of the table before it, or the rule that it breaks.
@@ -100,7 +111,8 @@ impl Lane<'_> {
         Ok(Some(Refused::NoArrival))
     }
 
-    /// Acts on a departure right behind an arrival, or right behind the last act where the table changed since; tells whether it did.
+    /// Acts on a departure right behind an arrival; or, where the table changed since, right behind that change, and behind the last act if it
+    /// changes the table itself. Tells whether it did.
     fn act_at(
         &mut self,
         departure: SeenNumber,
@@ -111,13 +123,15 @@ impl Lane<'_> {
             Slot::behind(self.given.rank(arrival)),
             self.given.at(arrival),
         );
-        let is_changed = own.0 <= self.state.progress.changed;
-        let (slot, moment) = if is_changed {
-            own.max(self.state.progress.last)
-        } else {
+        let does = self.does(&self.state.table, seen, own.1);
+        let Progress { changed, last, .. } = self.state.progress;
+        let (slot, moment) = if own.0 > changed.0 {
             own
+        } else if does == Does::Nothing {
+            own.max(changed)
+        } else {
+            own.max(last)
         };
-        let does = self.does(&self.state.table, seen, moment);
         let is_late = slot >= Slot::before(self.given.rank(departure));
         if is_late || does == Does::Ends {
             return Ok(false);
@@ -132,7 +146,7 @@ impl Lane<'_> {
         };
         if does == Does::Changes {
             self.state.changed_from(kept)?;
-            progress.changed = slot;
+            progress.changed = (slot, moment);
         }
         self.state.set_progress(progress)?;
         let acted = Acted {
@@ -142,69 +156,5 @@ impl Lane<'_> {
         };
         self.state.act(departure, acted)?;
         Ok(true)
-    }
-
-    /// Acts on a departure right before a table was ended; tells why it can't.
-    pub(crate) fn act_before_end(
-        &mut self,
-        departure: SeenNumber,
-        which: usize,
-    ) -> Result<Option<Refused>, AllocError> {
-        let given = self.given;
-        let (Some(seen), Some((slot, turn, moment))) = (
-            given.seen(departure),
-            self.state.end_of(which),
-        ) else {
-            return Ok(Some(Refused::NoArrival));
-        };
-        let empty = self.empty_table();
-        let Some(mut table) = self.state.swap_past(which, empty) else {
-            return Ok(Some(Refused::NoArrival));
-        };
-        let attempt = self.attempt_before_end(&mut table, departure, seen, slot, moment)?;
-        let _empty = self.state.swap_past(which, table);
-        let (arrival, kept) = match attempt {
-            Ok(found) => found,
-            Err(refused) => return Ok(Some(refused)),
-        };
-        let progress = Progress {
-            turn: self.state.progress.turn.saturating_add(1),
-            ..self.state.progress
-        };
-        self.state.set_progress(progress)?;
-        if let Some(before) = kept {
-            self.state.past_changed_from(which, before)?;
-        }
-        let acted = Acted {
-            slot,
-            turn: (turn.saturating_sub(1), progress.turn),
-            arrival,
-        };
-        self.state.act(departure, acted)?;
-        Ok(None)
-    }
-
-    /// Acts on a departure in a table that was ended; gives the arrival, and what is kept of the table before it.
-    fn attempt_before_end(
-        &mut self,
-        table: &mut LaneTable,
-        departure: SeenNumber,
-        seen: &Seen,
-        slot: Slot,
-        moment: u64,
-    ) -> Result<Result<(SeenNumber, Option<LaneTable>), Refused>, AllocError> {
-        let is_usable = table
-            .running()
-            .is_some_and(|tenancy| moment <= tenancy.last);
-        let does = self.does(table, seen, moment);
-        if let Some(refused) = refused_before_end(seen.gives(), does, is_usable) {
-            return Ok(Err(refused));
-        }
-        let kept = self.kept(table, does)?;
-        match self.attempt(table, departure, slot, moment)? {
-            Attempt::Accepted(arrival) if does == Does::Changes => Ok(Ok((arrival, kept))),
-            Attempt::Accepted(arrival) => Ok(Ok((arrival, None))),
-            Attempt::Refused(refused) => Ok(Err(refused)),
-        }
     }
 }

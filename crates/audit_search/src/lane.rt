@@ -79,6 +79,13 @@ impl<'a> Lane<'a> {
         })
     }
 
+    /// The departures before one that change the table, by rank.
+    pub(crate) fn changes_before(&self, departure: SeenNumber) -> &[(u32, SeenNumber)] {
+        let rank = self.given.rank(departure);
+        let behind = self.changes.partition_point(|change| change.0 < rank);
+        self.changes.get(..behind).unwrap_or(&[])
+    }
+
     /// A table with nothing in it.
     pub(crate) fn empty_table(&self) -> LaneTable {
         let (client, listen) = self.given.pair(self.number);

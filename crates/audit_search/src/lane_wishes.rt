@@ -23,6 +23,19 @@ pub(crate) struct LaneWishes {
 }
 
 impl LaneWishes {
+    /// Whether a wish that didn't get its lane further may with another one of its kind that is told now: a departure that got an older arrival
+    /// left its own to another departure.
+    pub(crate) fn is_half(&self, wish: Wish, told: &[Wish]) -> bool {
+        let is_new = |other: &Wish| match other {
+            Wish::Answers { .. } => {
+                let is_open = self.open.as_ref().is_some_and(|open| open.contains(other));
+                *other != wish && !is_open && !self.kept.iter().any(|kept| kept.wish == *other)
+            }
+            _ => false,
+        };
+        matches!(wish, Wish::Answers { .. }) && told.iter().any(is_new)
+    }
+
     /// The next wish that is open. Where none is, the last one that was kept is taken back, and the ones that were open then go on.
     pub(crate) fn next(&mut self, asked: &mut Asked) -> Option<Wish> {
         for _ in 0..=self.kept.len() {
@@ -45,6 +58,10 @@ impl LaneWishes {
                 Wish::Before { arrival, departure } => (arrival.0, departure.0),
                 Wish::Answers { arrival, departure } => (departure.0, arrival.0),
                 Wish::AtRequest { answer } => (answer.0, u32::MAX),
+                Wish::OverBefore { answer, departure } => (answer.0, departure.0),
+                Wish::Earlier { answer } => (answer.0, u32::MAX - 1),
+                Wish::HandedOver { answer, departure } => (answer.0, departure.0),
+                Wish::Precedes { maker, next } => (maker.0, next.0),
                 Wish::NotHere { sighting, lane } => (lane.0, sighting.0),
             };
             hasher.write_u32(one);

@@ -4,21 +4,52 @@ use crate::lane::{Lane, Refused};
 use crate::needs::AHEAD;
 use crate::wishes::{EACH, Wish};
 use audit_model::Rule;
-use audit_seen::{Gives, SeenNumber};
+use audit_seen::{Gives, SeenNumber, Slot};
 use std::alloc::AllocError;
 
+/// Nanoseconds of a second.
+const SECOND: u64 = 1_000_000_000;
+
+/// How long a permission lasts, in seconds (RFC 8656, section 9).
+const PERMISSION: u64 = 300;
+
+/// How long a channel lasts, in seconds (RFC 8656, section 12).
+const CHANNEL: u64 = 600;
+
 impl Lane<'_> {
-    /// Asks that an address which another client had before is given at its request, where the answer leaves behind the departure.
+    /// Asks that an address which another client had before is given before the departure, or at its request, where the answer leaves behind
+    /// the departure.
     pub(crate) fn wish_soon(
         &self,
         departure: SeenNumber,
         wishes: &mut Vec<Wish>,
     ) -> Result<(), AllocError> {
         for answer in self.owed_behind(departure)? {
-            let wish = Wish::AtRequest { answer };
-            if self.given.deadlines.is_second(answer) && !wishes.contains(&wish) {
-                wishes.push(wish)?;
+            if self.given.deadlines.is_second(answer) {
+                for wish in [
+                    Wish::HandedOver { answer, departure },
+                    Wish::AtRequest { answer },
+                ] {
+                    if !wishes.contains(&wish) {
+                        wishes.push(wish)?;
+                    }
+                }
             }
+        }
+        Ok(())
+    }
+
+    /// Asks that a lease is given anew at its request, before the one that was there is over.
+    pub(crate) fn wish_own_early(
+        &self,
+        departure: SeenNumber,
+        wishes: &mut Vec<Wish>,
+    ) -> Result<(), AllocError> {
+        if let Some(Gives::Refreshed { .. } | Gives::Bound | Gives::Permitted) = self
+            .given
+            .gives(departure)
+        {
+            wishes.push(Wish::AtRequest { answer: departure })?;
         }
         Ok(())
     }
@@ -29,21 +60,71 @@ impl Lane<'_> {
         departure: SeenNumber,
         wishes: &mut Vec<Wish>,
     ) -> Result<(), AllocError> {
-        let rank = self.given.rank(departure);
-        let behind = self.changes.partition_point(|change| change.0 < rank);
-        let before = self.changes.get(..behind).unwrap_or(&[]);
+        let before = self.changes_before(departure);
         for is_of_allocation in [true, false] {
-            let most = wishes.len().saturating_add(EACH);
+            let most = wishes.len().saturating_add(EACH.saturating_mul(2));
             for (_, answer) in before.iter().rev().take(AHEAD) {
                 let gives = self.given.gives(*answer);
                 let is_one = gives.is_some_and(|gives| is_lease(gives, is_of_allocation));
                 if is_one && self.state.is_acted(*answer) && wishes.len() < most {
-                    wishes.push(Wish::AtRequest { answer: *answer })?;
+                    let may_be_over = self.may_be_over(*answer, departure);
+                    if may_be_over {
+                        wishes.push(Wish::OverBefore {
+                            answer: *answer,
+                            departure,
+                        })?;
+                    }
+                    if may_be_over || !self.ends_before(*answer)?.is_empty() {
+                        wishes.push(Wish::AtRequest { answer: *answer })?;
+                    }
                 }
             }
         }
         Ok(())
     }
+
+    /// The last moment at which an answer may be given whose lease is over before a departure.
+    fn latest_before(&self, answer: SeenNumber, departure: SeenNumber) -> Option<u64> {
+        let lease = lease_of(self.given.gives(answer)?)?;
+        let grace = self.given.intake.policy().grace;
+        let until = self.given.at(departure).checked_sub(lease)?;
+        until.checked_sub(grace)?.checked_sub(1)
+    }
+
+    /// Whether the lease of an answer isn't over before a departure where it is given as it leaves, and is where it is given at its request.
+    fn may_be_over(&self, answer: SeenNumber, departure: SeenNumber) -> bool {
+        let (Some(latest), Some(request)) = (
+            self.latest_before(answer, departure),
+            self.given.mates.of(answer),
+        ) else {
+            return false;
+        };
+        self.given.at(request) <= latest && latest < self.given.at(answer)
+    }
+
+    /// The latest slot, and its moment, at which an answer is given whose lease is over before a departure.
+    pub(crate) fn slot_before(
+        &self,
+        answer: SeenNumber,
+        departure: SeenNumber,
+    ) -> Option<(Slot, u64)> {
+        let latest = self.latest_before(answer, departure)?;
+        let order = self.given.order.as_slice();
+        let count = order.partition_point(|one| self.given.at(*one) <= latest);
+        let last = *order.get(count.checked_sub(1)?)?;
+        Some((Slot::behind(self.given.rank(last)), self.given.at(last)))
+    }
+}
+
+/// How long the lease is that an answer gives, in nanoseconds (RFC 8656, sections 7.2, 9 and 12).
+fn lease_of(gives: Gives) -> Option<u64> {
+    let seconds = match gives {
+        Gives::Allocated { seconds, .. } | Gives::Refreshed { seconds } => u64::from(seconds),
+        Gives::Bound => CHANNEL,
+        Gives::Permitted => PERMISSION,
+        _ => return None,
+    };
+    Some(seconds.saturating_mul(SECOND))
 }
 
 /// Whether an answer gives an allocation for a time, or else something within one.
@@ -53,6 +134,14 @@ fn is_lease(gives: Gives, is_of_allocation: bool) -> bool {
         Gives::Bound | Gives::Permitted => !is_of_allocation,
         _ => false,
     }
+}
+
+/// Whether a rule asks for an allocation.
+pub(crate) fn is_of_lease(refused: Refused) -> bool {
+    matches!(
+        refused,
+        Refused::Rule(Rule::NoAllocation | Rule::AllocationOver)
+    )
 }
 
 /// Whether a rule breaks over something that is in the table, or in another lane's.

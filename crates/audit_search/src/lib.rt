@@ -7,14 +7,18 @@
 
 mod acting;
 mod ambiguous;
+mod answering;
 mod asked;
+mod before_end;
 mod clocks;
 mod deadlines;
 mod drawing;
 mod earlier;
+mod ended;
 mod faults;
 mod given;
 mod going_back;
+mod grants;
 mod judging;
 mod lane;
 mod lane_wishes;

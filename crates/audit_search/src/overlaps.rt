@@ -18,6 +18,8 @@ struct Held {
     born: Slot,
     since: u64,
     lane: LaneNumber,
+    /// The answer that tells of it.
+    maker: SeenNumber,
     /// The answer that gave its last lease, and the last moment of that.
     answer: SeenNumber,
     last: u64,
@@ -34,6 +36,19 @@ impl Held {
             && !is_ended
             && self.last >= next.since
     }
+}
+
+/// Two lanes that hold an address at a time.
+#[derive(Clone, Copy, Debug)]
+pub(crate) struct Overlap {
+    /// The lane that holds it when the other one begins to, and the answer that gave its last lease.
+    pub lane: LaneNumber,
+    pub answer: SeenNumber,
+    /// The answer that tells of its allocation.
+    pub maker: SeenNumber,
+    /// The other one, and the answer that tells of its allocation.
+    pub next_lane: LaneNumber,
+    pub next: SeenNumber,
 }
 
 /// What the acts tell of allocations.
@@ -63,6 +78,7 @@ impl Holding {
                 born: slot,
                 since: moment,
                 lane,
+                maker: answer,
                 answer,
                 last: self.last(moment, seconds),
                 ended: None,
@@ -120,11 +136,8 @@ impl Holding {
 }
 
 impl Round {
-    /// The lanes that hold an address when another one begins to, and the answers that gave their last leases. It takes n log n.
-    pub(crate) fn overlaps(
-        &self,
-        reading: &Reading<'_>,
-    ) -> Result<Vec<(LaneNumber, SeenNumber)>, AllocError> {
+    /// The lanes that hold an address when another one begins to. It takes n log n.
+    pub(crate) fn overlaps(&self, reading: &Reading<'_>) -> Result<Vec<Overlap>, AllocError> {
         let alloc = reading.alloc;
         let mut holding = Holding {
             grace: reading.intake.policy().grace,
@@ -142,7 +155,13 @@ impl Round {
         for pair in over.windows(2) {
             if let [first, second] = pair {
                 if first.overlaps(second) {
-                    found.push((first.lane, first.answer))?;
+                    found.push(Overlap {
+                        lane: first.lane,
+                        answer: first.answer,
+                        maker: first.maker,
+                        next_lane: second.lane,
+                        next: second.maker,
+                    })?;
                 }
             }
         }

@@ -1,6 +1,7 @@
 //! In which ways a departure may be acted on.
 
 use crate::drawing::Draw;
+use crate::grants::is_of_grants;
 use crate::lane::{Lane, Refused};
 use audit_model::Rule;
 use audit_seen::{Gives, SeenNumber, Slot};
@@ -16,8 +17,14 @@ pub(crate) enum Plan {
     Now,
     /// At its arrival.
     AtArrival,
+    /// At its arrival, behind others that are owed, at theirs.
+    BehindAtArrivals(Draw),
     /// Right before a table was ended.
     BeforeEnd(usize),
+    /// At its arrival, in a table that was ended since.
+    AtArrivalBeforeEnd(usize),
+    /// Right before a table was ended, behind others that are owed.
+    BehindBeforeEnd(Draw, usize),
     /// Right before it leaves, behind others that are owed.
     Behind(Draw),
 }
@@ -57,10 +64,13 @@ impl Lane<'_> {
         }
         if refused.is_some_and(|refused| !gives.is_change() || is_over(refused)) {
             let mark = self.state.mark();
-            if self.act_at_arrival(departure)?.is_none() {
-                plans.push(Plan::AtArrival)?;
-            }
+            let is_late = self.act_at_arrival(departure)?.is_some();
             self.state.undo(mark);
+            if !is_late {
+                plans.push(Plan::AtArrival)?;
+            } else if refused.is_some_and(is_over) {
+                self.add_at_arrivals(departure, &mut plans)?;
+            }
         }
         self.add_past(departure, gives, &mut plans)?;
         if refused.is_none() && is_earlier {
@@ -84,11 +94,23 @@ impl Lane<'_> {
             let mark = self.state.mark();
             let refused = self.act_before_end(departure, which)?;
             self.state.undo(mark);
-            if refused.is_none() {
-                plans.push(Plan::BeforeEnd(which))?;
-                if !gives.is_change() {
-                    return Ok(());
+            match refused {
+                None => {
+                    plans.push(Plan::BeforeEnd(which))?;
+                    if !gives.is_change() {
+                        return Ok(());
+                    }
                 }
+                Some(refused) if is_over(refused) => {
+                    if self.act_at_arrival_before_end(departure, which)?.is_none() {
+                        plans.push(Plan::AtArrivalBeforeEnd(which))?;
+                    }
+                    self.state.undo(mark);
+                }
+                Some(refused) if is_of_grants(refused) => {
+                    self.add_grants_before_end(departure, which, plans)?;
+                }
+                Some(_) => {}
             }
         }
         Ok(())
@@ -129,6 +151,9 @@ impl Lane<'_> {
         departure: SeenNumber,
         gives: Gives,
     ) -> Result<bool, AllocError> {
+        if self.given.asked.earlier.contains(&departure) {
+            return Ok(true);
+        }
         if !matches!(gives, Gives::Allocated { .. } | Gives::Deleted) {
             return Ok(false);
         }
@@ -142,11 +167,21 @@ impl Lane<'_> {
             return Ok(false);
         };
         let newest = self.unused(departure, pool, slot)?.last().copied();
+        let given = self.given;
         let (Some(newest), Some(last)) = (newest, self.state.past(which)) else {
             return Ok(false);
         };
-        let rank = self.given.rank(newest);
-        Ok(Slot::behind(rank) < last.slot && rank < self.given.rank(last.by))
+        let (end, by) = (last.slot, last.by);
+        // An allocation that is asked to have been made early is to be over early, too.
+        let is_asked = match given.mates.of(by) {
+            Some(answer) => given.asked.is_early_itself(answer),
+            None => false,
+        };
+        if is_asked && gives == Gives::Deleted {
+            return Ok(false);
+        }
+        let rank = given.rank(newest);
+        Ok(Slot::behind(rank) < end && rank < given.rank(by))
     }
 
     /// Whether the requests of answers that are owed stand before that of an answer that is refused.
@@ -187,7 +222,12 @@ impl Lane<'_> {
             Plan::Now => self.follow_draw(departure, &[]),
             Plan::Behind(draw) => self.follow_draw(departure, draw),
             Plan::AtArrival => Ok(self.act_at_arrival(departure)?.is_none()),
+            Plan::BehindAtArrivals(draw) => self.follow_at_arrivals(departure, draw),
             Plan::BeforeEnd(which) => Ok(self.act_before_end(departure, *which)?.is_none()),
+            Plan::AtArrivalBeforeEnd(which) => {
+                Ok(self.act_at_arrival_before_end(departure, *which)?.is_none())
+            }
+            Plan::BehindBeforeEnd(draw, which) => self.follow_before_end(departure, draw, *which),
         }
     }
 

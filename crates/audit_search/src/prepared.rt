@@ -47,7 +47,7 @@ impl Prepared {
         let low = lows(alloc, sights, &mut edges, &asked.shifts, hold)?;
         let at = places(alloc, sights, &edges, &low, hold)?;
         let order = ranked(alloc, sights, &edges, &low, &at)?;
-        let deadlines = Deadlines::of(alloc, &handovers, &first.mates, &order, &at, asked)?;
+        let deadlines = Deadlines::of(alloc, sights, &handovers, &first.mates, &order, &at, asked)?;
         let shared = Shared::of(alloc, &known, &handovers, &first.mates)?;
         let viewed = Viewed {
             intake: reading.intake,

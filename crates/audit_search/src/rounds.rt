@@ -127,14 +127,7 @@ impl<'a> Climb<'a> {
         Ok(Climb {
             reading,
             first: FirstKeys::of(reading, &shifts)?,
-            asked: Asked {
-                before: BTreeSet::new(alloc),
-                answers: BTreeSet::new(alloc),
-                at_requests: BTreeSet::new(alloc),
-                is_early: false,
-                banned: BTreeSet::new(alloc),
-                shifts,
-            },
+            asked: Asked::none(alloc, shifts),
             lanes: BTreeMap::new(alloc),
             tried: BTreeSet::new(alloc),
             helped: BTreeSet::new(alloc),
@@ -217,10 +210,7 @@ impl<'a> Climb<'a> {
 
     /// Forgets what is asked for, and tells the keys anew.
     fn start_again(&mut self) -> Result<(), AllocError> {
-        self.asked.before.clear();
-        self.asked.answers.clear();
-        self.asked.at_requests.clear();
-        self.asked.banned.clear();
+        self.asked.clear();
         self.lanes.clear();
         self.tried.clear();
         self.faulty.clear();

@@ -27,12 +27,19 @@ impl Climb<'_> {
             let Some(wish) = wishes.pending.take() else {
                 continue;
             };
-            let fault = fault_of(round, *lane);
+            let (fault, told) = fault_of(round, *lane);
             let is_worse = match wish {
                 Wish::NotHere { sighting, .. } => is_new || blamed.contains(&sighting),
-                Wish::Before { .. } | Wish::Answers { .. } | Wish::AtRequest { .. } => false,
+                Wish::Before { .. }
+                | Wish::Answers { .. }
+                | Wish::AtRequest { .. }
+                | Wish::OverBefore { .. }
+                | Wish::Earlier { .. }
+                | Wish::HandedOver { .. }
+                | Wish::Precedes { .. } => false,
             };
-            let is_stuck = fault.is_some_and(|fault| fault.low <= wishes.level);
+            let is_stuck = fault.is_some_and(|fault| fault.low <= wishes.level)
+                && !wishes.is_half(wish, told);
             if is_worse || is_stuck {
                 self.asked.take_back(wish);
             } else {
@@ -89,13 +96,32 @@ impl Climb<'_> {
         Ok(is_more)
     }
 
-    /// Asks that allocations that are held when another lane has their address are over earlier; tells whether one of that is new.
+    /// Asks of two lanes that hold an address at a time that the lease of the first one begins and ends as early as it may, or else that
+    /// the second one had it before; tells whether one of that is new.
     fn ask_overlaps(&mut self, round: &Round) -> Result<bool, AllocError> {
         let mut is_more = false;
-        for (lane, answer) in round.overlaps(self.reading)? {
-            let wish = Wish::AtRequest { answer };
-            if self.tried.insert((lane, wish, 0))? {
-                self.asked.ask(wish)?;
+        for overlap in round.overlaps(self.reading)? {
+            let first = Wish::AtRequest {
+                answer: overlap.answer,
+            };
+            let over = Wish::Precedes {
+                maker: overlap.maker,
+                next: overlap.next,
+            };
+            let second = Wish::Precedes {
+                maker: overlap.next,
+                next: overlap.maker,
+            };
+            if self.tried.insert((overlap.lane, first, 0))? {
+                self.asked.ask(first)?;
+                is_more = true;
+            } else if self.tried.insert((overlap.lane, over, 0))? {
+                self.asked.ask(over)?;
+                is_more = true;
+            } else if self.tried.insert((overlap.next_lane, second, 0))? {
+                self.asked.take_back(first);
+                self.asked.take_back(over);
+                self.asked.ask(second)?;
                 is_more = true;
             }
         }
@@ -142,11 +168,11 @@ impl Climb<'_> {
     }
 }
 
-/// The fault of a lane.
-fn fault_of(round: &Round, lane: LaneNumber) -> Option<Fault> {
+/// The fault of a lane, and what it would need.
+fn fault_of(round: &Round, lane: LaneNumber) -> (Option<Fault>, &[Wish]) {
     let place = round.faults.partition_point(|fault| fault.0 < lane);
     match round.faults.get(place) {
-        Some((other, fault, _)) if *other == lane => Some(*fault),
-        _ => None,
+        Some((other, fault, told)) if *other == lane => (Some(*fault), told.as_slice()),
+        _ => (None, &[]),
     }
 }

@@ -26,14 +26,16 @@ pub(crate) struct Past {
     pub(crate) turn: u32,
     pub(crate) moment: u64,
     pub(crate) by: SeenNumber,
+    /// The slot and the moment of the last change of the table before that act.
+    pub(crate) changed: (Slot, u64),
 }
 
 /// How far the acts have come.
 #[derive(Clone, Copy)]
 pub(crate) struct Progress {
     pub(crate) turn: u32,
-    /// The slot of the last change of the table.
-    pub(crate) changed: Slot,
+    /// The slot and the moment of the last change of the table.
+    pub(crate) changed: (Slot, u64),
     /// How much the table has, about.
     pub(crate) weight: u64,
     /// The slot and the moment of the last act in order.
@@ -66,7 +68,7 @@ impl State {
             forgotten: 0,
             progress: Progress {
                 turn: 0,
-                changed: Slot(0),
+                changed: (Slot(0), 0),
                 weight: 0,
                 last: (Slot(0), 0),
             },

@@ -127,6 +127,7 @@ impl Sweep<'_> {
             self.lane.steps = self.lane.steps.saturating_add(1);
         }
         self.meet_deadlines(departure)?;
+        self.lane.act_on_asked(departure)?;
         if self.lane.state.is_acted(departure) {
             self.go_on();
             return Ok(true);

@@ -178,10 +178,24 @@ impl Views {
     fn mix(&mut self, viewed: &Viewed<'_>, lane: LaneNumber, number: SeenNumber) {
         let low = viewed.low.get(number.index()).copied().unwrap_or(0);
         let at = viewed.at.get(number.index()).copied().unwrap_or(0);
+        let asked = viewed.asked;
+        let at_of = |other: Option<SeenNumber>| {
+            let other = other.and_then(|other| viewed.at.get(other.index()).copied());
+            other.unwrap_or(0)
+        };
         if let Some(print) = self.prints.get_mut(lane.index()) {
             let mut mixed = *print;
-            let is_at_request = viewed.asked.at_requests.contains(&number);
-            for word in [u64::from(number.0), low, at, u64::from(is_at_request)] {
+            let is_at_request = asked.at_requests.contains(&number);
+            for word in [
+                u64::from(number.0),
+                low,
+                at,
+                u64::from(is_at_request),
+                u64::from(asked.earlier.contains(&number)),
+                at_of(asked.handed_over_before(number)),
+                at_of(asked.over_before(number)),
+                at_of(asked.next_of(number)),
+            ] {
                 mixed = (mixed ^ word).wrapping_mul(FACTOR).rotate_left(29);
             }
             *print = mixed;

@@ -1,7 +1,7 @@
 //! What a lane would need to act on a departure, and doesn't have.
 
 use crate::lane::{Lane, Refused};
-use crate::leases::is_of_what_is_there;
+use crate::leases::{is_of_lease, is_of_what_is_there};
 use crate::needs::{AHEAD, helps};
 use crate::views::PoolRef;
 use audit_model::Rule;
@@ -25,6 +25,25 @@ pub enum Wish {
     AtRequest {
         answer: SeenNumber,
     },
+    /// That the lease which an answer gives is over before a departure, and no earlier than it has to be.
+    OverBefore {
+        answer: SeenNumber,
+        departure: SeenNumber,
+    },
+    /// That an answer is given in the allocation that was ended before it left, rather than in the one that is there then.
+    Earlier {
+        answer: SeenNumber,
+    },
+    /// That an address which another client had before is given to this one before a departure, rather than when the answer leaves.
+    HandedOver {
+        answer: SeenNumber,
+        departure: SeenNumber,
+    },
+    /// That an allocation was over before another lane's of the same address began, wherever the answers leave that tell of the two.
+    Precedes {
+        maker: SeenNumber,
+        next: SeenNumber,
+    },
     /// That a sighting of a relayed address is another lane's.
     NotHere {
         sighting: SeenNumber,
@@ -44,16 +63,26 @@ impl Lane<'_> {
         refused: Refused,
     ) -> Result<Vec<Wish>, AllocError> {
         let mut wishes = Vec::new(self.given.alloc);
+        if refused == Refused::Rule(Rule::ChannelConflict) {
+            self.wish_earlier(departure, &mut wishes)?;
+        }
         if is_of_what_is_there(refused) {
             self.wish_at_request(departure, &mut wishes)?;
         }
+        if is_of_lease(refused) {
+            self.wish_own_early(departure, &mut wishes)?;
+        }
         self.wish_soon(departure, &mut wishes)?;
+        self.wish_before_ends(departure, &mut wishes)?;
         if is_of_table(refused) {
             self.wish_changes(departure, refused, &mut wishes)?;
             self.wish_own(departure, &mut wishes)?;
         } else {
             self.wish_own(departure, &mut wishes)?;
             self.wish_changes(departure, refused, &mut wishes)?;
+        }
+        if is_of_table(refused) {
+            self.wish_earlier(departure, &mut wishes)?;
         }
         if self.has_other_holders(departure)? {
             let place = wishes.len().min(EACH);
@@ -72,66 +101,6 @@ impl Lane<'_> {
             self.wish_late(departure, pool, wishes)?;
             self.wish_behind(departure, pool, EACH, wishes)?;
             self.wish_older(departure, pool, wishes)?;
-        }
-        Ok(())
-    }
-
-    /// Asks that an older arrival of a pool, which nothing answers, is answered by the mate of the next one, so that this one is free.
-    fn wish_older(
-        &self,
-        departure: SeenNumber,
-        pool: PoolRef,
-        wishes: &mut Vec<Wish>,
-    ) -> Result<(), AllocError> {
-        let all = self.given.views.arrivals(self.number, pool);
-        let rank = self.given.rank(departure);
-        let behind = all.partition_point(|one| one.2 < rank);
-        let near = all.get(behind.saturating_sub(AHEAD)..behind).unwrap_or(&[]);
-        let mut older: Option<SeenNumber> = None;
-        for (_, _, _, arrival) in near {
-            let mate = self.given.mates.of(*arrival);
-            if let (Some(older), Some(mate)) = (older, mate) {
-                let wish = Wish::Answers {
-                    arrival: older,
-                    departure: mate,
-                };
-                if self.may_answer(mate, older) && !wishes.contains(&wish) {
-                    wishes.push(wish)?;
-                }
-            }
-            older = if mate.is_none() { Some(*arrival) } else { None };
-        }
-        Ok(())
-    }
-
-    /// Whether an arrival may stand so late that a departure is within the hold of it.
-    fn may_answer(&self, departure: SeenNumber, arrival: SeenNumber) -> bool {
-        let hi = self.given.seen(arrival).map_or(0, |seen| seen.hi);
-        hi.saturating_add(self.given.known.hold) >= self.given.low(departure)
-    }
-
-    /// Asks that the last arrivals of a pool that came too long before a departure stand later, if they may.
-    fn wish_late(
-        &self,
-        departure: SeenNumber,
-        pool: PoolRef,
-        wishes: &mut Vec<Wish>,
-    ) -> Result<(), AllocError> {
-        let all = self.given.views.arrivals(self.number, pool);
-        let rank = self.given.rank(departure);
-        let moment = self.given.at(departure);
-        let behind = all.partition_point(|one| one.2 < rank);
-        let near = all.get(behind.saturating_sub(EACH)..behind).unwrap_or(&[]);
-        for (_, _, _, arrival) in near {
-            let wish = Wish::Answers {
-                arrival: *arrival,
-                departure,
-            };
-            let is_late = self.given.held_until(*arrival) < moment;
-            let may_stand = self.may_answer(departure, *arrival) && !self.state.is_used(*arrival);
-            if is_late && may_stand && !wishes.contains(&wish) {
-                wishes.push(wish)?;
-            }
         }
         Ok(())
     }
@@ -184,7 +153,7 @@ impl Lane<'_> {
     }
 
     /// Asks for the first arrivals of a pool that stand behind a departure, and might stand before it.
-    fn wish_behind(
+    pub(crate) fn wish_behind(
         &self,
         departure: SeenNumber,
         pool: PoolRef,
@@ -232,6 +201,7 @@ fn is_of_table(refused: Refused) -> bool {
                 | Rule::PermissionOver
                 | Rule::NoChannel
                 | Rule::ChannelOver
+                | Rule::PeerDiffers
         )
     )
 }
