@@ -38,6 +38,9 @@ impl Lane<'_> {
         let Some(seen) = self.given.seen(departure) else {
             return Ok(Some(Refused::NoArrival));
         };
+        if self.is_before_its_maker(departure) {
+            return Ok(Some(Refused::Rule(Rule::NoAllocation)));
+        }
         if self.given.asked.is_at_request(departure) && self.act_early(departure, seen, slot)? {
             return Ok(None);
         }

@@ -23,6 +23,8 @@ pub(crate) struct Asked {
     pub handed_over: BTreeSet<(SeenNumber, SeenNumber)>,
     /// Answers that make allocations, and those of other lanes' allocations of the same addresses, before which they are to be over.
     pub precedes: BTreeSet<(SeenNumber, SeenNumber)>,
+    /// Permissions and channels, and the answers that tell of the allocations in which they are to be given.
+    pub within: BTreeSet<(SeenNumber, SeenNumber)>,
     /// Whether acts that make or keep an allocation stand at their requests.
     pub is_early: bool,
     pub banned: Banned,
@@ -41,6 +43,7 @@ impl Asked {
             earlier: BTreeSet::new(alloc),
             handed_over: BTreeSet::new(alloc),
             precedes: BTreeSet::new(alloc),
+            within: BTreeSet::new(alloc),
             is_early: false,
             banned: BTreeSet::new(alloc),
             shifts,
@@ -56,6 +59,7 @@ impl Asked {
         self.earlier.clear();
         self.handed_over.clear();
         self.precedes.clear();
+        self.within.clear();
         self.banned.clear();
     }
 
@@ -81,6 +85,9 @@ impl Asked {
             }
             Wish::Precedes { maker, next } => {
                 self.precedes.insert((maker, next))?;
+            }
+            Wish::Within { answer, maker } => {
+                self.within.insert((answer, maker))?;
             }
             Wish::NotHere { sighting, lane } => {
                 self.banned.insert((sighting, lane))?;
@@ -112,6 +119,9 @@ impl Asked {
             Wish::Precedes { maker, next } => {
                 self.precedes.remove(&(maker, next));
             }
+            Wish::Within { answer, maker } => {
+                self.within.remove(&(answer, maker));
+            }
             Wish::NotHere { sighting, lane } => {
                 self.banned.remove(&(sighting, lane));
             }
@@ -126,6 +136,11 @@ impl Asked {
     /// The answer of another lane that makes an allocation before which that of an answer is to be over, the first one by its number.
     pub(crate) fn next_of(&self, maker: SeenNumber) -> Option<SeenNumber> {
         partner(&self.precedes, maker)
+    }
+
+    /// The answer that tells of the allocation in which an answer is to be given, the first one by its number.
+    pub(crate) fn maker_of(&self, answer: SeenNumber) -> Option<SeenNumber> {
+        partner(&self.within, answer)
     }
 
     /// The departure before which the lease of an answer is to be over, the first one by its number.

@@ -33,6 +33,9 @@ impl Lane<'_> {
         ) else {
             return Ok(Some(Refused::NoArrival));
         };
+        if self.is_behind_end(departure, which) {
+            return Ok(Some(Refused::Rule(Rule::NoAllocation)));
+        }
         let empty = self.empty_table();
         let Some(mut table) = self.state.swap_past(which, empty) else {
             return Ok(Some(Refused::NoArrival));

@@ -95,8 +95,8 @@ impl Lane<'_> {
             }
             // Only an answer that waits for another one is worth that one.
             Drawn::Stuck(answer, refused) if is_waiting(refused) => {
-                for before in self.owed(answer, refused)? {
-                    if !draw.contains(&before) && before != departure {
+                for before in self.owed(departure, refused)? {
+                    if !draw.contains(&before) {
                         found.push(self.with_before(draw, answer, before)?)?;
                     }
                 }

@@ -25,7 +25,10 @@ impl Lane<'_> {
         );
         let given = self.given;
         let is_asked = given.asked.is_early_itself(departure);
-        if !is_one || (given.deadlines.is_second(departure) && !is_asked) {
+        if !is_one
+            || self.is_before_its_maker(departure)
+            || (given.deadlines.is_second(departure) && !is_asked)
+        {
             return Ok(false);
         }
         let Some(arrival) = self.oldest(departure, before)? else {
@@ -99,6 +102,9 @@ impl Lane<'_> {
         let Some(seen) = self.given.seen(departure) else {
             return Ok(Some(Refused::NoArrival));
         };
+        if self.is_before_its_maker(departure) {
+            return Ok(Some(Refused::Rule(Rule::NoAllocation)));
+        }
         let relayed = relayed_of(&self.state.table);
         for pool in self.given.pools_of(self.number, seen, relayed)? {
             let before = Slot::before(self.given.rank(departure));

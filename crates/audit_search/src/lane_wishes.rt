@@ -62,6 +62,7 @@ impl LaneWishes {
                 Wish::Earlier { answer } => (answer.0, u32::MAX - 1),
                 Wish::HandedOver { answer, departure } => (answer.0, departure.0),
                 Wish::Precedes { maker, next } => (maker.0, next.0),
+                Wish::Within { answer, maker } => (answer.0, maker.0),
                 Wish::NotHere { sighting, lane } => (lane.0, sighting.0),
             };
             hasher.write_u32(one);

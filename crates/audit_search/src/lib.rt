@@ -38,6 +38,7 @@ mod sweep;
 mod trail;
 mod views;
 mod wishes;
+mod within;
 
 pub use lane::Refused;
 pub use reading::Reading;

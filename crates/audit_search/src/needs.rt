@@ -34,7 +34,7 @@ pub(crate) fn helps(refused: Refused, gives: Gives) -> bool {
 }
 
 /// The peer that data goes to or comes from, where the departure tells.
-fn peer_of(gives: Option<Gives>) -> Option<Addr> {
+pub(crate) fn peer_of(gives: Option<Gives>) -> Option<Addr> {
     match gives {
         Some(Gives::Data { peer, .. } | Gives::Relayed { peer, .. }) => Some(peer),
         _ => None,
@@ -42,7 +42,7 @@ fn peer_of(gives: Option<Gives>) -> Option<Addr> {
 }
 
 /// Whether a request names a peer of that IP.
-fn names(payload: &[u8], ip: u32) -> bool {
+pub(crate) fn names(payload: &[u8], ip: u32) -> bool {
     match message(payload) {
         Some(request) => request.peers().any(|value| match address(value) {
             Some(peer) => peer.ip == ip,

@@ -55,6 +55,7 @@ impl Prepared {
             order: &order,
             low: &low,
             at: &at,
+            mates: &edges.mates,
             relayed: relayed.as_slice(),
             asked,
             shared: &shared,

@@ -36,7 +36,8 @@ impl Climb<'_> {
                 | Wish::OverBefore { .. }
                 | Wish::Earlier { .. }
                 | Wish::HandedOver { .. }
-                | Wish::Precedes { .. } => false,
+                | Wish::Precedes { .. }
+                | Wish::Within { .. } => false,
             };
             let is_stuck = fault.is_some_and(|fault| fault.low <= wishes.level)
                 && !wishes.is_half(wish, told);

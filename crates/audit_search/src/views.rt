@@ -2,7 +2,7 @@
 
 use crate::asked::Asked;
 use crate::shared::Shared;
-use audit_matching::{Known, Order};
+use audit_matching::{Known, Mates, Order};
 use audit_seen::{LaneNumber, PoolNumber, Says, Seen, SeenNumber};
 use audit_sightings::Intake;
 use std::alloc::{AllocError, Global};
@@ -52,6 +52,8 @@ pub(crate) struct Viewed<'a> {
     pub order: &'a Order,
     pub low: &'a [u64],
     pub at: &'a [u64],
+    /// The arrival that each departure most likely answers.
+    pub mates: &'a Mates,
     /// The lane of each departure from a relayed address.
     pub relayed: &'a [Option<LaneNumber>],
     pub asked: &'a Asked,
@@ -186,6 +188,7 @@ impl Views {
         if let Some(print) = self.prints.get_mut(lane.index()) {
             let mut mixed = *print;
             let is_at_request = asked.at_requests.contains(&number);
+            let mate = viewed.mates.of(number).map_or(0, |mate| u64::from(mate.0));
             for word in [
                 u64::from(number.0),
                 low,
@@ -195,6 +198,8 @@ impl Views {
                 at_of(asked.handed_over_before(number)),
                 at_of(asked.over_before(number)),
                 at_of(asked.next_of(number)),
+                at_of(asked.maker_of(number)),
+                mate,
             ] {
                 mixed = (mixed ^ word).wrapping_mul(FACTOR).rotate_left(29);
             }

@@ -4,6 +4,7 @@ use crate::lane::{Lane, Refused};
 use crate::leases::{is_of_lease, is_of_what_is_there};
 use crate::needs::{AHEAD, helps};
 use crate::views::PoolRef;
+use crate::within::is_of_what_was_granted;
 use audit_model::Rule;
 use audit_seen::{Gives, LaneNumber, SeenNumber};
 use std::alloc::AllocError;
@@ -44,6 +45,11 @@ pub enum Wish {
         maker: SeenNumber,
         next: SeenNumber,
     },
+    /// That an answer is given in the allocation that another answer tells of, rather than in one before.
+    Within {
+        answer: SeenNumber,
+        maker: SeenNumber,
+    },
     /// That a sighting of a relayed address is another lane's.
     NotHere {
         sighting: SeenNumber,
@@ -65,6 +71,9 @@ impl Lane<'_> {
         let mut wishes = Vec::new(self.given.alloc);
         if refused == Refused::Rule(Rule::ChannelConflict) {
             self.wish_earlier(departure, &mut wishes)?;
+        }
+        if is_of_what_was_granted(refused) {
+            self.wish_within(departure, &mut wishes)?;
         }
         if is_of_what_is_there(refused) {
             self.wish_at_request(departure, &mut wishes)?;
@@ -97,12 +106,12 @@ impl Lane<'_> {
 
     /// Asks for arrivals that the departure may answer.
     fn wish_own(&self, departure: SeenNumber, wishes: &mut Vec<Wish>) -> Result<(), AllocError> {
-        for pool in self.any_pools(departure)? {
-            self.wish_late(departure, pool, wishes)?;
-            self.wish_behind(departure, pool, EACH, wishes)?;
-            self.wish_older(departure, pool, wishes)?;
+        let pools = self.any_pools(departure)?;
+        for pool in &pools {
+            self.wish_late(departure, *pool, wishes)?;
+            self.wish_behind(departure, *pool, EACH, wishes)?;
         }
-        Ok(())
+        self.wish_older(departure, &pools, wishes)
     }
 
     /// Asks for the requests of answers that may help.
