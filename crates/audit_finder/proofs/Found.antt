@@ -1,8 +1,9 @@
 -- What a certificate keeps of what is found.
-use Rattle.std.proofs.Common.{◌≡◌, false, List, [], ◌∷◌, All, length, map, refl, ap, arith}
+use Rattle.std.proofs.Common.{◌≡◌, false, List, [], ◌∷◌, ◌++◌, All, Some, length, map, refl, ap, arith}
 use Rattle.std.specs.List.{IsDistinct, AllByRecursion}
-use Rattle.std.proofs.lemmas.List.Sums.{sum_by-cons}
-use Rattle.std.proofs.lemmas.List.Elements.{All-nil, All-cons}
+use Rattle.std.proofs.lemmas.List.{map_push}
+use Rattle.std.proofs.lemmas.List.Sums.{sum_by-cons, sum_by_push}
+use Rattle.std.proofs.lemmas.List.Elements.{All-nil, All-cons, All-push, All-pop}
 use Rattle.audit_model.specs.declared.certificate.CertLane.{CertLane}
 use Rattle.audit_model.specs.EventCount.{event_count}
 use Rattle.audit_model.specs.Lanes.{same_lane}
@@ -32,3 +33,22 @@ none_in_empty (p ∷ pairs) = omega (arith, sum_by-cons (λ (l : CertLane). leng
 pub empty_named : (taken : Taken) (pairs : List Pair) → AllNamed taken (map empty_lane pairs)
 empty_named taken [] = All-nil (λ (l : CertLane). All (NamesWhatIsThere taken) l.events)
 empty_named taken (p ∷ pairs) = All-cons (λ (l : CertLane). All (NamesWhatIsThere taken) l.events) (empty_lane p) (map empty_lane pairs) (All-nil (NamesWhatIsThere taken)) (empty_named taken pairs)
+
+module _ (all yielded : List CertLane) (x y : CertLane) where
+  pub more_pairs : pair_of x ≡ pair_of y → map pair_of all ≡ map pair_of yielded → map pair_of (all ++ x ∷ []) ≡ map pair_of (yielded ++ y ∷ [])
+  more_pairs same_pair so_far = rw (map_push pair_of all x, map_push pair_of yielded y, so_far, same_pair) refl
+
+  pub more_events : length x.events ≡ length y.events → event_count all ≡ event_count yielded → event_count (all ++ x ∷ []) ≡ event_count (yielded ++ y ∷ [])
+  more_events same_count so_far =
+      omega (arith, sum_by_push (λ (l : CertLane). length l.events) all x, sum_by_push (λ (l : CertLane). length l.events) yielded y, same_count, so_far)
+
+module _ (taken : Taken) (all yielded : List CertLane) (x y : CertLane) where
+  abbrev named : CertLane → Type 0
+  named l = All (NamesWhatIsThere taken) l.events
+
+  pub more_named : (named y → named x) → (AllNamed taken yielded → AllNamed taken all) → AllNamed taken (yielded ++ y ∷ []) → AllNamed taken (all ++ x ∷ [])
+  more_named keeps so_far each = All-push named all x (so_far (All-pop named _ yielded (Some y) refl each).0) (keeps (All-pop named _ yielded (Some y) refl each).1)
+
+pub nothing_left : (lanes : List CertLane) → length lanes ≡ 0 → lanes ≡ []
+nothing_left [] none = refl
+nothing_left (x ∷ lanes) none = absurd (omega (arith, none))

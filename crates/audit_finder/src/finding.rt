@@ -121,39 +121,117 @@ fn add_within(
     Ok(room - 1)
 }
 
-/// Adds each event to its lane, up to the limit of a certificate, and tells how many may still be added.
-fn distribute(lanes: &mut Vec<CertLane>, events: &[(u32, Event)]) -> Result<usize, AllocError>
-    requires { event_count lanes.old.items ≡ 0 }
-    ensures pairs { IfOk result (λ room. map pair_of lanes.new.items ≡ map pair_of lanes.old.items) }
-    ensures room { IfOk result (λ room. event_count lanes.new.items + room ≤ MAX_EVENTS) }
+/// Adds each event to its lane as long as there is room, and tells how many may still be added.
+fn distribute(
+    lanes: &mut Vec<CertLane>,
+    room: usize,
+    events: &[(u32, Event)],
+) -> Result<usize, AllocError>
+    ensures pairs { IfOk result (λ left. map pair_of lanes.new.items ≡ map pair_of lanes.old.items) }
+    ensures room { IfOk result (λ left. event_count lanes.new.items + left ≤ event_count lanes.old.items + room) }
     ensures named { (taken : Taken) → All (λ e. NamesWhatIsThere taken e.1) events.now → AllNamed taken lanes.old.items
-        → IfOk result (λ room. AllNamed taken lanes.new.items) }
+        → IfOk result (λ left. AllNamed taken lanes.new.items) }
 {
-    let mut room = MAX_EVENTS;
+    let mut left = room;
     'events: for (lane, event) in events {
-        room = add_within(lanes, room, *lane, *event)?;
+        left = add_within(lanes, left, *lane, *event)?;
     }
-    Ok(room)
+    Ok(left)
 }
 
-/// The certificate that has what was found of all captures.
-fn certificate_of(alloc: Global, found: Extension) -> Result<Certificate, AllocError>
-    requires apart { IsDistinct same found.lanes }
-    requires few { length found.lanes ≤ MAX_LANES }
-    ensures lanes { IfOk result (λ certificate. map pair_of certificate.lanes ≡ found.lanes) }
-    ensures events { (taken : Taken) → All (λ e. NamesWhatIsThere taken e.1) found.events → IfOk result (λ certificate. AllNamed taken certificate.lanes) }
-    ensures drops { (taken : Taken) → AreThere taken found.drops → IfOk result (λ certificate. AreThere taken certificate.drops) }
+/// Adds the events that name what is there to their lanes, and tells how many may still be added.
+fn distribute_named(
+    lanes: &mut Vec<CertLane>,
+    room: usize,
+    intake: &Intake,
+    events: Vec<(u32, Event)>,
+) -> Result<usize, AllocError>
+    ensures pairs { IfOk result (λ left. map pair_of lanes.new.items ≡ map pair_of lanes.old.items) }
+    ensures room { IfOk result (λ left. event_count lanes.new.items + left ≤ event_count lanes.old.items + room) }
+    ensures named { AllNamed (taken intake.now) lanes.old.items → IfOk result (λ left. AllNamed (taken intake.now) lanes.new.items) }
+{
+    let events = named(intake, events);
+    distribute(lanes, room, events.as_slice())
+}
+
+/// A lane with its events in the order of their keys.
+fn sorted(lane: CertLane) -> CertLane
+    ensures pair { pair_of result ≡ pair_of lane }
+    ensures count { length result.events ≡ length lane.events }
+    ensures named { (taken : Taken) → All (NamesWhatIsThere taken) lane.events → All (NamesWhatIsThere taken) result.events }
+{
+    let CertLane {
+        events,
+        client,
+        listen,
+    } = lane;
+    let mut events = events.into_vec();
+    events.sort_unstable_by_key(|event| event.key());
+    CertLane {
+        events: Listed::from(events),
+        client,
+        listen,
+    }
+}
+
+/// The lanes, each with its events in the order of their keys.
+fn all_sorted(alloc: Global, lanes: Vec<CertLane>) -> Result<Vec<CertLane>, AllocError>
+    ensures pairs { IfOk result (λ sorted. map pair_of sorted.items ≡ map pair_of lanes.items) }
+    ensures count { IfOk result (λ sorted. event_count sorted.items ≡ event_count lanes.items) }
+    ensures named { (taken : Taken) → AllNamed taken lanes.items → IfOk result (λ sorted. AllNamed taken sorted.items) }
+{
+    let mut all = Vec::with_capacity(alloc, lanes.len())?;
+    'lanes: for lane in lanes {
+        all.push(sorted(lane))?;
+    }
+    Ok(all)
+}
+
+/// The certificate with these lanes, and with the last events and the drops that name what is there, as long as there is room.
+fn certificate_of(
+    alloc: Global,
+    intake: &Intake,
+    lanes: Vec<CertLane>,
+    room: usize,
+    last: Portion,
+) -> Result<Certificate, AllocError>
+    requires apart { IsDistinct same (map pair_of lanes.items) }
+    requires few { length lanes.items ≤ MAX_LANES }
+    requires room { event_count lanes.items + room ≤ MAX_EVENTS }
+    requires named { AllNamed (taken intake.now) lanes.items }
+    ensures lanes { IfOk result (λ certificate. map pair_of certificate.lanes ≡ map pair_of lanes.items) }
+    ensures events { IfOk result (λ certificate. AllNamed (taken intake.now) certificate.lanes) }
+    ensures drops { IfOk result (λ certificate. AreThere (taken intake.now) certificate.drops) }
     ensures skews { IfOk result (λ certificate. certificate.skews ≡ []) }
 {
-    let mut lanes = empty_lanes(alloc, found.lanes.as_slice())?;
-    let room = distribute(&mut lanes, found.events.as_slice())?;
-    let mut drops = found.drops.into_vec();
+    let mut lanes = lanes;
+    let room = distribute_named(&mut lanes, room, intake, last.events)?;
+    let lanes = all_sorted(alloc, lanes)?;
+    let mut drops = there(intake, last.drops);
     drops.truncate(room);
     Ok(Certificate {
         lanes: Listed::from(lanes),
         drops: Listed::from(drops),
         skews: Listed::new(alloc),
     })
+}
+
+/// The certificate with lanes for these pairs, and with the events and the drops of all captures that name what is there.
+fn certificate_with(
+    alloc: Global,
+    intake: &Intake,
+    pairs: &[(Addr, Addr)],
+    portion: Portion,
+) -> Result<Certificate, AllocError>
+    requires apart { IsDistinct same pairs.now }
+    requires few { length pairs.now ≤ MAX_LANES }
+    ensures lanes { IfOk result (λ certificate. map pair_of certificate.lanes ≡ pairs.now) }
+    ensures events { IfOk result (λ certificate. AllNamed (taken intake.now) certificate.lanes) }
+    ensures drops { IfOk result (λ certificate. AreThere (taken intake.now) certificate.drops) }
+    ensures skews { IfOk result (λ certificate. certificate.skews ≡ []) }
+{
+    let lanes = empty_lanes(alloc, pairs)?;
+    certificate_of(alloc, intake, lanes, MAX_EVENTS, portion)
 }
 
 /// The events that are found of these clients' lanes.
@@ -182,41 +260,54 @@ fn in_passes_by<R: Threads + Sync>(
     written(alloc, &reading, &round)
 }
 
-/// The events that one walk over all sightings gives.
-fn in_one_walk(
+/// A lane for each pair, with the events that a walk gives but for the last ones, and how many may still be added.
+fn walked(
     alloc: Global,
-    intake: &Intake,
-    credentials: &Credentials,
-    clients: &Clients,
-) -> Result<Portion, AllocError> {
-    let judge = Judge {
-        alloc,
-        intake,
-        credentials,
-        clients,
-    };
-    let mut search = Search::new(alloc);
-    search.go(&judge, u64::MAX)
+    judge: &Judge<'_>,
+    pairs: &[(Addr, Addr)],
+    search: &mut Search,
+) -> Result<(Vec<CertLane>, usize), AllocError>
+    ensures pairs { IfOk result (λ found. map pair_of found.0.items ≡ pairs.now) }
+    ensures room { IfOk result (λ found. event_count found.0.items + found.1 ≤ MAX_EVENTS) }
+    ensures named { IfOk result (λ found. AllNamed (taken judge.now.intake.now) found.0.items) }
+{
+    let mut lanes = empty_lanes(alloc, pairs)?;
+    let mut room = MAX_EVENTS;
+    let (_, sightings) = judge.intake.counts();
+    search.begin(judge)?;
+    'steps: for _ in 0..sightings {
+        let Some(portion) = search.step(judge)? else {
+            break;
+        };
+        room = distribute_named(&mut lanes, room, judge.intake, portion.events)?;
+    }
+    Ok((lanes, room))
 }
 
-/// The same events, where so many threads at the most tell what each sighting is.
-fn in_one_walk_by<R: Threads + Sync>(
+/// The same, where so many threads at the most tell what each sighting is.
+fn walked_by<R: Threads + Sync>(
     rt: &R,
-    alloc: Global,
-    intake: &Intake,
-    credentials: &Credentials,
-    clients: &Clients,
     workers: u32,
-) -> Result<Portion, AllocError> {
-    let judge = Judge {
-        alloc,
-        intake,
-        credentials,
-        clients,
-    };
-    let mut search = Search::new(alloc);
-    search.note_new_by(rt, workers, &judge)?;
-    search.go(&judge, u64::MAX)
+    alloc: Global,
+    judge: &Judge<'_>,
+    pairs: &[(Addr, Addr)],
+    search: &mut Search,
+) -> Result<(Vec<CertLane>, usize), AllocError>
+    ensures pairs { IfOk result (λ found. map pair_of found.0.items ≡ pairs.now) }
+    ensures room { IfOk result (λ found. event_count found.0.items + found.1 ≤ MAX_EVENTS) }
+    ensures named { IfOk result (λ found. AllNamed (taken judge.now.intake.now) found.0.items) }
+{
+    let mut lanes = empty_lanes(alloc, pairs)?;
+    let mut room = MAX_EVENTS;
+    let (_, sightings) = judge.intake.counts();
+    search.begin(judge)?;
+    'steps: for _ in 0..sightings {
+        let Some(portion) = search.step_by(rt, workers, judge)? else {
+            break;
+        };
+        room = distribute_named(&mut lanes, room, judge.intake, portion.events)?;
+    }
+    Ok((lanes, room))
 }
 
 /// The clients of all captures.
@@ -226,24 +317,6 @@ fn clients_in(alloc: Global, intake: &Intake) -> Result<Clients, AllocError>
     let mut clients = Clients::new(alloc);
     clients.take_in(alloc, intake)?;
     Ok(clients)
-}
-
-/// The certificate with these lanes, and with the events and the drops of a portion that name what is there.
-fn certificate_with(
-    alloc: Global,
-    intake: &Intake,
-    lanes: &[(Addr, Addr)],
-    portion: Portion,
-) -> Result<Certificate, AllocError>
-    requires apart { IsDistinct same lanes.now }
-    requires few { length lanes.now ≤ MAX_LANES }
-    ensures lanes { IfOk result (λ certificate. map pair_of certificate.lanes ≡ lanes.now) }
-    ensures events { IfOk result (λ certificate. AllNamed (taken intake.now) certificate.lanes) }
-    ensures drops { IfOk result (λ certificate. AreThere (taken intake.now) certificate.drops) }
-    ensures skews { IfOk result (λ certificate. certificate.skews ≡ []) }
-{
-    let found = extension(alloc, intake, lanes, portion)?;
-    certificate_of(alloc, found)
 }
 
 /// Finds a certificate: an order in which the server kept to its rules, where it finds one; else one that shows where it did
@@ -280,8 +353,17 @@ pub fn find_once(
     ensures skews { IfOk result (λ certificate. certificate.skews ≡ []) }
 {
     let clients = clients_in(alloc, intake)?;
-    let once = in_one_walk(alloc, intake, credentials, &clients)?;
-    certificate_with(alloc, intake, clients.lanes(), once)
+    let judge = Judge {
+        alloc,
+        intake,
+        credentials,
+        clients: &clients,
+    };
+    let pairs = clients.lanes();
+    let mut search = Search::new(alloc);
+    let (lanes, room) = walked(alloc, &judge, pairs, &mut search)?;
+    let last = search.finish(&judge)?;
+    certificate_of(alloc, intake, lanes, room, last)
 }
 
 /// Finds the certificate that `find_once` finds. So many threads at the most read the payloads; the walk itself is one thread's.
@@ -298,8 +380,17 @@ pub fn find_once_parallel<R: Threads + Sync>(
     ensures skews { IfOk result (λ certificate. certificate.skews ≡ []) }
 {
     let clients = clients_in(alloc, intake)?;
-    let walked = in_one_walk_by(rt, alloc, intake, credentials, &clients, workers)?;
-    certificate_with(alloc, intake, clients.lanes(), walked)
+    let judge = Judge {
+        alloc,
+        intake,
+        credentials,
+        clients: &clients,
+    };
+    let pairs = clients.lanes();
+    let mut search = Search::new(alloc);
+    let (lanes, room) = walked_by(rt, workers, alloc, &judge, pairs, &mut search)?;
+    let last = search.finish(&judge)?;
+    certificate_of(alloc, intake, lanes, room, last)
 }
 
 /// Finds the certificate that `find` finds, by so many threads at the most: each searches lanes of its own.

@@ -3,7 +3,6 @@
 use crate::judge::Judge;
 use crate::lanes::ACTS_BEFORE;
 use crate::numbers::{AnswerNumber, ArrivalNumber};
-use crate::portion::Portion;
 use crate::said::{Says, asked_channel};
 use crate::search::{Holders, Search};
 use audit_model::{Addr, Event, Key, SightId};
@@ -22,7 +21,6 @@ impl Search {
         lane: LaneNumber,
         number: ArrivalNumber,
         answer: AnswerNumber,
-        portion: &mut Portion,
     ) -> Result<bool, AllocError> {
         let (Some(arrives), Some(leaves)) = (
             self.sighting_of(judge, number),
@@ -38,14 +36,14 @@ impl Search {
             let before = self.clock.reserve(ACTS_BEFORE);
             of.delete(self.alloc, before)?;
             let key = self.clock.tick();
-            self.commit_answer(judge, lane, number, answer, key, portion)?;
+            self.commit_answer(judge, lane, number, answer, key)?;
             return Ok(true);
         }
         let key = self.clock.tick();
         if !judge.answers(lane, &mut of.current.table, arrives, leaves, key)? {
             return Ok(false);
         }
-        self.commit_answer(judge, lane, number, answer, key, portion)?;
+        self.commit_answer(judge, lane, number, answer, key)?;
         Ok(true)
     }
 
@@ -56,7 +54,6 @@ impl Search {
         judge: &Judge<'_>,
         lane: LaneNumber,
         but: AnswerNumber,
-        portion: &mut Portion,
     ) -> Result<bool, AllocError> {
         let Some(other) = self.first_change(lane, but) else {
             return Ok(false);
@@ -64,7 +61,7 @@ impl Search {
         let Some(number) = self.answers.get(other).and_then(|other| other.arrival) else {
             return Ok(false);
         };
-        self.act_on(judge, lane, number, other, portion)
+        self.act_on(judge, lane, number, other)
     }
 
     /// The first answer of a lane that is kept back and changes what allocation there is, other than this one.
@@ -89,7 +86,6 @@ impl Search {
         &mut self,
         judge: &Judge<'_>,
         lane: LaneNumber,
-        portion: &mut Portion,
     ) -> Result<(), AllocError> {
         let ending = match self.lanes.get(lane.index()) {
             Some(of) => of.ending,
@@ -101,7 +97,7 @@ impl Search {
         let Some(number) = self.answers.get(answer).and_then(|answer| answer.arrival) else {
             return Ok(());
         };
-        let _did = self.act_on(judge, lane, number, answer, portion)?;
+        let _did = self.act_on(judge, lane, number, answer)?;
         Ok(())
     }
 
@@ -139,7 +135,6 @@ impl Search {
         number: ArrivalNumber,
         answer: AnswerNumber,
         key: Key,
-        portion: &mut Portion,
     ) -> Result<(), AllocError> {
         let Some(known) = self.answers.get_mut(answer) else {
             return Ok(());
@@ -148,7 +143,7 @@ impl Search {
         let sight = known.sight;
         let says = known.says;
         let leaves = judge.intake.sighting(sight);
-        self.write_act(lane, number, sight, key, portion)?;
+        self.write_act(lane, number, sight, key)?;
         if let Says::Allocated(relayed) = says {
             self.note_holder(lane, relayed)?;
             if let Some(leaves) = leaves {
@@ -185,7 +180,6 @@ impl Search {
         number: ArrivalNumber,
         gives: SightId,
         key: Key,
-        portion: &mut Portion,
     ) -> Result<(), AllocError> {
         let Some(arrival) = self.arrivals.get_mut(number) else {
             return Ok(());
@@ -194,8 +188,8 @@ impl Search {
         arrival.is_acted = true;
         if let (Some(came), false) = (arrival.key, arrival.is_given) {
             arrival.is_given = true;
-            portion.push(lane, Event::In { sight, key: came })?;
+            self.portion.push(lane, Event::In { sight, key: came })?;
         }
-        portion.push(lane, Event::Act { sight, gives, key })
+        self.portion.push(lane, Event::Act { sight, gives, key })
     }
 }

@@ -160,6 +160,11 @@ impl Answers {
         Some(AnswerNumber(self.queues.first(queue)?))
     }
 
+    /// Forgets the transactions that were noted before the last call.
+    pub fn renew(&mut self) {
+        self.queues.renew();
+    }
+
     /// Takes the first of the transaction out.
     pub fn skip(&mut self, of: &Transaction) {
         if let Some(queue) = self.queues.of(of.digest()) {

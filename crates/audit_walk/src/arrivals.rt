@@ -92,6 +92,11 @@ impl Arrivals {
         Some(ArrivalNumber(self.queues.last(queue)?))
     }
 
+    /// Forgets what was found by its digest before the last call and isn't asked for any more.
+    pub fn renew(&mut self) {
+        self.queues.renew();
+    }
+
     /// The next that asks for the same.
     pub fn next(&self, number: ArrivalNumber) -> Option<ArrivalNumber> {
         Some(ArrivalNumber(self.queues.behind(number.0)?))

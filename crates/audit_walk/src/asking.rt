@@ -7,7 +7,6 @@ use crate::answers::Transaction;
 use crate::clock::Clock;
 use crate::judge::Judge;
 use crate::numbers::{AnswerNumber, ArrivalNumber};
-use crate::portion::Portion;
 use crate::said::{Says, is_request};
 use crate::search::Search;
 use audit_model::{SightId, Sighting};
@@ -21,7 +20,6 @@ impl Search {
         judge: &Judge<'_>,
         number: ArrivalNumber,
         sighting: &Sighting,
-        portion: &mut Portion,
     ) -> Result<(), AllocError> {
         let key = self.clock.tick();
         // The next key is for an act at the arrival that is only found later.
@@ -34,7 +32,7 @@ impl Search {
         self.undecided.push(number)?;
         self.wake(number)?;
         match lane {
-            Some(lane) => self.place_of_client(judge, lane, number, sighting, portion),
+            Some(lane) => self.place_of_client(judge, lane, number, sighting),
             None => {
                 self.note_received(number, sighting);
                 Ok(())
@@ -57,7 +55,6 @@ impl Search {
         lane: LaneNumber,
         number: ArrivalNumber,
         sighting: &Sighting,
-        portion: &mut Portion,
     ) -> Result<(), AllocError> {
         let asks = is_request(sighting);
         if let Some(lane) = self.lanes.get_mut(lane.index()) {
@@ -68,7 +65,7 @@ impl Search {
             }
         }
         if asks {
-            return self.ask(judge, lane, number, sighting, portion);
+            return self.ask(judge, lane, number, sighting);
         }
         self.last_sent = Some(number);
         Ok(())
@@ -81,7 +78,6 @@ impl Search {
         lane: LaneNumber,
         number: ArrivalNumber,
         sighting: &Sighting,
-        portion: &mut Portion,
     ) -> Result<(), AllocError> {
         let noted = self.noted_answer(number);
         let answer = match noted {
@@ -96,7 +92,7 @@ impl Search {
         };
         let is_amid_changes = noted.is_none() && self.answers.is_behind_change(answer);
         if !is_amid_changes && !self.is_kept_back(judge, lane, answer) {
-            if self.act_on(judge, lane, number, answer, portion)? {
+            if self.act_on(judge, lane, number, answer)? {
                 return Ok(());
             }
         }

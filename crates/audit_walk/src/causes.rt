@@ -76,11 +76,22 @@ fn word_of(address: Addr) -> u64 {
     (address.ip as u64) << 16 | address.port as u64
 }
 
-/// A digest of data, by which equal data is found.
+/// A digest of data, by which equal data is found. Others may choose data of one digest: it is tried as often as equal data would be.
 pub fn digest_of(data: &[u8]) -> u64 {
-    let mut hasher = DefaultHasher::new();
-    hasher.write(data);
-    hasher.finish()
+    let (words, rest) = data.as_chunks::<8>();
+    let mut digest = data.len() as u64;
+    for word in words {
+        digest = mixed(digest, u64::from_le_bytes(*word));
+    }
+    for byte in rest {
+        digest = mixed(digest, *byte as u64);
+    }
+    digest
+}
+
+/// A digest with a word more. The factor is odd and its bits are as good as random, so that each bit of a word changes many.
+fn mixed(digest: u64, word: u64) -> u64 {
+    (digest.rotate_left(5) ^ word).wrapping_mul(0x517c_c1b7_2722_0a95)
 }
 
 /// What a client's datagram asks for, if anything is answered to it.

@@ -2,7 +2,6 @@
 
 use crate::judge::Judge;
 use crate::numbers::ArrivalNumber;
-use crate::portion::Portion;
 use crate::search::Search;
 use audit_model::Event;
 use audit_sightings::Intake;
@@ -11,15 +10,10 @@ use std::alloc::AllocError;
 impl Search {
     /// Gives the arrivals that nothing answered their events. At the end of all captures they are dropped; before it, a
     /// client's stand in its lane, since they may still be answered.
-    pub(crate) fn decide(
-        &mut self,
-        judge: &Judge<'_>,
-        horizon: u64,
-        portion: &mut Portion,
-    ) -> Result<(), AllocError> {
+    pub(crate) fn decide(&mut self, judge: &Judge<'_>, horizon: u64) -> Result<(), AllocError> {
         let undecided = std::mem::replace(&mut self.undecided, Vec::new(self.alloc));
         for number in undecided {
-            self.decide_arrival(judge.intake, horizon == u64::MAX, number, portion)?;
+            self.decide_arrival(judge.intake, horizon == u64::MAX, number)?;
         }
         Ok(())
     }
@@ -29,7 +23,6 @@ impl Search {
         intake: &Intake,
         is_last: bool,
         number: ArrivalNumber,
-        portion: &mut Portion,
     ) -> Result<(), AllocError> {
         let Some(arrival) = self.arrivals.get_mut(number) else {
             return Ok(());
@@ -50,8 +43,8 @@ impl Search {
             },
         };
         match lane {
-            Some(lane) if !is_last => portion.push(lane, Event::In { sight, key }),
-            _ => portion.push_drop(sight, key),
+            Some(lane) if !is_last => self.portion.push(lane, Event::In { sight, key }),
+            _ => self.portion.push_drop(sight, key),
         }
     }
 }

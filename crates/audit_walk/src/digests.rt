@@ -55,7 +55,7 @@ impl Digests {
 
     /// Puts a number under a digest that has none.
     pub fn insert(&mut self, digest: u64, number: u32) -> Result<(), AllocError> {
-        if self.count >= self.places.len() / 4 * 3 {
+        if self.count >= self.places.len() / 2 {
             self.grow()?;
         }
         self.count = self.count.saturating_add(1);

@@ -23,6 +23,12 @@ impl Heads {
         Ok(())
     }
 
+    /// The first of them.
+    pub fn first(&self) -> Option<(u64, u32)> {
+        let Reverse(head) = self.heap.peek()?;
+        Some(*head)
+    }
+
     /// Takes out the first whose moment isn't past the horizon.
     pub fn pop(&mut self, horizon: u64) -> Option<(u64, u32)> {
         let Reverse((moment, _)) = self.heap.peek()?;

@@ -91,6 +91,8 @@ pub struct FoundLane {
     pub current: Holding,
     /// The last ones that were deleted, in order.
     pub deleted: Vec<Deleted>,
+    /// Whether a Send indication of the client was noted.
+    pub sends: bool,
     /// The last arrivals that nothing has answered yet.
     pub last: Last,
     /// The last answer to the client that was noted.
@@ -119,6 +121,7 @@ impl FoundLane {
             listen,
             current: Holding::new(alloc, number, client, listen),
             deleted: Vec::new(alloc),
+            sends: false,
             last: Last {
                 request: None,
                 sent: None,

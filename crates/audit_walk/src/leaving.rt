@@ -4,7 +4,6 @@ use crate::answers::Answer;
 use crate::causes::Cause;
 use crate::judge::Judge;
 use crate::numbers::{AnswerNumber, ArrivalNumber};
-use crate::portion::Portion;
 use crate::rows::Wait;
 use crate::said::Says;
 use crate::search::Search;
@@ -28,7 +27,6 @@ impl Search {
         judge: &Judge<'_>,
         answer: AnswerNumber,
         leaves: &Sighting,
-        portion: &mut Portion,
     ) -> Result<Option<Wait>, AllocError> {
         let Some(lane) = judge.lane_of(leaves.to, leaves.from) else {
             return Ok(None);
@@ -42,18 +40,18 @@ impl Search {
                 None => self.request_for(judge, lane, leaves),
             };
             if let Some(request) = request {
-                if self.may_come(judge, request, leaves) {
+                if self.may_come(judge, request) {
                     return Ok(Some(Wait::Arrival(request)));
                 }
-                if self.is_held_elsewhere(judge, answer) && self.has_time(judge, leaves) {
+                if self.is_held_elsewhere(judge, answer) && self.has_time() {
                     return Ok(Some(Wait::Next));
                 }
-                self.answer_late(judge, lane, request, answer, portion)?;
+                self.answer_late(judge, lane, request, answer)?;
             }
         }
         let key = self.clock.tick();
         let sight = leaves.id;
-        portion.push(lane, Event::Out { sight, key })?;
+        self.portion.push(lane, Event::Out { sight, key })?;
         Ok(None)
     }
 
@@ -100,24 +98,17 @@ impl Search {
         false
     }
 
-    /// Whether a departure can still wait.
-    pub(crate) fn has_time(&self, judge: &Judge<'_>, leaves: &Sighting) -> bool {
-        self.clock.moment() < latest(judge, leaves)
+    /// Whether the departure that is placed now can still wait.
+    pub(crate) fn has_time(&self) -> bool {
+        self.clock.moment() < self.latest
     }
 
-    /// Whether an arrival has no key yet, and can have one before the departure.
-    pub(crate) fn may_come(
-        &self,
-        judge: &Judge<'_>,
-        number: ArrivalNumber,
-        leaves: &Sighting,
-    ) -> bool {
+    /// Whether an arrival has no key yet, and can have one before the departure that is placed now.
+    pub(crate) fn may_come(&self, judge: &Judge<'_>, number: ArrivalNumber) -> bool {
         match self.arrivals.get(number) {
             Some(arrival) if arrival.key.is_none() => {
                 match judge.intake.sighting(arrival.sight) {
-                    Some(sighting) => {
-                        sighting.lo <= latest(judge, leaves) && self.has_time(judge, leaves)
-                    }
+                    Some(sighting) => sighting.lo <= self.latest && self.has_time(),
                     None => false,
                 }
             }
@@ -160,7 +151,6 @@ impl Search {
         lane: LaneNumber,
         number: ArrivalNumber,
         answer: AnswerNumber,
-        portion: &mut Portion,
     ) -> Result<(), AllocError> {
         if self
             .arrivals
@@ -171,19 +161,19 @@ impl Search {
         }
         if let Some(Says::Allocated(relayed)) = self.answers.says(answer) {
             if let Some(holder) = self.other_holder(lane, relayed) {
-                self.end_now(judge, holder, portion)?;
+                self.end_now(judge, holder)?;
             }
         }
         for _ in 0..GIVEN_BEFORE {
-            if self.act_on(judge, lane, number, answer, portion)? {
+            if self.act_on(judge, lane, number, answer)? {
                 return Ok(());
             }
-            if !self.give_pending(judge, lane, answer, portion)? {
+            if !self.give_pending(judge, lane, answer)? {
                 break;
             }
         }
         let key = self.clock.tick();
-        self.commit_answer(judge, lane, number, answer, key, portion)
+        self.commit_answer(judge, lane, number, answer, key)
     }
 
     /// The sighting of an arrival.

@@ -4,6 +4,7 @@
 #![tactic(auto)]
 
 mod acting;
+mod ahead;
 mod answers;
 mod arrivals;
 mod asking;

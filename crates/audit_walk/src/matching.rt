@@ -6,8 +6,7 @@ use crate::judge::Judge;
 use crate::leaving::CANDIDATES;
 use crate::numbers::ArrivalNumber;
 use crate::origins::Asked;
-use crate::portion::Portion;
-use crate::rows::Wait;
+use crate::rows::{Data, Wait};
 use crate::search::Search;
 use audit_model::{Event, Key, Sighting};
 use audit_seen::LaneNumber;
@@ -46,47 +45,41 @@ impl Search {
         &mut self,
         judge: &Judge<'_>,
         leaves: &Sighting,
-        digest: u64,
-        portion: &mut Portion,
+        data: &Data,
     ) -> Result<Option<Wait>, AllocError> {
-        let asked = self.asked_by(judge, leaves, digest);
+        let asked = self.asked_by(judge, leaves, data);
         if let Some(asked) = &asked {
             match self.choose(judge, asked, leaves)? {
                 Choice::Acts(lane, number, key) => {
-                    self.write_act(lane, number, leaves.id, key, portion)?;
-                    return self.leave(lane, leaves, portion);
+                    self.write_act(lane, number, leaves.id, key)?;
+                    return self.leave(lane, leaves);
                 }
                 Choice::Waits(number, _) => return Ok(Some(Wait::Arrival(number))),
                 Choice::None => {}
             }
         }
-        if self.has_time(judge, leaves) {
+        if self.has_time() {
             return Ok(Some(Wait::Next));
         }
-        let lane = match asked.or(self.asked_by_last(judge, leaves, digest)) {
+        let lane = match asked.or(self.asked_by_last(judge, leaves, data.digest)) {
             Some(asked) => match self.likely(judge, &asked, leaves) {
                 Some((lane, number)) => {
                     let key = self.clock.tick();
-                    self.write_act(lane, number, leaves.id, key, portion)?;
+                    self.write_act(lane, number, leaves.id, key)?;
                     lane
                 }
                 None => asked.lane,
             },
             None => return Ok(None),
         };
-        self.leave(lane, leaves, portion)
+        self.leave(lane, leaves)
     }
 
     /// Writes that data leaves.
-    fn leave(
-        &mut self,
-        lane: LaneNumber,
-        leaves: &Sighting,
-        portion: &mut Portion,
-    ) -> Result<Option<Wait>, AllocError> {
+    fn leave(&mut self, lane: LaneNumber, leaves: &Sighting) -> Result<Option<Wait>, AllocError> {
         let key = self.clock.tick();
         let sight = leaves.id;
-        portion.push(lane, Event::Out { sight, key })?;
+        self.portion.push(lane, Event::Out { sight, key })?;
         Ok(None)
     }
 
@@ -125,10 +118,10 @@ impl Search {
             let Some(arrives) = self.sighting_of(judge, number) else {
                 return Ok(Choice::None);
             };
-            if self.may_come(judge, number, leaves) {
+            if self.may_come(judge, number) {
                 return Ok(Choice::Waits(number, arrives.lo));
             }
-            if !self.count_try(judge, arrives, leaves) {
+            if !self.count_try(arrives, leaves) {
                 return Ok(Choice::None);
             }
             if let Some(key) = self.key_by(judge, lane, number, leaves)? {
@@ -140,8 +133,8 @@ impl Search {
     }
 
     /// Counts an act that is tried for a departure, and tells whether it may be tried.
-    fn count_try(&mut self, judge: &Judge<'_>, arrives: &Sighting, leaves: &Sighting) -> bool {
-        let is_last_moment = !self.has_time(judge, leaves);
+    fn count_try(&mut self, arrives: &Sighting, leaves: &Sighting) -> bool {
+        let is_last_moment = !self.has_time();
         let bytes = arrives
             .payload
             .as_slice()

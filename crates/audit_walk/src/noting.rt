@@ -8,29 +8,15 @@ use crate::numbers::{AnswerNumber, ArrivalNumber};
 use crate::rows::{Role, Row};
 use crate::said::Says;
 use crate::search::Search;
-use crate::seeing::{Seen, all_seen_by, seen_of};
+use crate::seeing::Seen;
 use audit_clients::Clients;
 use audit_model::Sighting;
 use audit_seen::LaneNumber;
 use std::alloc::AllocError;
-use std::thread::Threads;
-
-/// How many sightings are kept at once with what they are.
-const AT_ONCE: usize = 262_144;
 
 impl Search {
-    /// Notes what the intake has gained.
-    pub(crate) fn note_new(&mut self, judge: &Judge<'_>) -> Result<(), AllocError> {
-        self.add_lanes(judge.clients)?;
-        for iface in 0..judge.intake.interfaces() {
-            self.add_row(iface)?;
-            self.note_row(judge, iface)?;
-        }
-        Ok(())
-    }
-
     /// Adds the row of an interface, unless it is there.
-    fn add_row(&mut self, iface: u32) -> Result<(), AllocError> {
+    pub(crate) fn add_row(&mut self, iface: u32) -> Result<(), AllocError> {
         if self.rows.len() <= iface as usize {
             self.rows.push(Row::new(self.alloc))?;
         }
@@ -38,7 +24,7 @@ impl Search {
     }
 
     /// How many sightings of an interface were noted.
-    fn noted(&self, iface: u32) -> usize {
+    pub(crate) fn noted(&self, iface: u32) -> usize {
         match self.rows.get(iface as usize) {
             Some(row) => row.noted(),
             None => 0,
@@ -46,7 +32,7 @@ impl Search {
     }
 
     /// Adds a lane for each client that has none yet.
-    fn add_lanes(&mut self, clients: &Clients) -> Result<(), AllocError> {
+    pub(crate) fn add_lanes(&mut self, clients: &Clients) -> Result<(), AllocError> {
         for (client, listen) in clients.lanes_from(self.lanes.len()) {
             let Ok(number) = u32::try_from(self.lanes.len()) else {
                 return Ok(());
@@ -57,56 +43,8 @@ impl Search {
         Ok(())
     }
 
-    /// Notes what each new sighting of an interface is.
-    fn note_row(&mut self, judge: &Judge<'_>, iface: u32) -> Result<(), AllocError> {
-        let noted = self.noted(iface);
-        for sighting in judge.intake.interface(iface).get(noted..).unwrap_or(&[]) {
-            self.note(judge, iface, sighting, seen_of(judge, sighting))?;
-        }
-        Ok(())
-    }
-
-    /// Notes what the intake has gained, where so many threads at the most tell what each sighting is.
-    pub fn note_new_by<R: Threads + Sync>(
-        &mut self,
-        rt: &R,
-        workers: u32,
-        judge: &Judge<'_>,
-    ) -> Result<(), AllocError> {
-        self.add_lanes(judge.clients)?;
-        for iface in 0..judge.intake.interfaces() {
-            self.add_row(iface)?;
-            let noted = self.noted(iface);
-            let sightings = judge.intake.interface(iface).get(noted..).unwrap_or(&[]);
-            for some in sightings.chunks(AT_ONCE) {
-                self.note_some_by(rt, workers, judge, iface, some)?;
-            }
-        }
-        Ok(())
-    }
-
-    /// Notes the next sightings of an interface.
-    fn note_some_by<R: Threads + Sync>(
-        &mut self,
-        rt: &R,
-        workers: u32,
-        judge: &Judge<'_>,
-        iface: u32,
-        sightings: &[Sighting],
-    ) -> Result<(), AllocError> {
-        let mut left = sightings.iter();
-        for part in all_seen_by(rt, workers, judge, sightings)? {
-            for seen in part? {
-                if let Some(sighting) = left.next() {
-                    self.note(judge, iface, sighting, seen)?;
-                }
-            }
-        }
-        Ok(())
-    }
-
     /// Notes the next sighting of an interface, and what it is alone.
-    fn note(
+    pub(crate) fn note(
         &mut self,
         judge: &Judge<'_>,
         iface: u32,
@@ -114,15 +52,31 @@ impl Search {
         seen: Seen,
     ) -> Result<(), AllocError> {
         let role = match seen {
-            Seen::Arrival { lane, asks } => {
+            Seen::Arrival {
+                lane,
+                is_sent_on,
+                asks,
+            } => {
+                if is_sent_on {
+                    self.note_sending(lane);
+                }
                 Role::Arrival(self.arrivals.add(sighting.id, lane, asks)?)
             }
             Seen::Answer(of, says) => Role::Answer(self.note_answer(judge, sighting, says, of)?),
-            Seen::Data(digest) => Role::Data(digest),
+            Seen::Data(data) => Role::Data(data),
         };
         match self.rows.get_mut(iface as usize) {
             Some(row) => row.note(role),
             None => Ok(()),
+        }
+    }
+
+    /// Notes that a client sends data in indications.
+    fn note_sending(&mut self, lane: Option<LaneNumber>) {
+        if let Some(lane) = lane {
+            if let Some(of) = self.lanes.get_mut(lane.index()) {
+                of.sends = true;
+            }
         }
     }
 

@@ -3,6 +3,7 @@
 use crate::causes::Cause;
 use crate::judge::Judge;
 use crate::lanes::{FoundLane, Holding};
+use crate::rows::Data;
 use crate::said::{Given, data_given};
 use crate::search::Search;
 use audit_model::Sighting;
@@ -18,16 +19,16 @@ pub(crate) struct Asked {
 }
 
 impl Search {
-    /// What may have asked for data of that digest that leaves; none where nobody has or had its relayed address.
+    /// What may have asked for data that leaves; none where nobody has or had its relayed address.
     pub(crate) fn asked_by(
         &self,
         judge: &Judge<'_>,
         leaves: &Sighting,
-        digest: u64,
+        data: &Data,
     ) -> Option<Asked> {
+        let digest = data.digest;
         if judge.intake.policy().listens(leaves.from) {
-            let lane = judge.lane_of(leaves.to, leaves.from)?;
-            return Some(self.asked_by_peer(lane, leaves, digest));
+            return Some(self.asked_by_peer(data.lane?, leaves, digest));
         }
         let holders = *self.holders.get(&leaves.from)?;
         let [send, channel, deleted] = self.asked_by_client(holders.last, leaves, digest);
@@ -89,7 +90,7 @@ impl Search {
             (lane, channel)
         };
         [
-            Some((lane, send)),
+            if of.sends { Some((lane, send)) } else { None },
             number.map(by_channel),
             deleted.map(by_channel),
         ]

@@ -3,9 +3,12 @@
 use crate::digests::Digests;
 use std::alloc::{AllocError, Global};
 
-/// The number of a queue.
+/// A queue, until the queues are renewed.
 #[derive(Clone, Copy, Debug, PartialEq, Eq)]
-pub struct QueueNumber(u32);
+pub struct QueueNumber {
+    is_older: bool,
+    number: u32,
+}
 
 /// The ends of one queue.
 #[derive(Clone, Copy)]
@@ -16,23 +19,60 @@ struct Ends {
     past: Option<u32>,
 }
 
-/// Numbers of items, from 0 in the order in which they came, each in the queue of its digest if it has one.
-/// To find a queue, or to add an item, takes logarithmic time in the number of digests at the most, and mostly takes the same time.
+/// The queues that gained an item in one stretch of time.
 #[derive(Drop)]
-pub struct Queues {
+struct Stretch {
     /// The number of the queue of each digest.
     numbers: Digests,
     ends: Vec<Ends>,
+}
+
+impl Stretch {
+    fn new(alloc: Global) -> Stretch {
+        Stretch {
+            numbers: Digests::new(alloc),
+            ends: Vec::new(alloc),
+        }
+    }
+
+    fn ends_of(&self, digest: u64) -> Option<Ends> {
+        let number = self.numbers.get(digest)?;
+        self.ends.get(number as usize).copied()
+    }
+
+    /// Begins a queue of a digest that has none.
+    fn begin(&mut self, digest: u64, ends: Ends) -> Result<(), AllocError> {
+        let Ok(number) = u32::try_from(self.ends.len()) else {
+            return Err(AllocError);
+        };
+        self.numbers.insert(digest, number)?;
+        self.ends.push(ends)?;
+        Ok(())
+    }
+}
+
+/// Numbers of items, from 0 in the order in which they came, each in the queue of its digest if it has one.
+///
+/// Queues are found as long as they gained an item since they were renewed the last time but one, so that those that are looked for stand close
+/// together. To find a queue, or to add an item, takes logarithmic time in the number of digests at the most, and mostly takes the same time.
+#[derive(Drop)]
+pub struct Queues {
+    /// Those that gained an item since the last renewal.
+    current: Stretch,
+    /// Those that gained one in the stretch before. What has come since to one of them stands in `current` alone.
+    older: Stretch,
     /// What stands behind each item in its queue.
     behind: Vec<Option<u32>>,
+    alloc: Global,
 }
 
 impl Queues {
     pub fn new(alloc: Global) -> Queues {
         Queues {
-            numbers: Digests::new(alloc),
-            ends: Vec::new(alloc),
+            current: Stretch::new(alloc),
+            older: Stretch::new(alloc),
             behind: Vec::new(alloc),
+            alloc,
         }
     }
 
@@ -50,43 +90,45 @@ impl Queues {
 
     /// Puts an item at the end of its queue.
     fn join(&mut self, digest: u64, number: u32) -> Result<(), AllocError> {
-        let Some(queue) = self.numbers.get(digest) else {
-            return self.begin(digest, number);
-        };
-        let Some(ends) = self.ends.get_mut(queue as usize) else {
+        if let Some(queue) = self.current.numbers.get(digest) {
+            if let Some(ends) = self.current.ends.get_mut(queue as usize) {
+                link(&mut self.behind, ends, number);
+            }
             return Ok(());
-        };
-        if ends.first.is_none() {
-            ends.first = Some(number);
         }
-        if let Some(behind) = self.behind.get_mut(ends.last as usize) {
-            *behind = Some(number);
-        }
-        ends.last = number;
-        Ok(())
-    }
-
-    /// Begins a queue with an item.
-    fn begin(&mut self, digest: u64, number: u32) -> Result<(), AllocError> {
-        let Ok(queue) = u32::try_from(self.ends.len()) else {
-            return Err(AllocError);
+        let ends = match self.older.ends_of(digest) {
+            Some(older) => {
+                let mut ends = older;
+                link(&mut self.behind, &mut ends, number);
+                ends
+            }
+            None => Ends {
+                first: Some(number),
+                last: number,
+                past: None,
+            },
         };
-        self.numbers.insert(digest, queue)?;
-        self.ends.push(Ends {
-            first: Some(number),
-            last: number,
-            past: None,
-        })?;
-        Ok(())
+        self.current.begin(digest, ends)
     }
 
     /// The queue of a digest, if there is one.
     pub fn of(&self, digest: u64) -> Option<QueueNumber> {
-        Some(QueueNumber(self.numbers.get(digest)?))
+        let is_older = false;
+        if let Some(number) = self.current.numbers.get(digest) {
+            return Some(QueueNumber { is_older, number });
+        }
+        let is_older = true;
+        let number = self.older.numbers.get(digest)?;
+        Some(QueueNumber { is_older, number })
     }
 
     fn ends_of(&self, queue: QueueNumber) -> Option<&Ends> {
-        self.ends.get(queue.0 as usize)
+        let stretch = if queue.is_older {
+            &self.older
+        } else {
+            &self.current
+        };
+        stretch.ends.get(queue.number as usize)
     }
 
     /// The first item of a queue.
@@ -111,14 +153,35 @@ impl Queues {
 
     /// Takes the first item out of a queue.
     pub fn skip(&mut self, queue: QueueNumber) {
-        if let Some(ends) = self.ends.get_mut(queue.0 as usize) {
-            if let Some(first) = ends.first {
-                ends.past = Some(first);
-                ends.first = match self.behind.get(first as usize) {
-                    Some(behind) => *behind,
-                    None => None,
-                };
-            }
+        let Some(first) = self.first(queue) else {
+            return;
+        };
+        let behind = self.behind(first);
+        let stretch = if queue.is_older {
+            &mut self.older
+        } else {
+            &mut self.current
+        };
+        if let Some(ends) = stretch.ends.get_mut(queue.number as usize) {
+            ends.past = Some(first);
+            ends.first = behind;
         }
     }
+
+    /// Forgets the queues that gained no item since the last call.
+    pub fn renew(&mut self) {
+        let current = std::mem::replace(&mut self.current, Stretch::new(self.alloc));
+        self.older = current;
+    }
+}
+
+/// Puts an item at the end of a queue.
+fn link(behind: &mut Vec<Option<u32>>, ends: &mut Ends, number: u32) {
+    if ends.first.is_none() {
+        ends.first = Some(number);
+    }
+    if let Some(behind) = behind.get_mut(ends.last as usize) {
+        *behind = Some(number);
+    }
+    ends.last = number;
 }

@@ -2,7 +2,9 @@
 
 use crate::numbers::{AnswerNumber, ArrivalNumber};
 use audit_model::SightId;
+use audit_seen::LaneNumber;
 use std::alloc::{AllocError, Global};
+use std::collections::VecDeque;
 
 /// What a sighting is to the finder.
 #[derive(Clone, Copy, Debug, PartialEq, Eq)]
@@ -11,8 +13,16 @@ pub enum Role {
     Arrival(ArrivalNumber),
     /// A success or an error.
     Answer(AnswerNumber),
-    /// Data that leaves, with its digest.
-    Data(u64),
+    /// Data that leaves.
+    Data(Data),
+}
+
+/// Data that leaves.
+#[derive(Clone, Copy, Debug, PartialEq, Eq)]
+pub struct Data {
+    /// The lane of the client that is given it, if it leaves to one.
+    pub lane: Option<LaneNumber>,
+    pub digest: u64,
 }
 
 /// What a departure waits for.
@@ -36,8 +46,10 @@ const UNIT: usize = 1024;
 /// One interface.
 #[derive(Drop)]
 pub struct Row {
-    /// What each of its sightings is, of those that were noted.
-    roles: Vec<Role>,
+    /// What each of its sightings is that was noted and has no key yet.
+    roles: VecDeque<Role>,
+    /// How many of its sightings were noted.
+    noted: usize,
     /// How many of its sightings have a key.
     placed: usize,
     /// How often the next one has waited.
@@ -53,7 +65,8 @@ pub struct Row {
 impl Row {
     pub fn new(alloc: Global) -> Row {
         Row {
-            roles: Vec::new(alloc),
+            roles: VecDeque::new(alloc),
+            noted: 0,
             placed: 0,
             waits: 0,
             tried: 0,
@@ -64,24 +77,26 @@ impl Row {
 
     /// How many sightings were noted.
     pub fn noted(&self) -> usize {
-        self.roles.len()
+        self.noted
     }
 
     /// Notes what the next sighting is.
     pub fn note(&mut self, role: Role) -> Result<(), AllocError> {
-        self.roles.push(role)?;
+        self.roles.push_back(role)?;
+        self.noted = self.noted.saturating_add(1);
         Ok(())
     }
 
     /// The next sighting without a key.
     pub fn next(&self, iface: u32) -> Option<(SightId, Role)> {
-        let role = self.roles.get(self.placed)?;
+        let role = self.roles.front()?;
         let index = u32::try_from(self.placed).ok()?;
         Some((SightId { iface, index }, *role))
     }
 
     /// Goes on behind the next sighting.
     pub fn advance(&mut self) {
+        let _placed = self.roles.pop_front();
         self.placed = self.placed.saturating_add(1);
         self.waits = 0;
         self.tried = 0;

@@ -2,6 +2,7 @@
 
 ghost use Rattle.std.specs.Prelude.{◌≡◌, OnOk};
 
+use crate::ahead::NotedUntil;
 use crate::answers::Answers;
 use crate::arrivals::Arrivals;
 use crate::clock::Clock;
@@ -12,7 +13,7 @@ use crate::leaving::{CANDIDATES, latest};
 use crate::numbers::{AnswerNumber, ArrivalNumber};
 use crate::portion::Portion;
 use crate::rows::{Role, Row, Wait};
-use audit_model::{Addr, Sighting};
+use audit_model::Addr;
 use audit_seen::LaneNumber;
 use audit_sightings::Intake;
 use std::alloc::{AllocError, Global};
@@ -33,6 +34,9 @@ pub struct Search {
     pub(crate) arrivals: Arrivals,
     pub(crate) answers: Answers,
     pub(crate) heads: Heads,
+    /// Interfaces by their next sighting that wasn't noted.
+    pub(crate) ahead: Heads,
+    pub(crate) noted_until: NotedUntil,
     /// Interfaces whose next departure waits for an arrival, by the arrival.
     pub(crate) waiting: BTreeMap<ArrivalNumber, u32>,
     /// Interfaces whose next departure waits for whatever comes next.
@@ -46,6 +50,10 @@ pub struct Search {
     /// The last data of a client that arrived, of all lanes.
     pub(crate) last_sent: Option<ArrivalNumber>,
     pub(crate) clock: Clock,
+    /// The latest moment of the departure that is placed now.
+    pub(crate) latest: u64,
+    /// The events that weren't taken out yet.
+    pub(crate) portion: Portion,
     /// Events are given past this moment.
     pub given_to: Option<u64>,
     pub(crate) alloc: Global,
@@ -62,6 +70,8 @@ impl Search {
             arrivals: Arrivals::new(alloc),
             answers: Answers::new(alloc),
             heads: Heads::new(alloc),
+            ahead: Heads::new(alloc),
+            noted_until: NotedUntil::new(),
             waiting: BTreeMap::new(alloc),
             expecting: Vec::new(alloc),
             allocations: BTreeSet::new(alloc),
@@ -69,38 +79,35 @@ impl Search {
             undecided: Vec::new(alloc),
             last_sent: None,
             clock: Clock::new(),
+            latest: 0,
+            portion: Portion::new(alloc),
             given_to: None,
             alloc,
         }
     }
 
-    /// Places the sightings that are new, and those that were left, up to the horizon.
+    /// Places the sightings that are new, and those that were left, up to the horizon, and gives their events in the order of their keys.
     pub fn go(&mut self, judge: &Judge<'_>, horizon: u64) -> Result<Portion, AllocError>
         ensures { OnOk result (self.new.given_to ≡ Some horizon) }
     {
-        self.note_new(judge)?;
         if let Some(given_to) = self.given_to {
             self.clock.reach(given_to.saturating_add(1));
         }
-        let mut portion = Portion::new(self.alloc);
-        self.queue_rows(judge.intake)?;
-        self.go_on(judge, horizon, &mut portion)?;
-        self.decide(judge, horizon, &mut portion)?;
-        self.given_to = Some(horizon);
+        self.walk(judge, horizon)?;
+        self.decide(judge, horizon)?;
+        let mut portion = self.take_portion();
         portion.sort();
+        self.given_to = Some(horizon);
         Ok(portion)
     }
 
-    /// Queues each interface that has a sighting without a key.
-    fn queue_rows(&mut self, intake: &Intake) -> Result<(), AllocError> {
-        for iface in 0..intake.interfaces() {
-            self.queue_row(intake, iface)?;
-        }
-        Ok(())
+    /// Takes out the events that were found since the last call.
+    pub(crate) fn take_portion(&mut self) -> Portion {
+        std::mem::replace(&mut self.portion, Portion::new(self.alloc))
     }
 
     /// Queues an interface by the least moment of its next sighting; now, where that waited.
-    fn queue_row(&mut self, intake: &Intake, iface: u32) -> Result<(), AllocError> {
+    pub(crate) fn queue_row(&mut self, intake: &Intake, iface: u32) -> Result<(), AllocError> {
         let Some(row) = self.rows.get(iface as usize) else {
             return Ok(());
         };
@@ -116,6 +123,14 @@ impl Search {
         self.queue(iface, sighting.lo)
     }
 
+    /// Queues an interface that isn't queued, by the least moment of its next sighting.
+    pub(crate) fn queue_unqueued(&mut self, intake: &Intake, iface: u32) -> Result<(), AllocError> {
+        match self.rows.get(iface as usize) {
+            Some(row) if row.queued.is_none() => self.queue_row(intake, iface),
+            _ => Ok(()),
+        }
+    }
+
     /// Queues an interface at a moment, or now where that is over.
     fn queue(&mut self, iface: u32, moment: u64) -> Result<(), AllocError> {
         let moment = moment.max(self.clock.moment());
@@ -126,12 +141,7 @@ impl Search {
     }
 
     /// Places sightings, the least moment first, up to the horizon.
-    fn go_on(
-        &mut self,
-        judge: &Judge<'_>,
-        horizon: u64,
-        portion: &mut Portion,
-    ) -> Result<(), AllocError> {
+    pub(crate) fn go_on(&mut self, judge: &Judge<'_>, horizon: u64) -> Result<(), AllocError> {
         let (_, sightings) = judge.intake.counts();
         // Each is queued at first, and twice each time that it waits.
         for _ in 0..(2 * CANDIDATES as u64 + 4) * (sightings as u64 + 1) {
@@ -140,7 +150,7 @@ impl Search {
             };
             if self.is_queued_at(iface, moment) {
                 self.clock.reach(moment);
-                self.try_next(judge, iface, portion)?;
+                self.try_next(judge, iface)?;
             }
         }
         Ok(())
@@ -155,12 +165,7 @@ impl Search {
     }
 
     /// Places the next sighting of an interface, or lets it wait.
-    fn try_next(
-        &mut self,
-        judge: &Judge<'_>,
-        iface: u32,
-        portion: &mut Portion,
-    ) -> Result<(), AllocError> {
+    fn try_next(&mut self, judge: &Judge<'_>, iface: u32) -> Result<(), AllocError> {
         let Some(row) = self.rows.get_mut(iface as usize) else {
             return Ok(());
         };
@@ -174,14 +179,20 @@ impl Search {
         };
         let wait = match role {
             Role::Arrival(number) => {
-                self.place_arrival(judge, number, sighting, portion)?;
+                self.place_arrival(judge, number, sighting)?;
                 None
             }
-            Role::Answer(number) => self.place_answer(judge, number, sighting, portion)?,
-            Role::Data(digest) => self.place_data(judge, sighting, digest, portion)?,
+            Role::Answer(number) => {
+                self.latest = latest(judge, sighting);
+                self.place_answer(judge, number, sighting)?
+            }
+            Role::Data(data) => {
+                self.latest = latest(judge, sighting);
+                self.place_data(judge, sighting, &data)?
+            }
         };
         match wait {
-            Some(wait) => self.wait(judge, iface, wait, sighting),
+            Some(wait) => self.wait(iface, wait),
             None => {
                 if let Some(row) = self.rows.get_mut(iface as usize) {
                     row.advance();
@@ -194,13 +205,7 @@ impl Search {
 
     /// Lets the next departure of an interface wait, till its latest moment at the most. Where another one waits for that
     /// arrival, or it has waited often, it is not woken by it.
-    fn wait(
-        &mut self,
-        judge: &Judge<'_>,
-        iface: u32,
-        wait: Wait,
-        leaves: &Sighting,
-    ) -> Result<(), AllocError> {
+    fn wait(&mut self, iface: u32, wait: Wait) -> Result<(), AllocError> {
         let mut wait = wait;
         if let Wait::Arrival(number) = wait {
             if self.waiting.contains_key(&number) {
@@ -216,7 +221,7 @@ impl Search {
                 self.expecting.push(iface)?;
             }
         }
-        self.queue(iface, latest(judge, leaves))
+        self.queue(iface, self.latest)
     }
 
     /// Queues the interface whose next departure waits for an arrival, if there is one.

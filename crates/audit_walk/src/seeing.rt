@@ -1,8 +1,9 @@
 //! What sightings are alone, whatever comes before them.
 
 use crate::answers::Transaction;
-use crate::causes::{cause_of_client, cause_of_peer, digest_of};
+use crate::causes::{Cause, cause_of_client, cause_of_peer, digest_of};
 use crate::judge::Judge;
+use crate::rows::Data;
 use crate::said::{Says, answer_of, data_given};
 use audit_model::{Side, Sighting};
 use audit_seen::LaneNumber;
@@ -13,15 +14,16 @@ use std::thread::Threads;
 /// What a sighting is, as far as it takes no other to tell.
 #[derive(Clone, Copy, Debug)]
 pub enum Seen {
-    /// A datagram that arrives: the client's lane, and the digest of what it asks for.
+    /// A datagram that arrives: the client's lane, whether it is a Send indication, and the digest of what it asks for.
     Arrival {
         lane: Option<LaneNumber>,
+        is_sent_on: bool,
         asks: Option<u64>,
     },
     /// A success or an error.
     Answer(Transaction, Says),
-    /// Data that leaves, with its digest.
-    Data(u64),
+    /// Data that leaves.
+    Data(Data),
 }
 
 /// What each of some sightings is, in order.
@@ -61,7 +63,11 @@ pub fn seen_of(judge: &Judge<'_>, sighting: &Sighting) -> Seen {
 fn seen_arriving(judge: &Judge<'_>, sighting: &Sighting) -> Seen {
     if !judge.intake.policy().listens(sighting.to) {
         let asks = Some(cause_of_peer(sighting).digest());
-        return Seen::Arrival { lane: None, asks };
+        return Seen::Arrival {
+            lane: None,
+            is_sent_on: false,
+            asks,
+        };
     }
     let lane = judge.lane_of(sighting.from, sighting.to);
     let cause = match lane {
@@ -72,21 +78,29 @@ fn seen_arriving(judge: &Judge<'_>, sighting: &Sighting) -> Seen {
         Some(cause) => Some(cause.digest()),
         None => None,
     };
-    Seen::Arrival { lane, asks }
+    Seen::Arrival {
+        lane,
+        is_sent_on: matches!(cause, Some(Cause::Send { .. })),
+        asks,
+    }
 }
 
 fn seen_leaving(judge: &Judge<'_>, sighting: &Sighting) -> Seen {
     let payload = sighting.payload.as_slice();
     if !judge.intake.policy().listens(sighting.from) {
-        return Seen::Data(digest_of(payload));
+        return Seen::Data(Data {
+            lane: None,
+            digest: digest_of(payload),
+        });
     }
     let lane = judge.lane_of(sighting.to, sighting.from);
     if let (Some(lane), Some(answer)) = (lane, answer_of(payload)) {
         let (id, says) = answer;
         return Seen::Answer(Transaction { lane, id }, says);
     }
-    match data_given(payload) {
-        Some((_, data)) => Seen::Data(digest_of(data)),
-        None => Seen::Data(0),
-    }
+    let digest = match data_given(payload) {
+        Some((_, data)) => digest_of(data),
+        None => 0,
+    };
+    Seen::Data(Data { lane, digest })
 }

@@ -1,0 +1,11 @@
+use Rattle.std.proofs.Common.{◌≡◌, ◌≤◌, ◌+◌, map}
+use Rattle.audit_model.specs.EventCount.{event_count}
+use Rattle.audit_model.specs.declared.certificate.TheConstants.{MAX_EVENTS}
+use Rattle.audit_sightings.specs.Intake.{taken}
+use Rattle.audit_finder.specs.Found.{pair_of, AllNamed}
+use Rattle.audit_finder.proofs.finding.walked.Given as goal
+
+abbrev pub invariant-steps : goal.invariant-steps
+invariant-steps l = (map pair_of l.lanes.items ≡ l.pairs)
+    × (event_count l.lanes.items + l.room ≤ MAX_EVENTS)
+    × AllNamed (taken l.judge.intake.now) l.lanes.items
