@@ -284,32 +284,6 @@ fn walked(
     Ok((lanes, room))
 }
 
-/// The same, where so many threads at the most tell what each sighting is.
-fn walked_by<R: Threads + Sync>(
-    rt: &R,
-    workers: u32,
-    alloc: Global,
-    judge: &Judge<'_>,
-    pairs: &[(Addr, Addr)],
-    search: &mut Search,
-) -> Result<(Vec<CertLane>, usize), AllocError>
-    ensures pairs { IfOk result (λ found. map pair_of found.0.items ≡ pairs.now) }
-    ensures room { IfOk result (λ found. event_count found.0.items + found.1 ≤ MAX_EVENTS) }
-    ensures named { IfOk result (λ found. AllNamed (taken judge.now.intake.now) found.0.items) }
-{
-    let mut lanes = empty_lanes(alloc, pairs)?;
-    let mut room = MAX_EVENTS;
-    let (_, sightings) = judge.intake.counts();
-    search.begin(judge)?;
-    'steps: for _ in 0..sightings {
-        let Some(portion) = search.step_by(rt, workers, judge)? else {
-            break;
-        };
-        room = distribute_named(&mut lanes, room, judge.intake, portion.events)?;
-    }
-    Ok((lanes, room))
-}
-
 /// The clients of all captures.
 fn clients_in(alloc: Global, intake: &Intake) -> Result<Clients, AllocError>
     ensures { IfOk result (λ clients. clients.pairs ≡ with_new [] (taken intake.now) []) }
@@ -362,33 +336,6 @@ pub fn find_once(
     let pairs = clients.lanes();
     let mut search = Search::new(alloc);
     let (lanes, room) = walked(alloc, &judge, pairs, &mut search)?;
-    let last = search.finish(&judge)?;
-    certificate_of(alloc, intake, lanes, room, last)
-}
-
-/// Finds the certificate that `find_once` finds. So many threads at the most read the payloads; the walk itself is one thread's.
-pub fn find_once_parallel<R: Threads + Sync>(
-    rt: &R,
-    alloc: Global,
-    intake: &Intake,
-    credentials: &Credentials,
-    workers: u32,
-) -> Result<Certificate, AllocError>
-    ensures lanes { IfOk result (λ certificate. map pair_of certificate.lanes ≡ clients_of (taken intake.now)) }
-    ensures events { IfOk result (λ certificate. AllNamed (taken intake.now) certificate.lanes) }
-    ensures drops { IfOk result (λ certificate. AreThere (taken intake.now) certificate.drops) }
-    ensures skews { IfOk result (λ certificate. certificate.skews ≡ []) }
-{
-    let clients = clients_in(alloc, intake)?;
-    let judge = Judge {
-        alloc,
-        intake,
-        credentials,
-        clients: &clients,
-    };
-    let pairs = clients.lanes();
-    let mut search = Search::new(alloc);
-    let (lanes, room) = walked_by(rt, workers, alloc, &judge, pairs, &mut search)?;
     let last = search.finish(&judge)?;
     certificate_of(alloc, intake, lanes, room, last)
 }

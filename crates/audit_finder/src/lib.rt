@@ -8,4 +8,4 @@ mod finding;
 mod writing;
 
 pub use finder::Finder;
-pub use finding::{find, find_once, find_once_parallel, find_parallel};
+pub use finding::{find, find_once, find_parallel};

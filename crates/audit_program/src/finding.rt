@@ -6,7 +6,7 @@ ghost use Rattle.audit_keys.specs.KeyFor.{key_for};
 ghost use Rattle.audit_sightings.specs.Intake.{taken};
 
 use audit_files::{Files, Workers, verdict_of};
-use audit_finder::{find, find_once, find_once_parallel, find_parallel};
+use audit_finder::{find, find_once, find_parallel};
 use audit_model::{Certificate, Verdict};
 use std::alloc::{AllocError, Global};
 use std::sync::Wait;
@@ -56,19 +56,6 @@ fn find_by<R: Threads + Sync>(
     find_parallel(rt, alloc, &files.intake, &files.users, workers.count)
 }
 
-/// Finds a certificate in one walk over the sightings, with so many threads at the most to read them.
-fn find_once_by<R: Threads + Sync>(
-    rt: &R,
-    alloc: Global,
-    files: &Files,
-    workers: Workers,
-) -> Result<Certificate, AllocError> {
-    if workers.count == 1 {
-        return find_once(alloc, &files.intake, &files.users);
-    }
-    find_once_parallel(rt, alloc, &files.intake, &files.users, workers.count)
-}
-
 /// What one walk over the sightings finds.
 fn found_once<R: Threads + Wait + Sync>(
     rt: &R,
@@ -78,7 +65,7 @@ fn found_once<R: Threads + Wait + Sync>(
 ) -> Result<Found, AllocError>
     ensures { IfOk result (λ found. Judges (taken files.now.intake) (key_for files.now.users) found.certificate found.verdict) }
 {
-    let once = find_once_by(rt, alloc, files, workers)?;
+    let once = find_once(alloc, &files.intake, &files.users)?;
     judged(rt, alloc, files, once, workers)
 }
 

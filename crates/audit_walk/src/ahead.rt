@@ -1,22 +1,21 @@
 //! Sightings that are noted some time before they are placed.
 //!
-//! What a departure answers may have come by another interface, and which answer a request has is told by what leaves behind it. So all that
-//! can have to do with a moment is noted before that; and no more than that, so that it is still at hand.
+//! What a departure answers may have come by another interface, and which answer a request has is told by what leaves behind it. So what
+//! comes soon after a moment is noted before that; and no more, so that it is still at hand. A request whose answer leaves later is acted on then.
 
 use crate::judge::Judge;
 use crate::portion::Portion;
 use crate::search::Search;
-use crate::seeing::{all_seen_by, seen_of};
+use crate::seeing::seen_of;
 use audit_model::{Policy, Sighting};
 use audit_sightings::Intake;
 use std::alloc::AllocError;
-use std::thread::Threads;
 
 /// How many sightings of an interface are noted at once: their payloads stay at hand until they are placed.
 const AT_ONCE: usize = 4_096;
 
-/// How many where threads tell what each is.
-const AT_ONCE_BY_THREADS: usize = 16_384;
+/// How long after a moment sightings are noted before it comes, beside their windows, in nanoseconds: most requests are answered sooner.
+const LONGEST: u64 = 100_000_000;
 
 /// Up to which moments arrivals were noted that may still be asked for.
 #[derive(Clone, Copy)]
@@ -35,11 +34,21 @@ impl NotedUntil {
     }
 }
 
-/// How far the moments of two sightings that have to do with one another may lie apart, as their windows begin.
-fn reach(policy: &Policy) -> u64 {
+/// How wide the widest window is.
+fn widest(policy: &Policy) -> u64 {
     let own = policy.skews.as_slice().iter().map(|own| own.skew);
-    let widest = own.fold(policy.skew, |widest, skew| widest.max(skew));
-    policy.hold.saturating_add(widest.saturating_mul(2))
+    own.fold(policy.skew, |widest, skew| widest.max(skew))
+        .saturating_mul(2)
+}
+
+/// How far the moments of an arrival and a departure that answers it may lie apart, as their windows begin.
+fn reach(policy: &Policy) -> u64 {
+    policy.hold.saturating_add(widest(policy))
+}
+
+/// How long after a moment sightings are noted before it comes.
+fn ahead(policy: &Policy) -> u64 {
+    policy.hold.min(LONGEST).saturating_add(widest(policy))
 }
 
 impl Search {
@@ -49,7 +58,7 @@ impl Search {
         let (_, sightings) = judge.intake.counts();
         // Each turn notes one at the least.
         for _ in 0..sightings {
-            let Some(until) = self.next_until(judge.intake, AT_ONCE) else {
+            let Some(until) = self.next_until(judge.intake) else {
                 break;
             };
             self.note_until(judge, until)?;
@@ -61,25 +70,10 @@ impl Search {
     /// Finds the events of the next sightings, once it was begun; None where all are noted. The keys of a lane don't always rise from one call to the
     /// next.
     pub fn step(&mut self, judge: &Judge<'_>) -> Result<Option<Portion>, AllocError> {
-        let Some(until) = self.next_until(judge.intake, AT_ONCE) else {
+        let Some(until) = self.next_until(judge.intake) else {
             return Ok(None);
         };
         self.note_until(judge, until)?;
-        self.go_on_behind(judge, u64::MAX, until)?;
-        Ok(Some(self.take_portion()))
-    }
-
-    /// Finds the events of more of the next sightings than `step`: so many threads at the most tell what each is.
-    pub fn step_by<R: Threads + Sync>(
-        &mut self,
-        rt: &R,
-        workers: u32,
-        judge: &Judge<'_>,
-    ) -> Result<Option<Portion>, AllocError> {
-        let Some(until) = self.next_until(judge.intake, AT_ONCE_BY_THREADS) else {
-            return Ok(None);
-        };
-        self.note_until_by(rt, workers, judge, until)?;
         self.go_on_behind(judge, u64::MAX, until)?;
         Ok(Some(self.take_portion()))
     }
@@ -91,16 +85,17 @@ impl Search {
         Ok(self.take_portion())
     }
 
-    /// Places what has nothing to do with what isn't noted yet, up to the horizon.
+    /// Places what comes long enough before what isn't noted yet, up to the horizon.
     fn go_on_behind(
         &mut self,
         judge: &Judge<'_>,
         horizon: u64,
         noted_until: u64,
     ) -> Result<(), AllocError> {
-        let reach = reach(judge.intake.policy());
-        self.go_on(judge, horizon.min(noted_until.saturating_sub(reach)))?;
-        self.renew(reach);
+        let policy = judge.intake.policy();
+        let placed_until = noted_until.saturating_sub(ahead(policy));
+        self.go_on(judge, horizon.min(placed_until))?;
+        self.renew(reach(policy));
         Ok(())
     }
 
@@ -123,15 +118,14 @@ impl Search {
         intake.interface(iface).get(noted..).unwrap_or(&[])
     }
 
-    /// Up to which moment the next sightings are noted: so many of the interface that has the first of them, and no less than what can have to
-    /// do with that. None where all are noted.
-    fn next_until(&mut self, intake: &Intake, at_once: usize) -> Option<u64> {
-        let reach = reach(intake.policy());
+    /// Up to which moment the next sightings are noted: so many of the interface that has the first of them, and no less than what is noted
+    /// ahead of that. None where all are noted.
+    fn next_until(&mut self, intake: &Intake) -> Option<u64> {
         let (first, iface) = self.ahead.first()?;
         let unnoted = self.unnoted(intake, iface);
-        let some = unnoted.get(..at_once).unwrap_or(unnoted);
+        let some = unnoted.get(..AT_ONCE).unwrap_or(unnoted);
         let last = some.last()?.lo;
-        let until = last.max(first.saturating_add(reach));
+        let until = last.max(first.saturating_add(ahead(intake.policy())));
         self.noted_until.current = self.noted_until.current.max(until);
         Some(until)
     }
@@ -176,43 +170,6 @@ impl Search {
     ) -> Result<(), AllocError> {
         for sighting in sightings {
             self.note(judge, iface, sighting, seen_of(judge, sighting))?;
-        }
-        Ok(())
-    }
-
-    /// Notes all sightings that begin up to a moment, where so many threads at the most tell what each is.
-    fn note_until_by<R: Threads + Sync>(
-        &mut self,
-        rt: &R,
-        workers: u32,
-        judge: &Judge<'_>,
-        until: u64,
-    ) -> Result<(), AllocError> {
-        for _ in 0..judge.intake.interfaces() {
-            let Some((iface, sightings)) = self.next_unnoted(judge, until)? else {
-                return Ok(());
-            };
-            self.note_all_by(rt, workers, judge, iface, sightings)?;
-            self.queue_unqueued(judge.intake, iface)?;
-        }
-        Ok(())
-    }
-
-    fn note_all_by<R: Threads + Sync>(
-        &mut self,
-        rt: &R,
-        workers: u32,
-        judge: &Judge<'_>,
-        iface: u32,
-        sightings: &[Sighting],
-    ) -> Result<(), AllocError> {
-        let mut left = sightings.iter();
-        for part in all_seen_by(rt, workers, judge, sightings)? {
-            for seen in part? {
-                if let Some(sighting) = left.next() {
-                    self.note(judge, iface, sighting, seen)?;
-                }
-            }
         }
         Ok(())
     }

@@ -7,9 +7,6 @@ use crate::rows::Data;
 use crate::said::{Says, answer_of, data_given};
 use audit_model::{Side, Sighting};
 use audit_seen::LaneNumber;
-use std::alloc::AllocError;
-use std::thread;
-use std::thread::Threads;
 
 /// What a sighting is, as far as it takes no other to tell.
 #[derive(Clone, Copy, Debug)]
@@ -24,32 +21,6 @@ pub enum Seen {
     Answer(Transaction, Says),
     /// Data that leaves.
     Data(Data),
-}
-
-/// What each of some sightings is, in order.
-fn all_seen(judge: &Judge<'_>, sightings: &[Sighting]) -> Result<Vec<Seen>, AllocError> {
-    let mut all = Vec::with_capacity(judge.alloc, sightings.len())?;
-    for sighting in sightings {
-        all.push(seen_of(judge, sighting))?;
-    }
-    Ok(all)
-}
-
-/// What each of some sightings is, in order and in as many parts as there are threads at the most.
-pub fn all_seen_by<R: Threads + Sync>(
-    rt: &R,
-    workers: u32,
-    judge: &Judge<'_>,
-    sightings: &[Sighting],
-) -> Result<Vec<Result<Vec<Seen>, AllocError>>, AllocError> {
-    let size = sightings.len() / workers.max(1) as usize + 1;
-    thread::map_chunks(
-        rt,
-        judge.alloc,
-        sightings,
-        size,
-        &|_, part| all_seen(judge, part),
-    )
 }
 
 /// What a sighting is. It goes once over its payload.
