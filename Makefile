@@ -37,7 +37,7 @@ test:
 	tests/no_memory.sh $(PROGRAM)
 	python3 tests/fuzz.py $(PROGRAM) --seconds 20 --seed 1 examples/*
 	python3 bench/random_captures.py $(PROGRAM) --count 500 --most 0
-	python3 bench/edge_captures.py $(PROGRAM) --count 100 --most 1
+	python3 bench/edge_captures.py $(PROGRAM) --count 2000 --most 13
 
 # Gives the program damaged captures, policies, credentials and certificates, and looks at how it answers.
 fuzz: $(PROGRAM)
