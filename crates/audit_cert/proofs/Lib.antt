@@ -2,6 +2,7 @@ pub mod Drafts
 pub mod Skews
 pub mod Texts
 pub mod Writings
+pub mod Blocks
 pub mod Steps
 pub mod Words
 pub mod Found

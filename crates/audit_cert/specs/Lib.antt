@@ -6,4 +6,5 @@ pub mod CertLines
 pub mod CertText
 pub mod Spelling
 pub mod Writing
+pub mod Pieces
 pub mod Fits

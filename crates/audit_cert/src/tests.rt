@@ -1,8 +1,8 @@
 //! Certificates read and written, and what goes wrong.
 
-use crate::{CertFaultKind, read, write};
+use crate::{CertFaultKind, read, write, write_parallel};
 use audit_model::{Sink, SinkFailed, WriteFault};
-use std::alloc::Global;
+use std::alloc::{AllocError, Global};
 use std::test::*;
 
 /// Of a Binding transaction.
@@ -63,6 +63,14 @@ impl Sink for Narrow {
     }
 }
 
+fn sink_of(alloc: Global, room: usize) -> Narrow {
+    Narrow {
+        bytes: Vec::new(alloc),
+        room,
+        has_failed: false,
+    }
+}
+
 /// What a sink with that much room is after the text is read and written.
 fn through(
     alloc: Global,
@@ -70,11 +78,7 @@ fn through(
     room: usize,
 ) -> Result<(Result<(), WriteFault>, Narrow), Fail> {
     let certificate = read(alloc, text).ok().ok_or("the text is a certificate")?;
-    let mut sink = Narrow {
-        bytes: Vec::new(alloc),
-        room,
-        has_failed: false,
-    };
+    let mut sink = sink_of(alloc, room);
     let written = write(alloc, &certificate, &mut sink);
     Ok((written, sink))
 }
@@ -91,6 +95,37 @@ fn written_as_it_was_read(rt: HostRuntime) -> Result<(), Fail> {
             assert_eq!(rt; written, Err(WriteFault::Device));
             assert_eq!(rt; sink.bytes.as_slice(), &text[..room]);
             assert!(rt; sink.has_failed);
+        }
+    }
+    Ok(())
+}
+
+/// A text of a lane with that many events more than `CUT` has, and of a lane with none.
+fn long_text(alloc: Global, events: usize) -> Result<Vec<u8>, AllocError> {
+    let mut text = Vec::new(alloc);
+    let (front, back) = CUT.split_at(CUT.len() - 24);
+    text.extend_from_slice(front)?;
+    for _ in 0..events {
+        text.extend_from_slice(b"out 0.1 1500000 0\n")?;
+    }
+    text.extend_from_slice(b"lane 198.51.100.8:40000 192.0.2.1:3478\n")?;
+    text.extend_from_slice(back)?;
+    Ok(text)
+}
+
+#[test]
+fn written_by_many_threads(rt: HostRuntime) -> Result<(), Fail> {
+    let text = long_text(rt.alloc(), 20_000)?;
+    let certificate = read(rt.alloc(), text.as_slice())
+        .ok()
+        .ok_or("the text is a certificate")?;
+    for workers in [1, 2, 4] {
+        for room in [200_000, 400_000] {
+            let mut plain = sink_of(rt.alloc(), room);
+            let mut sink = sink_of(rt.alloc(), room);
+            let written = write_parallel(&rt, rt.alloc(), &certificate, workers, &mut sink);
+            assert_eq!(rt; written, write(rt.alloc(), &certificate, &mut plain));
+            assert_eq!(rt; sink.bytes.as_slice(), plain.bytes.as_slice());
         }
     }
     Ok(())

@@ -18,7 +18,7 @@ const SECOND_HEADING_LINE: &[u8; 24] = b"turnaudit-certificate 2\n";
 const END_LINE: &[u8; 4] = b"end\n";
 
 /// Puts the bytes, all of them where it answers Ok.
-fn put<W: Sink>(bytes: &[u8], out: &mut W) -> Result<(), WriteFault>
+pub fn put<W: Sink>(bytes: &[u8], out: &mut W) -> Result<(), WriteFault>
     ensures { Puts bytes.now result (record { taken = W.taken out.old; taken_now = W.taken out.new; failures = W.failures out.old; failures_now = W.failures out.new }) }
 {
     put_all(out, bytes)?;
@@ -88,7 +88,11 @@ fn put_drops<W: Sink>(alloc: Global, drops: &[CertDrop], out: &mut W) -> Result<
 }
 
 /// Puts the drops' lines and the last line.
-fn put_drops_on<W: Sink>(alloc: Global, drops: &[CertDrop], out: &mut W) -> Result<(), WriteFault>
+pub fn put_drops_on<W: Sink>(
+    alloc: Global,
+    drops: &[CertDrop],
+    out: &mut W,
+) -> Result<(), WriteFault>
     ensures { Puts (flat_map drop_line drops.now ++ codes "end\n") result (record { taken = W.taken out.old; taken_now = W.taken out.new; failures = W.failures out.old; failures_now = W.failures out.new }) }
 {
     put_drops(alloc, drops, out)?;
@@ -127,7 +131,7 @@ fn put_skews<W: Sink>(alloc: Global, skews: &[CertSkew], out: &mut W) -> Result<
 }
 
 /// Puts the heading, of version 2 where there are skews, and their lines.
-fn put_front<W: Sink>(alloc: Global, skews: &[CertSkew], out: &mut W) -> Result<(), WriteFault>
+pub fn put_front<W: Sink>(alloc: Global, skews: &[CertSkew], out: &mut W) -> Result<(), WriteFault>
     ensures { Puts (front skews.now) result (record { taken = W.taken out.old; taken_now = W.taken out.new; failures = W.failures out.old; failures_now = W.failures out.new }) }
 {
     if skews.is_empty() {
