@@ -12,7 +12,7 @@ use audit_clients::Clients;
 use audit_keys::Credentials;
 use audit_model::{Extension, Listed};
 use audit_sightings::Intake;
-use audit_walk::{Judge, Search};
+use audit_walk::{Ahead, Judge, Search};
 use std::alloc::{AllocError, Global};
 
 /// What was found so far of captures that grow.
@@ -20,6 +20,7 @@ use std::alloc::{AllocError, Global};
 pub struct Finder {
     clients: Clients,
     search: Search,
+    ahead: Ahead,
     alloc: Global,
 }
 
@@ -33,6 +34,7 @@ impl Finder {
         Finder {
             clients: Clients::new(alloc),
             search: Search::new(alloc),
+            ahead: Ahead::new(alloc),
             alloc,
         }
     }
@@ -67,7 +69,7 @@ impl Finder {
             credentials,
             clients: &self.clients,
         };
-        let portion = self.search.go(&judge, horizon)?;
+        let portion = self.search.go(&judge, &mut self.ahead, horizon)?;
         extension(self.alloc, intake, self.clients.lanes_from(known), portion)
     }
 }

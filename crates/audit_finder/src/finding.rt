@@ -16,7 +16,7 @@ use audit_model::{
 };
 use audit_search::{Reading, best_round, best_round_by};
 use audit_sightings::Intake;
-use audit_walk::{Judge, Portion, Search};
+use audit_walk::Portion;
 use std::alloc::{AllocError, Global};
 use std::thread::Threads;
 
@@ -77,7 +77,10 @@ fn there(intake: &Intake, mut drops: Vec<CertDrop>) -> Vec<CertDrop>
 }
 
 /// A lane without events for each pair.
-fn empty_lanes(alloc: Global, pairs: &[(Addr, Addr)]) -> Result<Vec<CertLane>, AllocError>
+pub(crate) fn empty_lanes(
+    alloc: Global,
+    pairs: &[(Addr, Addr)],
+) -> Result<Vec<CertLane>, AllocError>
     ensures { IfOk result (λ lanes. lanes.items ≡ map empty_lane pairs.now) }
 {
     let mut lanes = Vec::with_capacity(alloc, pairs.len())?;
@@ -140,7 +143,7 @@ fn distribute(
 }
 
 /// Adds the events that name what is there to their lanes, and tells how many may still be added.
-fn distribute_named(
+pub(crate) fn distribute_named(
     lanes: &mut Vec<CertLane>,
     room: usize,
     intake: &Intake,
@@ -188,7 +191,7 @@ fn all_sorted(alloc: Global, lanes: Vec<CertLane>) -> Result<Vec<CertLane>, Allo
 }
 
 /// The certificate with these lanes, and with the last events and the drops that name what is there, as long as there is room.
-fn certificate_of(
+pub(crate) fn certificate_of(
     alloc: Global,
     intake: &Intake,
     lanes: Vec<CertLane>,
@@ -260,32 +263,8 @@ fn in_passes_by<R: Threads + Sync>(
     written(alloc, &reading, &round)
 }
 
-/// A lane for each pair, with the events that a walk gives but for the last ones, and how many may still be added.
-fn walked(
-    alloc: Global,
-    judge: &Judge<'_>,
-    pairs: &[(Addr, Addr)],
-    search: &mut Search,
-) -> Result<(Vec<CertLane>, usize), AllocError>
-    ensures pairs { IfOk result (λ found. map pair_of found.0.items ≡ pairs.now) }
-    ensures room { IfOk result (λ found. event_count found.0.items + found.1 ≤ MAX_EVENTS) }
-    ensures named { IfOk result (λ found. AllNamed (taken judge.now.intake.now) found.0.items) }
-{
-    let mut lanes = empty_lanes(alloc, pairs)?;
-    let mut room = MAX_EVENTS;
-    let (_, sightings) = judge.intake.counts();
-    search.begin(judge)?;
-    'steps: for _ in 0..sightings {
-        let Some(portion) = search.step(judge)? else {
-            break;
-        };
-        room = distribute_named(&mut lanes, room, judge.intake, portion.events)?;
-    }
-    Ok((lanes, room))
-}
-
 /// The clients of all captures.
-fn clients_in(alloc: Global, intake: &Intake) -> Result<Clients, AllocError>
+pub(crate) fn clients_in(alloc: Global, intake: &Intake) -> Result<Clients, AllocError>
     ensures { IfOk result (λ clients. clients.pairs ≡ with_new [] (taken intake.now) []) }
 {
     let mut clients = Clients::new(alloc);
@@ -312,32 +291,6 @@ pub fn find(
     let lanes = clients.lanes();
     let portion = in_passes(alloc, intake, credentials, lanes)?;
     certificate_with(alloc, intake, lanes, portion)
-}
-
-/// Finds a certificate as `find` does, with the same lanes, but by one walk over the sightings in which nothing is taken back: it takes less
-/// time, and finds an order for fewer captures.
-pub fn find_once(
-    alloc: Global,
-    intake: &Intake,
-    credentials: &Credentials,
-) -> Result<Certificate, AllocError>
-    ensures lanes { IfOk result (λ certificate. map pair_of certificate.lanes ≡ clients_of (taken intake.now)) }
-    ensures events { IfOk result (λ certificate. AllNamed (taken intake.now) certificate.lanes) }
-    ensures drops { IfOk result (λ certificate. AreThere (taken intake.now) certificate.drops) }
-    ensures skews { IfOk result (λ certificate. certificate.skews ≡ []) }
-{
-    let clients = clients_in(alloc, intake)?;
-    let judge = Judge {
-        alloc,
-        intake,
-        credentials,
-        clients: &clients,
-    };
-    let pairs = clients.lanes();
-    let mut search = Search::new(alloc);
-    let (lanes, room) = walked(alloc, &judge, pairs, &mut search)?;
-    let last = search.finish(&judge)?;
-    certificate_of(alloc, intake, lanes, room, last)
 }
 
 /// Finds the certificate that `find` finds, by so many threads at the most: each searches lanes of its own.

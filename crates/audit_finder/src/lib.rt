@@ -5,7 +5,9 @@
 
 mod finder;
 mod finding;
+mod walking;
 mod writing;
 
 pub use finder::Finder;
-pub use finding::{find, find_once, find_parallel};
+pub use finding::{find, find_parallel};
+pub use walking::{FoundOnce, find_once};

@@ -65,8 +65,8 @@ fn found_once<R: Threads + Wait + Sync>(
 ) -> Result<Found, AllocError>
     ensures { IfOk result (λ found. Judges (taken files.now.intake) (key_for files.now.users) found.certificate found.verdict) }
 {
-    let once = find_once(alloc, &files.intake, &files.users)?;
-    judged(rt, alloc, files, once, workers)
+    let once = find_once(rt, alloc, &files.intake, &files.users, workers.count)?;
+    judged(rt, alloc, files, once.certificate, workers)
 }
 
 /// What is found in passes.

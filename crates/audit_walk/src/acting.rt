@@ -13,8 +13,8 @@ use std::alloc::AllocError;
 const LOOKED_AT: usize = 8;
 
 impl Search {
-    /// Acts on a request now, if the server may, and tells whether it did. A deletion isn't judged: what was deleted is kept, for
-    /// the data that was relayed before.
+    /// Acts on a request now, if the server may, and tells whether it did. A deletion is done in any case: what was deleted is kept,
+    /// for the data that was relayed before.
     pub(crate) fn act_on(
         &mut self,
         judge: &Judge<'_>,
@@ -34,15 +34,21 @@ impl Search {
         };
         if is_deletion && of.current.table.running().is_some() {
             let before = self.clock.reserve(ACTS_BEFORE);
+            let mut table = of.current.table.copied(self.alloc)?;
             of.delete(self.alloc, before)?;
             let key = self.clock.tick();
+            if !judge.answers(lane, &mut table, arrives, leaves, key)? {
+                self.doubt();
+            }
             self.commit_answer(judge, lane, number, answer, key)?;
             return Ok(true);
         }
         let key = self.clock.tick();
+        let held = of.current.table.running();
         if !judge.answers(lane, &mut of.current.table, arrives, leaves, key)? {
             return Ok(false);
         }
+        of.note_replaced(held);
         self.commit_answer(judge, lane, number, answer, key)?;
         Ok(true)
     }
@@ -115,8 +121,23 @@ impl Search {
         }
     }
 
+    /// Whether another lane may still hold a relayed address that a lane is given now. Those before the last one were asked when that was given it.
+    fn may_be_held(&self, lane: LaneNumber, relayed: Addr) -> bool {
+        let Some(holders) = self.holders.get(&relayed) else {
+            return false;
+        };
+        let last = holders.last;
+        match self.lanes.get(last.index()) {
+            Some(of) if last != lane => of.may_hold(relayed, self.clock.moment()),
+            _ => false,
+        }
+    }
+
     /// Notes that a lane has a relayed address from now on.
     fn note_holder(&mut self, lane: LaneNumber, relayed: Addr) -> Result<(), AllocError> {
+        if self.may_be_held(lane, relayed) {
+            self.doubt();
+        }
         let before = match self.holders.get(&relayed) {
             Some(holders) if holders.last != lane => Some(holders.last),
             Some(holders) => holders.before,
@@ -143,7 +164,7 @@ impl Search {
         let sight = known.sight;
         let says = known.says;
         let leaves = judge.intake.sighting(sight);
-        self.write_act(lane, number, sight, key)?;
+        self.write_act(judge, lane, number, sight, key)?;
         if let Says::Allocated(relayed) = says {
             self.note_holder(lane, relayed)?;
             if let Some(leaves) = leaves {
@@ -176,11 +197,16 @@ impl Search {
     /// Writes the act of an arrival and a departure, behind the arrival's own event if that isn't there yet.
     pub(crate) fn write_act(
         &mut self,
+        judge: &Judge<'_>,
         lane: LaneNumber,
         number: ArrivalNumber,
         gives: SightId,
         key: Key,
     ) -> Result<(), AllocError> {
+        if !self.may_act_at(judge, number, key.moment) {
+            self.doubt();
+        }
+        self.arrivals.wait_until(number, 0);
         let Some(arrival) = self.arrivals.get_mut(number) else {
             return Ok(());
         };
@@ -192,4 +218,17 @@ impl Search {
         }
         self.portion.push(lane, Event::Act { sight, gives, key })
     }
+
+    /// Whether an arrival has come by a moment, no longer ago than `hold`, and wasn't acted on yet.
+    fn may_act_at(&self, judge: &Judge<'_>, number: ArrivalNumber, moment: u64) -> bool {
+        match self.waiting_since(number) {
+            Some(came) => is_within_hold(judge, came, moment),
+            None => false,
+        }
+    }
+}
+
+/// Whether a moment comes no later than `hold` after an arrival's key.
+pub(crate) fn is_within_hold(judge: &Judge<'_>, came: Key, moment: u64) -> bool {
+    moment <= came.moment.saturating_add(judge.intake.policy().hold)
 }

@@ -4,7 +4,7 @@ use crate::causes::Cause;
 use crate::numbers::{AnswerNumber, ArrivalNumber};
 use crate::queues::Queues;
 use crate::said::Says;
-use audit_model::SightId;
+use audit_model::{SightId, Sighting};
 use audit_seen::LaneNumber;
 use std::alloc::{AllocError, Global};
 
@@ -60,14 +60,14 @@ impl Answers {
     /// Adds the answer to a request, or one to a request of that transaction that isn't known yet, and gives its number.
     pub fn add(
         &mut self,
-        sight: SightId,
+        sighting: &Sighting,
         says: Says,
         arrival: Option<ArrivalNumber>,
         before: Option<AnswerNumber>,
         of: Transaction,
     ) -> Result<AnswerNumber, AllocError> {
         self.list.push(Answer {
-            sight,
+            sight: sighting.id,
             says,
             arrival,
             lane: of.lane,
@@ -82,6 +82,7 @@ impl Answers {
             None
         };
         let number = AnswerNumber(self.queues.add(digest)?);
+        self.queues.wait_until(number.0, sighting.hi);
         if let Some(before) = before {
             if let Some(before) = self.get_mut(before) {
                 before.behind = Some(number);
@@ -160,7 +161,12 @@ impl Answers {
         Some(AnswerNumber(self.queues.first(queue)?))
     }
 
-    /// Forgets the transactions that were noted before the last call.
+    /// Looks now and then for those that have left before a moment, so that the others are found sooner.
+    pub fn tidy(&mut self, moment: u64) -> Result<(), AllocError> {
+        self.queues.tidy(moment)
+    }
+
+    /// Forgets which were given before the last call.
     pub fn renew(&mut self) {
         self.queues.renew();
     }

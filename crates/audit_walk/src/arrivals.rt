@@ -77,13 +77,24 @@ impl Arrivals {
     }
 
     /// The last that asked for this and was acted on, unless it came too long ago.
-    pub fn past(&self, cause: &Cause, earliest: u64) -> Option<ArrivalNumber> {
-        let queue = self.queues.of(cause.digest())?;
-        let past = ArrivalNumber(self.queues.past(queue)?);
-        if self.get(past)?.key?.moment < earliest {
-            return None;
+    pub fn past(
+        &mut self,
+        cause: &Cause,
+        earliest: u64,
+    ) -> Result<Option<ArrivalNumber>, AllocError> {
+        let past = self.queues.past(cause.digest())?;
+        Ok(
+            past.map(|past| ArrivalNumber(past))
+                .filter(|past| self.came_since(*past, earliest)),
+        )
+    }
+
+    /// Whether an arrival has a key at a moment or behind it.
+    fn came_since(&self, number: ArrivalNumber, earliest: u64) -> bool {
+        match self.get(number).and_then(|arrival| arrival.key) {
+            Some(key) => key.moment >= earliest,
+            None => false,
         }
-        Some(past)
     }
 
     /// The last that asks for this, of all that were added.
@@ -92,7 +103,17 @@ impl Arrivals {
         Some(ArrivalNumber(self.queues.last(queue)?))
     }
 
-    /// Forgets what was found by its digest before the last call and isn't asked for any more.
+    /// Notes until when something may be given by an arrival.
+    pub fn wait_until(&mut self, number: ArrivalNumber, until: u64) {
+        self.queues.wait_until(number.0, until);
+    }
+
+    /// Looks now and then for those by which nothing more is given at a moment, so that the others are found sooner.
+    pub fn tidy(&mut self, moment: u64) -> Result<(), AllocError> {
+        self.queues.tidy(moment)
+    }
+
+    /// Forgets which were acted on before the last call.
     pub fn renew(&mut self) {
         self.queues.renew();
     }

@@ -24,11 +24,17 @@ impl Search {
         let key = self.clock.tick();
         // The next key is for an act at the arrival that is only found later.
         let _spare = self.clock.tick();
+        if key.moment > sighting.hi {
+            self.doubt();
+        }
         let mut lane = None;
         if let Some(arrival) = self.arrivals.get_mut(number) {
             arrival.key = Some(key);
             lane = arrival.lane;
         }
+        let hold = judge.intake.policy().hold;
+        self.arrivals
+            .wait_until(number, key.moment.saturating_add(hold));
         self.undecided.push(number)?;
         self.wake(number)?;
         match lane {

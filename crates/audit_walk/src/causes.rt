@@ -5,7 +5,6 @@ use audit_seen::LaneNumber;
 use audit_stun::numbers::attribute::{DATA, XOR_PEER_ADDRESS};
 use audit_stun::numbers::method;
 use audit_stun::{Class, address, channel_data, message};
-use std::hash::{DefaultHasher, Hasher};
 
 /// What an arrival asks for. Data stands by its digest: two that have one are told apart when they are judged.
 #[derive(Clone, Copy, Debug, PartialEq, Eq)]
@@ -38,11 +37,10 @@ pub enum Cause {
 impl Cause {
     /// A digest of it, by which those that ask for the same are found. Two others that have one are told apart when they are judged.
     pub fn digest(&self) -> u64 {
-        let mut hasher = DefaultHasher::new();
-        for word in self.words() {
-            hasher.write_u64(word);
-        }
-        hasher.finish()
+        let [first, second, third] = self.words();
+        let digest = mixed(mixed(mixed(0, first), second), third);
+        // A table goes by the last bits, and the first ones depend on most.
+        digest ^ digest >> 32
     }
 
     /// All that it has, and which of the four it is.

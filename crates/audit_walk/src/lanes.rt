@@ -2,7 +2,7 @@
 
 use crate::clock::after;
 use crate::numbers::{AnswerNumber, ArrivalNumber};
-use audit_model::{Addr, Key, SightId};
+use audit_model::{Addr, Key, SightId, Tenancy};
 use audit_rules::LaneTable;
 use audit_seen::LaneNumber;
 use std::alloc::{AllocError, Global};
@@ -103,6 +103,8 @@ pub struct FoundLane {
     pub ending: Option<AnswerNumber>,
     /// The answers that were not given when their requests arrived, and haven't left yet, with their numbers.
     pub pending: BTreeMap<SightId, AnswerNumber>,
+    /// Until when it holds the addresses of allocations that ran out and were replaced.
+    outlived: u64,
 }
 
 /// The last arrival of each kind.
@@ -131,6 +133,7 @@ impl FoundLane {
             noted_allocation: None,
             ending: None,
             pending: BTreeMap::new(alloc),
+            outlived: 0,
         }
     }
 
@@ -166,6 +169,20 @@ impl FoundLane {
             Some((first, _)) => *first < answer,
             None => false,
         }
+    }
+
+    /// Notes until when it holds the address of an allocation that was there before an act, if that act made another one.
+    pub fn note_replaced(&mut self, held: Option<Tenancy>) {
+        if let (Some(held), Some(tenancy)) = (held, self.current.table.running()) {
+            if held.born != tenancy.born {
+                self.outlived = self.outlived.max(held.last);
+            }
+        }
+    }
+
+    /// Whether it may hold that relayed address at the moment, by this allocation or by one that was replaced.
+    pub fn may_hold(&self, relayed: Addr, moment: u64) -> bool {
+        self.holds(relayed, moment) || self.outlived >= moment
     }
 
     /// Whether it holds that relayed address at the moment.

@@ -1,11 +1,12 @@
 //! Departures, as they are placed.
 
+use crate::acting::is_within_hold;
 use crate::answers::Answer;
 use crate::causes::Cause;
 use crate::judge::Judge;
 use crate::numbers::{AnswerNumber, ArrivalNumber};
 use crate::rows::Wait;
-use crate::said::Says;
+use crate::said::{Says, answer_of};
 use crate::search::Search;
 use audit_model::{Addr, Event, SightId, Sighting};
 use audit_seen::LaneNumber;
@@ -28,16 +29,17 @@ impl Search {
         answer: AnswerNumber,
         leaves: &Sighting,
     ) -> Result<Option<Wait>, AllocError> {
-        let Some(lane) = judge.lane_of(leaves.to, leaves.from) else {
-            return Ok(None);
-        };
-        let Some(known) = self.answers.get(answer).copied() else {
+        let (Some(lane), Some(known)) = (
+            judge.lane_of(leaves.to, leaves.from),
+            self.answers.get(answer).copied(),
+        ) else {
+            self.doubt();
             return Ok(None);
         };
         if !known.is_acted {
             let request = match known.arrival {
                 Some(request) => Some(request),
-                None => self.request_for(judge, lane, leaves),
+                None => self.request_for(judge, lane, leaves)?,
             };
             if let Some(request) = request {
                 if self.may_come(judge, request) {
@@ -49,10 +51,37 @@ impl Search {
                 self.answer_late(judge, lane, request, answer)?;
             }
         }
+        if !self.may_leave(judge, answer) {
+            self.doubt();
+        }
+        self.leave(lane, leaves)
+    }
+
+    /// Writes that a datagram leaves.
+    pub(crate) fn leave(
+        &mut self,
+        lane: LaneNumber,
+        leaves: &Sighting,
+    ) -> Result<Option<Wait>, AllocError> {
         let key = self.clock.tick();
+        if key.moment > leaves.hi {
+            self.doubt();
+        }
         let sight = leaves.id;
         self.portion.push(lane, Event::Out { sight, key })?;
         Ok(None)
+    }
+
+    /// Whether an answer was given, to a request that came no longer ago than `hold` where it was given before it leaves.
+    fn may_leave(&self, judge: &Judge<'_>, answer: AnswerNumber) -> bool {
+        let Some(known) = self.answers.get(answer) else {
+            return false;
+        };
+        let came = match known.arrival {
+            Some(request) => self.arrivals.get(request).and_then(|request| request.key),
+            None => return known.is_acted,
+        };
+        known.is_acted && came.is_some_and(|came| is_within_hold(judge, came, self.clock.moment()))
     }
 
     /// Whether an answer makes an allocation whose address another client holds and hasn't asked to give up yet, or has to have
@@ -122,18 +151,26 @@ impl Search {
         judge: &Judge<'_>,
         lane: LaneNumber,
         leaves: &Sighting,
-    ) -> Option<ArrivalNumber> {
-        let (id, _) = crate::said::answer_of(leaves.payload.as_slice())?;
+    ) -> Result<Option<ArrivalNumber>, AllocError> {
+        let Some(answer) = answer_of(leaves.payload.as_slice()) else {
+            return Ok(None);
+        };
+        let (id, _) = answer;
         let cause = Cause::Request { lane, id };
         let earliest = self.earliest(judge);
-        let last = match self.lanes.get(lane.index()) {
-            Some(lane) => lane.last.request,
-            None => None,
-        };
-        self.arrivals
-            .first(&cause, earliest)
-            .or(self.arrivals.past(&cause, earliest))
-            .or(last)
+        let first = self.arrivals.first(&cause, earliest);
+        if first.is_some() {
+            return Ok(first);
+        }
+        let past = self.arrivals.past(&cause, earliest)?;
+        if past.is_some() {
+            return Ok(past);
+        }
+        Ok(
+            self.lanes
+                .get(lane.index())
+                .and_then(|lane| lane.last.request),
+        )
     }
 
     /// The earliest moment of an arrival that may be answered now.
@@ -172,6 +209,7 @@ impl Search {
                 break;
             }
         }
+        self.doubt();
         let key = self.clock.tick();
         self.commit_answer(judge, lane, number, answer, key)
     }

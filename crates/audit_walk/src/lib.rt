@@ -26,7 +26,9 @@ mod rows;
 mod said;
 mod search;
 mod seeing;
+mod walking;
 
+pub use ahead::{Ahead, Stretch};
 pub use judge::Judge;
 pub use portion::Portion;
 pub use search::Search;

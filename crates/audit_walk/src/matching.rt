@@ -8,7 +8,7 @@ use crate::numbers::ArrivalNumber;
 use crate::origins::Asked;
 use crate::rows::{Data, Wait};
 use crate::search::Search;
-use audit_model::{Event, Key, Sighting};
+use audit_model::{Key, Sighting};
 use audit_seen::LaneNumber;
 use std::alloc::AllocError;
 
@@ -51,7 +51,7 @@ impl Search {
         if let Some(asked) = &asked {
             match self.choose(judge, asked, leaves)? {
                 Choice::Acts(lane, number, key) => {
-                    self.write_act(lane, number, leaves.id, key)?;
+                    self.write_act(judge, lane, number, leaves.id, key)?;
                     return self.leave(lane, leaves);
                 }
                 Choice::Waits(number, _) => return Ok(Some(Wait::Arrival(number))),
@@ -61,11 +61,12 @@ impl Search {
         if self.has_time() {
             return Ok(Some(Wait::Next));
         }
+        self.doubt();
         let lane = match asked.or(self.asked_by_last(judge, leaves, data.digest)) {
-            Some(asked) => match self.likely(judge, &asked, leaves) {
+            Some(asked) => match self.likely(judge, &asked, leaves)? {
                 Some((lane, number)) => {
                     let key = self.clock.tick();
-                    self.write_act(lane, number, leaves.id, key)?;
+                    self.write_act(judge, lane, number, leaves.id, key)?;
                     lane
                 }
                 None => asked.lane,
@@ -73,14 +74,6 @@ impl Search {
             None => return Ok(None),
         };
         self.leave(lane, leaves)
-    }
-
-    /// Writes that data leaves.
-    fn leave(&mut self, lane: LaneNumber, leaves: &Sighting) -> Result<Option<Wait>, AllocError> {
-        let key = self.clock.tick();
-        let sight = leaves.id;
-        self.portion.push(lane, Event::Out { sight, key })?;
-        Ok(None)
     }
 
     fn choose(
@@ -187,13 +180,15 @@ impl Search {
             && is_open(given_to, came)
             && judge.relays(lane, &mut of.current.table, arrives, leaves, early)?
         {
+            // The permission may have been given since.
+            self.doubt();
             return Ok(Some(early));
         }
         Ok(None)
     }
 
     /// The key of an arrival that wasn't acted on yet.
-    fn waiting_since(&self, number: ArrivalNumber) -> Option<Key> {
+    pub(crate) fn waiting_since(&self, number: ArrivalNumber) -> Option<Key> {
         let arrival = self.arrivals.get(number)?;
         if arrival.is_acted {
             return None;
@@ -208,20 +203,31 @@ impl Search {
         judge: &Judge<'_>,
         asked: &Asked,
         leaves: &Sighting,
-    ) -> Option<(LaneNumber, ArrivalNumber)> {
+    ) -> Result<Option<(LaneNumber, ArrivalNumber)>, AllocError> {
         let earliest = self.earliest(judge);
         for cause in &asked.causes {
             if let Some((lane, cause)) = cause {
                 if let Some(number) = self.arrivals.first(cause, earliest) {
                     if self.waiting_since(number).is_some() {
-                        return Some((*lane, number));
+                        return Ok(Some((*lane, number)));
                     }
                 }
-                if let Some(number) = self.arrivals.past(cause, earliest) {
-                    return Some((*lane, number));
+                if let Some(number) = self.arrivals.past(cause, earliest)? {
+                    return Ok(Some((*lane, number)));
                 }
             }
         }
+        Ok(self.last_of(judge, asked, leaves, earliest))
+    }
+
+    /// The last data that came to a lane the way in which a departure would have to have come, no earlier than that.
+    fn last_of(
+        &self,
+        judge: &Judge<'_>,
+        asked: &Asked,
+        leaves: &Sighting,
+        earliest: u64,
+    ) -> Option<(LaneNumber, ArrivalNumber)> {
         let last = self.lanes.get(asked.lane.index())?.last;
         let number = if judge.intake.policy().listens(leaves.from) {
             last.received?

@@ -24,7 +24,7 @@ impl Search {
     }
 
     /// How many sightings of an interface were noted.
-    pub(crate) fn noted(&self, iface: u32) -> usize {
+    pub(crate) fn noted(&self, iface: u32) -> u32 {
         match self.rows.get(iface as usize) {
             Some(row) => row.noted(),
             None => 0,
@@ -47,7 +47,6 @@ impl Search {
     pub(crate) fn note(
         &mut self,
         judge: &Judge<'_>,
-        iface: u32,
         sighting: &Sighting,
         seen: Seen,
     ) -> Result<(), AllocError> {
@@ -65,7 +64,7 @@ impl Search {
             Seen::Answer(of, says) => Role::Answer(self.note_answer(judge, sighting, says, of)?),
             Seen::Data(data) => Role::Data(data),
         };
-        match self.rows.get_mut(iface as usize) {
+        match self.rows.get_mut(sighting.id.iface as usize) {
             Some(row) => row.note(role),
             None => Ok(()),
         }
@@ -93,7 +92,7 @@ impl Search {
             Some(lane) => lane.noted,
             None => None,
         };
-        let answer = self.answers.add(sighting.id, says, request, before, of)?;
+        let answer = self.answers.add(sighting, says, request, before, of)?;
         if let Some(lane) = self.lanes.get_mut(of.lane.index()) {
             lane.noted = Some(answer);
             match says {

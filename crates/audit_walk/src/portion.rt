@@ -19,6 +19,11 @@ impl Portion {
         }
     }
 
+    /// Makes room for so many events more.
+    pub fn reserve(&mut self, events: usize) -> Result<(), AllocError> {
+        self.events.reserve(events)
+    }
+
     pub fn push(&mut self, lane: LaneNumber, event: Event) -> Result<(), AllocError> {
         self.events.push((lane.0, event))?;
         Ok(())

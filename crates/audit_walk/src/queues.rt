@@ -2,86 +2,100 @@
 
 use crate::digests::Digests;
 use std::alloc::{AllocError, Global};
+use std::collections::BTreeMap;
 
-/// A queue, until the queues are renewed.
+/// How many queues may be new before those that are done are looked for.
+const NEW: usize = 1_024;
+
+/// A queue, until the queues are tidied.
 #[derive(Clone, Copy, Debug, PartialEq, Eq)]
-pub struct QueueNumber {
-    is_older: bool,
-    number: u32,
-}
+pub struct QueueNumber(u32);
 
 /// The ends of one queue.
 #[derive(Clone, Copy)]
-struct Ends {
+struct Queue {
+    digest: u64,
     first: Option<u32>,
     last: u32,
     /// The item that was taken out last.
     past: Option<u32>,
 }
 
-/// The queues that gained an item in one stretch of time.
-#[derive(Drop)]
-struct Stretch {
-    /// The number of the queue of each digest.
-    numbers: Digests,
-    ends: Vec<Ends>,
+/// An item, until it is asked for no more.
+#[derive(Clone, Copy)]
+struct Item {
+    /// The one behind it in its queue.
+    behind: Option<u32>,
+    /// Until when it is waited for.
+    until: u64,
 }
 
-impl Stretch {
-    fn new(alloc: Global) -> Stretch {
-        Stretch {
-            numbers: Digests::new(alloc),
-            ends: Vec::new(alloc),
+/// The last items of queues that are done, by digest.
+#[derive(Drop)]
+struct Done {
+    /// Those that weren't asked for since.
+    noted: Vec<(u64, u32)>,
+    found: BTreeMap<u64, u32>,
+}
+
+impl Done {
+    fn new(alloc: Global) -> Done {
+        Done {
+            noted: Vec::new(alloc),
+            found: BTreeMap::new(alloc),
         }
     }
 
-    fn ends_of(&self, digest: u64) -> Option<Ends> {
-        let number = self.numbers.get(digest)?;
-        self.ends.get(number as usize).copied()
-    }
-
-    /// Begins a queue of a digest that has none.
-    fn begin(&mut self, digest: u64, ends: Ends) -> Result<(), AllocError> {
-        let Ok(number) = u32::try_from(self.ends.len()) else {
-            return Err(AllocError);
-        };
-        self.numbers.insert(digest, number)?;
-        self.ends.push(ends)?;
-        Ok(())
+    /// The last item of a queue that is done. Most captures never ask for one.
+    fn get(&mut self, alloc: Global, digest: u64) -> Result<Option<u32>, AllocError> {
+        let noted = std::mem::replace(&mut self.noted, Vec::new(alloc));
+        for (digest, last) in noted {
+            self.found.insert(digest, last)?;
+        }
+        Ok(self.found.get(&digest).copied())
     }
 }
 
 /// Numbers of items, from 0 in the order in which they came, each in the queue of its digest if it has one.
 ///
-/// Queues are found as long as they gained an item since they were renewed the last time but one, so that those that are looked for stand close
-/// together. To find a queue, or to add an item, takes logarithmic time in the number of digests at the most, and mostly takes the same time.
+/// Queues of which no item is waited for are taken out now and then, so that the others stand close together. To find a queue, or to add an item,
+/// takes logarithmic time in the number of digests at the most, and mostly takes the same time.
 #[derive(Drop)]
 pub struct Queues {
-    /// Those that gained an item since the last renewal.
-    current: Stretch,
-    /// Those that gained one in the stretch before. What has come since to one of them stands in `current` alone.
-    older: Stretch,
-    /// What stands behind each item in its queue.
-    behind: Vec<Option<u32>>,
+    /// The number of the queue of each digest.
+    numbers: Digests,
+    queues: Vec<Queue>,
+    /// How many there were when they were tidied.
+    kept: usize,
+    items: Vec<Item>,
+    done: Done,
+    /// Those that were done before it was renewed.
+    done_before: Done,
     alloc: Global,
 }
 
 impl Queues {
     pub fn new(alloc: Global) -> Queues {
         Queues {
-            current: Stretch::new(alloc),
-            older: Stretch::new(alloc),
-            behind: Vec::new(alloc),
+            numbers: Digests::new(alloc),
+            queues: Vec::new(alloc),
+            kept: 0,
+            items: Vec::new(alloc),
+            done: Done::new(alloc),
+            done_before: Done::new(alloc),
             alloc,
         }
     }
 
-    /// Adds an item, and gives its number.
+    /// Adds an item that is waited for, and gives its number.
     pub fn add(&mut self, digest: Option<u64>) -> Result<u32, AllocError> {
-        let Ok(number) = u32::try_from(self.behind.len()) else {
+        let Ok(number) = u32::try_from(self.items.len()) else {
             return Err(AllocError);
         };
-        self.behind.push(None)?;
+        self.items.push(Item {
+            behind: None,
+            until: u64::MAX,
+        })?;
         if let Some(digest) = digest {
             self.join(digest, number)?;
         }
@@ -90,65 +104,72 @@ impl Queues {
 
     /// Puts an item at the end of its queue.
     fn join(&mut self, digest: u64, number: u32) -> Result<(), AllocError> {
-        if let Some(queue) = self.current.numbers.get(digest) {
-            if let Some(ends) = self.current.ends.get_mut(queue as usize) {
-                link(&mut self.behind, ends, number);
-            }
-            return Ok(());
-        }
-        let ends = match self.older.ends_of(digest) {
-            Some(older) => {
-                let mut ends = older;
-                link(&mut self.behind, &mut ends, number);
-                ends
-            }
-            None => Ends {
+        let Some(queue) = self.numbers.get(digest) else {
+            return self.begin(Queue {
+                digest,
                 first: Some(number),
                 last: number,
                 past: None,
-            },
+            });
         };
-        self.current.begin(digest, ends)
+        if let Some(queue) = self.queues.get_mut(queue as usize) {
+            if let Some(last) = self.items.get_mut(queue.last as usize) {
+                last.behind = Some(number);
+            }
+            queue.first = queue.first.or(Some(number));
+            queue.last = number;
+        }
+        Ok(())
+    }
+
+    /// Adds a queue of a digest that has none.
+    fn begin(&mut self, queue: Queue) -> Result<(), AllocError> {
+        let Ok(number) = u32::try_from(self.queues.len()) else {
+            return Err(AllocError);
+        };
+        self.numbers.insert(queue.digest, number)?;
+        self.queues.push(queue)?;
+        Ok(())
     }
 
     /// The queue of a digest, if there is one.
     pub fn of(&self, digest: u64) -> Option<QueueNumber> {
-        let is_older = false;
-        if let Some(number) = self.current.numbers.get(digest) {
-            return Some(QueueNumber { is_older, number });
-        }
-        let is_older = true;
-        let number = self.older.numbers.get(digest)?;
-        Some(QueueNumber { is_older, number })
+        Some(QueueNumber(self.numbers.get(digest)?))
     }
 
-    fn ends_of(&self, queue: QueueNumber) -> Option<&Ends> {
-        let stretch = if queue.is_older {
-            &self.older
-        } else {
-            &self.current
-        };
-        stretch.ends.get(queue.number as usize)
+    fn get(&self, queue: QueueNumber) -> Option<&Queue> {
+        self.queues.get(queue.0 as usize)
     }
 
     /// The first item of a queue.
     pub fn first(&self, queue: QueueNumber) -> Option<u32> {
-        self.ends_of(queue)?.first
+        self.get(queue)?.first
     }
 
     /// The item that was added to a queue last.
     pub fn last(&self, queue: QueueNumber) -> Option<u32> {
-        Some(self.ends_of(queue)?.last)
+        Some(self.get(queue)?.last)
     }
 
-    /// The item that was taken out of a queue last.
-    pub fn past(&self, queue: QueueNumber) -> Option<u32> {
-        self.ends_of(queue)?.past
+    /// The item that was taken out of the queue of a digest last.
+    pub fn past(&mut self, digest: u64) -> Result<Option<u32>, AllocError> {
+        let past = match self.of(digest).and_then(|queue| self.get(queue)) {
+            Some(queue) => queue.past,
+            None => None,
+        };
+        if past.is_some() {
+            return Ok(past);
+        }
+        let past = self.done.get(self.alloc, digest)?;
+        if past.is_some() {
+            return Ok(past);
+        }
+        self.done_before.get(self.alloc, digest)
     }
 
     /// The item behind an item in its queue.
     pub fn behind(&self, number: u32) -> Option<u32> {
-        *self.behind.get(number as usize)?
+        self.items.get(number as usize)?.behind
     }
 
     /// Takes the first item out of a queue.
@@ -157,31 +178,64 @@ impl Queues {
             return;
         };
         let behind = self.behind(first);
-        let stretch = if queue.is_older {
-            &mut self.older
-        } else {
-            &mut self.current
-        };
-        if let Some(ends) = stretch.ends.get_mut(queue.number as usize) {
-            ends.past = Some(first);
-            ends.first = behind;
+        if let Some(queue) = self.queues.get_mut(queue.0 as usize) {
+            queue.past = Some(first);
+            queue.first = behind;
         }
     }
 
-    /// Forgets the queues that gained no item since the last call.
-    pub fn renew(&mut self) {
-        let current = std::mem::replace(&mut self.current, Stretch::new(self.alloc));
-        self.older = current;
+    /// Notes until when an item is waited for.
+    pub fn wait_until(&mut self, number: u32, until: u64) {
+        if let Some(item) = self.items.get_mut(number as usize) {
+            item.until = until;
+        }
     }
-}
 
-/// Puts an item at the end of a queue.
-fn link(behind: &mut Vec<Option<u32>>, ends: &mut Ends, number: u32) {
-    if ends.first.is_none() {
-        ends.first = Some(number);
+    /// Whether an item isn't waited for any more at a moment.
+    fn is_past(&self, number: u32, moment: u64) -> bool {
+        match self.items.get(number as usize) {
+            Some(item) => item.until < moment,
+            None => true,
+        }
     }
-    if let Some(behind) = behind.get_mut(ends.last as usize) {
-        *behind = Some(number);
+
+    /// Takes out the queues of which no item is waited for any more at a moment, where many queues are new.
+    pub fn tidy(&mut self, moment: u64) -> Result<(), AllocError> {
+        if self.queues.len() < self.kept.saturating_mul(2).saturating_add(NEW) {
+            return Ok(());
+        }
+        let queues = std::mem::replace(&mut self.queues, Vec::new(self.alloc));
+        self.numbers = Digests::new(self.alloc);
+        for queue in queues {
+            self.keep_waiting(queue, moment)?;
+        }
+        self.kept = self.queues.len();
+        Ok(())
     }
-    ends.last = number;
+
+    /// Keeps a queue, if an item of it is waited for at a moment.
+    fn keep_waiting(&mut self, queue: Queue, moment: u64) -> Result<(), AllocError> {
+        let mut queue = queue;
+        for _ in 0..self.items.len() {
+            match queue.first {
+                Some(first) if self.is_past(first, moment) => {
+                    queue.past = Some(first);
+                    queue.first = self.behind(first);
+                }
+                _ => break,
+            }
+        }
+        if queue.first.is_some() {
+            return self.begin(queue);
+        }
+        if let Some(past) = queue.past {
+            self.done.noted.push((queue.digest, past))?;
+        }
+        Ok(())
+    }
+
+    /// Forgets the queues that were done before the last call.
+    pub fn renew(&mut self) {
+        self.done_before = std::mem::replace(&mut self.done, Done::new(self.alloc));
+    }
 }

@@ -49,9 +49,9 @@ pub struct Row {
     /// What each of its sightings is that was noted and has no key yet.
     roles: VecDeque<Role>,
     /// How many of its sightings were noted.
-    noted: usize,
+    noted: u32,
     /// How many of its sightings have a key.
-    placed: usize,
+    placed: u32,
     /// How often the next one has waited.
     pub waits: u32,
     /// How much was tried for the next one.
@@ -76,7 +76,7 @@ impl Row {
     }
 
     /// How many sightings were noted.
-    pub fn noted(&self) -> usize {
+    pub fn noted(&self) -> u32 {
         self.noted
     }
 
@@ -90,8 +90,13 @@ impl Row {
     /// The next sighting without a key.
     pub fn next(&self, iface: u32) -> Option<(SightId, Role)> {
         let role = self.roles.front()?;
-        let index = u32::try_from(self.placed).ok()?;
+        let index = self.placed;
         Some((SightId { iface, index }, *role))
+    }
+
+    /// Whether each of its sightings that was noted has a key.
+    pub fn is_placed(&self) -> bool {
+        self.roles.is_empty()
     }
 
     /// Goes on behind the next sighting.

@@ -2,7 +2,7 @@
 
 ghost use Rattle.std.specs.Prelude.{◌≡◌, OnOk};
 
-use crate::ahead::NotedUntil;
+use crate::ahead::Ahead;
 use crate::answers::Answers;
 use crate::arrivals::Arrivals;
 use crate::clock::Clock;
@@ -34,9 +34,8 @@ pub struct Search {
     pub(crate) arrivals: Arrivals,
     pub(crate) answers: Answers,
     pub(crate) heads: Heads,
-    /// Interfaces by their next sighting that wasn't noted.
-    pub(crate) ahead: Heads,
-    pub(crate) noted_until: NotedUntil,
+    /// When what is done was forgotten last.
+    pub(crate) renewed: u64,
     /// Interfaces whose next departure waits for an arrival, by the arrival.
     pub(crate) waiting: BTreeMap<ArrivalNumber, u32>,
     /// Interfaces whose next departure waits for whatever comes next.
@@ -54,6 +53,8 @@ pub struct Search {
     pub(crate) latest: u64,
     /// The events that weren't taken out yet.
     pub(crate) portion: Portion,
+    /// Whether the server kept to its rules in all that was placed, as far as the walk can tell.
+    pub seems_conforming: bool,
     /// Events are given past this moment.
     pub given_to: Option<u64>,
     pub(crate) alloc: Global,
@@ -70,8 +71,7 @@ impl Search {
             arrivals: Arrivals::new(alloc),
             answers: Answers::new(alloc),
             heads: Heads::new(alloc),
-            ahead: Heads::new(alloc),
-            noted_until: NotedUntil::new(),
+            renewed: 0,
             waiting: BTreeMap::new(alloc),
             expecting: Vec::new(alloc),
             allocations: BTreeSet::new(alloc),
@@ -81,24 +81,35 @@ impl Search {
             clock: Clock::new(),
             latest: 0,
             portion: Portion::new(alloc),
+            seems_conforming: true,
             given_to: None,
             alloc,
         }
     }
 
     /// Places the sightings that are new, and those that were left, up to the horizon, and gives their events in the order of their keys.
-    pub fn go(&mut self, judge: &Judge<'_>, horizon: u64) -> Result<Portion, AllocError>
+    pub fn go(
+        &mut self,
+        judge: &Judge<'_>,
+        ahead: &mut Ahead,
+        horizon: u64,
+    ) -> Result<Portion, AllocError>
         ensures { OnOk result (self.new.given_to ≡ Some horizon) }
     {
         if let Some(given_to) = self.given_to {
             self.clock.reach(given_to.saturating_add(1));
         }
-        self.walk(judge, horizon)?;
+        self.walk(judge, ahead, horizon)?;
         self.decide(judge, horizon)?;
         let mut portion = self.take_portion();
         portion.sort();
         self.given_to = Some(horizon);
         Ok(portion)
+    }
+
+    /// Notes that a rule may be broken, whatever is found behind it.
+    pub(crate) fn doubt(&mut self) {
+        self.seems_conforming = false;
     }
 
     /// Takes out the events that were found since the last call.

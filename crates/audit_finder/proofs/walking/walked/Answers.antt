@@ -3,10 +3,10 @@ use Rattle.audit_model.specs.EventCount.{event_count}
 use Rattle.audit_sightings.specs.Intake.{taken}
 use Rattle.audit_finder.specs.Found.{pair_of, AllNamed}
 use Rattle.audit_finder.proofs.Found.{pairs_of_empty, none_in_empty, empty_named}
-use Rattle.audit_finder.proofs.finding.walked.Goals as goal
+use Rattle.audit_finder.proofs.walking.walked.Goals as goal
 
 pub steps-init : goal.steps-init
-steps-init c =
+steps-init g c =
     let pairs = c.args.pairs.now in
     let intake = taken c.args.judge.now.intake.now in (
       ap (map pair_of) c.in_ok-lanes.ensures ∙ pairs_of_empty pairs,
