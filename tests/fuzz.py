@@ -4,11 +4,11 @@
     python3 tests/fuzz.py PROGRAM [--seconds 60] [--seed N] [--jobs N] [--keep FOLDER] FOLDER..
 
 A folder is a stored case: policy, captures, perhaps creds. Captures are cut to their first blocks, and `find` writes the certificate.
-Each try damages one or more of its files, runs `check` with 1 and with 4 workers, `find` and `audit`, and stops where
+Each try damages one or more of its files, runs `check` and `find` with 1 and with 4 workers, and `audit`, and stops where
 
 - a status is not 0 to 5, a signal ended the program, or a run took over 10 seconds;
 - more than one line stands on standard error, or what is written does not belong to the status;
-- `check` answers otherwise by 4 workers than by 1;
+- `check` or `find` answers otherwise by 4 workers than by 1;
 - `audit` says otherwise than `check` by the certificate of `find`.
 
 The input that showed it is kept in FOLDER, with the words in `words`. The seed tells all tries; it is printed.
@@ -260,13 +260,16 @@ class Stored:
         one = Answer(program, place, self.words("check", "--cert", "cert"))
         many = Answer(program, place, self.words("check", "--cert", "cert", "--workers", "4"))
         found = Answer(program, place, self.words("find"))
+        found_by_many = Answer(program, place, self.words("find", "--workers", "4"))
         whole = Answer(program, place, self.words("audit"))
         statuses.update(f"{answer.words[0]} {answer.status}" for answer in (one, found, whole))
-        for answer in (one, many, found, whole):
+        for answer in (one, many, found, found_by_many, whole):
             if answer.fault():
                 return answer.words, answer.fault()
         if not one.same(many):
             return many.words, f"4 workers answer {many.out!r} {many.told!r}, one {one.out!r} {one.told!r}"
+        if not found.same(found_by_many):
+            return found_by_many.words, f"4 workers answer {found_by_many.out!r} {found_by_many.told!r}, one {found.out!r} {found.told!r}"
         if found.status == 0:
             (place / "found").write_bytes(found.out)
             by_parts = Answer(program, place, self.words("check", "--cert", "found"))

@@ -224,7 +224,7 @@ def failing_files(tries):
     subprocess.run(["gcc", "-shared", "-fPIC", "-O1", "-o", library, HERE / "failing_io.c", "-ldl"], check=True)
     tries.write(CAPTURE, CERTIFICATE, POLICY)
     check = ["check", "--policy", "policy", "--cert", "cert", "capture"]
-    for words in (check, [*check, "--workers", "2"], ["audit", "--policy", "policy", "capture"], ["find", "--policy", "policy", "capture"], ["live", "--policy", "policy", "capture"]):
+    for words in (check, [*check, "--workers", "2"], ["audit", "--policy", "policy", "capture"], ["find", "--policy", "policy", "capture"], ["find", "--workers", "4", "--policy", "policy", "capture"], ["live", "--policy", "policy", "capture"]):
         whole = tries.run(words).stdout
         by_one_byte = tries.run(words, env={"LD_PRELOAD": str(library), "SHORT": "1"})
         tries.tell(f"{words[0]}, one byte at a time", (by_one_byte.returncode, by_one_byte.stdout, by_one_byte.stderr) == (0, whole, b""), by_one_byte)

@@ -39,6 +39,8 @@ refuse_each check check --cert certificate
 refuse_each live live
 refuse_each "check by two workers" check --cert certificate --workers 2
 refuse_each "audit by two workers" audit --workers 2
+refuse_each "find by two workers" find --workers 2
+refuse_each "find by four workers" find --workers 4
 
 # Both lanes break a rule, the second one earlier: by no refusal the first one's breach is told.
 cd ../../tests/two-lanes-broken || exit 1

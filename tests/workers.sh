@@ -1,6 +1,6 @@
 #!/bin/bash
-# workers.sh PROGRAM: asks that the answer doesn't depend on the number of workers: each folder of captures in examples/ by `audit`, and by `check` with the
-# stored certificate or else the one that `find` writes, with 1, 2, 4 and 256 workers: the same status, and the same bytes on both outputs.
+# workers.sh PROGRAM: asks that the answer doesn't depend on the number of workers: each folder of captures in examples/ by `audit`, by `find`, and by `check` with
+# the stored certificate or else the one that `find` writes, with 1, 2, 4 and 256 workers: the same status, and the same bytes on both outputs.
 program=$(realpath "$1") || exit 1
 cd "$(dirname "$0")/../examples" || exit 1
 scratch=$(mktemp -d)
@@ -34,6 +34,7 @@ for folder in */; do
     cd "$folder" || exit 1
     if [ -f client.pcapng ]; then captures=(client.pcapng peer.pcapng); else captures=(cap.pcapng); fi
     compare audit
+    compare find
     certificate=certificate
     if ! [ -f certificate ]; then
         certificate=$scratch/found

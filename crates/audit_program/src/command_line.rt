@@ -21,7 +21,10 @@ pub enum Request<'a> {
         workers: Workers,
     },
     /// Find a certificate, and write it.
-    Find(Inputs<'a>),
+    Find {
+        inputs: Inputs<'a>,
+        workers: Workers,
+    },
     /// Judge captures while they grow.
     Live {
         inputs: Inputs<'a>,
@@ -132,7 +135,7 @@ fn workers_option<'a>(alloc: Global) -> Arg<'a> {
     Arg::new(alloc, "workers")
         .long("workers")
         .value_name("N")
-        .help("How many threads judge the clients, 1 to 256; the answer is the same")
+        .help("How many threads go to work at once, 1 to 256; the answer is the same")
         .default_value("1")
         .action(ArgAction::Set)
         .value_parser(clap::value_parser!(u32).range(1..=256))
@@ -179,6 +182,7 @@ fn command<'a>(alloc: Global) -> Result<Command<'a>, AllocError> {
         .arg(certificate.required(true))?
         .arg(workers_option(alloc))?;
     let audit = command_of(alloc, "audit", ABOUT_AUDIT, EXAMPLE_AUDIT)?.arg(workers_option(alloc))?;
+    let find = command_of(alloc, "find", ABOUT_FIND, EXAMPLE_FIND)?.arg(workers_option(alloc))?;
     Command::new(alloc, "turnaudit")
         .version(VERSION)
         .about(ABOUT)
@@ -186,7 +190,7 @@ fn command<'a>(alloc: Global) -> Result<Command<'a>, AllocError> {
         .arg_required_else_help(true)
         .subcommand_required(true)
         .subcommand(audit)?
-        .subcommand(command_of(alloc, "find", ABOUT_FIND, EXAMPLE_FIND)?)?
+        .subcommand(find)?
         .subcommand(live_command(alloc)?)?
         .subcommand(check)
 }
@@ -258,7 +262,10 @@ fn request_of<'a>(
         return Ok(Some(Request::Audit { inputs, workers }));
     }
     if let Some(find) = matches.subcommand_matches("find") {
-        return Ok(inputs_of(alloc, find)?.map(|inputs| Request::Find(inputs)));
+        let (Some(inputs), Some(workers)) = (inputs_of(alloc, find)?, workers_of(find)) else {
+            return Ok(None);
+        };
+        return Ok(Some(Request::Find { inputs, workers }));
     }
     if let Some(live) = matches.subcommand_matches("live") {
         return live_request(alloc, live);

@@ -100,3 +100,22 @@ pub fn found_either_way<R: Threads + Wait + Sync>(
     drop(once);
     found_in_passes(rt, alloc, files, workers)
 }
+
+/// The certificate by which `found_either_way` judges. What one walk finds isn't judged where it seems to conform.
+pub fn certificate_for<R: Threads + Wait + Sync>(
+    rt: &R,
+    alloc: Global,
+    files: &Files,
+    workers: Workers,
+) -> Result<Certificate, AllocError> {
+    let once = find_once(rt, alloc, &files.intake, &files.users, workers.count)?;
+    if once.seems_conforming {
+        return Ok(once.certificate);
+    }
+    let once = judged(rt, alloc, files, once.certificate, workers)?;
+    if let Verdict::Conforming { .. } = once.verdict {
+        return Ok(once.certificate);
+    }
+    drop(once);
+    find_by(rt, alloc, files, workers)
+}

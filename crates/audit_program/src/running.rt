@@ -7,12 +7,13 @@ ghost use Rattle.audit_model.specs.declared.certificate.Certificate.{Certificate
 
 use crate::buffered::Buffered;
 use crate::command_line::{Inputs, Request, read as read_words};
-use crate::finding::found_either_way;
+use crate::finding::{certificate_for, found_either_way};
 use crate::growing::Growing;
 use crate::live::run_live;
 use crate::writing::{put_line, put_text};
+use audit_cert::write_parallel;
 use audit_files::{Source, Stop, Workers, check_files, read_files, tell};
-use audit_model::Sink;
+use audit_model::{Certificate, Sink};
 use std::alloc::{AllocError, Global};
 use std::convert::AsStr;
 use std::sync::Wait;
@@ -41,11 +42,26 @@ pub fn audit_captures<R: Threads + Wait + Sync, S: Source, O: Sink>(
     tell(alloc, &found.verdict, &files.intake, out)
 }
 
+/// Writes a certificate, whose lines are made by so many threads at the most.
+fn put_certificate<R: Threads + Sync, O: Sink>(
+    rt: &R,
+    alloc: Global,
+    certificate: &Certificate,
+    workers: u32,
+    out: &mut O,
+) -> Result<(), Stop> {
+    let mut buffered = Buffered::new(alloc, out)?;
+    write_parallel(rt, alloc, certificate, workers, &mut buffered)?;
+    buffered.flush()?;
+    Ok(())
+}
+
 /// Finds a certificate, and writes it.
 fn run_find<R: Threads + Wait + Sync, S: Source, O: Sink>(
     rt: &R,
     alloc: Global,
     inputs: &Inputs<'_>,
+    workers: Workers,
     source: &mut S,
     out: &mut O,
 ) -> Result<u8, Stop> {
@@ -56,12 +72,12 @@ fn run_find<R: Threads + Wait + Sync, S: Source, O: Sink>(
         inputs.policy,
         inputs.credentials,
         &inputs.captures,
-        Workers::one(),
+        workers,
     )?;
-    let found = found_either_way(rt, alloc, &files, Workers::one())?;
-    let mut buffered = Buffered::new(alloc, out)?;
-    audit_cert::write(alloc, &found.certificate, &mut buffered)?;
-    buffered.flush()?;
+    let certificate = certificate_for(rt, alloc, &files, workers)?;
+    put_certificate(rt, alloc, &certificate, workers.count, out)?;
+    // The program ends: to free each payload by itself would take longer than to write.
+    std::mem::forget(files);
     Ok(0)
 }
 
@@ -100,7 +116,7 @@ fn run_request<R: Threads + Wait + Sync, S: Source + Growing, O: Sink, E: Sink>(
             *workers,
             out,
         ),
-        Request::Find(inputs) => run_find(rt, alloc, inputs, source, out),
+        Request::Find { inputs, workers } => run_find(rt, alloc, inputs, *workers, source, out),
         Request::Live { inputs, turns } => run_live(
             alloc,
             source,

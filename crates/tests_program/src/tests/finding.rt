@@ -94,6 +94,30 @@ fn any_number_of_workers_answers_alike(rt: HostRuntime) -> Result<(), Fail> {
 }
 
 #[test]
+fn any_number_of_workers_finds_alike(rt: HostRuntime) -> Result<(), Fail> {
+    let alloc = rt.alloc();
+    let capture = binding_capture(alloc, &binding_parts())?;
+    let mut files = Files::new(POLICY, "", &capture);
+    let by_one = ask(&rt, alloc, &FIND, &mut files)?;
+    assert_eq!(rt; by_one.status, 0);
+    for count in ["2", "256"] {
+        let words = [
+            "turnaudit",
+            "find",
+            "--policy",
+            "policy",
+            "--workers",
+            count,
+            "capture",
+        ];
+        let answer = ask(&rt, alloc, &words, &mut files)?;
+        assert_eq!(rt; answer.out, by_one.out, "{count}");
+        assert_eq!(rt; answer.status, 0);
+    }
+    Ok(())
+}
+
+#[test]
 fn no_datagrams_have_an_empty_certificate(rt: HostRuntime) -> Result<(), Fail> {
     let alloc = rt.alloc();
     let Answer { status, out, .. } = ask(&rt, alloc, &FIND, &mut Files::new(POLICY, "", &SECTION))?;

@@ -61,19 +61,21 @@ fn the_release_is_one_line(rt: HostRuntime) -> Result<(), Fail> {
 fn workers_are_1_to_256(rt: HostRuntime) -> Result<(), Fail> {
     let alloc = rt.alloc();
     let mut files = Files::new(POLICY, CERTIFICATE, &SECTION);
-    for count in ["0", "257", "-1", "two"] {
-        let words = [
-            "turnaudit",
-            "audit",
-            "--policy",
-            "policy",
-            "--workers",
-            count,
-            "capture",
-        ];
-        let answer = ask(&rt, alloc, &words, &mut files)?;
-        assert_eq!(rt; answer.status, 5, "{count}");
-        assert_eq!(rt; answer.out.len(), 0);
+    for command in ["audit", "find"] {
+        for count in ["0", "257", "-1", "two"] {
+            let words = [
+                "turnaudit",
+                command,
+                "--policy",
+                "policy",
+                "--workers",
+                count,
+                "capture",
+            ];
+            let answer = ask(&rt, alloc, &words, &mut files)?;
+            assert_eq!(rt; answer.status, 5, "{count}");
+            assert_eq!(rt; answer.out.len(), 0);
+        }
     }
     Ok(())
 }
