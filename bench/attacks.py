@@ -5,8 +5,8 @@
 
 Each is built at n and at 4n datagrams and timed by `audit`, `find`, and `check` with the certificate that `find` writes: processor
 seconds, the least of three runs. It prints, of each, the seconds, how many times those at n the ones at 4n are, and how many times
-the ordinary ones. It fails where 4n takes over 6 times as long as n (n log n and the caches come to 5, what is quadratic to 16), or an attack
-takes over 8 times as long as the ordinary capture. It takes some four minutes.
+the ordinary ones (of `find` what `audit` takes of those, since `find` judges only what it doubts). It fails where 4n takes over 6 times as long as n (n log n
+and the caches come to 5, what is quadratic to 16), or an attack takes over 8 times as long as the ordinary capture. It takes some four minutes.
 
   users       one client with an allocation, and a Refresh by another user each time, answered by 441
   clients     every request by another client, their addresses in order, and each answered
@@ -295,7 +295,7 @@ def main():
                 plain[datagrams] = times[1]
             for name in times[0]:
                 one, four = (time[name] for time in times)
-                grows, worse = four / one, four / plain[datagrams][name]
+                grows, worse = four / one, four / plain[datagrams]["audit" if name == "find" else name]
                 print(f"{build.__name__:16}{datagrams:>10}{name:>9}{one:>9.2f}{four:>9.2f}{grows:>9.1f}{worse:>13.1f}", flush=True)
                 if build is not ordinary and (grows > 6 or worse > 8):
                     failed += 1

@@ -1,14 +1,15 @@
 #!/usr/bin/env python3
-"""Times `turnaudit find`, and `check` and `audit` with 1, 2 and 4 workers, on captures made by make_capture.py, beside programs that read the same files.
+"""Times `turnaudit find`, `check` and `audit` with 1, 2 and 4 workers, on captures made by make_capture.py, beside programs that read the same files.
 
     python3 bench/times.py [--clients 24 1000] [--datagrams 1000000] [--runs 5] [--workers 1 2 4] [--markdown]
 
 Of each number of clients the programs take turns, round after round, on this machine, with the files in its cache; of each the median counts, with the least and
 the greatest. Beside the seconds on the wall stand those of the processors, in the programs and in the system for them, and both as a ratio to those of `capinfos` and of
-`sha1sum` in the same rounds. The load is told before and after. `capinfos` is timed where it is installed. The last line of each table tells whether all answers were the same.
+`sha1sum` in the same rounds. The load is told before and after. `capinfos` is timed where it is installed. The last line of each table tells whether all answers were the same, the certificates of `find` among themselves.
 """
 
 import argparse
+import hashlib
 import os
 import pathlib
 import resource
@@ -42,8 +43,7 @@ def programs_on(folder, workers):
     programs = {"sha1sum": [["sha1sum", *captures]]}
     if shutil.which("capinfos"):
         programs["capinfos"] = [["capinfos", *captures]]
-    programs["turnaudit find"] = [[PROGRAM, "find", *inputs, *captures]]
-    for command, more in (("check", ["--cert", folder / "certificate"]), ("audit", [])):
+    for command, more in (("find", []), ("check", ["--cert", folder / "certificate"]), ("audit", [])):
         for count in workers:
             programs[f"turnaudit {command} --workers {count}"] = [[PROGRAM, command, *inputs, *more, "--workers", str(count), *captures]]
     return programs
@@ -75,18 +75,22 @@ def measure(folder, clients, asked):
     print(f"\n{asked.datagrams:,} datagrams, {clients:,} clients, {size / 1e6:.0f} MB, {os.cpu_count()} cores, medians of {asked.runs}; load {load()}", end="", flush=True)
     programs = programs_on(folder, asked.workers)
     rows = {name: [] for name in programs}
-    answers = set()
+    answers, certificates = set(), set()
     for _ in range(asked.runs):
         for name, commands in programs.items():
             out = folder / "answer"
             rows[name].append(timed(commands, out))
-            if "--workers" in name:
+            if " find " in name:
+                certificates.add(hashlib.sha256(out.read_bytes()).digest())
+            elif "--workers" in name:
                 answers.add(out.read_bytes())
     print(f" before, {load()} after\n")
     table(rows, asked.markdown)
     told = " | ".join(answer.decode().splitlines()[1] for answer in answers)
     print(f"\n{'one answer' if len(answers) == 1 else f'{len(answers)} ANSWERS'}: {told}")
-    return len(answers) == 1
+    if len(certificates) > 1:
+        print(f"{len(certificates)} CERTIFICATES")
+    return len(answers) == 1 and len(certificates) <= 1
 
 
 def main():
