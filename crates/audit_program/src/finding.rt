@@ -65,7 +65,7 @@ fn found_once<R: Threads + Wait + Sync>(
 ) -> Result<Found, AllocError>
     ensures { IfOk result (λ found. Judges (taken files.now.intake) (key_for files.now.users) found.certificate found.verdict) }
 {
-    let once = find_once(rt, alloc, &files.intake, &files.users, workers.count)?;
+    let once = find_once(alloc, &files.intake, &files.users)?;
     judged(rt, alloc, files, once.certificate, workers)
 }
 
@@ -108,7 +108,7 @@ pub fn certificate_for<R: Threads + Wait + Sync>(
     files: &Files,
     workers: Workers,
 ) -> Result<Certificate, AllocError> {
-    let once = find_once(rt, alloc, &files.intake, &files.users, workers.count)?;
+    let once = find_once(alloc, &files.intake, &files.users)?;
     if once.seems_conforming {
         return Ok(once.certificate);
     }

@@ -6,7 +6,7 @@ use Rattle.audit_finder.proofs.Found.{pairs_of_empty, none_in_empty, empty_named
 use Rattle.audit_finder.proofs.walking.walked.Goals as goal
 
 pub steps-init : goal.steps-init
-steps-init g c =
+steps-init c =
     let pairs = c.args.pairs.now in
     let intake = taken c.args.judge.now.intake.now in (
       ap (map pair_of) c.in_ok-lanes.ensures ∙ pairs_of_empty pairs,

@@ -6,6 +6,6 @@ use Rattle.audit_finder.specs.Found.{pair_of, AllNamed}
 use Rattle.audit_finder.proofs.walking.walked.Given as goal
 
 abbrev pub invariant-steps : goal.invariant-steps
-invariant-steps g l = (map pair_of l.filled.lanes.items ≡ l.pairs)
+invariant-steps l = (map pair_of l.filled.lanes.items ≡ l.pairs)
     × (event_count l.filled.lanes.items + l.filled.room ≤ MAX_EVENTS)
     × AllNamed (taken l.judge.intake.now) l.filled.lanes.items
