@@ -5,11 +5,13 @@ use Rattle.std.proofs.lemmas.List.{map_push}
 use Rattle.std.proofs.lemmas.List.Sums.{sum_by-cons, sum_by_push}
 use Rattle.std.proofs.lemmas.List.Elements.{All-nil, All-cons, All-push, All-pop}
 use Rattle.audit_model.specs.declared.certificate.CertLane.{CertLane}
+use Rattle.audit_model.specs.declared.sighting.SightId.{SightId}
 use Rattle.audit_model.specs.EventCount.{event_count}
 use Rattle.audit_model.specs.Lanes.{same_lane}
 use Rattle.audit_sightings.specs.Intake.{Taken, NamesWhatIsThere}
 use Rattle.audit_clients.specs.Clients.{Pair, same}
 use Rattle.audit_finder.specs.Found.{pair_of, empty_lane, AllNamed}
+use Rattle.audit_finder.specs.Departures.{outs, out_count}
 
 other_lanes : (lane : CertLane) (lanes : List CertLane) → AllByRecursion (λ p. same (pair_of lane) p ≡ false) (map pair_of lanes)
     → AllByRecursion (λ other. same_lane lane other ≡ false) lanes
@@ -30,6 +32,10 @@ pub none_in_empty : (pairs : List Pair) → event_count (map empty_lane pairs) �
 none_in_empty [] = refl
 none_in_empty (p ∷ pairs) = omega (arith, sum_by-cons (λ (l : CertLane). length l.events) (empty_lane p) (map empty_lane pairs), none_in_empty pairs)
 
+pub none_leaves : (s : SightId) (pairs : List Pair) → out_count s (map empty_lane pairs) ≡ 0
+none_leaves s [] = refl
+none_leaves s (p ∷ pairs) = omega (arith, sum_by-cons (outs s) (empty_lane p) (map empty_lane pairs), none_leaves s pairs)
+
 pub empty_named : (taken : Taken) (pairs : List Pair) → AllNamed taken (map empty_lane pairs)
 empty_named taken [] = All-nil (λ (l : CertLane). All (NamesWhatIsThere taken) l.events)
 empty_named taken (p ∷ pairs) = All-cons (λ (l : CertLane). All (NamesWhatIsThere taken) l.events) (empty_lane p) (map empty_lane pairs) (All-nil (NamesWhatIsThere taken)) (empty_named taken pairs)
@@ -41,6 +47,9 @@ module _ (all yielded : List CertLane) (x y : CertLane) where
   pub more_events : length x.events ≡ length y.events → event_count all ≡ event_count yielded → event_count (all ++ x ∷ []) ≡ event_count (yielded ++ y ∷ [])
   more_events same_count so_far =
       omega (arith, sum_by_push (λ (l : CertLane). length l.events) all x, sum_by_push (λ (l : CertLane). length l.events) yielded y, same_count, so_far)
+
+  pub more_outs : (s : SightId) → outs s x ≡ outs s y → out_count s all ≡ out_count s yielded → out_count s (all ++ x ∷ []) ≡ out_count s (yielded ++ y ∷ [])
+  more_outs s same_outs so_far = omega (arith, sum_by_push (outs s) all x, sum_by_push (outs s) yielded y, same_outs, so_far)
 
 module _ (taken : Taken) (all yielded : List CertLane) (x y : CertLane) where
   abbrev named : CertLane → Type 0

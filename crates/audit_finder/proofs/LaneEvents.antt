@@ -1,13 +1,15 @@
 -- An event more in a lane.
-use Rattle.std.proofs.Common.{◌≡◌, ◌<◌, ◌≤◌, ◌+◌, ℕ, List, All, length, map, set, get_or, ap, arith, sym, subst}
+use Rattle.std.proofs.Common.{◌≡◌, ◌<◌, ◌≤◌, ◌+◌, ℕ, List, All, length, map, set, get_or, sum_by, ap, arith, sym, subst}
 use Rattle.std.proofs.Math.Seq.{map-set_same}
 use Rattle.std.proofs.lemmas.List.Sums.{sum_by-set}
 use Rattle.std.proofs.lemmas.List.Elements.{All-set}
 use Rattle.audit_model.specs.declared.certificate.CertLane.{CertLane}
 use Rattle.audit_model.specs.declared.event.Event.{Event}
+use Rattle.audit_model.specs.declared.sighting.SightId.{SightId}
 use Rattle.audit_model.specs.EventCount.{event_count}
 use Rattle.audit_sightings.specs.Intake.{Taken, NamesWhatIsThere}
 use Rattle.audit_finder.specs.Found.{pair_of, AllNamed}
+use Rattle.audit_finder.specs.Departures.{out_of, outs, out_count}
 
 module _ (lanes : List CertLane) (i : ℕ) (lane : CertLane) (events : List Event) (within : i < length lanes) (here : lane ≡ get_or lanes i lane) where
   abbrev after : CertLane
@@ -20,6 +22,13 @@ module _ (lanes : List CertLane) (i : ℕ) (lane : CertLane) (events : List Even
   count_set more =
       let sums = sum_by-set (λ (l : CertLane). length l.events) lanes i after lane within in
       let size : length (get_or lanes i lane).events ≡ length lane.events = ap (λ (l : CertLane). length l.events) (sym here) in
+      omega (arith, sums, size, more)
+
+  -- how often a sighting leaves by lanes of which one has other events
+  pub outs_set : (s : SightId) (n : ℕ) → sum_by (out_of s) events ≤ sum_by (out_of s) lane.events + n → out_count s (set lanes i after) ≤ out_count s lanes + n
+  outs_set s n more =
+      let sums = sum_by-set (outs s) lanes i after lane within in
+      let size : outs s (get_or lanes i lane) ≡ outs s lane = ap (outs s) (sym here) in
       omega (arith, sums, size, more)
 
   pub named_set : (taken : Taken) → All (NamesWhatIsThere taken) events → AllNamed taken lanes → AllNamed taken (set lanes i after)

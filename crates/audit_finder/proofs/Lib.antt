@@ -1,2 +1,3 @@
 mod LaneEvents
+mod Departures
 mod Found

@@ -1,5 +1,8 @@
 -- Certificates that are found.
 use Rattle.std.specs.Prelude.{List, [], All}
+use Rattle.std.specs.List.Sorted.{IsSortedByKey}
+use Rattle.audit_model.specs.Breach.{key_cmp}
+use Rattle.audit_model.specs.Event.{key_of}
 use Rattle.audit_model.specs.declared.address.Addr.{Addr}
 use Rattle.audit_model.specs.declared.certificate.CertDrop.{CertDrop}
 use Rattle.audit_model.specs.declared.certificate.CertLane.{CertLane}
@@ -17,6 +20,10 @@ empty_lane pair = record { events = []; client = pair.0; listen = pair.1 }
 -- each event of each lane names what is there
 abbrev pub AllNamed : Taken → List CertLane → Type 0
 AllNamed taken lanes = All (λ lane. All (NamesWhatIsThere taken) lane.events) lanes
+
+-- along a lane, no event's key is below that of the one before it
+abbrev pub KeysRise : CertLane → Type 0
+KeysRise lane = IsSortedByKey key_of key_cmp lane.events
 
 -- each drop names an arrival that is there
 abbrev pub AreThere : Taken → List CertDrop → Type 0

@@ -3,6 +3,8 @@
 //! Nothing rests on it. Whatever it finds is checked.
 #![tactic(auto)]
 
+mod departed;
+mod filling;
 mod finder;
 mod finding;
 mod walking;

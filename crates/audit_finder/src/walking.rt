@@ -5,11 +5,13 @@ ghost use Rattle.audit_model.specs.EventCount.{event_count};
 ghost use Rattle.audit_model.specs.declared.certificate.TheConstants.{MAX_EVENTS};
 ghost use Rattle.audit_sightings.specs.Intake.{taken};
 ghost use Rattle.audit_clients.specs.Clients.{clients_of};
-ghost use Rattle.audit_finder.specs.Found.{pair_of, AllNamed, AreThere};
+ghost use Rattle.audit_finder.specs.Found.{pair_of, AllNamed, AreThere, KeysRise};
+ghost use Rattle.audit_finder.specs.Departures.{LeaveOnce, IsNoted};
 
-use crate::finding::{certificate_of, clients_in, distribute_named, empty_lanes};
+use crate::filling::Filled;
+use crate::finding::{certificate_of, clients_in};
 use audit_keys::Credentials;
-use audit_model::{Addr, CertLane, Certificate, Event, MAX_EVENTS};
+use audit_model::{Addr, Certificate};
 use audit_sightings::Intake;
 use audit_walk::{Ahead, Judge, Search};
 use std::alloc::{AllocError, Global};
@@ -22,26 +24,6 @@ pub struct FoundOnce {
     pub seems_conforming: bool,
 }
 
-/// The lanes with the events that were found so far, and how many more may be added.
-#[derive(Drop)]
-struct Filled {
-    lanes: Vec<CertLane>,
-    room: usize,
-}
-
-impl Filled {
-    /// The same with these events.
-    fn with(self, intake: &Intake, events: Vec<(u32, Event)>) -> Result<Filled, AllocError>
-        ensures pairs { IfOk result (λ filled. map pair_of filled.lanes.items ≡ map pair_of self.lanes.items) }
-        ensures room { IfOk result (λ filled. event_count filled.lanes.items + filled.room ≤ event_count self.lanes.items + self.room) }
-        ensures named { AllNamed (taken intake.now) self.lanes.items → IfOk result (λ filled. AllNamed (taken intake.now) filled.lanes.items) }
-    {
-        let Filled { mut lanes, room } = self;
-        let room = distribute_named(&mut lanes, room, intake, events)?;
-        Ok(Filled { lanes, room })
-    }
-}
-
 /// A lane for each pair, with the events that a walk gives but for the last ones.
 fn walked(
     judge: &Judge<'_>,
@@ -51,13 +33,10 @@ fn walked(
     ensures pairs { IfOk result (λ filled. map pair_of filled.lanes.items ≡ pairs.now) }
     ensures room { IfOk result (λ filled. event_count filled.lanes.items + filled.room ≤ MAX_EVENTS) }
     ensures named { IfOk result (λ filled. AllNamed (taken judge.now.intake.now) filled.lanes.items) }
+    ensures noted { IfOk result (λ filled. IsNoted filled.departed.rows.items filled.lanes.items) }
 {
     let alloc = judge.alloc;
-    let lanes = empty_lanes(alloc, pairs)?;
-    let mut filled = Filled {
-        lanes,
-        room: MAX_EVENTS,
-    };
+    let mut filled = Filled::new(alloc, judge.intake, pairs)?;
     let mut ahead = Ahead::new(alloc);
     ahead.begin(judge.intake)?;
     search.begin(judge)?;
@@ -68,7 +47,7 @@ fn walked(
             break;
         };
         let portion = search.place(judge, stretch)?;
-        filled = filled.with(judge.intake, portion.events)?;
+        filled.add_all(judge.intake, portion.events)?;
     }
     Ok(filled)
 }
@@ -82,6 +61,8 @@ pub fn find_once(
 ) -> Result<FoundOnce, AllocError>
     ensures lanes { IfOk result (λ found. map pair_of found.certificate.lanes ≡ clients_of (taken intake.now)) }
     ensures events { IfOk result (λ found. AllNamed (taken intake.now) found.certificate.lanes) }
+    ensures once { IfOk result (λ found. LeaveOnce found.certificate.lanes) }
+    ensures order { IfOk result (λ found. All KeysRise found.certificate.lanes) }
     ensures drops { IfOk result (λ found. AreThere (taken intake.now) found.certificate.drops) }
     ensures skews { IfOk result (λ found. found.certificate.skews ≡ []) }
 {
@@ -97,7 +78,7 @@ pub fn find_once(
     let filled = walked(&judge, pairs, &mut search)?;
     let last = search.finish(&judge)?;
     Ok(FoundOnce {
-        certificate: certificate_of(alloc, intake, filled.lanes, filled.room, last)?,
+        certificate: certificate_of(alloc, intake, filled, last)?,
         seems_conforming: search.seems_conforming,
     })
 }
