@@ -16,6 +16,7 @@ mod drawing;
 mod earlier;
 mod ended;
 mod faults;
+mod following;
 mod given;
 mod going_back;
 mod grants;

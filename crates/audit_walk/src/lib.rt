@@ -13,6 +13,7 @@ mod clock;
 mod deciding;
 mod digests;
 mod heads;
+mod holding;
 mod judge;
 mod lanes;
 mod leaving;
@@ -26,6 +27,7 @@ mod rows;
 mod said;
 mod search;
 mod seeing;
+mod waiting;
 mod walking;
 
 pub use ahead::{Ahead, Stretch};

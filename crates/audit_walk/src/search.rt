@@ -12,10 +12,9 @@ use crate::lanes::FoundLane;
 use crate::leaving::{CANDIDATES, latest};
 use crate::numbers::{AnswerNumber, ArrivalNumber};
 use crate::portion::Portion;
-use crate::rows::{Role, Row, Wait};
+use crate::rows::{Role, Row};
 use audit_model::Addr;
 use audit_seen::LaneNumber;
-use audit_sightings::Intake;
 use std::alloc::{AllocError, Global};
 use std::collections::{BTreeMap, BTreeSet};
 
@@ -117,40 +116,6 @@ impl Search {
         std::mem::replace(&mut self.portion, Portion::new(self.alloc))
     }
 
-    /// Queues an interface by the least moment of its next sighting; now, where that waited.
-    pub(crate) fn queue_row(&mut self, intake: &Intake, iface: u32) -> Result<(), AllocError> {
-        let Some(row) = self.rows.get(iface as usize) else {
-            return Ok(());
-        };
-        if row.queued.is_some() && row.wait.is_none() {
-            return Ok(());
-        }
-        let Some((sight, _)) = row.next(iface) else {
-            return Ok(());
-        };
-        let Some(sighting) = intake.sighting(sight) else {
-            return Ok(());
-        };
-        self.queue(iface, sighting.lo)
-    }
-
-    /// Queues an interface that isn't queued, by the least moment of its next sighting.
-    pub(crate) fn queue_unqueued(&mut self, intake: &Intake, iface: u32) -> Result<(), AllocError> {
-        match self.rows.get(iface as usize) {
-            Some(row) if row.queued.is_none() => self.queue_row(intake, iface),
-            _ => Ok(()),
-        }
-    }
-
-    /// Queues an interface at a moment, or now where that is over.
-    fn queue(&mut self, iface: u32, moment: u64) -> Result<(), AllocError> {
-        let moment = moment.max(self.clock.moment());
-        if let Some(row) = self.rows.get_mut(iface as usize) {
-            row.queued = Some(moment);
-        }
-        self.heads.push(moment, iface)
-    }
-
     /// Places sightings, the least moment first, up to the horizon.
     pub(crate) fn go_on(&mut self, judge: &Judge<'_>, horizon: u64) -> Result<(), AllocError> {
         let (_, sightings) = judge.intake.counts();
@@ -165,14 +130,6 @@ impl Search {
             }
         }
         Ok(())
-    }
-
-    /// Whether an interface stands among the heads at that moment, and not at another one since.
-    fn is_queued_at(&self, iface: u32, moment: u64) -> bool {
-        match self.rows.get(iface as usize) {
-            Some(row) => row.queued == Some(moment),
-            None => false,
-        }
     }
 
     /// Places the next sighting of an interface, or lets it wait.
@@ -211,55 +168,6 @@ impl Search {
                 self.queue_row(judge.intake, iface)?;
                 self.wake_expecting()
             }
-        }
-    }
-
-    /// Lets the next departure of an interface wait, till its latest moment at the most. Where another one waits for that
-    /// arrival, or it has waited often, it is not woken by it.
-    fn wait(&mut self, iface: u32, wait: Wait) -> Result<(), AllocError> {
-        let mut wait = wait;
-        if let Wait::Arrival(number) = wait {
-            if self.waiting.contains_key(&number) {
-                wait = Wait::Next;
-            } else {
-                self.waiting.insert(number, iface)?;
-            }
-        }
-        if let Some(row) = self.rows.get_mut(iface as usize) {
-            row.wait = Some(wait);
-            row.waits = row.waits.saturating_add(1);
-            if wait == Wait::Next && row.waits < CANDIDATES {
-                self.expecting.push(iface)?;
-            }
-        }
-        self.queue(iface, self.latest)
-    }
-
-    /// Queues the interface whose next departure waits for an arrival, if there is one.
-    pub(crate) fn wake(&mut self, number: ArrivalNumber) -> Result<(), AllocError> {
-        match self.waiting.remove(&number) {
-            Some(iface) => self.wake_row(iface, Wait::Arrival(number)),
-            None => Ok(()),
-        }
-    }
-
-    /// Queues the interfaces whose next departures wait for whatever comes next.
-    fn wake_expecting(&mut self) -> Result<(), AllocError> {
-        if self.expecting.is_empty() {
-            return Ok(());
-        }
-        let expecting = std::mem::replace(&mut self.expecting, Vec::new(self.alloc));
-        for iface in expecting {
-            self.wake_row(iface, Wait::Next)?;
-        }
-        Ok(())
-    }
-
-    /// Queues an interface now, if its next departure waits for that.
-    fn wake_row(&mut self, iface: u32, wait: Wait) -> Result<(), AllocError> {
-        match self.rows.get(iface as usize) {
-            Some(row) if row.wait == Some(wait) => self.queue(iface, 0),
-            _ => Ok(()),
         }
     }
 }
