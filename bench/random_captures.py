@@ -8,7 +8,7 @@ Requests are lost and copied, up to 4 clients share up to 6 relayed addresses, a
 450 microseconds, within the skew of the policy. Where a capture is not shown, the certificate of what the simulated server did
 is checked, too: that has to conform. With --write a case is written to a folder, that certificate among it (truth).
 With --one-after-another only those servers count that finish one datagram before the next. With --most it ends with status 1 where
-more than so many are not shown.
+more than so many are not shown, and always where `check` by the certificate of `find` says otherwise than `audit` of a capture.
 """
 
 import argparse
@@ -102,18 +102,23 @@ def run(program, folder, paths, *words):
 
 
 def audit(program, seed, build):
-    """Whether the server of that seed acts on one datagram after another, and what is wrong, if anything."""
+    """Whether the server of that seed acts on one datagram after another, what is wrong, if anything, and whether `find` tells the same."""
     case = build(seed)
     with tempfile.TemporaryDirectory() as name:
         folder = pathlib.Path(name)
         paths = case.write(folder)
         status, text = run(program, folder, paths, "audit")
+        written, certificate = run(program, folder, paths, "find")
+        (folder / "found").write_text(certificate)
+        is_same = written == 0 and run(program, folder, paths, "check", "--cert", "found") == (status, text)
         if status == 0:
-            return seed, case.setting.sequential, None
+            return seed, case.setting.sequential, None, is_same
         truth, told = run(program, folder, paths, "check", "--cert", "truth")
         if truth:
-            return seed, case.setting.sequential, "the truth does not conform: " + " | ".join(told.splitlines()[2:5])
-        return seed, case.setting.sequential, " | ".join(text.splitlines()[2:5])
+            text, before = told, "the truth does not conform: "
+        else:
+            before = ""
+        return seed, case.setting.sequential, before + " | ".join(text.splitlines()[2:5]), is_same
 
 
 def main(build=Case, about=__doc__):
@@ -132,18 +137,21 @@ def main(build=Case, about=__doc__):
     if not words.program:
         parser.error("PROGRAM or --write is needed")
     program = os.path.realpath(words.program)
-    missed = tried = 0
+    missed = tried = differ = 0
     with concurrent.futures.ProcessPoolExecutor() as pool:
         seeds = range(words.first, words.first + words.count)
-        for seed, sequential, wrong in pool.map(audit, [program] * words.count, seeds, [build] * words.count, chunksize=8):
+        for seed, sequential, wrong, is_same in pool.map(audit, [program] * words.count, seeds, [build] * words.count, chunksize=8):
             if words.one_after_another and not sequential:
                 continue
             tried += 1
             if wrong:
                 missed += 1
                 print(f"seed {seed}: {wrong}", flush=True)
-    print(f"{missed} of {tried} not shown")
-    if words.most is not None and missed > words.most:
+            if not is_same:
+                differ += 1
+                print(f"seed {seed}: check by the certificate of find says otherwise", flush=True)
+    print(f"{missed} of {tried} not shown, {differ} told otherwise by the certificate of find")
+    if differ or (words.most is not None and missed > words.most):
         raise SystemExit(1)
 
 
