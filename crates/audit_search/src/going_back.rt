@@ -1,11 +1,10 @@
 //! Going back to a choice, or to the farthest departure that no way leads past.
 
-use crate::lane::Refused;
-use crate::needs::AHEAD;
-use crate::state::State;
-use crate::sweep::{Choice, Fault, STEPS, Sweep};
-use crate::wishes::Wish;
+use crate::sweep::{Choice, STEPS, Sweep};
+use audit_constraints::LaneSoFar;
 use audit_model::Rule;
+use audit_search_input::AHEAD;
+use audit_search_state::{Fault, Refused, State, Wish};
 use audit_seen::{Gives, SeenNumber};
 use std::alloc::AllocError;
 use std::collections::BTreeMap;
@@ -53,7 +52,13 @@ impl Sweep<'_> {
     ) -> Result<(), AllocError> {
         let is_new = self.asked.iter().all(|asked| asked.0 != departure);
         if is_new && self.asked.len() < AHEAD {
-            let wishes = self.lane.wishes(departure, refused)?;
+            let so_far = LaneSoFar {
+                given: self.lane.given,
+                number: self.lane.number,
+                changes: self.lane.changes.as_slice(),
+                state: &self.lane.state,
+            };
+            let wishes = so_far.wishes(departure, refused)?;
             self.asked.push((departure, wishes))?;
         }
         Ok(())

@@ -5,46 +5,11 @@
 //! rules, each with the departure at which it came farthest. Nothing rests on what it finds: that is checked.
 #![tactic(auto)]
 
-mod acting;
-mod ambiguous;
-mod answering;
-mod asked;
-mod before_end;
-mod clocks;
-mod deadlines;
-mod drawing;
-mod earlier;
-mod ended;
-mod faults;
-mod following;
-mod given;
 mod going_back;
-mod grants;
-mod judging;
-mod lane;
-mod lane_wishes;
-mod leases;
-mod needs;
-mod overlaps;
-mod plans;
-mod prepared;
-mod reading;
-mod round;
 mod rounds;
-mod searched;
-mod settling;
-mod shared;
-mod state;
+mod searching;
 mod sweep;
-mod trail;
-mod views;
-mod wishes;
-mod within;
 
-pub use lane::Refused;
-pub use reading::Reading;
-pub use round::Round;
+pub use audit_constraints::{Act, Reading, Round};
+pub use audit_search_state::{Fault, Refused, Wish};
 pub use rounds::{best_round, best_round_by};
-pub use searched::Act;
-pub use sweep::Fault;
-pub use wishes::Wish;

@@ -1,15 +1,8 @@
 //! Rounds, each with what lanes of the one before would have needed.
 
-use crate::asked::Asked;
-use crate::lane_wishes::LaneWishes;
-use crate::prepared::Prepared;
-use crate::reading::{FirstKeys, Reading};
-use crate::round::Round;
-use crate::searched::AllSearched;
-use crate::wishes::Wish;
-use audit_seen::{LaneNumber, SeenNumber};
-use std::alloc::{AllocError, Global};
-use std::collections::{BTreeMap, BTreeSet};
+use crate::searching::{search, search_by};
+use audit_constraints::{AllSearched, Prepared, Reading, Round, Settling};
+use std::alloc::AllocError;
 use std::thread::Threads;
 
 /// How many rounds there are at the most, each time that the clocks are told anew.
@@ -36,16 +29,9 @@ struct Scored {
 
 /// The rounds so far.
 #[derive(Drop)]
-pub(crate) struct Climb<'a> {
-    pub(crate) reading: &'a Reading<'a>,
-    pub(crate) first: FirstKeys,
-    pub(crate) asked: Asked,
-    pub(crate) lanes: BTreeMap<LaneNumber, LaneWishes>,
-    pub(crate) tried: BTreeSet<(LaneNumber, Wish, u64)>,
-    /// Arrivals that were asked to stand before departures, and helped.
-    pub(crate) helped: BTreeSet<(SeenNumber, SeenNumber)>,
-    /// The lanes that had faults in the round before.
-    pub(crate) faulty: BTreeSet<LaneNumber>,
+struct Climb<'a> {
+    reading: &'a Reading<'a>,
+    settling: Settling<'a>,
     searched: AllSearched,
     best: Option<Scored>,
     /// How often the clocks were told anew.
@@ -122,17 +108,10 @@ impl Scored {
 
 impl<'a> Climb<'a> {
     fn new(reading: &'a Reading<'a>) -> Result<Climb<'a>, AllocError> {
-        let alloc = reading.alloc;
-        let shifts: Vec<u64> = vec![in alloc; 0; reading.sights.interfaces()]?;
         Ok(Climb {
             reading,
-            first: FirstKeys::of(reading, &shifts)?,
-            asked: Asked::none(alloc, shifts),
-            lanes: BTreeMap::new(alloc),
-            tried: BTreeSet::new(alloc),
-            helped: BTreeSet::new(alloc),
-            faulty: BTreeSet::new(alloc),
-            searched: AllSearched::new(alloc),
+            settling: Settling::new(reading)?,
+            searched: AllSearched::new(reading.alloc),
             best: None,
             turn: 0,
             left: rounds_of(reading),
@@ -149,12 +128,12 @@ impl<'a> Climb<'a> {
 
     /// What the next round's searches go by.
     fn prepared(&self) -> Result<Prepared, AllocError> {
-        Prepared::of(self.reading, &self.first, &self.asked)
+        self.settling.prepared()
     }
 
     fn search(&mut self, prepared: &Prepared) -> Result<(), AllocError> {
-        let given = prepared.given(self.reading, &self.first, &self.asked);
-        self.searched.search(&given)
+        let given = self.settling.given(prepared);
+        search(&mut self.searched, &given)
     }
 
     fn search_by<R: Threads + Sync>(
@@ -163,8 +142,8 @@ impl<'a> Climb<'a> {
         workers: u32,
         prepared: &Prepared,
     ) -> Result<(), AllocError> {
-        let given = prepared.given(self.reading, &self.first, &self.asked);
-        self.searched.search_by(rt, workers, &given)
+        let given = self.settling.given(prepared);
+        search_by(rt, workers, &mut self.searched, &given)
     }
 
     /// Takes in a round whose lanes are searched, and what they ask of the next one.
@@ -172,10 +151,10 @@ impl<'a> Climb<'a> {
         let alloc = self.reading.alloc;
         let round = prepared.round(alloc, &self.searched)?;
         if !self.is_first {
-            self.settle(&round)?;
+            self.settling.settle(&round)?;
         }
         self.is_first = false;
-        let is_more = self.ask(&round)?;
+        let is_more = self.settling.ask(&round)?;
         let best = Scored::of(round, self.reading)?.or_older(self.best.take());
         self.go_on(&best, is_more)?;
         self.best = Some(best);
@@ -198,9 +177,10 @@ impl<'a> Climb<'a> {
     fn turn_on(&mut self, best: &Round) -> Result<(), AllocError> {
         for turn in self.turn.saturating_add(1)..=TURNS {
             self.turn = turn;
-            let is_new = self.tell_clocks(best)?;
-            self.asked.is_early = turn == TURNS;
-            if is_new || self.asked.is_early {
+            let is_new = self.settling.tell_clocks(best)?;
+            let is_early = turn == TURNS;
+            self.settling.set_early(is_early);
+            if is_new || is_early {
                 return self.start_again();
             }
         }
@@ -210,12 +190,8 @@ impl<'a> Climb<'a> {
 
     /// Forgets what is asked for, and tells the keys anew.
     fn start_again(&mut self) -> Result<(), AllocError> {
-        self.asked.clear();
-        self.lanes.clear();
-        self.tried.clear();
-        self.faulty.clear();
         self.searched.clear();
-        self.first = FirstKeys::of(self.reading, &self.asked.shifts)?;
+        self.settling.start_again()?;
         self.left = rounds_of(self.reading);
         self.is_first = true;
         Ok(())

@@ -1,10 +1,8 @@
 //! The sweep of one lane over its departures.
 
-use crate::given::Given;
-use crate::lane::{Lane, Refused};
-use crate::plans::{PAST, Plan};
-use crate::state::Acted;
-use crate::wishes::Wish;
+use audit_search_acts::{Lane, PAST, Plan};
+use audit_search_input::Given;
+use audit_search_state::{Fault, Found, Wish};
 use audit_seen::{LaneNumber, SeenNumber, Slot};
 use std::alloc::AllocError;
 use std::collections::{BTreeMap, VecDeque};
@@ -32,27 +30,6 @@ pub(crate) struct Choice {
     pub(crate) passed: usize,
     /// Whether one of the ways makes or ends an allocation.
     pub(crate) is_of_end: bool,
-}
-
-/// A departure on which a lane can't act, and why.
-#[derive(Clone, Copy, Debug)]
-pub struct Fault {
-    pub departure: SeenNumber,
-    pub refused: Refused,
-    /// The least moment of the departure.
-    pub low: u64,
-    /// Whether no order helps.
-    pub is_hopeless: bool,
-}
-
-/// What the search of a lane found: the act for each departure, and the first departure on which the lane couldn't act in any order that
-/// was tried.
-#[derive(Drop)]
-pub(crate) struct Found {
-    pub acts: Vec<(SeenNumber, Acted)>,
-    pub fault: Option<Fault>,
-    /// What it would need to go on, the likeliest first.
-    pub wishes: Vec<Wish>,
 }
 
 /// The sweep of a lane: where it is, and how it came there.

@@ -1,0 +1,52 @@
+//! Wishes about allocations that were ended shortly before departures.
+
+use crate::lane_so_far::LaneSoFar;
+use audit_search_input::AHEAD;
+use audit_search_state::Wish;
+use audit_seen::{Gives, SeenNumber};
+use std::alloc::AllocError;
+
+impl LaneSoFar<'_> {
+    /// The answers that end allocations and leave before a departure, no longer than the hold, the last one first.
+    pub(crate) fn ends_before(&self, departure: SeenNumber) -> Result<Vec<SeenNumber>, AllocError> {
+        let moment = self.given.at(departure);
+        let mut found = Vec::new(self.given.alloc);
+        for (_, answer) in self.changes_before(departure).iter().rev().take(AHEAD) {
+            let is_end = self.given.gives(*answer) == Some(Gives::Deleted);
+            if is_end && self.given.held_until(*answer) >= moment {
+                found.push(*answer)?;
+            }
+        }
+        Ok(found)
+    }
+
+    /// Asks that what a departure may answer stands before the answers that ended allocations before it.
+    pub(crate) fn wish_before_ends(
+        &self,
+        departure: SeenNumber,
+        wishes: &mut Vec<Wish>,
+    ) -> Result<(), AllocError> {
+        for answer in self.ends_before(departure)? {
+            for pool in self.any_pools(departure)? {
+                self.wish_behind(answer, pool, 1, wishes)?;
+            }
+        }
+        Ok(())
+    }
+
+    /// Asks that channels which were bound before a departure were bound in allocations that were ended before their answers left.
+    pub(crate) fn wish_earlier(
+        &self,
+        departure: SeenNumber,
+        wishes: &mut Vec<Wish>,
+    ) -> Result<(), AllocError> {
+        for (_, answer) in self.changes_before(departure).iter().rev().take(AHEAD) {
+            let is_bound = self.given.gives(*answer) == Some(Gives::Bound);
+            let wish = Wish::Earlier { answer: *answer };
+            if is_bound && !wishes.contains(&wish) && !self.ends_before(*answer)?.is_empty() {
+                wishes.push(wish)?;
+            }
+        }
+        Ok(())
+    }
+}

@@ -1,0 +1,119 @@
+//! Wishes for acts at their requests, so that leases end as early as they may.
+
+use crate::lane_so_far::{EACH, LaneSoFar};
+use audit_model::Rule;
+use audit_search_input::AHEAD;
+use audit_search_state::{Refused, Wish};
+use audit_seen::{Gives, SeenNumber};
+use std::alloc::AllocError;
+
+impl LaneSoFar<'_> {
+    /// Asks that an address which another client had before is given before the departure, or at its request, where the answer leaves behind
+    /// the departure.
+    pub(crate) fn wish_soon(
+        &self,
+        departure: SeenNumber,
+        wishes: &mut Vec<Wish>,
+    ) -> Result<(), AllocError> {
+        for answer in self.owed_behind(departure)? {
+            if self.given.deadlines.is_second(answer) {
+                for wish in [
+                    Wish::HandedOver { answer, departure },
+                    Wish::AtRequest { answer },
+                ] {
+                    if !wishes.contains(&wish) {
+                        wishes.push(wish)?;
+                    }
+                }
+            }
+        }
+        Ok(())
+    }
+
+    /// Asks that a lease is given anew at its request, before the one that was there is over.
+    pub(crate) fn wish_own_early(
+        &self,
+        departure: SeenNumber,
+        wishes: &mut Vec<Wish>,
+    ) -> Result<(), AllocError> {
+        if let Some(Gives::Refreshed { .. } | Gives::Bound | Gives::Permitted) = self
+            .given
+            .gives(departure)
+        {
+            wishes.push(Wish::AtRequest { answer: departure })?;
+        }
+        Ok(())
+    }
+
+    /// Asks that what the lane holds was given at its request, the latest leases first, so that it may be over.
+    pub(crate) fn wish_at_request(
+        &self,
+        departure: SeenNumber,
+        wishes: &mut Vec<Wish>,
+    ) -> Result<(), AllocError> {
+        let before = self.changes_before(departure);
+        for is_of_allocation in [true, false] {
+            let most = wishes.len().saturating_add(EACH.saturating_mul(2));
+            for (_, answer) in before.iter().rev().take(AHEAD) {
+                let gives = self.given.gives(*answer);
+                let is_one = gives.is_some_and(|gives| is_lease(gives, is_of_allocation));
+                if is_one && self.state.is_acted(*answer) && wishes.len() < most {
+                    let may_be_over = self.may_be_over(*answer, departure);
+                    if may_be_over {
+                        wishes.push(Wish::OverBefore {
+                            answer: *answer,
+                            departure,
+                        })?;
+                    }
+                    if may_be_over || !self.ends_before(*answer)?.is_empty() {
+                        wishes.push(Wish::AtRequest { answer: *answer })?;
+                    }
+                }
+            }
+        }
+        Ok(())
+    }
+
+    /// Whether the lease of an answer isn't over before a departure where it is given as it leaves, and is where it is given at its request.
+    fn may_be_over(&self, answer: SeenNumber, departure: SeenNumber) -> bool {
+        let (Some(latest), Some(request)) = (
+            self.given.latest_before(answer, departure),
+            self.given.mates.of(answer),
+        ) else {
+            return false;
+        };
+        self.given.at(request) <= latest && latest < self.given.at(answer)
+    }
+}
+
+/// Whether an answer gives an allocation for a time, or else something within one.
+fn is_lease(gives: Gives, is_of_allocation: bool) -> bool {
+    match gives {
+        Gives::Allocated { .. } | Gives::Refreshed { .. } => is_of_allocation,
+        Gives::Bound | Gives::Permitted => !is_of_allocation,
+        _ => false,
+    }
+}
+
+/// Whether a rule asks for an allocation.
+pub(crate) fn is_of_lease(refused: Refused) -> bool {
+    matches!(
+        refused,
+        Refused::Rule(Rule::NoAllocation | Rule::AllocationOver)
+    )
+}
+
+/// Whether a rule breaks over something that is in the table, or in another lane's.
+pub(crate) fn is_of_what_is_there(refused: Refused) -> bool {
+    matches!(
+        refused,
+        Refused::Rule(
+            Rule::ErrorCondition
+                | Rule::AllocationPresent
+                | Rule::RelayedAddress
+                | Rule::OtherUser
+                | Rule::ChannelConflict
+                | Rule::AddressHeld
+        )
+    )
+}

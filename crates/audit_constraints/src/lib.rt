@@ -1,0 +1,28 @@
+//! What rounds of searches are asked for beside what the sightings say, as constraints on where arrivals stand, what departures answer, and when acts are.
+//!
+//! `LaneSoFar::wishes` is what a lane would need to act on a departure. `Settling` keeps of all lanes' wishes those that got lanes further, and tells the next ones; `Prepared` is
+//! what a round's searches go by under them, and `Round` what they found. Nothing rests on any of it.
+#![tactic(auto)]
+
+mod answering;
+mod clocks;
+mod ended;
+mod lane_so_far;
+mod lane_wishes;
+mod leases;
+mod overlaps;
+mod prepared;
+mod reading;
+mod round;
+mod searched;
+mod settling;
+mod wishes;
+mod within;
+
+pub use lane_so_far::LaneSoFar;
+pub use overlaps::Overlap;
+pub use prepared::Prepared;
+pub use reading::Reading;
+pub use round::Round;
+pub use searched::{Act, AllSearched, Searched};
+pub use settling::Settling;

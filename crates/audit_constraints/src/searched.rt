@@ -1,0 +1,148 @@
+//! What was found of each lane, kept as long as all that its search goes by stays.
+
+use audit_matching::Order;
+use audit_search_input::Given;
+use audit_search_state::{Fault, Found, Wish};
+use audit_seen::{LaneNumber, SeenNumber, Slot};
+use std::alloc::{AllocError, Global};
+
+/// An act, by its slot, its lane and its turn: the arrival and the departure.
+pub type Act = (Slot, LaneNumber, (u32, u32), SeenNumber, SeenNumber);
+
+/// An act at a sighting, wherever that stands in the order of all.
+#[derive(Clone, Copy)]
+struct Anchored {
+    anchor: SeenNumber,
+    /// Which of the slots round the sighting.
+    part: u32,
+    turn: (u32, u32),
+    arrival: SeenNumber,
+    departure: SeenNumber,
+}
+
+/// What was found of a lane.
+#[derive(Drop)]
+pub struct Searched {
+    /// The digest of what the search went by.
+    print: u64,
+    acts: Vec<Anchored>,
+    fault: Option<Fault>,
+    wishes: Vec<Wish>,
+}
+
+impl Searched {
+    /// What the search of a lane found.
+    pub fn of(given: &Given<'_>, lane: LaneNumber, found: Found) -> Result<Searched, AllocError> {
+        let acts = acts_of(given, &found)?;
+        Ok(Searched {
+            print: given.views.print(lane),
+            acts,
+            fault: found.fault,
+            wishes: found.wishes,
+        })
+    }
+
+    /// The digest of what the search went by.
+    pub fn print(&self) -> u64 {
+        self.print
+    }
+
+    /// Adds its acts to those of all lanes.
+    fn add_to(
+        &self,
+        order: &Order,
+        lane: LaneNumber,
+        acts: &mut Vec<Act>,
+    ) -> Result<(), AllocError> {
+        for act in &self.acts {
+            let slot = Slot::part(order.rank(act.anchor), act.part);
+            acts.push((slot, lane, act.turn, act.arrival, act.departure))?;
+        }
+        Ok(())
+    }
+}
+
+fn acts_of(given: &Given<'_>, found: &Found) -> Result<Vec<Anchored>, AllocError> {
+    let mut acts = Vec::with_capacity(given.alloc, found.acts.len())?;
+    for (departure, acted) in &found.acts {
+        let rank = acted.slot.rank() as usize;
+        if let Some(anchor) = given.order.as_slice().get(rank) {
+            acts.push(Anchored {
+                anchor: *anchor,
+                part: acted.slot.place(),
+                turn: acted.turn,
+                arrival: acted.arrival,
+                departure: *departure,
+            })?;
+        }
+    }
+    Ok(acts)
+}
+
+/// What was found of all lanes.
+#[derive(Drop)]
+pub struct AllSearched {
+    /// None of a lane that wasn't searched yet, or for which there was no memory.
+    lanes: Vec<Option<Searched>>,
+}
+
+impl AllSearched {
+    /// Nothing was searched.
+    pub fn new(alloc: Global) -> AllSearched {
+        AllSearched {
+            lanes: Vec::new(alloc),
+        }
+    }
+
+    /// Makes a place for each lane.
+    pub fn make_places(&mut self, given: &Given<'_>) -> Result<(), AllocError> {
+        for _ in self.lanes.len()..given.pairs.len() {
+            self.lanes.push(None)?;
+        }
+        Ok(())
+    }
+
+    /// The place of each lane.
+    pub fn places(&mut self) -> &mut [Option<Searched>] {
+        self.lanes.as_mut_slice()
+    }
+
+    /// No memory, where there was none for a lane.
+    pub fn all_are_there(&self) -> Result<(), AllocError> {
+        if self.lanes.iter().any(|place| place.is_none()) {
+            return Err(AllocError);
+        }
+        Ok(())
+    }
+
+    /// Forgets what was found.
+    pub fn clear(&mut self) {
+        self.lanes.clear();
+    }
+
+    /// The acts of all lanes, in order.
+    pub fn acts(&self, alloc: Global, order: &Order) -> Result<Vec<Act>, AllocError> {
+        let mut acts = Vec::new(alloc);
+        for (number, place) in self.lanes.iter().enumerate() {
+            if let (Some(searched), Ok(lane)) = (place, u32::try_from(number)) {
+                searched.add_to(order, LaneNumber(lane), &mut acts)?;
+            }
+        }
+        acts.sort_unstable();
+        Ok(acts)
+    }
+
+    /// The lanes that can't act on a departure, in order, and what they would need.
+    pub fn faults(&self, alloc: Global) -> Result<Vec<(LaneNumber, Fault, Vec<Wish>)>, AllocError> {
+        let mut faults = Vec::new(alloc);
+        for (number, place) in self.lanes.iter().enumerate() {
+            if let (Some(searched), Ok(lane)) = (place, u32::try_from(number)) {
+                if let Some(fault) = searched.fault {
+                    let wishes = Vec::from_slice(alloc, searched.wishes.as_slice())?;
+                    faults.push((LaneNumber(lane), fault, wishes))?;
+                }
+            }
+        }
+        Ok(faults)
+    }
+}

@@ -1,0 +1,234 @@
+//! Which wishes of lanes are kept, taken back and tried next.
+
+use crate::lane_wishes::{Kept, LaneWishes};
+use crate::prepared::Prepared;
+use crate::reading::{FirstKeys, Reading};
+use crate::round::Round;
+use audit_search_input::Given;
+use audit_search_state::{Asked, Fault, Wish};
+use audit_seen::{LaneNumber, SeenNumber};
+use std::alloc::AllocError;
+use std::collections::{BTreeMap, BTreeSet};
+
+/// How many wishes of a lane are looked at in one round.
+const LOOKED_AT: u32 = 1024;
+
+/// What is asked of the next round, and what became of it so far.
+#[derive(Drop)]
+pub struct Settling<'a> {
+    pub(crate) reading: &'a Reading<'a>,
+    pub(crate) first: FirstKeys,
+    pub(crate) asked: Asked,
+    lanes: BTreeMap<LaneNumber, LaneWishes>,
+    tried: BTreeSet<(LaneNumber, Wish, u64)>,
+    /// Arrivals that were asked to stand before departures, and helped.
+    pub(crate) helped: BTreeSet<(SeenNumber, SeenNumber)>,
+    /// The lanes that had faults in the round before.
+    faulty: BTreeSet<LaneNumber>,
+}
+
+impl<'a> Settling<'a> {
+    /// Nothing is asked for.
+    pub fn new(reading: &'a Reading<'a>) -> Result<Settling<'a>, AllocError> {
+        let alloc = reading.alloc;
+        let shifts: Vec<u64> = vec![in alloc; 0; reading.sights.interfaces()]?;
+        Ok(Settling {
+            reading,
+            first: FirstKeys::of(reading, &shifts)?,
+            asked: Asked::none(alloc, shifts),
+            lanes: BTreeMap::new(alloc),
+            tried: BTreeSet::new(alloc),
+            helped: BTreeSet::new(alloc),
+            faulty: BTreeSet::new(alloc),
+        })
+    }
+
+    /// What the next round's searches go by.
+    pub fn prepared(&self) -> Result<Prepared, AllocError> {
+        Prepared::of(self.reading, &self.first, &self.asked)
+    }
+
+    /// What the search of each lane reads.
+    pub fn given<'b>(&'b self, prepared: &'b Prepared) -> Given<'b> {
+        prepared.given(self.reading, &self.first, &self.asked)
+    }
+
+    /// Whether acts that make or keep an allocation are asked to stand at their requests.
+    pub fn set_early(&mut self, is_early: bool) {
+        self.asked.is_early = is_early;
+    }
+
+    /// Forgets what is asked for, and tells the keys anew.
+    pub fn start_again(&mut self) -> Result<(), AllocError> {
+        self.asked.clear();
+        self.lanes.clear();
+        self.tried.clear();
+        self.faulty.clear();
+        self.first = FirstKeys::of(self.reading, &self.asked.shifts)?;
+        Ok(())
+    }
+
+    /// Keeps the wishes that got their lanes further, and takes the others back.
+    pub fn settle(&mut self, round: &Round) -> Result<(), AllocError> {
+        let is_new = round
+            .faults
+            .iter()
+            .any(|fault| !self.faulty.contains(&fault.0));
+        let mut blamed = BTreeSet::new(self.reading.alloc);
+        for (_, fault, _) in &round.faults {
+            blamed.insert(fault.departure)?;
+        }
+        for (lane, wishes) in self.lanes.iter_mut() {
+            let Some(wish) = wishes.pending.take() else {
+                continue;
+            };
+            let (fault, told) = fault_of(round, *lane);
+            let is_worse = match wish {
+                Wish::NotHere { sighting, .. } => is_new || blamed.contains(&sighting),
+                Wish::Before { .. }
+                | Wish::Answers { .. }
+                | Wish::AtRequest { .. }
+                | Wish::OverBefore { .. }
+                | Wish::Earlier { .. }
+                | Wish::HandedOver { .. }
+                | Wish::Precedes { .. }
+                | Wish::Within { .. } => false,
+            };
+            let is_stuck = fault.is_some_and(|fault| fault.low <= wishes.level)
+                && !wishes.is_half(wish, told);
+            if is_worse || is_stuck {
+                self.asked.take_back(wish);
+            } else {
+                if let Wish::Before { arrival, departure } = wish {
+                    self.helped.insert((arrival, departure))?;
+                }
+                let alloc = self.reading.alloc;
+                wishes.kept.push(Kept {
+                    wish,
+                    open: wishes.open.take().unwrap_or(Vec::new(alloc)),
+                    level: wishes.level,
+                })?;
+            }
+        }
+        Ok(())
+    }
+
+    /// Asks for what the lanes need; tells whether there was anything new.
+    pub fn ask(&mut self, round: &Round) -> Result<bool, AllocError> {
+        self.faulty.clear();
+        for (lane, _, _) in &round.faults {
+            self.faulty.insert(*lane)?;
+        }
+        let mut is_more = self.ask_doubles(round)?;
+        if self.ask_overlaps(round)? {
+            is_more = true;
+        }
+        for (lane, fault, wishes) in &round.faults {
+            if self.ask_lane(*lane, fault, wishes)? {
+                is_more = true;
+            }
+        }
+        Ok(is_more)
+    }
+
+    /// Asks that of two lanes that act on one arrival the later one does without it, or else the earlier one.
+    fn ask_doubles(&mut self, round: &Round) -> Result<bool, AllocError> {
+        let mut is_more = false;
+        for (arrival, later, earlier) in round.doubles(self.reading.alloc)? {
+            for lane in [later, earlier] {
+                let wish = Wish::NotHere {
+                    sighting: arrival,
+                    lane,
+                };
+                if self.tried.insert((lane, wish, 0))? {
+                    self.asked.banned.remove(&(arrival, later));
+                    self.asked.banned.remove(&(arrival, earlier));
+                    self.asked.banned.insert((arrival, lane))?;
+                    is_more = true;
+                    break;
+                }
+            }
+        }
+        Ok(is_more)
+    }
+
+    /// Asks of two lanes that hold an address at a time that the lease of the first one begins and ends as early as it may, or else that
+    /// the second one had it before; tells whether one of that is new.
+    fn ask_overlaps(&mut self, round: &Round) -> Result<bool, AllocError> {
+        let mut is_more = false;
+        for overlap in round.overlaps(self.reading)? {
+            let first = Wish::AtRequest {
+                answer: overlap.answer,
+            };
+            let over = Wish::Precedes {
+                maker: overlap.maker,
+                next: overlap.next,
+            };
+            let second = Wish::Precedes {
+                maker: overlap.next,
+                next: overlap.maker,
+            };
+            if self.tried.insert((overlap.lane, first, 0))? {
+                self.asked.ask(first)?;
+                is_more = true;
+            } else if self.tried.insert((overlap.lane, over, 0))? {
+                self.asked.ask(over)?;
+                is_more = true;
+            } else if self.tried.insert((overlap.next_lane, second, 0))? {
+                self.asked.take_back(first);
+                self.asked.take_back(over);
+                self.asked.ask(second)?;
+                is_more = true;
+            }
+        }
+        Ok(is_more)
+    }
+
+    /// Asks for the next wish of a lane; tells whether there was one.
+    fn ask_lane(
+        &mut self,
+        lane: LaneNumber,
+        fault: &Fault,
+        told: &[Wish],
+    ) -> Result<bool, AllocError> {
+        let alloc = self.reading.alloc;
+        if !self.lanes.contains_key(&lane) {
+            let none = LaneWishes {
+                open: None,
+                level: 0,
+                pending: None,
+                kept: Vec::new(alloc),
+            };
+            self.lanes.insert(lane, none)?;
+        }
+        let Some(wishes) = self.lanes.get_mut(&lane) else {
+            return Ok(false);
+        };
+        if wishes.open.is_none() {
+            let mut open = Vec::from_slice(alloc, told)?;
+            open.reverse();
+            wishes.open = Some(open);
+            wishes.level = fault.low;
+        }
+        for _ in 0..LOOKED_AT {
+            let Some(wish) = wishes.next(&mut self.asked) else {
+                return Ok(false);
+            };
+            if self.tried.insert((lane, wish, wishes.digest()))? {
+                self.asked.ask(wish)?;
+                wishes.pending = Some(wish);
+                return Ok(true);
+            }
+        }
+        Ok(false)
+    }
+}
+
+/// The fault of a lane, and what it would need.
+fn fault_of(round: &Round, lane: LaneNumber) -> (Option<Fault>, &[Wish]) {
+    let place = round.faults.partition_point(|fault| fault.0 < lane);
+    match round.faults.get(place) {
+        Some((other, fault, told)) if *other == lane => (Some(*fault), told.as_slice()),
+        _ => (None, &[]),
+    }
+}

@@ -1,0 +1,90 @@
+//! Wishes about the allocation in which permissions and channels were given.
+
+use crate::lane_so_far::{EACH, LaneSoFar};
+use audit_model::{Addr, Rule};
+use audit_search_input::{AHEAD, names, peer_of};
+use audit_search_state::{Past, Refused, Wish};
+use audit_seen::{Gives, SeenNumber};
+use std::alloc::AllocError;
+
+impl LaneSoFar<'_> {
+    /// Asks that permissions and channels which a departure may need were given in the allocation that is there, rather than in the one before.
+    pub(crate) fn wish_within(
+        &self,
+        departure: SeenNumber,
+        wishes: &mut Vec<Wish>,
+    ) -> Result<(), AllocError> {
+        let Some(past) = self.state.last_past() else {
+            return Ok(());
+        };
+        let Some((place, maker)) = self.maker_by(past) else {
+            return Ok(());
+        };
+        let most = wishes.len().saturating_add(EACH.saturating_mul(2));
+        let near = self
+            .changes
+            .get(place.saturating_sub(AHEAD)..)
+            .unwrap_or(&[]);
+        for (_, answer) in near.iter().take(AHEAD.saturating_mul(2)) {
+            if wishes.len() < most && self.may_be_within(*answer, departure, past) {
+                wishes.push(Wish::Within {
+                    answer: *answer,
+                    maker,
+                })?;
+            }
+        }
+        Ok(())
+    }
+
+    /// The answer to the request that ended a table, where that made another allocation, and its place among the changes.
+    fn maker_by(&self, past: &Past) -> Option<(usize, SeenNumber)> {
+        for (place, (_, answer)) in self.changes.iter().enumerate().rev() {
+            let is_maker = matches!(self.given.gives(*answer), Some(Gives::Allocated { .. }));
+            let acted = self.state.acts().get(answer);
+            if is_maker && acted.is_some_and(|acted| acted.arrival == past.by) {
+                return Some((place, *answer));
+            }
+        }
+        None
+    }
+
+    /// Whether an answer that was given before a table was ended may help a departure, and leaves behind the request that ended the table.
+    fn may_be_within(&self, answer: SeenNumber, departure: SeenNumber, past: &Past) -> bool {
+        let Some(acted) = self.state.acts().get(&answer) else {
+            return false;
+        };
+        let is_before = (acted.slot, acted.turn.0) < (past.slot, past.turn);
+        let peer = peer_of(self.given.gives(departure));
+        is_before
+            && self.given.rank(answer) > self.given.rank(past.by)
+            && self.grants(answer, acted.arrival, peer)
+    }
+
+    /// Whether an answer to a request gives a permission or a channel for a peer; a channel, where the peer isn't known.
+    fn grants(&self, answer: SeenNumber, request: SeenNumber, peer: Option<Addr>) -> bool {
+        let gives = self.given.gives(answer);
+        let is_channel = matches!(gives, Some(Gives::Bound));
+        let Some(peer) = peer else {
+            return is_channel;
+        };
+        let is_one = is_channel || matches!(gives, Some(Gives::Permitted));
+        match self.given.sighting(request) {
+            Some(request) => is_one && names(request.payload.as_slice(), peer.ip),
+            None => false,
+        }
+    }
+}
+
+/// Whether a rule asks for a permission or a channel of the allocation that is there.
+pub(crate) fn is_of_what_was_granted(refused: Refused) -> bool {
+    matches!(
+        refused,
+        Refused::Rule(
+            Rule::NoPermission
+                | Rule::PermissionOver
+                | Rule::NoChannel
+                | Rule::ChannelOver
+                | Rule::PeerDiffers
+        )
+    )
+}

@@ -1,0 +1,59 @@
+//! The search of each lane of which something changed, one by one or by threads.
+
+use crate::sweep::search_lane;
+use audit_constraints::{AllSearched, Searched};
+use audit_search_input::Given;
+use audit_seen::LaneNumber;
+use std::alloc::AllocError;
+use std::thread;
+use std::thread::Threads;
+
+/// Searches each lane whose digest isn't that of its last search.
+pub(crate) fn search(searched: &mut AllSearched, given: &Given<'_>) -> Result<(), AllocError> {
+    searched.make_places(given)?;
+    for (number, place) in searched.places().iter_mut().enumerate() {
+        search_into(given, number, place);
+    }
+    searched.all_are_there()
+}
+
+/// The same, by so many threads at the most. What is found is the same for every number of them.
+pub(crate) fn search_by<R: Threads + Sync>(
+    rt: &R,
+    workers: u32,
+    searched: &mut AllSearched,
+    given: &Given<'_>,
+) -> Result<(), AllocError> {
+    searched.make_places(given)?;
+    thread::for_each_mut(
+        rt,
+        searched.places(),
+        workers.max(1) as usize,
+        &|number, place| search_into(given, number, place),
+    );
+    searched.all_are_there()
+}
+
+/// Searches a lane, unless its digest is that of its last search.
+fn search_into(given: &Given<'_>, number: usize, place: &mut Option<Searched>) {
+    let Ok(lane) = u32::try_from(number) else {
+        return;
+    };
+    let lane = LaneNumber(lane);
+    let print = given.views.print(lane);
+    let is_known = match place {
+        Some(searched) => searched.print() == print,
+        None => false,
+    };
+    if !is_known {
+        *place = match searched_of(given, lane) {
+            Ok(searched) => Some(searched),
+            Err(_) => None,
+        };
+    }
+}
+
+fn searched_of(given: &Given<'_>, lane: LaneNumber) -> Result<Searched, AllocError> {
+    let found = search_lane(given, lane)?;
+    Searched::of(given, lane, found)
+}

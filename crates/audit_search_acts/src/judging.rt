@@ -1,0 +1,57 @@
+//! Acts of a lane, judged by the rules.
+
+use crate::lane::Lane;
+use audit_model::{At, Key};
+use audit_rules::{ActFault, CredRow, LaneTable, act};
+use audit_search_state::Refused;
+use audit_seen::{SeenNumber, Slot};
+use std::alloc::AllocError;
+
+impl Lane<'_> {
+    /// Judges an act, and changes the table by it; gives the rule that it breaks.
+    pub(crate) fn judge(
+        &mut self,
+        table: &mut LaneTable,
+        arrival: SeenNumber,
+        departure: SeenNumber,
+        slot: Slot,
+        moment: u64,
+    ) -> Result<Option<Refused>, AllocError> {
+        let (Some(arrives), Some(leaves)) = (
+            self.given.sighting(arrival),
+            self.given.sighting(departure),
+        ) else {
+            return Ok(Some(Refused::NoArrival));
+        };
+        self.steps = self.steps.saturating_add(1);
+        let at = At {
+            key: Key {
+                moment,
+                tie: slot.0,
+            },
+            lane: self.number.0,
+            place: 0,
+        };
+        let alloc = self.given.alloc;
+        let policy = self.given.intake.policy();
+        // Only responses are judged by users, and data isn't to be read for them.
+        let is_response = self
+            .given
+            .seen(departure)
+            .is_some_and(|seen| seen.response_pool().is_some());
+        let row = if is_response {
+            CredRow::of(self.given.credentials, arrives.payload.as_slice())
+        } else {
+            None
+        };
+        let judged = match row {
+            Some(row) => act(alloc, table, &[row], policy, arrives, leaves, at),
+            None => act(alloc, table, &[], policy, arrives, leaves, at),
+        };
+        match judged {
+            Ok(_) => Ok(None),
+            Err(ActFault::Broken(rule)) => Ok(Some(Refused::Rule(rule))),
+            Err(ActFault::Memory) => Err(AllocError),
+        }
+    }
+}

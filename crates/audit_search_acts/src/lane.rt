@@ -1,0 +1,195 @@
+//! One lane: what it may act on.
+
+use audit_rules::LaneTable;
+use audit_search_input::{Given, Ranked};
+use audit_search_state::{PoolRef, Refused, State, relayed_of};
+use audit_seen::{Gives, LaneNumber, Seen, SeenNumber, Slot};
+use std::alloc::AllocError;
+
+/// How many arrivals of a pool are tried for one departure.
+const COPIES: usize = 16;
+
+/// What came of trying to act on a departure.
+#[derive(Clone, Copy, Debug)]
+pub(crate) enum Attempt {
+    Accepted(SeenNumber),
+    Refused(Refused),
+}
+
+/// The search of one lane.
+#[derive(Drop)]
+pub struct Lane<'a> {
+    /// What the search reads.
+    pub given: &'a Given<'a>,
+    /// The lane's number.
+    pub number: LaneNumber,
+    /// The departures, by rank, and those of them that change the table.
+    pub departures: &'a [Ranked],
+    pub changes: Vec<(u32, SeenNumber)>,
+    /// How far its acts have come.
+    pub state: State,
+    /// The moment of the departure that the sweep is at.
+    pub clock: u64,
+    /// How many acts were judged beyond one for each departure.
+    pub steps: u64,
+    /// How many steps there may be.
+    pub budget: u64,
+}
+
+impl<'a> Lane<'a> {
+    /// A lane on whose departures nothing has acted yet.
+    pub fn new(given: &'a Given<'a>, number: LaneNumber) -> Result<Lane<'a>, AllocError> {
+        let departures = given.views.departures(number);
+        let mut changes = Vec::new(given.alloc);
+        for (_, rank, departure) in departures {
+            if given
+                .gives(*departure)
+                .is_some_and(|gives| gives.is_change())
+            {
+                changes.push((*rank, *departure))?;
+            }
+        }
+        let (client, listen) = given.pair(number);
+        Ok(Lane {
+            given,
+            number,
+            departures,
+            changes,
+            state: State::new(given.alloc, number, client, listen),
+            clock: 0,
+            steps: 0,
+            budget: 0,
+        })
+    }
+
+    /// A table with nothing in it.
+    pub(crate) fn empty_table(&self) -> LaneTable {
+        let (client, listen) = self.given.pair(self.number);
+        LaneTable::new(self.number.0, client, listen)
+    }
+
+    /// The arrivals of a pool that stand before a slot, aren't used, and came no longer than the hold before the departure; the oldest
+    /// first, so many at the most.
+    pub(crate) fn unused(
+        &mut self,
+        departure: SeenNumber,
+        pool: PoolRef,
+        slot: Slot,
+    ) -> Result<Vec<SeenNumber>, AllocError> {
+        let all = self.given.views.arrivals(self.number, pool);
+        let first = self.state.first(pool);
+        let mut place = first;
+        for (_, _, _, arrival) in all.get(first..).unwrap_or(&[]) {
+            if !self.state.is_used(*arrival) && self.given.held_until(*arrival) >= self.clock {
+                break;
+            }
+            place = place.saturating_add(1);
+        }
+        if place > first {
+            self.state.set_first(pool, place)?;
+        }
+        let moment = self.given.at(departure);
+        let mut found = Vec::new(self.given.alloc);
+        for (_, _, rank, arrival) in all.get(place..).unwrap_or(&[]).iter().take(COPIES) {
+            if Slot::behind(*rank) > slot.next() {
+                break;
+            }
+            if !self.state.is_used(*arrival) && self.given.held_until(*arrival) >= moment {
+                found.push(*arrival)?;
+            }
+        }
+        Ok(found)
+    }
+
+    /// The oldest request before a slot that a response may answer.
+    pub(crate) fn oldest(
+        &mut self,
+        response: SeenNumber,
+        slot: Slot,
+    ) -> Result<Option<SeenNumber>, AllocError> {
+        let Some(seen) = self.given.seen(response) else {
+            return Ok(None);
+        };
+        match seen.response_pool() {
+            Some(pool) => {
+                let pool = PoolRef {
+                    pool,
+                    is_shared: false,
+                };
+                Ok(self.unused(response, pool, slot)?.first().copied())
+            }
+            None => Ok(None),
+        }
+    }
+
+    /// Acts on a departure in a table by the oldest arrival that the rules accept. Data of one pool is alike: its first one is tried alone.
+    pub(crate) fn attempt(
+        &mut self,
+        table: &mut LaneTable,
+        departure: SeenNumber,
+        slot: Slot,
+        moment: u64,
+    ) -> Result<Attempt, AllocError> {
+        let Some(seen) = self.given.seen(departure) else {
+            return Ok(Attempt::Refused(Refused::NoArrival));
+        };
+        let relayed = relayed_of(table);
+        let mut best: Option<SeenNumber> = None;
+        let mut refused = Refused::NoArrival;
+        for pool in self.given.pools_of(self.number, seen, relayed)? {
+            if best.is_none() || !pool.is_shared {
+                match self.attempt_of(table, departure, seen, pool, best, slot, moment)? {
+                    Attempt::Accepted(arrival) => best = Some(arrival),
+                    Attempt::Refused(Refused::NoArrival) => {}
+                    Attempt::Refused(rule) => refused = refused.or(rule),
+                }
+            }
+        }
+        match best {
+            Some(arrival) => Ok(Attempt::Accepted(arrival)),
+            None => Ok(Attempt::Refused(refused)),
+        }
+    }
+
+    /// Acts by an arrival of a pool that stands before the best one so far.
+    fn attempt_of(
+        &mut self,
+        table: &mut LaneTable,
+        departure: SeenNumber,
+        seen: &Seen,
+        pool: PoolRef,
+        best: Option<SeenNumber>,
+        slot: Slot,
+        moment: u64,
+    ) -> Result<Attempt, AllocError> {
+        let is_response = seen.response_pool().is_some();
+        let mut refused = Refused::NoArrival;
+        for arrival in self.unused(departure, pool, slot)? {
+            if best.is_some_and(|best| self.given.rank(arrival) > self.given.rank(best)) {
+                break;
+            }
+            match self.judge(table, arrival, departure, slot, moment)? {
+                None => return Ok(Attempt::Accepted(arrival)),
+                Some(rule) => refused = rule,
+            }
+            if !is_response {
+                break;
+            }
+        }
+        Ok(Attempt::Refused(refused))
+    }
+
+    /// Whether a departure tells again of the allocation that a table has.
+    pub(crate) fn is_repeated(&self, table: &LaneTable, departure: &Seen, moment: u64) -> bool {
+        let (Some(Gives::Allocated { .. }), Some(tenancy)) = (departure.gives(), table.running())
+        else {
+            return false;
+        };
+        let made_by = self.given.number_of(tenancy.sight);
+        let pool = match made_by {
+            Some(number) => self.given.seen(number).and_then(|seen| seen.pool()),
+            None => None,
+        };
+        moment <= tenancy.last && pool.is_some() && pool == departure.response_pool()
+    }
+}

@@ -1,0 +1,43 @@
+//! Sightings of one lane by which another one goes, too.
+
+use audit_matching::{Handover, Known, Mates};
+use audit_seen::{LaneNumber, SeenNumber};
+use std::alloc::{AllocError, Global};
+
+/// Sightings of one lane by which another one goes, too.
+#[derive(Drop)]
+pub struct Shared {
+    list: Vec<(SeenNumber, LaneNumber)>,
+}
+
+impl Shared {
+    /// Those of addresses that change hands.
+    pub fn of(
+        alloc: Global,
+        known: &Known<'_>,
+        handovers: &[Handover],
+        mates: &Mates,
+    ) -> Result<Shared, AllocError> {
+        let mut list = Vec::new(alloc);
+        for handover in handovers {
+            list.push((handover.next, handover.from))?;
+            let to = known.sights.get(handover.next).and_then(|seen| seen.lane);
+            if let (Some(to), Some(ender)) = (to, handover.ender) {
+                list.push((ender, to))?;
+                if let Some(request) = mates.of(ender) {
+                    list.push((request, to))?;
+                }
+            }
+        }
+        list.sort_unstable();
+        Ok(Shared { list })
+    }
+
+    /// The lanes that go by a sighting, beside its own.
+    pub fn of_sighting(&self, number: SeenNumber) -> &[(SeenNumber, LaneNumber)] {
+        let start = self.list.partition_point(|one| one.0 < number);
+        let rest = self.list.get(start..).unwrap_or(&[]);
+        let count = rest.partition_point(|one| one.0 <= number);
+        rest.get(..count).unwrap_or(&[])
+    }
+}

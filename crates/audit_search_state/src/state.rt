@@ -1,0 +1,260 @@
+//! What a lane's search has done so far.
+
+use crate::pool_ref::PoolRef;
+use crate::trail::{Trail, Undo};
+use audit_model::Addr;
+use audit_rules::LaneTable;
+use audit_seen::{LaneNumber, SeenNumber, Slot};
+use std::alloc::{AllocError, Global};
+use std::collections::{BTreeMap, BTreeSet, VecDeque};
+
+/// The act that gives a departure.
+#[derive(Clone, Copy, Debug)]
+pub struct Acted {
+    /// Where it stands.
+    pub slot: Slot,
+    /// The order of the acts of one slot.
+    pub turn: (u32, u32),
+    /// The arrival that it answers.
+    pub arrival: SeenNumber,
+}
+
+/// The table as it was before an act that ended or made an allocation.
+#[derive(Drop)]
+pub struct Past {
+    /// That table.
+    pub table: LaneTable,
+    /// The slot, the turn and the moment of that act, and its arrival.
+    pub slot: Slot,
+    pub turn: u32,
+    pub moment: u64,
+    pub by: SeenNumber,
+    /// The slot and the moment of the last change of the table before that act.
+    pub changed: (Slot, u64),
+}
+
+/// How far the acts have come.
+#[derive(Clone, Copy)]
+pub struct Progress {
+    /// The turn of the last act.
+    pub turn: u32,
+    /// The slot and the moment of the last change of the table.
+    pub changed: (Slot, u64),
+    /// How much the table has, about.
+    pub weight: u64,
+    /// The slot and the moment of the last act in order.
+    pub last: (Slot, u64),
+}
+
+/// The table of a lane, those that ended, and the acts so far.
+#[derive(Drop)]
+pub struct State {
+    /// The table as the acts so far left it.
+    pub table: LaneTable,
+    /// The tables that ended, but for the oldest ones, which are forgotten.
+    past: VecDeque<Past>,
+    /// How many of them are forgotten.
+    forgotten: usize,
+    /// How far the acts have come.
+    pub progress: Progress,
+    acts: BTreeMap<SeenNumber, Acted>,
+    used: BTreeSet<SeenNumber>,
+    /// The place in each pool of the first arrival that may be unused.
+    first: BTreeMap<PoolRef, usize>,
+    trail: Trail,
+    /// Whether steps are noted, so that they can be taken back.
+    pub is_noting: bool,
+}
+
+impl State {
+    /// No acts, and a table with nothing in it.
+    pub fn new(alloc: Global, lane: LaneNumber, client: Addr, listen: Addr) -> State {
+        State {
+            table: LaneTable::new(lane.0, client, listen),
+            past: VecDeque::new(alloc),
+            forgotten: 0,
+            progress: Progress {
+                turn: 0,
+                changed: (Slot(0), 0),
+                weight: 0,
+                last: (Slot(0), 0),
+            },
+            acts: BTreeMap::new(alloc),
+            used: BTreeSet::new(alloc),
+            first: BTreeMap::new(alloc),
+            trail: Trail::new(alloc),
+            is_noting: false,
+        }
+    }
+
+    /// The acts, by their departures.
+    pub fn acts(&self) -> &BTreeMap<SeenNumber, Acted> {
+        &self.acts
+    }
+
+    /// Whether a departure is acted on.
+    pub fn is_acted(&self, departure: SeenNumber) -> bool {
+        self.acts.contains_key(&departure)
+    }
+
+    /// Whether an act answers an arrival.
+    pub fn is_used(&self, arrival: SeenNumber) -> bool {
+        self.used.contains(&arrival)
+    }
+
+    /// The place in a pool of the first arrival that may be unused.
+    pub fn first(&self, pool: PoolRef) -> usize {
+        self.first.get(&pool).copied().unwrap_or(0)
+    }
+
+    /// How many tables ended.
+    pub fn ended(&self) -> usize {
+        self.forgotten.saturating_add(self.past.len())
+    }
+
+    /// One of the tables that ended, by its number from 0, unless it is forgotten.
+    pub fn past(&self, which: usize) -> Option<&Past> {
+        self.past.get(which.checked_sub(self.forgotten)?)
+    }
+
+    /// The table that ended last.
+    pub fn last_past(&self) -> Option<&Past> {
+        self.past.back()
+    }
+
+    /// A mark to go back to.
+    pub fn mark(&self) -> usize {
+        self.trail.mark()
+    }
+
+    /// About how much memory the trail takes.
+    pub fn trail_weight(&self) -> u64 {
+        self.trail.weight()
+    }
+
+    fn note(&mut self, undo: Undo, weight: u64) -> Result<(), AllocError> {
+        if self.is_noting {
+            self.trail.push(undo, weight)?;
+        }
+        Ok(())
+    }
+
+    /// Forgets how to go back.
+    pub fn forget(&mut self) {
+        self.trail.clear();
+        self.is_noting = false;
+    }
+
+    /// Forgets how to go back behind a mark.
+    pub fn forget_before(&mut self, mark: usize) {
+        self.trail.forget_before(mark);
+    }
+
+    /// Forgets the oldest tables that ended, but for so many, and those that may come back.
+    pub fn keep_past(&mut self, count: usize) {
+        let kept = count.saturating_add(self.trail.ends());
+        for _ in kept..self.past.len() {
+            if self.past.pop_front().is_some() {
+                self.forgotten = self.forgotten.saturating_add(1);
+            }
+        }
+    }
+
+    /// Notes that place.
+    pub fn set_first(&mut self, pool: PoolRef, place: usize) -> Result<(), AllocError> {
+        let before = self.first.insert(pool, place)?;
+        self.note(Undo::First(pool, before), 1)
+    }
+
+    /// Notes how far the acts have come.
+    pub fn set_progress(&mut self, progress: Progress) -> Result<(), AllocError> {
+        let before = std::mem::replace(&mut self.progress, progress);
+        self.note(Undo::Progress(before), 1)
+    }
+
+    /// Notes what the table was before it changed, where that was kept.
+    pub fn changed_from(&mut self, before: Option<LaneTable>) -> Result<(), AllocError> {
+        let weight = self.progress.weight.saturating_add(1);
+        match before {
+            Some(before) => self.note(Undo::Table(before), weight),
+            None => Ok(()),
+        }
+    }
+
+    /// Notes what the table was before it was ended.
+    pub fn ended_from(&mut self, past: Past) -> Result<(), AllocError> {
+        self.past.push_back(past)?;
+        self.note(Undo::Ended, 1)
+    }
+
+    /// The slot, the turn and the moment at which a table was ended.
+    pub fn end_of(&self, which: usize) -> Option<(Slot, u32, u64)> {
+        let past = self.past(which)?;
+        Some((past.slot, past.turn, past.moment))
+    }
+
+    /// Puts a table in the place of one that was ended, and gives that, unless it is forgotten.
+    pub fn swap_past(&mut self, which: usize, table: LaneTable) -> Option<LaneTable> {
+        let place = which.checked_sub(self.forgotten)?;
+        let past = self.past.get_mut(place)?;
+        Some(std::mem::replace(&mut past.table, table))
+    }
+
+    /// Notes what a table that was ended was before it changed.
+    pub fn past_changed_from(&mut self, which: usize, before: LaneTable) -> Result<(), AllocError> {
+        let weight = self.progress.weight.saturating_add(1);
+        self.note(Undo::Past(which, before), weight)
+    }
+
+    /// Notes the act that gives a departure.
+    pub fn act(&mut self, departure: SeenNumber, acted: Acted) -> Result<(), AllocError> {
+        self.acts.insert(departure, acted)?;
+        self.used.insert(acted.arrival)?;
+        self.note(Undo::Acted(departure, acted.arrival), 1)
+    }
+
+    /// Goes back to a mark.
+    pub fn undo(&mut self, mark: usize) {
+        for _ in mark..self.trail.mark() {
+            if let Some(undo) = self.trail.pop() {
+                self.take_back(undo);
+            }
+        }
+    }
+
+    fn take_back(&mut self, undo: Undo) {
+        match undo {
+            Undo::Progress(progress) => self.progress = progress,
+            Undo::Table(table) => self.table = table,
+            Undo::Ended => {
+                if let Some(past) = self.past.pop_back() {
+                    self.table = past.table;
+                }
+            }
+            Undo::Past(which, table) => {
+                if let Some(place) = which.checked_sub(self.forgotten) {
+                    if let Some(past) = self.past.get_mut(place) {
+                        past.table = table;
+                    }
+                }
+            }
+            Undo::Acted(departure, arrival) => {
+                self.acts.remove(&departure);
+                self.used.remove(&arrival);
+            }
+            Undo::First(pool, Some(place)) => {
+                if let Some(first) = self.first.get_mut(&pool) {
+                    *first = place;
+                }
+            }
+            Undo::First(pool, None) => {
+                self.first.remove(&pool);
+            }
+        }
+    }
+}
+
+/// The relayed address of the allocation in a table.
+pub fn relayed_of(table: &LaneTable) -> Option<Addr> {
+    Some(table.running()?.relayed)
+}
