@@ -22,8 +22,8 @@ use Rattle.audit_rules.specs.declared.credentials.CredRow.{CredRow}
 use Rattle.audit_rules.specs.FirstRule.{FirstRule}
 use Rattle.audit_rules.specs.Keys.{KeyFor, with_keys}
 use Rattle.audit_rules.specs.Situation.{Situation}
-use Rattle.audit_runs.specs.Run.{IsKnown}
-use Rattle.audit_runs.proofs.Running.{IsOpen, open_to}
+use Rattle.audit_verdict.specs.Run.{IsKnown}
+use Rattle.audit_verdict.proofs.Running.{IsOpen, open_to}
 use Rattle.audit_sightings.specs.Intake.{Taken, sighting_at}
 use Rattle.audit_live.specs.Remembered.{Remembers, StopsAsWalk}
 use Rattle.audit_live.specs.Steps.{AreRowsOf}

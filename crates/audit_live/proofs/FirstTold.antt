@@ -9,7 +9,7 @@ use Rattle.audit_rules.specs.FirstRule.{FirstRule, path_checks}
 use Rattle.audit_rules.specs.Keys.{KeyFor, with_keys}
 use Rattle.audit_rules.specs.Situation.{Situation, asked, arrival_path, departure_path}
 use Rattle.audit_rules.proofs.KeyChecks.{first_keyed}
-use Rattle.audit_runs.proofs.KeysTold.{AgreeInMessage}
+use Rattle.audit_verdict.proofs.KeysTold.{AgreeInMessage}
 
 module _ (key_for : KeyFor) (x : Situation) where
   -- the request is a message, or no key was asked

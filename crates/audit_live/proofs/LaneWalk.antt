@@ -19,7 +19,7 @@ use Rattle.audit_model.specs.Event.{key_of}
 use Rattle.audit_placement.specs.Entries.{entry_of, entries_from}
 use Rattle.audit_prefix.specs.Walk.{Breaks, GoesOn, Memory, Walks, lane_breach, remembered, remembered_all, sight_named}
 use Rattle.audit_rules.specs.Keys.{KeyFor}
-use Rattle.audit_runs.specs.Run.{IsKnown, placed_at}
+use Rattle.audit_verdict.specs.Run.{IsKnown, placed_at}
 use Rattle.audit_server.specs.Placed.{Placed}
 use Rattle.audit_server.specs.Step.{In, Act, Out}
 use Rattle.audit_sightings.specs.Intake.{AreNumbered, Taken, sighting_at}

@@ -30,10 +30,10 @@ use Rattle.audit_rules.specs.Keys.{KeyFor}
 use Rattle.audit_rules.specs.Said.{change_in}
 use Rattle.audit_rules.specs.Seen.{key_in}
 use Rattle.audit_rules.specs.Situation.{Situation}
-use Rattle.audit_runs.specs.Run.{IsKnown, move_of, placed_at}
-use Rattle.audit_runs.proofs.Agreeing.{user_agrees}
-use Rattle.audit_runs.proofs.KeysTold.{AgreeInMessage, may_said}
-use Rattle.audit_runs.proofs.Running.{IsOpen, open_to, change_same}
+use Rattle.audit_verdict.specs.Run.{IsKnown, move_of, placed_at}
+use Rattle.audit_verdict.proofs.Agreeing.{user_agrees}
+use Rattle.audit_verdict.proofs.KeysTold.{AgreeInMessage, may_said}
+use Rattle.audit_verdict.proofs.Running.{IsOpen, open_to, change_same}
 use Rattle.audit_server.specs.Captured.{MayBetween}
 use Rattle.audit_server.specs.State.{put}
 use Rattle.audit_sightings.specs.Intake.{Taken, sighting_at}

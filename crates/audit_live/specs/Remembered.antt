@@ -14,7 +14,7 @@ use Rattle.audit_model.specs.declared.verdict.Breach.{Breach}
 use Rattle.audit_prefix.specs.Walk.{Breaks, GoesOn, Memory, lane_breach, remembered, sight_named}
 use Rattle.audit_rules.specs.declared.credentials.CredRow.{CredRow}
 use Rattle.audit_rules.specs.Keys.{KeyFor}
-use Rattle.audit_runs.specs.Run.{IsKnown, move_of, placed_at}
+use Rattle.audit_verdict.specs.Run.{IsKnown, move_of, placed_at}
 use Rattle.audit_sightings.specs.Intake.{Taken, sighting_at}
 use Rattle.audit_whole.specs.CaptureRun.{rules_for}
 use Rattle.audit_live.specs.Steps.{AreRowsOf}

@@ -26,8 +26,8 @@ use Rattle.audit_lane.specs.Concluded.{tenancies_in as of_judgement}
 use Rattle.audit_lane.specs.Content.{Content, Found, Judgement, Passes, Breaks}
 use Rattle.audit_lane.specs.Judged.{IsJudged, terms_of}
 use Rattle.audit_lane.proofs.OneWay.{one_judgement}
-use Rattle.audit_runs.specs.Run.{pair_in}
-use Rattle.audit_runs.proofs.RunWhole.{passed_is_run}
+use Rattle.audit_verdict.specs.Run.{pair_in}
+use Rattle.audit_verdict.proofs.RunWhole.{passed_is_run}
 use Rattle.audit_whole.specs.CaptureRun.{rules_for}
 use Rattle.audit_whole.specs.Conforms.{Conforms}
 use Rattle.audit_whole.specs.Glued.{all_placed, lanes_from, the_drops}

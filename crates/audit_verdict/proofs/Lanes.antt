@@ -26,7 +26,7 @@ use Rattle.audit_lane.specs.Judged.{terms_of}
 use Rattle.audit_lane.specs.Kept.{Terms}
 use Rattle.audit_lane.specs.Named.{IsFrom, IsInputOf}
 use Rattle.audit_lane.specs.Walk.{key_at}
-use Rattle.audit_runs.specs.Run.{pair_in, move_of, placed_at, placed_from, steps_in, IsKnown, PlaceApart, PlacedOnce, MomentsRise}
+use Rattle.audit_verdict.specs.Run.{pair_in, move_of, placed_at, placed_from, steps_in, IsKnown, PlaceApart, PlacedOnce, MomentsRise}
 use Rattle.audit_whole.specs.Glued.{placed_of}
 use Rattle.audit_whole.proofs.Placement.{in_row}
 

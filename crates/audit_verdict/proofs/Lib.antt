@@ -1,3 +1,9 @@
+pub mod KeysTold
+pub mod Agreeing
+pub mod Running
+pub mod RunSteps
+pub mod RunTold
+pub mod RunWhole
 pub mod Lanes
 pub mod Among
 pub mod Joined

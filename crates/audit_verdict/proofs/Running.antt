@@ -27,9 +27,9 @@ use Rattle.audit_lane.specs.declared.noted.Owed.{Owed}
 use Rattle.audit_lane.specs.Content.{Happening, Came, Acted, Went}
 use Rattle.audit_lane.specs.Faults.{IsRight, act_fault, out_fault, is_past}
 use Rattle.audit_lane.specs.Kept.{Terms, Kept, told_by, situation_in}
-use Rattle.audit_runs.specs.Run.{IsKnown, placed_at, move_of}
+use Rattle.audit_verdict.specs.Run.{IsKnown, placed_at, move_of}
 use Rattle.audit_lane.specs.Walk.{key_at}
-use Rattle.audit_runs.proofs.KeysTold.{AgreeInMessage, may_said}
+use Rattle.audit_verdict.proofs.KeysTold.{AgreeInMessage, may_said}
 
 -- an arrival that no act took waits
 abbrev pub waits : Option Arrival → Option ℕ

@@ -26,13 +26,13 @@ use Rattle.audit_lane.specs.Content.{Content, Happening, Came, Acted, Went, Pass
 use Rattle.audit_lane.specs.Faults.{IsRight, out_fault}
 use Rattle.audit_lane.specs.Judged.{IsJudged, terms_of, at_start}
 use Rattle.audit_lane.specs.Kept.{Terms, Kept, place_at, situation_in}
-use Rattle.audit_runs.specs.Run.{IsKnown, PlaceApart, PlacedOnce, MomentsRise, placed_at, placed_from, pair_in, move_of, steps_in, PassesAsRun}
+use Rattle.audit_verdict.specs.Run.{IsKnown, PlaceApart, PlacedOnce, MomentsRise, placed_at, placed_from, pair_in, move_of, steps_in, PassesAsRun}
 use Rattle.audit_lane.specs.Told.{Tells}
 use Rattle.audit_lane.specs.Walk.{EndsIn, WalksTo, key_at}
-use Rattle.audit_runs.proofs.Agreeing.{user_agrees}
-use Rattle.audit_runs.proofs.Running.{waits, owes, owes_by, state_of, IsFresh, open_to, w_of, own, came_in, change_same, AgreesOnAct, allowed_from, right_from}
-use Rattle.audit_runs.proofs.RunSteps.{IsTidy, by_bool, by_option, not_some, act_owed, act_waits, act_given, tidy_acted, fresh_acted, came_waits, tidy_came, fresh_came, went_owes, tidy_went, fresh_went}
-use Rattle.audit_runs.proofs.RunTold.{IsTold, TellsUser, agrees_on, told_came, told_acted}
+use Rattle.audit_verdict.proofs.Agreeing.{user_agrees}
+use Rattle.audit_verdict.proofs.Running.{waits, owes, owes_by, state_of, IsFresh, open_to, w_of, own, came_in, change_same, AgreesOnAct, allowed_from, right_from}
+use Rattle.audit_verdict.proofs.RunSteps.{IsTidy, by_bool, by_option, not_some, act_owed, act_waits, act_given, tidy_acted, fresh_acted, came_waits, tidy_came, fresh_came, went_owes, tidy_went, fresh_went}
+use Rattle.audit_verdict.proofs.RunTold.{IsTold, TellsUser, agrees_on, told_came, told_acted}
 
 given_of : (hold moment : ℕ) (o : Option Departure) → out_fault hold o moment ≡ None → (g : Departure) × (o ≡ Some g)
 given_of hold moment None h = absurd (let z : Some LeftWithoutAct ≡ None = h in cc)

@@ -15,8 +15,8 @@ use Rattle.audit_lane.specs.After.{came_first, taken_up, given_for, owed_without
 use Rattle.audit_lane.specs.After.{after as after_it}
 use Rattle.audit_lane.specs.Content.{Happening, Came, Acted, Went}
 use Rattle.audit_lane.specs.Kept.{Terms, Kept, place_at}
-use Rattle.audit_runs.specs.Run.{PlaceApart}
-use Rattle.audit_runs.proofs.Running.{waits, owes, owes_by, IsFresh, IsOpen}
+use Rattle.audit_verdict.specs.Run.{PlaceApart}
+use Rattle.audit_verdict.proofs.Running.{waits, owes, owes_by, IsFresh, IsOpen}
 
 -- each departure is given by one act, before the place; what is owed was given
 pub record IsTidy (pair : Pair) (place : ℕ) (kept : Kept) : Type 0 where

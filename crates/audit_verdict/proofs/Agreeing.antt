@@ -14,7 +14,7 @@ use Rattle.audit_rules.specs.Named.{Names, NamesNobody}
 use Rattle.audit_lane.specs.Content.{User, numbered}
 use Rattle.audit_lane.specs.Judged.{key_by}
 use Rattle.audit_lane.specs.Told.{IsOfUser}
-use Rattle.audit_runs.proofs.KeysTold.{AgreeInMessage}
+use Rattle.audit_verdict.proofs.KeysTold.{AgreeInMessage}
 
 same_some : {X : Type 0} (x y : X) → Some x ≡ Some y → x ≡ y
 same_some x y h = cc

@@ -11,9 +11,9 @@ use Rattle.audit_lane.specs.declared.noted.Arrival.{Arrival}
 use Rattle.audit_lane.specs.After.{after as after_it, new_arrival, taken_up}
 use Rattle.audit_lane.specs.Content.{Happening, Came, Acted, Went}
 use Rattle.audit_lane.specs.Kept.{Terms, Kept, told_by}
-use Rattle.audit_runs.proofs.KeysTold.{AgreeInMessage}
-use Rattle.audit_runs.proofs.Running.{IsOpen}
-use Rattle.audit_runs.proofs.RunSteps.{IsTidy, by_bool, same_some, came_now}
+use Rattle.audit_verdict.proofs.KeysTold.{AgreeInMessage}
+use Rattle.audit_verdict.proofs.Running.{IsOpen}
+use Rattle.audit_verdict.proofs.RunSteps.{IsTidy, by_bool, same_some, came_now}
 
 module _ (terms : Terms) (key_for : KeyFor) (sighting : SightId → Option Sighting) where
   abbrev pub IsTold : Kept → Type 0

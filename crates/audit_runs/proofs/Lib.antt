@@ -1,6 +1,0 @@
-pub mod KeysTold
-pub mod Agreeing
-pub mod Running
-pub mod RunSteps
-pub mod RunTold
-pub mod RunWhole

@@ -1,5 +1,0 @@
-use Rattle.audit_runs.proofs.RunWhole.{passed_is_run as so}
-use Rattle.audit_runs.proofs.laws.passed_is_run.Goals as goal
-
-pub returns : goal.returns
-returns c = so
