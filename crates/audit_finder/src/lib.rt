@@ -7,9 +7,12 @@ mod departed;
 mod filling;
 mod finder;
 mod finding;
+mod walk_and_passes;
 mod walking;
 mod writing;
 
+pub use audit_finding::FoundOnce;
 pub use finder::Finder;
 pub use finding::{find, find_parallel};
-pub use walking::{FoundOnce, find_once};
+pub use walk_and_passes::WalkAndPasses;
+pub use walking::find_once;

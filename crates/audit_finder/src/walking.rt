@@ -10,19 +10,12 @@ ghost use Rattle.audit_finder.specs.Departures.{LeaveOnce, IsNoted};
 
 use crate::filling::Filled;
 use crate::finding::{certificate_of, clients_in};
+use audit_finding::FoundOnce;
 use audit_keys::Credentials;
-use audit_model::{Addr, Certificate};
+use audit_model::Addr;
 use audit_sightings::Intake;
 use audit_walk::{Ahead, Judge, Search};
 use std::alloc::{AllocError, Global};
-
-/// What one walk over the sightings finds.
-#[derive(Drop)]
-pub struct FoundOnce {
-    pub certificate: Certificate,
-    /// Whether the server kept to its rules by that, as far as the walk can tell. Nothing rests on it.
-    pub seems_conforming: bool,
-}
 
 /// A lane for each pair, with the events that a walk gives but for the last ones.
 fn walked(

@@ -55,7 +55,7 @@ pub struct Turns {
 }
 
 /// The release, and the line of `rt version` that names what it is proved with.
-const VERSION: &str = "0.1.0, proved with rattle-kit-13f logic dac8208d650f15bf";
+const VERSION: &str = "0.1.0, proved with rattle-kit-13b logic dac8208d650f15bf";
 
 const ABOUT: &str =
     "Judges captures of a TURN server by RFC 8656: did it relay anything without an allocation and a permission or channel?";

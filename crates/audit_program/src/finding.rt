@@ -6,7 +6,7 @@ ghost use Rattle.audit_keys.specs.KeyFor.{key_for};
 ghost use Rattle.audit_sightings.specs.Intake.{taken};
 
 use audit_files::{Files, Workers, verdict_of};
-use audit_finder::{find, find_once, find_parallel};
+use audit_finding::CertificateFinder;
 use audit_model::{Certificate, Verdict};
 use std::alloc::{AllocError, Global};
 use std::sync::Wait;
@@ -43,72 +43,63 @@ fn judged<R: Threads + Wait + Sync>(
     })
 }
 
-/// Finds a certificate in passes: with one worker on the caller's thread alone, and else by so many threads at the most.
-fn find_by<R: Threads + Sync>(
-    rt: &R,
-    alloc: Global,
-    files: &Files,
-    workers: Workers,
-) -> Result<Certificate, AllocError> {
-    if workers.count == 1 {
-        return find(alloc, &files.intake, &files.users);
-    }
-    find_parallel(rt, alloc, &files.intake, &files.users, workers.count)
-}
-
 /// What one walk over the sightings finds.
-fn found_once<R: Threads + Wait + Sync>(
+fn found_once<R: Threads + Wait + Sync, F: CertificateFinder>(
     rt: &R,
     alloc: Global,
+    finder: &F,
     files: &Files,
     workers: Workers,
 ) -> Result<Found, AllocError>
     ensures { IfOk result (λ found. Judges (taken files.now.intake) (key_for files.now.users) found.certificate found.verdict) }
 {
-    let once = find_once(alloc, &files.intake, &files.users)?;
+    let once = finder.find_once(alloc, &files.intake, &files.users)?;
     judged(rt, alloc, files, once.certificate, workers)
 }
 
-/// What is found in passes.
-fn found_in_passes<R: Threads + Wait + Sync>(
+/// What is found with all that can be tried.
+fn found_at_last<R: Threads + Wait + Sync, F: CertificateFinder>(
     rt: &R,
     alloc: Global,
+    finder: &F,
     files: &Files,
     workers: Workers,
 ) -> Result<Found, AllocError>
     ensures { IfOk result (λ found. Judges (taken files.now.intake) (key_for files.now.users) found.certificate found.verdict) }
 {
-    let certificate = find_by(rt, alloc, files, workers)?;
+    let certificate = finder.find(rt, alloc, &files.intake, &files.users, workers.count)?;
     judged(rt, alloc, files, certificate, workers)
 }
 
-/// What one walk over the sightings finds, where the captures conform by that; else what is found in passes, which take longer and find
-/// more.
-pub fn found_either_way<R: Threads + Wait + Sync>(
+/// What one walk over the sightings finds, where the captures conform by that; else what is found with all that can be tried, which takes
+/// longer and finds more.
+pub fn found_either_way<R: Threads + Wait + Sync, F: CertificateFinder>(
     rt: &R,
     alloc: Global,
+    finder: &F,
     files: &Files,
     workers: Workers,
 ) -> Result<Found, AllocError>
     ensures { IfOk result (λ found. Judges (taken files.now.intake) (key_for files.now.users) found.certificate found.verdict) }
 {
-    let once = found_once(rt, alloc, files, workers)?;
+    let once = found_once(rt, alloc, finder, files, workers)?;
     if let Verdict::Conforming { .. } = once.verdict {
         return Ok(once);
     }
-    // The passes may want the memory of the walk's certificate.
+    // What comes next may want the memory of the walk's certificate.
     drop(once);
-    found_in_passes(rt, alloc, files, workers)
+    found_at_last(rt, alloc, finder, files, workers)
 }
 
 /// The certificate by which `found_either_way` judges. What one walk finds isn't judged where it seems to conform.
-pub fn certificate_for<R: Threads + Wait + Sync>(
+pub fn certificate_for<R: Threads + Wait + Sync, F: CertificateFinder>(
     rt: &R,
     alloc: Global,
+    finder: &F,
     files: &Files,
     workers: Workers,
 ) -> Result<Certificate, AllocError> {
-    let once = find_once(alloc, &files.intake, &files.users)?;
+    let once = finder.find_once(alloc, &files.intake, &files.users)?;
     if once.seems_conforming {
         return Ok(once.certificate);
     }
@@ -117,5 +108,5 @@ pub fn certificate_for<R: Threads + Wait + Sync>(
         return Ok(once.certificate);
     }
     drop(once);
-    find_by(rt, alloc, files, workers)
+    finder.find(rt, alloc, &files.intake, &files.users, workers.count)
 }

@@ -15,7 +15,7 @@ use crate::command_line::Turns;
 use crate::growing::Growing;
 use crate::newest::Newest;
 use audit_files::{Source, Stop, read_policy, read_users};
-use audit_finder::Finder;
+use audit_finding::{CertificateFinder, ExtensionFinder};
 use audit_live::{Live, LiveEnd, LiveFault};
 use audit_model::{Sink, Verdict};
 use audit_report::report;
@@ -29,9 +29,9 @@ const END: u64 = u64::MAX;
 
 /// An audit with what finds its certificate.
 #[derive(Drop)]
-struct Watch {
+struct Watch<F: Drop> {
     live: Live,
-    finder: Finder,
+    finder: F,
     newest: Newest,
     /// The last horizon.
     last: Option<u64>,
@@ -88,15 +88,16 @@ fn add_captures(live: &mut Live, count: usize) -> Result<(), Stop>
     Ok(())
 }
 
-impl Watch {
+impl<F: ExtensionFinder + Drop> Watch<F> {
     /// The captures, of which nothing was read.
     fn open<S: Source + Growing>(
         alloc: Global,
+        finder: F,
         source: &mut S,
         policy: &str,
         users: Option<&str>,
         captures: &[&str],
-    ) -> Result<Watch, Stop>
+    ) -> Result<Watch<F>, Stop>
         ensures goes { (policy_text users_text : List ℕ) →
             S.holds source.old policy.now ≡ Some policy_text →
             IfSome users.entry (λ name. S.holds source.old name.now ≡ Some users_text) → IfNone users.entry (users_text ≡ []) →
@@ -112,7 +113,7 @@ impl Watch {
         let newest = Newest::new(alloc, files)?;
         Ok(Watch {
             live,
-            finder: Finder::new(alloc),
+            finder,
             newest,
             last: None,
         })
@@ -293,8 +294,9 @@ impl Watch {
 
 /// Judges captures while they grow, and writes the report. Files are read in this order: policy, users, captures by turns. It gives 0 where the
 /// captures conform, and 1 where that isn't shown.
-pub fn run_live<S: Source + Growing, O: Sink>(
+pub fn run_live<F: CertificateFinder, S: Source + Growing, O: Sink>(
     alloc: Global,
+    finder: &F,
     source: &mut S,
     policy: &str,
     users: Option<&str>,
@@ -308,7 +310,14 @@ pub fn run_live<S: Source + Growing, O: Sink>(
         IfOk result (λ status. (found : Found)
         × IsWatched policy_text users_text (length captures.now) (S.given source.new) found (O.taken out.old) (O.taken out.new) status) }
 {
-    let mut watch = Watch::open(alloc, source, policy, users, captures)?;
+    let mut watch = Watch::open(
+        alloc,
+        finder.extending(alloc),
+        source,
+        policy,
+        users,
+        captures,
+    )?;
     watch.go(alloc, captures, turns, source)?;
     watch.tell(alloc, out)
 }

@@ -13,6 +13,7 @@ use crate::live::run_live;
 use crate::writing::{put_line, put_text};
 use audit_cert::write_parallel;
 use audit_files::{Source, Stop, Workers, check_files, read_files, tell};
+use audit_finding::CertificateFinder;
 use audit_model::{Certificate, Sink};
 use std::alloc::{AllocError, Global};
 use std::convert::AsStr;
@@ -21,9 +22,10 @@ use std::thread::Threads;
 
 /// Judges captures by a certificate that is found, and writes the report. Files are read in this order: policy, users, captures; each is
 /// judged before the next is read. It gives 0 where they conform, and 1 where that isn't shown.
-pub fn audit_captures<R: Threads + Wait + Sync, S: Source, O: Sink>(
+pub fn audit_captures<R: Threads + Wait + Sync, F: CertificateFinder, S: Source, O: Sink>(
     rt: &R,
     alloc: Global,
+    finder: &F,
     source: &mut S,
     policy: &str,
     users: Option<&str>,
@@ -38,7 +40,7 @@ pub fn audit_captures<R: Threads + Wait + Sync, S: Source, O: Sink>(
         IfOk result (λ status. (found : Found) × IsAudited policy_text users_text texts found (O.taken out.old) (O.taken out.new) status) }
 {
     let files = read_files(rt, alloc, source, policy, users, captures, workers)?;
-    let found = found_either_way(rt, alloc, &files, workers)?;
+    let found = found_either_way(rt, alloc, finder, &files, workers)?;
     tell(alloc, &found.verdict, &files.intake, out)
 }
 
@@ -57,9 +59,10 @@ fn put_certificate<R: Threads + Sync, O: Sink>(
 }
 
 /// Finds a certificate, and writes it.
-fn run_find<R: Threads + Wait + Sync, S: Source, O: Sink>(
+fn run_find<R: Threads + Wait + Sync, F: CertificateFinder, S: Source, O: Sink>(
     rt: &R,
     alloc: Global,
+    finder: &F,
     inputs: &Inputs<'_>,
     workers: Workers,
     source: &mut S,
@@ -74,7 +77,7 @@ fn run_find<R: Threads + Wait + Sync, S: Source, O: Sink>(
         &inputs.captures,
         workers,
     )?;
-    let certificate = certificate_for(rt, alloc, &files, workers)?;
+    let certificate = certificate_for(rt, alloc, finder, &files, workers)?;
     put_certificate(rt, alloc, &certificate, workers.count, out)?;
     // The program ends: to free each payload by itself would take longer than to write.
     std::mem::forget(files);
@@ -82,9 +85,16 @@ fn run_find<R: Threads + Wait + Sync, S: Source, O: Sink>(
 }
 
 /// Does what is asked for, and gives the exit status.
-fn run_request<R: Threads + Wait + Sync, S: Source + Growing, O: Sink, E: Sink>(
+fn run_request<
+    R: Threads + Wait + Sync,
+    F: CertificateFinder,
+    S: Source + Growing,
+    O: Sink,
+    E: Sink,
+>(
     rt: &R,
     alloc: Global,
+    finder: &F,
     request: &Request<'_>,
     source: &mut S,
     out: &mut O,
@@ -109,6 +119,7 @@ fn run_request<R: Threads + Wait + Sync, S: Source + Growing, O: Sink, E: Sink>(
         Request::Audit { inputs, workers } => audit_captures(
             rt,
             alloc,
+            finder,
             source,
             inputs.policy,
             inputs.credentials,
@@ -116,9 +127,12 @@ fn run_request<R: Threads + Wait + Sync, S: Source + Growing, O: Sink, E: Sink>(
             *workers,
             out,
         ),
-        Request::Find { inputs, workers } => run_find(rt, alloc, inputs, *workers, source, out),
+        Request::Find { inputs, workers } => run_find(
+            rt, alloc, finder, inputs, *workers, source, out,
+        ),
         Request::Live { inputs, turns } => run_live(
             alloc,
+            finder,
             source,
             inputs.policy,
             inputs.credentials,
@@ -137,19 +151,19 @@ fn run_request<R: Threads + Wait + Sync, S: Source + Growing, O: Sink, E: Sink>(
     }
 }
 
-/// Runs the program on its words, the first of which is its name, and gives its exit status: 0 conforming, a certificate, help or the release; 1 not shown; 2 input refused;
-/// 3 out of memory; 4 a file that can't be read or an answer that can't be written; 5 words that are no request.
-/// What ended it before its answer is one line on `err`.
-pub fn run<R: Threads + Wait + Sync, N: AsStr, S: Source + Growing, O: Sink, E: Sink>(
-    rt: &R,
-    alloc: Global,
-    words: &[N],
-    source: &mut S,
-    out: &mut O,
-    err: &mut E,
-) -> u8 {
+/// Runs the program on its words, the first of which is its name, and gives its exit status: 0 conforming, a certificate, help or the
+/// release; 1 not shown; 2 input refused; 3 out of memory; 4 a file that can't be read or an answer that can't be written; 5 words that
+/// are no request. What ended it before its answer is one line on `err`.
+pub fn run<
+    R: Threads + Wait + Sync,
+    F: CertificateFinder,
+    N: AsStr,
+    S: Source + Growing,
+    O: Sink,
+    E: Sink,
+>(rt: &R, alloc: Global, finder: &F, words: &[N], source: &mut S, out: &mut O, err: &mut E) -> u8 {
     let done = match read_words(alloc, words) {
-        Ok(request) => run_request(rt, alloc, &request, source, out, err),
+        Ok(request) => run_request(rt, alloc, finder, &request, source, out, err),
         Err(error) => Err(Stop::from(error)),
     };
     match done {

@@ -3,6 +3,7 @@
 
 mod host;
 
+use audit_finder::WalkAndPasses;
 use audit_model::{Sink, put_all};
 use audit_program::run;
 use host::{HostFiles, HostStream};
@@ -40,7 +41,15 @@ fn main(rt: HostRuntime) -> ExitCode {
     let mut err = HostStream::new(rt.stderr());
     let status = match words_of(&rt) {
         Ok(words) => match HostFiles::new(&rt) {
-            Ok(mut files) => run(&rt, alloc, &words, &mut files, &mut out, &mut err),
+            Ok(mut files) => run(
+                &rt,
+                alloc,
+                &WalkAndPasses,
+                &words,
+                &mut files,
+                &mut out,
+                &mut err,
+            ),
             Err(_) => refuse_memory(&mut err),
         },
         Err(error) => refuse_words(&mut err, &error),

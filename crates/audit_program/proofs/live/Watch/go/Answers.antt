@@ -28,12 +28,12 @@ returns g c = record {
         | else-turns-test w ↦
             left_following c.in_ok-advance.field-0 policy users count now c.advance.new.self.live
             (c.in_ok-advance.ensures.left policy users count now
-            (goes_same policy users count (g.S.Growing.given c.turns.source) now c.turns.self.live c.turns-test.self.live (ap (λ s. g.S.Growing.given s) w.source-is) (ap (λ (a : Watch). a.live) w.self-is)
+            (goes_same policy users count (g.S.Growing.given c.turns.source) now c.turns.self.live c.turns-test.self.live (ap (λ s. g.S.Growing.given s) w.source-is) (ap (λ (a : Watch _). a.live) w.self-is)
             (c.turns.invariant.goes policy users count goes)))
         | then-turns-test+in_ok-now+in-Some+then-idle-turns w ↦
             left_following c.in_ok-advance.field-0 policy users count now c.advance.new.self.live
             (c.in_ok-advance.ensures.left policy users count now
-            (goes_same policy users count (g.S.Growing.given w.turn_on.new.source) now w.turn_on.new.self.live c.turns-test.self.live (ap (λ s. g.S.Growing.given s) w.source-is) (ap (λ (a : Watch). a.live) w.self-is)
+            (goes_same policy users count (g.S.Growing.given w.turn_on.new.source) now w.turn_on.new.self.live c.turns-test.self.live (ap (λ s. g.S.Growing.given s) w.source-is) (ap (λ (a : Watch _). a.live) w.self-is)
             (subst (λ (o : Option ℕ). IfSome o (λ _. Goes policy users count (g.S.Growing.given w.turn_on.new.source) w.turn_on.new.self.live)) w.in-Some.is
             (w.in_ok-now.ensures.goes policy users count (c.turns.invariant.goes policy users count goes)))))
       ];

@@ -1,0 +1,58 @@
+//! The finder of the program.
+
+use crate::finder::Finder;
+use crate::finding::{find, find_parallel};
+use crate::walking::find_once;
+use audit_finding::{CertificateFinder, ExtensionFinder, FoundOnce};
+use audit_keys::Credentials;
+use audit_model::{Certificate, Extension};
+use audit_sightings::Intake;
+use std::alloc::{AllocError, Global};
+use std::thread::Threads;
+
+/// Finds certificates by one walk over the sightings, or in passes over all of them.
+#[derive(Clone, Copy, Debug)]
+pub struct WalkAndPasses;
+
+impl CertificateFinder for WalkAndPasses {
+    type Extending = Finder;
+
+    fn find_once(
+        &self,
+        alloc: Global,
+        intake: &Intake,
+        credentials: &Credentials,
+    ) -> Result<FoundOnce, AllocError> {
+        find_once(alloc, intake, credentials)
+    }
+
+    /// With one worker on the caller's thread alone.
+    fn find<R: Threads + Sync>(
+        &self,
+        rt: &R,
+        alloc: Global,
+        intake: &Intake,
+        credentials: &Credentials,
+        workers: u32,
+    ) -> Result<Certificate, AllocError> {
+        if workers == 1 {
+            return find(alloc, intake, credentials);
+        }
+        find_parallel(rt, alloc, intake, credentials, workers)
+    }
+
+    fn extending(&self, alloc: Global) -> Finder {
+        Finder::new(alloc)
+    }
+}
+
+impl ExtensionFinder for Finder {
+    fn extend(
+        &mut self,
+        intake: &Intake,
+        credentials: &Credentials,
+        horizon: u64,
+    ) -> Result<Extension, AllocError> {
+        Finder::extend(self, intake, credentials, horizon)
+    }
+}
