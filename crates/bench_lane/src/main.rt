@@ -1,4 +1,5 @@
-//! How long the lanes of a certificate take to be judged: `rt run -- POLICY CREDS CERTIFICATE CAPTURE..`. Without them it prints nothing.
+//! How long the parts of an audit by a certificate take, one after the other: placement, the job of the lanes, and the lanes' judgement.
+//! `rt run -- POLICY CREDS CERTIFICATE CAPTURE..`; without these words it prints nothing.
 #![tactic(auto)]
 
 use audit_cert::read;
@@ -19,6 +20,15 @@ use std::{env, fs, io};
 struct Judged {
     events: usize,
     passed: u32,
+}
+
+/// What the lanes came to, and how many nanoseconds each part took.
+#[derive(Clone, Copy)]
+struct Timed {
+    judged: Judged,
+    placement: u64,
+    job: u64,
+    lanes: u64,
 }
 
 /// Judges each lane of the job.
@@ -62,24 +72,30 @@ fn taken_in<R: AllocGlobal + Files>(
     Ok(Some(intake))
 }
 
-/// How many nanoseconds the job of the lanes took to make, and how many it took to judge it; none where a rule of placement is broken.
-fn timed<R: Clock>(
+/// What the lanes came to, and the times of the parts; none where a rule of placement is broken.
+fn measured<R: Clock>(
     rt: &R,
     alloc: Global,
     intake: &Intake,
     credentials: &Credentials,
     certificate: &Certificate,
-) -> io::Result<Option<(u64, u64, Judged)>> {
+) -> io::Result<Option<Timed>> {
+    let start = Instant::now(rt)?;
     let Ok(placement) = placed(alloc, intake, certificate)? else {
         return Ok(None);
     };
+    let placement_took = nanoseconds(start.elapsed(rt)?);
     let start = Instant::now(rt)?;
     let job = job(alloc, intake, credentials, certificate, &placement)?;
-    let made = nanoseconds(start.elapsed(rt)?);
+    let job_took = nanoseconds(start.elapsed(rt)?);
     let start = Instant::now(rt)?;
     let judged = judge_lanes(alloc, &job)?;
-    let took = nanoseconds(start.elapsed(rt)?);
-    Ok(Some((made, took, judged)))
+    Ok(Some(Timed {
+        judged,
+        placement: placement_took,
+        job: job_took,
+        lanes: nanoseconds(start.elapsed(rt)?),
+    }))
 }
 
 /// The three texts of these names, read; none where one of them is refused.
@@ -106,7 +122,7 @@ fn times_of<R: AllocGlobal + Files + Clock>(
     rt: &R,
     alloc: Global,
     words: &[String],
-) -> io::Result<Option<(u64, u64, Judged)>> {
+) -> io::Result<Option<Timed>> {
     let [_, policy, credentials, certificate, captures @ ..] = words else {
         return Ok(None);
     };
@@ -115,7 +131,7 @@ fn times_of<R: AllocGlobal + Files + Clock>(
         return Ok(None);
     };
     match taken_in(rt, alloc, policy, captures)? {
-        Some(intake) => timed(rt, alloc, &intake, &credentials, &certificate),
+        Some(intake) => measured(rt, alloc, &intake, &credentials, &certificate),
         None => Ok(None),
     }
 }
@@ -126,12 +142,20 @@ fn main(rt: HostRuntime) -> io::Result<()> {
     for word in env::args(&rt)? {
         words.push(word)?;
     }
-    let Some((made, took, judged)) = times_of(&rt, alloc, &words)? else {
+    let Some(timed) = times_of(&rt, alloc, &words)? else {
         return Ok(());
     };
+    let Timed {
+        judged,
+        placement,
+        job,
+        lanes,
+    } = timed;
     let Judged { events, passed } = judged;
-    let each = took / (events as u64).max(1);
+    let count = (events as u64).max(1);
+    let each_placed = placement / count;
+    let each_judged = lanes / count;
     println!(rt;
-        "{passed} lanes passed, {events} events: {made} ns to make the job, {took} ns to judge it, {each} ns an event"
+        "{passed} lanes passed, {events} events: {placement} ns to place them, {each_placed} ns an event; {job} ns to make the job; {lanes} ns to judge it, {each_judged} ns an event"
     )
 }

@@ -1,3 +1,0 @@
-pub mod Datagrams
-pub mod Captures
-pub mod Certificates
