@@ -16,6 +16,3 @@ pub use fault::{CertFault, CertFaultKind};
 pub use parallel::write_parallel;
 pub use reading::{CertificateReader, read};
 pub use writing::write;
-
-#[cfg(test)]
-mod tests;

@@ -3,10 +3,6 @@
 
 mod lease;
 mod leases;
-#[cfg(test)]
-mod tests;
-#[cfg(test)]
-mod usage;
 
 pub use lease::Lease;
 pub use leases::{ExactKey, Leases};

@@ -12,8 +12,6 @@ mod keys;
 pub mod laws;
 mod long_term;
 mod reading;
-#[cfg(test)]
-mod tests;
 
 pub use cred_fault::{CredFault, CredFaultKind};
 pub use hmac::{hmac_sha1, hmac_sha256};

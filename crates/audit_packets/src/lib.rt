@@ -6,8 +6,6 @@ mod ethernet;
 mod ipv4;
 mod numbers;
 mod seen;
-#[cfg(test)]
-mod tests;
 mod udp;
 
 pub use datagrams::{datagram, slice_datagram};

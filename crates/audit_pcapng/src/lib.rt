@@ -19,8 +19,3 @@ pub use fault::CaptureFault;
 pub use laws::{faults_of_blocks, kept_by_longer_texts, one_reading, options_as_spelled};
 pub use packet::{Packet, PacketSlice};
 pub use reader::BlockReader;
-
-#[cfg(test)]
-mod fault_tests;
-#[cfg(test)]
-mod tests;

@@ -4,6 +4,7 @@ ghost use Rattle.std.specs.Prelude.{◌≡◌};
 ghost use Rattle.audit_placement.specs.Entries.{at_of};
 
 use audit_model::{At, Certificate, Event, Key, Pair};
+use std::mem::size_of;
 
 /// The end of a lane, or of the drops, behind which an event stands.
 #[derive(Clone, Copy, Debug)]
@@ -33,6 +34,8 @@ pub enum Spot {
     InLane { lane: u32, place: u32 },
     Dropped { place: u32 },
 }
+
+const _: () = prove!(size_of::<Spot>() == 12);
 
 /// Where the certificate's event or drop at the spot stands, with its key.
 pub fn at_spot(certificate: &Certificate, spot: Spot) -> Option<At>

@@ -10,6 +10,7 @@ use crate::table::Table;
 use audit_model::{Key, SightId};
 use audit_sightings::Intake;
 use std::alloc::{AllocError, Global};
+use std::mem::size_of;
 
 /// The key at which a sighting is placed, in 16 bytes.
 #[derive(Clone, Copy, Debug)]
@@ -17,6 +18,8 @@ pub enum PlacedKey {
     Nowhere,
     At { tie: u32, moment: u64 },
 }
+
+const _: () = prove!(size_of::<PlacedKey>() == 16);
 
 impl PlacedKey {
     fn key(self) -> Option<Key>

@@ -13,8 +13,6 @@ mod places;
 mod single;
 mod table;
 mod taking;
-#[cfg(test)]
-mod tests;
 mod unplaced;
 mod whole;
 

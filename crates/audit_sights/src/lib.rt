@@ -4,9 +4,5 @@
 mod interface;
 mod map;
 mod rising;
-#[cfg(test)]
-mod tests;
-#[cfg(test)]
-mod usage;
 
 pub use map::SightMap;

@@ -11,11 +11,7 @@ mod messages;
 pub mod numbers;
 mod parse;
 mod peers;
-#[cfg(test)]
-mod tests;
 mod transport;
-#[cfg(test)]
-mod vectors;
 
 pub use channel::channel_data;
 pub use class::Class;

@@ -4,7 +4,5 @@
 mod first;
 mod hold;
 mod kept;
-#[cfg(test)]
-mod tests;
 
 pub use first::clash;

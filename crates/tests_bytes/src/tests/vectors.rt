@@ -1,12 +1,12 @@
 //! The test vectors of RFC 5769.
 
-use super::*;
-use crate::numbers::attribute::*;
 use audit_model::Addr;
-use std::test::*;
+use audit_stun::numbers::attribute::*;
+use audit_stun::{Class, address, message, numbers};
+use std::test::Fail;
 
 /// Section 2.1.
-const SAMPLE_REQUEST: [u8; 108] = [
+static SAMPLE_REQUEST: [u8; 108] = [
     0x00, 0x01, 0x00, 0x58, // Binding request
     0x21, 0x12, 0xa4, 0x42, // magic cookie
     0xb7, 0xe7, 0xa7, 0x01, 0xbc, 0x34, 0xd6, 0x86, 0xfa, 0x87, 0xdf, 0xae, // transaction id
@@ -27,7 +27,7 @@ const SAMPLE_REQUEST: [u8; 108] = [
 ];
 
 /// Section 2.2.
-const IPV4_RESPONSE: [u8; 80] = [
+static IPV4_RESPONSE: [u8; 80] = [
     0x01, 0x01, 0x00, 0x3c, // Binding success
     0x21, 0x12, 0xa4, 0x42, // magic cookie
     0xb7, 0xe7, 0xa7, 0x01, 0xbc, 0x34, 0xd6, 0x86, 0xfa, 0x87, 0xdf, 0xae, // transaction id
@@ -43,7 +43,7 @@ const IPV4_RESPONSE: [u8; 80] = [
 ];
 
 /// Section 2.4.
-const LONG_TERM_REQUEST: [u8; 116] = [
+pub static LONG_TERM_REQUEST: [u8; 116] = [
     0x00, 0x01, 0x00, 0x60, // Binding request
     0x21, 0x12, 0xa4, 0x42, // magic cookie
     0x78, 0xad, 0x34, 0x33, 0xc6, 0xad, 0x72, 0xc0, 0x29, 0xda, 0x41, 0x2e, // transaction id

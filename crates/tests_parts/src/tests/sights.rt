@@ -1,7 +1,11 @@
-use super::*;
-use crate::usage::{Seen, note};
+//! Values of sightings.
+
+mod usage;
+
 use audit_model::SightId;
+use audit_sights::SightMap;
 use std::test::Fail;
+use usage::{Seen, note};
 
 fn sight(iface: u32, index: u32) -> SightId {
     SightId { iface, index }
@@ -21,13 +25,17 @@ fn finds_what_rose_and_what_did_not(rt: HostRuntime) -> Result<(), Fail> {
     for index in 13..30 {
         assert_eq!(rt; map.get(sight(64, index)), Some(u64::from(index)));
     }
-    assert_eq!(rt; map.get(sight(64, 12)), Some(8));
-    assert_eq!(rt; map.get(sight(64, 4)), Some(9));
-    assert_eq!(rt; map.get(sight(64, 2)), Some(2));
-    assert_eq!(rt; map.get(sight(0, 20)), Some(7));
-    assert_eq!(rt; map.get(sight(64, 3)), None);
-    assert_eq!(rt; map.get(sight(64, 30)), None);
-    assert_eq!(rt; map.get(sight(1, 20)), None);
+    for (iface, index, wanted) in [
+        (64, 12, Some(8)),
+        (64, 4, Some(9)),
+        (64, 2, Some(2)),
+        (0, 20, Some(7)),
+        (64, 3, None),
+        (64, 30, None),
+        (1, 20, None),
+    ] {
+        assert_eq!(rt; map.get(sight(iface, index)), wanted, "{iface}.{index}");
+    }
     Ok(())
 }
 

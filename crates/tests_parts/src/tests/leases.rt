@@ -1,4 +1,8 @@
-use super::*;
+//! Leases, and tables of them.
+
+mod usage;
+
+use audit_expiry::{Lease, Leases};
 use std::alloc::{AllocError, Global};
 use std::process::Abort;
 use std::test::Fail;

@@ -4,10 +4,10 @@ ghost use Rattle.std.specs.Prelude.{◌≡◌, None, Some, OnOk, OnErr, if◌the
 ghost use Rattle.audit_model.specs.declared.sighting.SightId.{SightId};
 ghost use Rattle.audit_model.specs.Sames.{same_sight};
 ghost use Rattle.audit_sights.specs.Found.{found};
-ghost use Rattle.audit_sights.specs.declared.usage.Seen.{Seen as Noted};
+ghost use Rattle.tests_parts.specs.declared.tests.sights.usage.Seen.{Seen as Noted};
 
-use crate::SightMap;
 use audit_model::SightId;
+use audit_sights::SightMap;
 use std::alloc::AllocError;
 
 #[derive(Clone, Copy, Debug, PartialEq, Eq)]

@@ -1,5 +1,7 @@
-use super::clash;
+//! Relayed addresses that two clients hold at once.
+
 use audit_model::{Addr, At, Breach, Key, Rule, SightId, Tenancy};
+use audit_tenancy::clash;
 use std::alloc::Global;
 use std::test::Fail;
 

@@ -1,9 +1,10 @@
 //! Certificates read and written, and what goes wrong.
 
-use crate::{CertFaultKind, read, write, write_parallel};
+use audit_cert::{CertFaultKind, read, write, write_parallel};
 use audit_model::{Sink, SinkFailed, WriteFault};
 use std::alloc::{AllocError, Global};
-use std::test::*;
+use std::process::Abort;
+use std::test::Fail;
 
 /// Of a Binding transaction.
 const BINDING: &[u8; 124] = b"turnaudit-certificate 1
@@ -83,18 +84,29 @@ fn through(
     Ok((written, sink))
 }
 
+/// That a text which is read and written to a sink with that much room gives that much of itself.
+fn assert_written(
+    rt: &(impl Abort + AllocGlobal),
+    text: &[u8],
+    room: usize,
+    wanted: Result<(), WriteFault>,
+) -> Result<(), Fail> {
+    let (written, sink) = through(rt.alloc(), text, room)?;
+    let taken = text.get(..room).unwrap_or(text);
+    assert_eq!(rt;
+        (written, sink.bytes.as_slice(), sink.has_failed),
+        (wanted, taken, wanted.is_err()),
+        "room for {room} bytes"
+    );
+    Ok(())
+}
+
 #[test]
 fn written_as_it_was_read(rt: HostRuntime) -> Result<(), Fail> {
     for text in [BINDING.as_slice(), DROPPED.as_slice(), CUT.as_slice()] {
-        let (written, sink) = through(rt.alloc(), text, text.len())?;
-        assert_eq!(rt; written, Ok(()));
-        assert_eq!(rt; sink.bytes.as_slice(), text);
-        assert!(rt; !sink.has_failed);
+        assert_written(&rt, text, text.len(), Ok(()))?;
         for room in 0..text.len() {
-            let (written, sink) = through(rt.alloc(), text, room)?;
-            assert_eq!(rt; written, Err(WriteFault::Device));
-            assert_eq!(rt; sink.bytes.as_slice(), &text[..room]);
-            assert!(rt; sink.has_failed);
+            assert_written(&rt, text, room, Err(WriteFault::Device))?;
         }
     }
     Ok(())
@@ -131,72 +143,76 @@ fn written_by_many_threads(rt: HostRuntime) -> Result<(), Fail> {
     Ok(())
 }
 
-/// The fault of a text after the heading, with its line.
-fn fault_of(rt: &HostRuntime, text: &[u8]) -> Option<(CertFaultKind, u64)> {
-    match read(rt.alloc(), text) {
-        Ok(_) => None,
-        Err(fault) => Some((fault.kind, fault.line)),
-    }
+/// Texts, and the first fault of each with its line.
+static FAULTS: [(&[u8], CertFaultKind, u64); 17] = [
+    (b"", CertFaultKind::Heading, 1),
+    (b"turnaudit-certificate 1", CertFaultKind::Heading, 1),
+    (b"turnaudit-certificate 1\n", CertFaultKind::EndMissing, 2),
+    (b"turnaudit-certificate 1\nend", CertFaultKind::Line, 2),
+    (b"turnaudit-certificate 1\nend\n\n", CertFaultKind::Line, 3),
+    (
+        b"turnaudit-certificate 1\nin 0.0 1 0\nend\n",
+        CertFaultKind::Line,
+        2,
+    ),
+    (
+        b"turnaudit-certificate 1\nlane 1.2.3.4:5 6.7.8.9:1\nin 0.0 01 0\nend\n",
+        CertFaultKind::Number,
+        3,
+    ),
+    (
+        b"turnaudit-certificate 1\nlane 1.2.3.4:5 6.7.8.9:1\nlane 1.2.3.4:5 6.7.8.9:1\nend\n",
+        CertFaultKind::LaneDouble,
+        3,
+    ),
+    (
+        b"turnaudit-certificate 1\ndrop 0.0 1 0\nlane 1.2.3.4:5 6.7.8.9:1\nend\n",
+        CertFaultKind::Line,
+        3,
+    ),
+    (
+        b"turnaudit-certificate 1\nskew 0 1\nend\n",
+        CertFaultKind::Line,
+        2,
+    ),
+    (b"turnaudit-certificate 2\n", CertFaultKind::EndMissing, 2),
+    (b"turnaudit-certificate 2\nend\n", CertFaultKind::Line, 2),
+    (
+        b"turnaudit-certificate 2\nskew 0 1\ndrop 0.0 1 0\nskew 1 1\nend\n",
+        CertFaultKind::Line,
+        4,
+    ),
+    (
+        b"turnaudit-certificate 2\nskew 0 1\nskew 0 01\nend\n",
+        CertFaultKind::Number,
+        3,
+    ),
+    (
+        b"turnaudit-certificate 2\nskew 4294967296 1\nend\n",
+        CertFaultKind::Number,
+        2,
+    ),
+    (
+        b"turnaudit-certificate 2\nskew 1 1\nskew 1 1\nend\n",
+        CertFaultKind::SkewOrder,
+        3,
+    ),
+    (b"turnaudit-certificate 3\n", CertFaultKind::Heading, 1),
+];
+
+/// The fault of a text, with its line.
+fn fault_of(alloc: Global, text: &[u8]) -> Option<(CertFaultKind, u64)> {
+    let fault = read(alloc, text).err()?;
+    Some((fault.kind, fault.line))
 }
 
 #[test]
 fn first_fault(rt: HostRuntime) {
-    let cases: [(&[u8], CertFaultKind, u64); 17] = [
-        (b"", CertFaultKind::Heading, 1),
-        (b"turnaudit-certificate 1", CertFaultKind::Heading, 1),
-        (b"turnaudit-certificate 1\n", CertFaultKind::EndMissing, 2),
-        (b"turnaudit-certificate 1\nend", CertFaultKind::Line, 2),
-        (b"turnaudit-certificate 1\nend\n\n", CertFaultKind::Line, 3),
-        (
-            b"turnaudit-certificate 1\nin 0.0 1 0\nend\n",
-            CertFaultKind::Line,
-            2,
-        ),
-        (
-            b"turnaudit-certificate 1\nlane 1.2.3.4:5 6.7.8.9:1\nin 0.0 01 0\nend\n",
-            CertFaultKind::Number,
-            3,
-        ),
-        (
-            b"turnaudit-certificate 1\nlane 1.2.3.4:5 6.7.8.9:1\nlane 1.2.3.4:5 6.7.8.9:1\nend\n",
-            CertFaultKind::LaneDouble,
-            3,
-        ),
-        (
-            b"turnaudit-certificate 1\ndrop 0.0 1 0\nlane 1.2.3.4:5 6.7.8.9:1\nend\n",
-            CertFaultKind::Line,
-            3,
-        ),
-        (
-            b"turnaudit-certificate 1\nskew 0 1\nend\n",
-            CertFaultKind::Line,
-            2,
-        ),
-        (b"turnaudit-certificate 2\n", CertFaultKind::EndMissing, 2),
-        (b"turnaudit-certificate 2\nend\n", CertFaultKind::Line, 2),
-        (
-            b"turnaudit-certificate 2\nskew 0 1\ndrop 0.0 1 0\nskew 1 1\nend\n",
-            CertFaultKind::Line,
-            4,
-        ),
-        (
-            b"turnaudit-certificate 2\nskew 0 1\nskew 0 01\nend\n",
-            CertFaultKind::Number,
-            3,
-        ),
-        (
-            b"turnaudit-certificate 2\nskew 4294967296 1\nend\n",
-            CertFaultKind::Number,
-            2,
-        ),
-        (
-            b"turnaudit-certificate 2\nskew 1 1\nskew 1 1\nend\n",
-            CertFaultKind::SkewOrder,
-            3,
-        ),
-        (b"turnaudit-certificate 3\n", CertFaultKind::Heading, 1),
-    ];
-    for (text, kind, line) in cases {
-        assert_eq!(rt; fault_of(&rt, text), Some((kind, line)));
+    for (text, kind, line) in &FAULTS {
+        assert_eq!(rt;
+            fault_of(rt.alloc(), text),
+            Some((*kind, *line)),
+            "{text:?}"
+        );
     }
 }

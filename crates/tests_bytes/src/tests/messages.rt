@@ -1,18 +1,20 @@
-use super::*;
-use crate::numbers::attribute::*;
-use crate::numbers::method;
+//! Messages and ChannelData of stored runs, and what their bytes say.
+
 use audit_model::Addr;
-use std::test::*;
+use audit_stun::numbers::attribute::*;
+use audit_stun::numbers::method;
+use audit_stun::{Class, address, channel_data, error_code, message, numbers};
+use std::test::Fail;
 
 /// The Binding request of a stored run, at field boundaries.
-const REQUEST: [u8; 20] = [
+static REQUEST: [u8; 20] = [
     0x00, 0x01, 0x00, 0x00, // Binding request, no attributes
     0x21, 0x12, 0xA4, 0x42, // magic cookie
     0, 1, 2, 3, 4, 5, 6, 7, 8, 9, 10, 11, // transaction id
 ];
 
 /// Its success, with the mapped address 198.51.100.7:40000.
-const SUCCESS: [u8; 32] = [
+static SUCCESS: [u8; 32] = [
     0x01, 0x01, 0x00, 0x0C, // Binding success, twelve bytes of attributes
     0x21, 0x12, 0xA4, 0x42, // magic cookie
     0, 1, 2, 3, 4, 5, 6, 7, 8, 9, 10, 11, // transaction id
@@ -85,7 +87,7 @@ fn payloads_that_are_no_message(rt: HostRuntime) {
 
 /// A Send indication with two peers and, behind MESSAGE-INTEGRITY, what counts there and what does
 /// not.
-const AFTER_INTEGRITY: [u8; 92] = [
+static AFTER_INTEGRITY: [u8; 92] = [
     0x00, 0x16, 0x00, 0x48, // Send indication
     0x21, 0x12, 0xA4, 0x42, // magic cookie
     0, 0, 0, 0, 0, 0, 0, 0, 0, 0, 0, 1, // transaction id
@@ -126,7 +128,7 @@ fn what_counts(rt: HostRuntime) -> Result<(), Fail> {
 }
 
 /// A request with PASSWORD-ALGORITHM whose MESSAGE-INTEGRITY-SHA256 stands in front.
-const AFTER_SHA256: [u8; 60] = [
+static AFTER_SHA256: [u8; 60] = [
     0x00, 0x03, 0x00, 0x28, // Allocate request
     0x21, 0x12, 0xA4, 0x42, // magic cookie
     0, 0, 0, 0, 0, 0, 0, 0, 0, 0, 0, 1, // transaction id

@@ -1,8 +1,10 @@
-use super::*;
+//! Frames, and the datagrams that they hold.
+
 use audit_model::{Addr, Listed};
+use audit_packets::{Seen, datagram};
 use audit_pcapng::Packet;
 use std::alloc::{AllocError, Global};
-use std::test::*;
+use std::test::Fail;
 
 /// A Binding request from 198.51.100.7:40000 to 192.0.2.1:3478, as a frame in its parts.
 const ADDRESSES: [u8; 12] = [2, 0, 0, 0, 0, 1, 2, 0, 0, 0, 0, 2];
@@ -80,20 +82,44 @@ fn is_seen(
     holds(alloc, &parts, 0, DATAGRAM)
 }
 
+/// The header with four bytes of options.
+const WITH_OPTIONS: [u8; 20] = [
+    0x46, 0, 0, 0x34, 0, 0, 0, 0, 0x40, 17, 0, 0, 198, 51, 100, 7, 192, 0, 2, 1,
+];
+
+/// Tags, a header, its options and padding, and whether the datagram is seen.
+static WHOLE: [(&[u8], &[u8], &[u8], &[u8], bool); 7] = [
+    (&[], &HEADER, &[], &[], true),
+    (&[0x81, 0x00, 0, 5], &HEADER, &[], &[], true),
+    (&[0x88, 0xA8, 0, 9], &HEADER, &[], &[], true),
+    (
+        &[0x88, 0xA8, 0, 9, 0x81, 0x00, 0, 5],
+        &HEADER,
+        &[],
+        &[],
+        true,
+    ),
+    (
+        &[0x88, 0xA8, 0, 9, 0x81, 0x00, 0, 5, 0x81, 0x00, 0, 6],
+        &HEADER,
+        &[],
+        &[],
+        false,
+    ),
+    (&[], &WITH_OPTIONS, &[1; 4], &[], true),
+    (&[], &HEADER, &[], &[7; 6], true),
+];
+
 #[test]
 fn whole_datagrams(rt: HostRuntime) -> Result<(), Fail> {
-    let mut with_options = HEADER;
-    with_options[0] = 0x46;
-    with_options[3] = 0x34;
-    let two_tags = [0x88, 0xA8, 0, 9, 0x81, 0x00, 0, 5];
-    let three_tags = [0x88, 0xA8, 0, 9, 0x81, 0x00, 0, 5, 0x81, 0x00, 0, 6];
-    assert!(rt; is_seen(rt.alloc(), &[], &HEADER, &[], &[])?);
-    assert!(rt; is_seen(rt.alloc(), &[0x81, 0x00, 0, 5], &HEADER, &[], &[])?);
-    assert!(rt; is_seen(rt.alloc(), &[0x88, 0xA8, 0, 9], &HEADER, &[], &[])?);
-    assert!(rt; is_seen(rt.alloc(), &two_tags, &HEADER, &[], &[])?);
-    assert!(rt; !is_seen(rt.alloc(), &three_tags, &HEADER, &[], &[])?);
-    assert!(rt; is_seen(rt.alloc(), &[], &with_options, &[1; 4], &[])?);
-    assert!(rt; is_seen(rt.alloc(), &[], &HEADER, &[], &[7; 6])?);
+    for (tags, header, options, padding, wanted) in &WHOLE {
+        let seen = is_seen(rt.alloc(), tags, header, options, padding)?;
+        assert_eq!(rt;
+            seen,
+            *wanted,
+            "tags {tags:?}, header {header:?}, padding {padding:?}"
+        );
+    }
     Ok(())
 }
 

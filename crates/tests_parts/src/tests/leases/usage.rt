@@ -4,9 +4,9 @@ ghost use Rattle.std.specs.Prelude.{◌≡◌, ◌≢◌, ℕ, Some, None, OnOk,
 ghost use Rattle.std.specs.Ordering.{nat_cmp};
 ghost use Rattle.audit_model.specs.Window.{later};
 ghost use Rattle.audit_expiry.specs.Leases.{value_at};
-ghost use Rattle.audit_expiry.specs.declared.usage.Held.{Held};
+ghost use Rattle.tests_parts.specs.declared.tests.leases.usage.Held.{Held};
 
-use crate::{Lease, Leases};
+use audit_expiry::{Lease, Leases};
 use std::alloc::AllocError;
 
 #[derive(Clone, Copy)]

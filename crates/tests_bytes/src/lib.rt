@@ -1,0 +1,5 @@
+//! Tests of the crates that read bytes: captures, frames, STUN messages, credentials and keys.
+#![tactic(auto)]
+
+#[cfg(test)]
+mod tests;

@@ -1,0 +1,10 @@
+//! Bytes of the standards and of stored runs, and what they say.
+
+mod capture_faults;
+mod captures;
+mod credentials;
+mod frames;
+mod keys;
+mod messages;
+mod signed;
+mod vectors;
