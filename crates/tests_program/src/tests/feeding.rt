@@ -1,11 +1,10 @@
 //! Many datagrams by one feed.
 
-use super::POLICY;
-use super::captures::{Parts, binding_capture, binding_parts};
 use audit_model::read_policy;
 use audit_sightings::{Intake, IntakeFault, IntakeFaultKind, Side, SightId};
 use std::alloc::{AllocError, Global};
 use std::test::Fail;
+use tests_host::{POLICY, Parts, binding_capture, binding_parts};
 
 /// Where the Binding capture's packets begin, and where the second of them does.
 const PACKETS: usize = 48;

@@ -1,79 +1,47 @@
 //! Captures that are judged while they grow.
 
-use super::captures::{SECTION, binding_capture, binding_parts};
-use super::memory::{Answer, Files, ask};
-use super::{CERTIFICATE, CONFORMING, POLICY};
-use std::process::Abort;
-use std::sync::Wait;
+use super::rows::{
+    CERTIFICATE, CHECKED, CONFORMING, NO_REQUEST, OTHER_ADDRESS, Row, Sample, play, play_over,
+};
 use std::test::Fail;
-use std::thread::Threads;
+use tests_host::{Files, PLENTY, POLICY, Told, ask};
 
-const LIVE: [&str; 5] = ["turnaudit", "live", "--policy", "policy", "capture"];
+const TORN: Told<'static> = Told {
+    status: 2,
+    out: Some(""),
+    err: Some("turnaudit: refused C1 in capture 0\n"),
+};
 
-const PATIENT: [&str; 7] = [
-    "turnaudit",
-    "live",
-    "--policy",
-    "policy",
-    "--idle",
-    "2",
-    "capture",
-];
+const REFUSED: Told<'static> = Told {
+    status: 2,
+    out: Some(""),
+    err: Some("turnaudit: refused C5 in capture 0\n"),
+};
 
-/// That the capture, given in these turns, is answered by this status, report and line.
-fn assert_live<'a>(
-    rt: &(impl Abort + AllocGlobal + Threads + Wait + Sync),
-    words: &[&str],
-    capture: &'a [u8],
-    turns: &'a [usize],
-    expected: (u8, &str, &str),
-) -> Result<(), Fail> {
-    let mut files = Files::new(POLICY, CERTIFICATE, capture);
-    files.turns = turns;
-    let Answer { status, out, err } = ask(rt, rt.alloc(), words, &mut files)?;
-    let (code, report, line) = expected;
-    assert_eq!(rt; err.as_slice(), line.as_bytes());
-    assert_eq!(rt; out.as_slice(), report.as_bytes());
-    assert_eq!(rt; status, code);
-    Ok(())
-}
+/// The Binding capture, judged while it grows.
+const LIVE: Row<'static> = Row {
+    name: "a_capture_that_grows_is_judged",
+    words: &["turnaudit", "live", "--policy", "policy", "capture"],
+    ..CHECKED
+};
 
-const TORN: (u8, &str, &str) = (2, "", "turnaudit: refused C1 in capture 0\n");
+/// The same, with a turn without bytes that is waited for.
+const PATIENT: Row<'static> = Row {
+    words: &[
+        "turnaudit",
+        "live",
+        "--policy",
+        "policy",
+        "--idle",
+        "2",
+        "capture",
+    ],
+    ..LIVE
+};
 
-#[test]
-fn a_capture_that_grows_is_judged(rt: HostRuntime) -> Result<(), Fail> {
-    let capture = binding_capture(rt.alloc(), &binding_parts())?;
-    assert_live(&rt, &LIVE, &capture, &[], (0, CONFORMING, ""))?;
-    assert_live(&rt, &LIVE, &capture, &[251, 1], (0, CONFORMING, ""))?;
-    assert_live(&rt, &LIVE, &capture, &[100, 0, 152], TORN)?;
-    assert_live(&rt, &PATIENT, &capture, &[100, 0, 152], (0, CONFORMING, ""))?;
-    assert_live(&rt, &PATIENT, &capture, &[100, 0, 0, 152], TORN)?;
-    // Cut at each place, with a turn without bytes between.
-    for first in 1..capture.len() {
-        assert_live(&rt, &PATIENT, &capture, &[first, 0], (0, CONFORMING, ""))?;
-    }
-    Ok(())
-}
-
-const OTHER_ADDRESS: (u8, &str, &str) = (
-    1,
-    "turnaudit-report 1\nnot shown\nrule R17 mapped address\nphase 2 lane 0 event 1 moment 1000000 tie 1\ndatagram 0.0 198.51.100.7:40000 to 192.0.2.1:3478 20 bytes\n",
-    "",
-);
-
-#[test]
-fn the_first_breach_is_told(rt: HostRuntime) -> Result<(), Fail> {
-    let mut parts = binding_parts();
-    parts.mapped_port = [0xbd, 0x53];
-    let capture = binding_capture(rt.alloc(), &parts)?;
-    assert_live(&rt, &LIVE, &capture, &[], OTHER_ADDRESS)?;
-    assert_live(&rt, &LIVE, &capture, &[144, 60], OTHER_ADDRESS)
-}
-
-#[test]
-fn turns_are_counted(rt: HostRuntime) -> Result<(), Fail> {
-    let capture = binding_capture(rt.alloc(), &binding_parts())?;
-    let words = [
+const TWO_TURNS: Row<'static> = Row {
+    name: "turns_are_counted",
+    words: &[
         "turnaudit",
         "live",
         "--policy",
@@ -81,96 +49,168 @@ fn turns_are_counted(rt: HostRuntime) -> Result<(), Fail> {
         "--turns",
         "2",
         "capture",
-    ];
-    assert_live(&rt, &words, &capture, &[251, 1], (0, CONFORMING, ""))?;
-    assert_live(&rt, &words, &capture, &[250, 1, 1], TORN)?;
+    ],
+    ..LIVE
+};
+
+static GROWING: [Row<'static>; 9] = [
+    LIVE,
+    Row {
+        turns: &[251, 1],
+        ..LIVE
+    },
+    Row {
+        turns: &[100, 0, 152],
+        told: TORN,
+        ..LIVE
+    },
+    Row {
+        turns: &[100, 0, 152],
+        ..PATIENT
+    },
+    Row {
+        turns: &[100, 0, 0, 152],
+        told: TORN,
+        ..PATIENT
+    },
+    Row {
+        name: "the_first_breach_is_told",
+        capture: Sample::OtherPort,
+        told: OTHER_ADDRESS,
+        ..LIVE
+    },
+    Row {
+        name: "the_first_breach_is_told",
+        capture: Sample::OtherPort,
+        turns: &[144, 60],
+        told: OTHER_ADDRESS,
+        ..LIVE
+    },
+    Row {
+        turns: &[251, 1],
+        ..TWO_TURNS
+    },
+    Row {
+        turns: &[250, 1, 1],
+        told: TORN,
+        ..TWO_TURNS
+    },
+];
+
+#[test]
+fn captures_that_grow_are_judged(rt: HostRuntime) -> Result<(), Fail> {
+    play(&rt, &GROWING)
+}
+
+#[test]
+fn a_capture_may_be_cut_at_each_place_by_a_turn_without_bytes(rt: HostRuntime) -> Result<(), Fail> {
+    let capture = PATIENT.capture.bytes(rt.alloc())?;
+    for first in 1..capture.len() {
+        let turns = &[first, 0];
+        play_over(&rt, &Row { turns, ..PATIENT }, &capture)?;
+    }
+    Ok(())
+}
+
+#[test]
+fn pauses_are_counted(rt: HostRuntime) -> Result<(), Fail> {
+    let alloc = rt.alloc();
+    let capture = PATIENT.capture.bytes(alloc)?;
     let mut files = Files::new(POLICY, CERTIFICATE, &capture);
     files.turns = &[100, 0, 152, 0];
-    ask(&rt, rt.alloc(), &PATIENT, &mut files)?;
+    ask(&rt, alloc, PATIENT.words, &mut files, PLENTY)?;
     // After the second turn, and after the fourth.
     assert_eq!(rt; files.pauses, 2);
     Ok(())
 }
 
-#[test]
-fn what_is_no_capture_is_refused(rt: HostRuntime) -> Result<(), Fail> {
-    let alloc = rt.alloc();
-    assert_live(
-        &rt,
-        &LIVE,
-        &[],
-        &[],
-        (2, "", "turnaudit: refused C5 in capture 0\n"),
-    )?;
-    assert_live(
-        &rt,
-        &LIVE,
-        &[7; 40],
-        &[3],
-        (2, "", "turnaudit: refused C5 in capture 0\n"),
-    )?;
-    let absent = ["turnaudit", "live", "--policy", "policy", "nowhere"];
-    assert_live(&rt, &absent, &[], &[], (4, "", "turnaudit: read failed\n"))?;
-    // The second capture is refused in the first turn, the first one in the second turn.
-    let mut files = Files::new(POLICY, CERTIFICATE, &SECTION);
-    files.second = &[7; 40];
-    files.turns = &[28];
-    let words = [
-        "turnaudit",
-        "live",
-        "--policy",
-        "policy",
-        "capture",
-        "second",
-    ];
-    let answer = ask(&rt, alloc, &words, &mut files)?;
-    assert_eq!(rt;
-        answer.err.as_slice(),
-        b"turnaudit: refused C5 in capture 1\n".as_slice()
-    );
-    Ok(())
-}
-
-/// That a number of turns is no request.
-fn assert_refused(
-    rt: &(impl Abort + AllocGlobal + Threads + Wait + Sync),
-    option: &str,
-    number: &str,
-) -> Result<(), Fail> {
-    let words = [
-        "turnaudit",
-        "live",
-        "--policy",
-        "policy",
-        option,
-        number,
-        "capture",
-    ];
-    let mut files = Files::new(POLICY, CERTIFICATE, &SECTION);
-    let answer = ask(rt, rt.alloc(), &words, &mut files)?;
-    assert_eq!(rt; answer.status, 5);
-    Ok(())
-}
-
-#[test]
-fn numbers_of_turns_are_1_to_1000000(rt: HostRuntime) -> Result<(), Fail> {
-    for number in ["0", "1000001", "x"] {
-        assert_refused(&rt, "--idle", number)?;
-        assert_refused(&rt, "--turns", number)?;
-    }
-    let capture = binding_capture(rt.alloc(), &binding_parts())?;
-    // The capture is given within the first turn.
-    for (option, number) in [("--idle", "1"), ("--turns", "1"), ("--turns", "1000000")] {
-        let words = [
+static NO_CAPTURES: [Row<'static>; 4] = [
+    Row {
+        name: "what_is_no_capture_is_refused, without bytes",
+        capture: Sample::Nothing,
+        told: REFUSED,
+        ..LIVE
+    },
+    Row {
+        name: "what_is_no_capture_is_refused, other bytes",
+        capture: Sample::Noise,
+        turns: &[3],
+        told: REFUSED,
+        ..LIVE
+    },
+    Row {
+        name: "what_is_no_capture_is_refused, a file that is not there",
+        words: &["turnaudit", "live", "--policy", "policy", "nowhere"],
+        capture: Sample::Nothing,
+        told: Told {
+            status: 4,
+            out: Some(""),
+            err: Some("turnaudit: read failed\n"),
+        },
+        ..LIVE
+    },
+    Row {
+        name: "what_is_no_capture_is_refused, the second in the first turn and the first in the second turn",
+        words: &[
             "turnaudit",
             "live",
             "--policy",
             "policy",
-            option,
-            number,
             "capture",
-        ];
-        assert_live(&rt, &words, &capture, &[], (0, CONFORMING, ""))?;
-    }
-    Ok(())
+            "second",
+        ],
+        capture: Sample::Section,
+        second: &[7; 40],
+        turns: &[28],
+        told: Told {
+            status: 2,
+            out: Some(""),
+            err: Some("turnaudit: refused C5 in capture 1\n"),
+        },
+        ..LIVE
+    },
+];
+
+#[test]
+fn what_is_no_capture_is_refused(rt: HostRuntime) -> Result<(), Fail> {
+    play(&rt, &NO_CAPTURES)
+}
+
+/// An option with a number of turns.
+macro_rules! with {
+    ($option:literal, $number:literal, $capture:expr, $told:expr) => {
+        Row {
+            name: concat!($option, " ", $number),
+            words: &[
+                "turnaudit",
+                "live",
+                "--policy",
+                "policy",
+                $option,
+                $number,
+                "capture",
+            ],
+            capture: $capture,
+            told: $told,
+            ..LIVE
+        }
+    };
+}
+
+/// Of the last three the capture is given within the first turn.
+static NUMBERS: [Row<'static>; 9] = [
+    with!("--idle", "0", Sample::Section, NO_REQUEST),
+    with!("--turns", "0", Sample::Section, NO_REQUEST),
+    with!("--idle", "1000001", Sample::Section, NO_REQUEST),
+    with!("--turns", "1000001", Sample::Section, NO_REQUEST),
+    with!("--idle", "x", Sample::Section, NO_REQUEST),
+    with!("--turns", "x", Sample::Section, NO_REQUEST),
+    with!("--idle", "1", Sample::Binding, CONFORMING),
+    with!("--turns", "1", Sample::Binding, CONFORMING),
+    with!("--turns", "1000000", Sample::Binding, CONFORMING),
+];
+
+#[test]
+fn numbers_of_turns_are_1_to_1000000(rt: HostRuntime) -> Result<(), Fail> {
+    play(&rt, &NUMBERS)
 }

@@ -1,81 +1,117 @@
 //! Words that ask for no audit: none, wrong ones, help and the release.
 
-use super::captures::SECTION;
-use super::memory::{Files, ask};
-use super::{CERTIFICATE, POLICY};
+use super::rows::{CHECKED, NO_REQUEST, Row, Sample, answer_over, play};
 use std::test::Fail;
+use tests_host::{SECTION, Told};
 
-const RELEASE: &str = "turnaudit 0.1.0, proved with rattle-kit-13f logic dac8208d650f15bf\n";
+const RELEASE: &str = "turnaudit 0.1.0, proved with rattle-kit-13b logic dac8208d650f15bf\n";
+
+const WITHOUT_POLICY: Row<'static> = Row {
+    name: "wrong_words_are_no_request, without a policy",
+    words: &["turnaudit", "check", "--cert", "cert", "capture"],
+    capture: Sample::Section,
+    told: NO_REQUEST,
+    ..CHECKED
+};
+
+const HELPED: Told<'static> = Told {
+    status: 0,
+    out: None,
+    err: Some(""),
+};
+
+static WORDS: [Row<'static>; 4] = [
+    WITHOUT_POLICY,
+    Row {
+        name: "wrong_words_are_no_request, an unknown option",
+        words: &[
+            "turnaudit",
+            "check",
+            "--policy",
+            "policy",
+            "--cert",
+            "cert",
+            "--fast",
+            "capture",
+        ],
+        ..WITHOUT_POLICY
+    },
+    Row {
+        name: "wrong_words_are_no_request, help",
+        words: &["turnaudit", "check", "--help"],
+        told: HELPED,
+        ..WITHOUT_POLICY
+    },
+    Row {
+        name: "the_release_is_one_line",
+        words: &["turnaudit", "--version"],
+        told: Told {
+            status: 0,
+            out: Some(RELEASE),
+            err: Some(""),
+        },
+        ..WITHOUT_POLICY
+    },
+];
 
 #[test]
-fn wrong_words_are_no_request(rt: HostRuntime) -> Result<(), Fail> {
-    let alloc = rt.alloc();
-    let mut files = Files::new(POLICY, CERTIFICATE, &SECTION);
-    let without_policy = ["turnaudit", "check", "--cert", "cert", "capture"];
-    let answer = ask(&rt, alloc, &without_policy, &mut files)?;
-    assert_eq!(rt; answer.status, 5);
-    assert_eq!(rt; answer.out.len(), 0);
-    let unknown = [
-        "turnaudit",
-        "check",
-        "--policy",
-        "policy",
-        "--cert",
-        "cert",
-        "--fast",
-        "capture",
-    ];
-    let answer = ask(&rt, alloc, &unknown, &mut files)?;
-    assert_eq!(rt; answer.status, 5);
-    let help = ask(&rt, alloc, &["turnaudit", "check", "--help"], &mut files)?;
-    assert_eq!(rt; help.status, 0);
-    assert_eq!(rt; help.err.len(), 0);
-    Ok(())
+fn words_are_answered(rt: HostRuntime) -> Result<(), Fail> {
+    play(&rt, &WORDS)
 }
+
+static HELP: Row<'static> = Row {
+    words: &["turnaudit", "--help"],
+    ..WITHOUT_POLICY
+};
+
+static NO_WORDS: Row<'static> = Row {
+    name: "no_words_tell_the_commands",
+    words: &["turnaudit"],
+    ..WITHOUT_POLICY
+};
 
 #[test]
 fn no_words_tell_the_commands(rt: HostRuntime) -> Result<(), Fail> {
-    let alloc = rt.alloc();
-    let mut files = Files::new(POLICY, CERTIFICATE, &SECTION);
-    let answer = ask(&rt, alloc, &["turnaudit"], &mut files)?;
-    assert_eq!(rt; answer.status, 5);
-    assert_eq!(rt; answer.out.len(), 0);
-    let help = ask(&rt, alloc, &["turnaudit", "--help"], &mut files)?;
-    assert_eq!(rt; help.status, 0);
-    assert_eq!(rt; answer.err, help.out);
+    let help = answer_over(&rt, &HELP, &SECTION)?;
+    let answer = answer_over(&rt, &NO_WORDS, &SECTION)?;
+    assert_eq!(rt;
+        (help.status, answer.status, answer.out.len(), &answer.err),
+        (0, 5, 0, &help.out)
+    );
     Ok(())
 }
 
-#[test]
-fn the_release_is_one_line(rt: HostRuntime) -> Result<(), Fail> {
-    let alloc = rt.alloc();
-    let mut files = Files::new(POLICY, CERTIFICATE, &SECTION);
-    let answer = ask(&rt, alloc, &["turnaudit", "--version"], &mut files)?;
-    assert_eq!(rt; answer.status, 0);
-    assert_eq!(rt; answer.err.len(), 0);
-    assert_eq!(rt; answer.out.as_slice(), RELEASE.as_bytes());
-    Ok(())
-}
-
-#[test]
-fn workers_are_1_to_256(rt: HostRuntime) -> Result<(), Fail> {
-    let alloc = rt.alloc();
-    let mut files = Files::new(POLICY, CERTIFICATE, &SECTION);
-    for command in ["audit", "find"] {
-        for count in ["0", "257", "-1", "two"] {
-            let words = [
+/// A number of workers that there can't be.
+macro_rules! workers {
+    ($command:literal, $count:literal) => {
+        Row {
+            name: concat!($command, " with ", $count, " workers"),
+            words: &[
                 "turnaudit",
-                command,
+                $command,
                 "--policy",
                 "policy",
                 "--workers",
-                count,
+                $count,
                 "capture",
-            ];
-            let answer = ask(&rt, alloc, &words, &mut files)?;
-            assert_eq!(rt; answer.status, 5, "{count}");
-            assert_eq!(rt; answer.out.len(), 0);
+            ],
+            ..WITHOUT_POLICY
         }
-    }
-    Ok(())
+    };
+}
+
+static WORKERS: [Row<'static>; 8] = [
+    workers!("audit", "0"),
+    workers!("audit", "257"),
+    workers!("audit", "-1"),
+    workers!("audit", "two"),
+    workers!("find", "0"),
+    workers!("find", "257"),
+    workers!("find", "-1"),
+    workers!("find", "two"),
+];
+
+#[test]
+fn workers_are_1_to_256(rt: HostRuntime) -> Result<(), Fail> {
+    play(&rt, &WORKERS)
 }

@@ -1,11 +1,7 @@
-//! Files and streams in memory.
+//! Files in memory.
 
 use audit_files::{ReadFailed, Source};
-use audit_model::{Sink, SinkFailed};
-use audit_program::{Growing, run};
-use std::alloc::{AllocError, Global};
-use std::sync::Wait;
-use std::thread::Threads;
+use audit_program::Growing;
 
 /// The files of a run.
 #[derive(Drop)]
@@ -104,75 +100,4 @@ impl Growing for Files<'_> {
     fn pause(&mut self) {
         self.pauses = self.pauses.saturating_add(1);
     }
-}
-
-/// A stream that keeps what it takes, and fails once it has no room.
-#[derive(Drop)]
-struct Stream {
-    bytes: Vec<u8>,
-    room: usize,
-}
-
-impl Sink for Stream {
-    ghost use Rattle.std.specs.Prelude.{Some, None};
-
-    ghost taken = { λ stream. Some stream.bytes.items };
-
-    ghost failures = { λ _. None };
-
-    fn put(&mut self, piece: &[u8]) -> Result<usize, SinkFailed> {
-        let count = piece.len().min(self.room);
-        if count == 0 && !piece.is_empty() {
-            return Err(SinkFailed);
-        }
-        match self.bytes.extend_from_slice(&piece[..count]) {
-            Ok(()) => {
-                self.room -= count;
-                Ok(count)
-            }
-            Err(_) => Err(SinkFailed),
-        }
-    }
-}
-
-/// What a run answers.
-#[derive(Drop)]
-pub struct Answer {
-    pub status: u8,
-    pub out: Vec<u8>,
-    pub err: Vec<u8>,
-}
-
-/// Runs the program on the words.
-pub fn ask(
-    rt: &(impl Threads + Wait + Sync),
-    alloc: Global,
-    words: &[&str],
-    files: &mut Files<'_>,
-) -> Result<Answer, AllocError> {
-    ask_within(rt, alloc, words, files, 1_000_000)
-}
-
-/// Runs the program on the words, with room for so many bytes on standard output.
-pub fn ask_within(
-    rt: &(impl Threads + Wait + Sync),
-    alloc: Global,
-    words: &[&str],
-    files: &mut Files<'_>,
-    room: usize,
-) -> Result<Answer, AllocError> {
-    let mut out = Stream {
-        bytes: Vec::new(alloc),
-        room,
-    };
-    let mut err = Stream {
-        bytes: Vec::new(alloc),
-        room: 1_000_000,
-    };
-    let status = run(rt, alloc, words, files, &mut out, &mut err);
-    Ok(Answer {
-        status,
-        out: out.bytes,
-        err: err.bytes,
-    })
 }

@@ -1,44 +1,66 @@
 //! What is left of a lane's table where memory is refused. Memory is plenty in a run of the tests: under `rt try --test --fail-alloc N` the Nth
 //! allocation is refused, and then this test must fail by an error and by no assertion.
 
-use super::POLICY;
-use super::messages::{REALM, USER, send, user_key};
-use super::sessions::{CLIENT, LISTEN, Session};
-use audit_keys::{Keys, long_term_key_sha256};
+use super::datagrams::{CLIENT, Datagram, LISTEN, PEER, Step};
+use super::messages::{BY_USER, PASSWORD, Part, Payload, SIGNED, THE_REALM, USER};
+use super::openings::{ALLOCATED, OF_PEER, PERMIT_SUCCESS};
+use super::rows::{Row, SESSION};
+use audit_keys::{Keys, long_term_key, long_term_key_sha256};
 use audit_model::{Addr, At, Key, Policy, Rule, SightId, Tenancy, read_policy};
 use audit_rules::{ActFault, CredRow, LaneTable, act};
-use audit_samples::BuildFault;
+use audit_samples::{Class, attribute, method};
 use audit_sightings::Intake;
 use std::alloc::Global;
 use std::test::Fail;
+use tests_host::POLICY;
 
-const PEERS: [Addr; 3] = [
-    Addr {
-        ip: 0xCB00_7109,
-        port: 7000,
-    },
-    Addr {
-        ip: 0xCB00_710A,
-        port: 7000,
-    },
-    Addr {
-        ip: 0xCB00_710B,
-        port: 7000,
-    },
-];
+const SECOND_PEER: Addr = Addr {
+    ip: 0xCB00_710A,
+    ..PEER
+};
 
-/// An allocation, a CreatePermission for the peers, and a Send to each of them.
-fn sent_to_each(alloc: Global) -> Result<Session, BuildFault> {
-    let mut session = Session::new(alloc)?;
-    session.allocate(600)?;
-    session.permit(&PEERS)?;
-    for peer in PEERS {
-        let indication = send(alloc, session.transaction(), peer, b"hello")?;
-        session.from_client(1_030_000, &indication)?;
-        session.to_peer(1_030_100, peer, b"hello")?;
-    }
-    Ok(session)
+const THIRD_PEER: Addr = Addr {
+    ip: 0xCB00_710B,
+    ..PEER
+};
+
+/// A Send of `hello` to a peer, relayed.
+macro_rules! sent_to {
+    ($peer:expr) => {
+        Step::Exchange(
+            Datagram::FromClient(1_030_000, Payload::Send($peer, b"hello")),
+            Datagram::ToPeer(1_030_100, $peer, b"hello"),
+        )
+    };
 }
+
+/// An allocation, a CreatePermission for three peers, and a Send to each of them.
+static SENT_TO_EACH: Row = Row {
+    steps: &[
+        ALLOCATED,
+        Step::Exchange(
+            Datagram::FromClient(
+                1_020_000,
+                Payload::Message(
+                    Class::Request,
+                    method::CREATE_PERMISSION,
+                    &[
+                        OF_PEER,
+                        Part::Address(attribute::XOR_PEER_ADDRESS, SECOND_PEER),
+                        Part::Address(attribute::XOR_PEER_ADDRESS, THIRD_PEER),
+                        BY_USER,
+                        SIGNED,
+                    ],
+                ),
+            ),
+            Datagram::ToClient(1_021_000, PERMIT_SUCCESS),
+        ),
+        sent_to!(PEER),
+        sent_to!(SECOND_PEER),
+        sent_to!(THIRD_PEER),
+    ],
+    ..SESSION
+};
 
 /// The act that answers the datagram of this number by the one after it.
 fn answered(
@@ -58,10 +80,10 @@ fn answered(
     };
     let users = [CredRow {
         user: USER,
-        realm: REALM,
+        realm: THE_REALM,
         key: Keys {
-            md5: user_key(),
-            sha256: long_term_key_sha256(USER, REALM, b"pass"),
+            md5: long_term_key(USER, THE_REALM, PASSWORD),
+            sha256: long_term_key_sha256(USER, THE_REALM, PASSWORD),
         },
     }];
     let at = At {
@@ -78,11 +100,11 @@ fn answered(
 #[test]
 fn three_peers_are_permitted_or_none(rt: HostRuntime) -> Result<(), Fail> {
     let alloc = rt.alloc();
-    let session = sent_to_each(alloc)?;
+    let session = SENT_TO_EACH.build(alloc)?;
     let policy = read_policy(alloc, POLICY.as_bytes())?;
     let mut intake = Intake::new(alloc, read_policy(alloc, POLICY.as_bytes())?);
     let file = intake.add_file()?;
-    intake.feed(file, session.captured())?;
+    intake.feed(file, session.first())?;
     let mut table = LaneTable::new(0, CLIENT, LISTEN);
     answered(alloc, &intake, &policy, &mut table, 0)?;
     let refusal = answered(alloc, &intake, &policy, &mut table, 2).err();

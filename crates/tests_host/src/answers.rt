@@ -1,0 +1,97 @@
+//! Streams in memory, and what a run of the program writes to them.
+
+use crate::files::Files;
+use audit_finder::WalkAndPasses;
+use audit_model::{Sink, SinkFailed};
+use audit_program::run;
+use std::alloc::{AllocError, Global};
+use std::sync::Wait;
+use std::thread::Threads;
+
+/// Room for whatever the program writes.
+pub const PLENTY: usize = 1_000_000;
+
+/// A stream that keeps what it takes, and fails once it has no room.
+#[derive(Drop)]
+struct Stream {
+    bytes: Vec<u8>,
+    room: usize,
+}
+
+impl Sink for Stream {
+    ghost use Rattle.std.specs.Prelude.{Some, None};
+
+    ghost taken = { λ stream. Some stream.bytes.items };
+
+    ghost failures = { λ _. None };
+
+    fn put(&mut self, piece: &[u8]) -> Result<usize, SinkFailed> {
+        let count = piece.len().min(self.room);
+        if count == 0 && !piece.is_empty() {
+            return Err(SinkFailed);
+        }
+        match self.bytes.extend_from_slice(&piece[..count]) {
+            Ok(()) => {
+                self.room -= count;
+                Ok(count)
+            }
+            Err(_) => Err(SinkFailed),
+        }
+    }
+}
+
+/// What a run answers.
+#[derive(Drop)]
+pub struct Answer {
+    pub status: u8,
+    pub out: Vec<u8>,
+    pub err: Vec<u8>,
+}
+
+/// Runs the program on the words, with room for so many bytes on standard output.
+pub fn ask(
+    rt: &(impl Threads + Wait + Sync),
+    alloc: Global,
+    words: &[&str],
+    files: &mut Files<'_>,
+    room: usize,
+) -> Result<Answer, AllocError> {
+    let mut out = Stream {
+        bytes: Vec::new(alloc),
+        room,
+    };
+    let mut err = Stream {
+        bytes: Vec::new(alloc),
+        room: PLENTY,
+    };
+    let status = run(rt, alloc, &WalkAndPasses, words, files, &mut out, &mut err);
+    Ok(Answer {
+        status,
+        out: out.bytes,
+        err: err.bytes,
+    })
+}
+
+/// What a run answers, as text. What is None of it is not compared.
+#[derive(Clone, Copy, Debug, PartialEq, Eq)]
+pub struct Told<'a> {
+    pub status: u8,
+    pub out: Option<&'a str>,
+    pub err: Option<&'a str>,
+}
+
+impl Answer {
+    /// What was answered, of each stream where the other one tells of it.
+    pub fn told_like(&self, expected: &Told<'_>) -> Told<'_> {
+        Told {
+            status: self.status,
+            out: expected.out.map(|_| text_of(&self.out)),
+            err: expected.err.map(|_| text_of(&self.err)),
+        }
+    }
+}
+
+/// What a stream was given.
+pub fn text_of(bytes: &[u8]) -> &str {
+    str::from_utf8(bytes).unwrap_or("no text")
+}

@@ -1,0 +1,13 @@
+//! A host in memory for the crates of tests above: files and streams, and the program run over them. Nothing else calls this.
+#![tactic(auto)]
+
+mod answers;
+mod binding;
+mod files;
+
+pub use answers::{Answer, PLENTY, Told, ask, text_of};
+pub use binding::{Parts, SECTION, binding_capture, binding_parts};
+pub use files::Files;
+
+/// A policy of one listen address and the relayed addresses above it.
+pub const POLICY: &str = "turnaudit-policy 1\nlisten 192.0.2.1:3478\nrelay 192.0.2.1:49152-65535\n";
