@@ -2,9 +2,9 @@
 
 ghost use Rattle.std.specs.Prelude.{◌≡◌};
 
-use super::lanes::{breach_of, finding, intake, is_of_lane, job};
+use super::lanes::{BREACH_OF_0, finding, intake, is_of_lane, job};
 use audit_book::{Audit, Book, BookFault, EnterFault, Receipt, Seat, View};
-use audit_lane::{Finding, Job};
+use audit_lane::Job;
 use std::alloc::Global;
 use std::marker::Brand;
 use std::process::Abort;
@@ -12,182 +12,246 @@ use std::sync::ledger::Blank;
 use std::sync::{Arc, Wait};
 use std::test::Fail;
 
-/// The receipt of a finding that is entered.
-pub fn entered<'a, E: Audit, R: Wait>(
-    rt: &R,
-    book: &Book<'a, E>,
-    seat: &mut Seat<E>,
-    finding: Finding<'a>,
-) -> Result<Receipt, Fail> {
-    match book.enter(rt, seat, finding) {
-        Ok(receipt) => Ok(receipt),
-        Err(_) => Err(Fail::new("the finding is not entered")),
-    }
+/// What a seat does.
+#[derive(Clone, Copy)]
+pub enum Deed {
+    Claim,
+    /// Enters what a lane of the book shows.
+    Enter(u32),
+    /// Enters what a lane of another client shows.
+    EnterStranger(u32),
+    Look,
 }
 
-/// A finding that is given back, and why.
-fn refused<'a, E: Audit, R: Wait>(
-    rt: &R,
-    book: &Book<'a, E>,
-    seat: &mut Seat<E>,
-    finding: Finding<'a>,
-) -> Result<(Finding<'a>, EnterFault), Fail> {
-    match book.enter(rt, seat, finding) {
-        Ok(_) => Err(Fail::new("the finding is entered")),
-        Err(refused) => Ok(refused),
-    }
+/// What comes of it.
+#[derive(Clone, Copy, Debug, PartialEq, Eq)]
+pub enum Told {
+    Claimed(u32),
+    AllClaimed,
+    Entered(Receipt),
+    /// A finding is given back, and why.
+    Refused(EnterFault),
+    /// Another finding is given back than was to be entered.
+    Mixed,
+    Seen(View),
+    Astray,
 }
 
-fn claims<E: Audit, R: Wait + Abort>(
+/// A finding of a job's lane is entered, or given back.
+fn told_of_entry<'a, E: Audit, R: Wait>(
     rt: &R,
     alloc: Global,
-    job: Arc<Job<'_>>,
+    book: &Book<'a, E>,
+    seat: &mut Seat<E>,
+    job: &Job<'a>,
+    lane: u32,
+) -> Result<Told, Fail> {
+    Ok(match book.enter(rt, seat, finding(alloc, job, lane)?) {
+        Ok(receipt) => Told::Entered(receipt),
+        Err((back, fault)) if is_of_lane(&back, job, lane) => Told::Refused(fault),
+        Err(_) => Told::Mixed,
+    })
+}
+
+/// The book's own job, and that of another client.
+#[derive(Clone, Copy)]
+pub struct Jobs<'r, 'a> {
+    pub own: &'r Job<'a>,
+    pub other: &'r Job<'a>,
+}
+
+fn told_of<'a, E: Audit, R: Wait>(
+    rt: &R,
+    alloc: Global,
+    book: &Book<'a, E>,
+    seat: &mut Seat<E>,
+    jobs: Jobs<'_, 'a>,
+    deed: Deed,
+) -> Result<Told, Fail> {
+    Ok(match deed {
+        Deed::Claim => match book.claim(rt, seat) {
+            Some(lane) => Told::Claimed(lane),
+            None => Told::AllClaimed,
+        },
+        Deed::Enter(lane) => told_of_entry(rt, alloc, book, seat, jobs.own, lane)?,
+        Deed::EnterStranger(lane) => told_of_entry(rt, alloc, book, seat, jobs.other, lane)?,
+        Deed::Look => match book.look(rt, seat) {
+            Ok(view) => Told::Seen(view),
+            Err(_) => Told::Astray,
+        },
+    })
+}
+
+/// A book of two seats, with both.
+#[derive(Drop)]
+pub struct Opened<'a, E: Audit> {
+    pub book: Book<'a, E>,
+    pub first: Seat<E>,
+    pub second: Seat<E>,
+}
+
+pub fn open_two_seats<'a, E: Audit>(
+    alloc: Global,
+    job: &Arc<Job<'a>>,
     blank: Blank,
-) -> Result<(), Fail>
+) -> Result<Opened<'a, E>, Fail>
     requires blank { (blank.name ≡ E.name) × (blank.parts ≡ E.parts) × (E.parts ≡ 2) }
-    requires named { E.inputs ≡ job.value }
+    requires named { E.inputs ≡ job.now.value }
 {
-    let (book, mut seats) = Book::<E>::open(alloc, job, 2, blank)?;
-    let mut second = seats.pop().ok_or("seat 1")?;
-    let mut first = seats.pop().ok_or("seat 0")?;
-    assert_eq!(rt; book.claim(rt, &mut first), Some(0));
-    assert_eq!(rt; book.claim(rt, &mut second), Some(1));
-    assert_eq!(rt; book.claim(rt, &mut first), None);
+    let (book, mut seats) = Book::<E>::open(alloc, Arc::try_clone(job)?, 2, blank)?;
+    let second = seats.pop().ok_or("seat 1")?;
+    let first = seats.pop().ok_or("seat 0")?;
+    Ok(Opened {
+        book,
+        first,
+        second,
+    })
+}
+
+/// What each of the two seats does, the first where it says so, and what comes of it.
+pub type Step = (bool, Deed, Told);
+
+/// That each step goes as it says.
+pub fn play<'a, E: Audit, R: Wait + Abort>(
+    rt: &R,
+    alloc: Global,
+    opened: &mut Opened<'a, E>,
+    jobs: Jobs<'_, 'a>,
+    steps: &[Step],
+) -> Result<(), Fail> {
+    for (is_first, deed, told) in steps {
+        let answer = if *is_first {
+            told_of(rt, alloc, &opened.book, &mut opened.first, jobs, *deed)?
+        } else {
+            told_of(rt, alloc, &opened.book, &mut opened.second, jobs, *deed)?
+        };
+        assert_eq!(rt; answer, *told);
+    }
     Ok(())
 }
 
-#[test]
-fn lanes_are_claimed_in_order(rt: HostRuntime) -> Result<(), Fail> {
-    let alloc = rt.alloc();
-    let intake = intake(alloc)?;
-    let job = job(alloc, 2, 40000, &[], &intake)?;
-    claims::<Brand, _>(&rt, alloc, job, Blank::new(2))
-}
-
-fn entries<'a, E: Audit, R: Wait + Abort>(
+/// That each step in a new book of the job goes as it says.
+fn play_anew<'a, E: Audit, R: Wait + Abort>(
     rt: &R,
     alloc: Global,
-    job: Arc<Job<'a>>,
-    blank: Blank,
-) -> Result<(), Fail>
-    requires blank { (blank.name ≡ E.name) × (blank.parts ≡ E.parts) × (E.parts ≡ 2) }
-    requires named { E.inputs ≡ job.value }
-{
-    let lanes = Arc::try_clone(&job)?;
-    let (book, mut seats) = Book::<E>::open(alloc, job, 2, blank)?;
-    let mut second = seats.pop().ok_or("seat 1")?;
-    let mut first = seats.pop().ok_or("seat 0")?;
-    let receipt = entered(rt, &book, &mut first, finding(alloc, &lanes, 0)?)?;
-    assert_eq!(rt;
-        receipt,
-        Receipt {
-            lane: 0,
-            place: 0,
-            seat: 0
-        }
-    );
-    let (back, fault) = refused(rt, &book, &mut second, finding(alloc, &lanes, 0)?)?;
-    assert_eq!(rt; fault, EnterFault::Taken(0));
-    assert!(rt; is_of_lane(&back, &lanes, 0));
-    let seen = View {
-        entered: 1,
-        mine: 0,
-        breaches: 0,
-        least: None,
-    };
-    assert_eq!(rt; book.look(rt, &second), Ok(seen));
-    let receipt = entered(rt, &book, &mut second, finding(alloc, &lanes, 1)?)?;
-    assert_eq!(rt;
-        receipt,
-        Receipt {
-            lane: 1,
-            place: 1,
-            seat: 1
-        }
-    );
-    Ok(())
-}
-
-#[test]
-fn a_lane_is_entered_once(rt: HostRuntime) -> Result<(), Fail> {
-    let alloc = rt.alloc();
-    let intake = intake(alloc)?;
-    let job = job(alloc, 2, 40000, &[], &intake)?;
-    entries::<Brand, _>(&rt, alloc, job, Blank::new(2))
-}
-
-fn strangers<'a, E: Audit, R: Wait + Abort>(
-    rt: &R,
-    alloc: Global,
-    job: Arc<Job<'a>>,
+    job: &Arc<Job<'a>>,
     other: &Job<'a>,
     blank: Blank,
+    steps: &[Step],
 ) -> Result<(), Fail>
     requires blank { (blank.name ≡ E.name) × (blank.parts ≡ E.parts) × (E.parts ≡ 2) }
-    requires named { E.inputs ≡ job.value }
+    requires named { E.inputs ≡ job.now.value }
 {
-    let (book, mut seats) = Book::<E>::open(alloc, job, 2, blank)?;
-    let mut seat = seats.pop().ok_or("seat 1")?;
-    let (back, fault) = refused(rt, &book, &mut seat, finding(alloc, other, 0)?)?;
-    assert_eq!(rt; fault, EnterFault::Stranger);
-    assert!(rt; is_of_lane(&back, other, 0));
-    let seen = View {
-        entered: 0,
-        mine: 0,
-        breaches: 0,
-        least: None,
-    };
-    assert_eq!(rt; book.look(rt, &seat), Ok(seen));
-    Ok(())
+    let mut opened = open_two_seats::<E>(alloc, job, blank)?;
+    let jobs = Jobs { own: job, other };
+    play(rt, alloc, &mut opened, jobs, steps)
 }
 
+/// A book in which these lanes are broken, and what is done in it.
+#[derive(Clone, Copy)]
+struct Row<'a> {
+    broken: &'a [u32],
+    steps: &'a [Step],
+}
+
+pub const FIRST_RECEIPT: Receipt = Receipt {
+    lane: 0,
+    place: 0,
+    seat: 0,
+};
+
+pub const SECOND_RECEIPT: Receipt = Receipt {
+    lane: 1,
+    place: 1,
+    seat: 1,
+};
+
+const EMPTY: View = View {
+    entered: 0,
+    mine: 0,
+    breaches: 0,
+    least: None,
+};
+
+static ROWS: [Row<'static>; 4] = [
+    // Lanes are claimed in order.
+    Row {
+        broken: &[],
+        steps: &[
+            (true, Deed::Claim, Told::Claimed(0)),
+            (false, Deed::Claim, Told::Claimed(1)),
+            (true, Deed::Claim, Told::AllClaimed),
+        ],
+    },
+    // A lane is entered once.
+    Row {
+        broken: &[],
+        steps: &[
+            (true, Deed::Enter(0), Told::Entered(FIRST_RECEIPT)),
+            (false, Deed::Enter(0), Told::Refused(EnterFault::Taken(0))),
+            (
+                false,
+                Deed::Look,
+                Told::Seen(View {
+                    entered: 1,
+                    ..EMPTY
+                }),
+            ),
+            (false, Deed::Enter(1), Told::Entered(SECOND_RECEIPT)),
+        ],
+    },
+    // A finding of another client is a stranger.
+    Row {
+        broken: &[],
+        steps: &[
+            (
+                false,
+                Deed::EnterStranger(0),
+                Told::Refused(EnterFault::Stranger),
+            ),
+            (false, Deed::Look, Told::Seen(EMPTY)),
+        ],
+    },
+    // A look shows the breach of a broken lane.
+    Row {
+        broken: &[0],
+        steps: &[
+            (true, Deed::Enter(0), Told::Entered(FIRST_RECEIPT)),
+            (
+                true,
+                Deed::Look,
+                Told::Seen(View {
+                    entered: 1,
+                    mine: 1,
+                    breaches: 1,
+                    least: Some(BREACH_OF_0),
+                }),
+            ),
+            (false, Deed::Enter(1), Told::Entered(SECOND_RECEIPT)),
+            (
+                false,
+                Deed::Look,
+                Told::Seen(View {
+                    entered: 2,
+                    mine: 1,
+                    breaches: 1,
+                    least: Some(BREACH_OF_0),
+                }),
+            ),
+        ],
+    },
+];
+
 #[test]
-fn a_finding_of_another_client_is_a_stranger(rt: HostRuntime) -> Result<(), Fail> {
+fn books_of_two_seats(rt: HostRuntime) -> Result<(), Fail> {
     let alloc = rt.alloc();
     let intake = intake(alloc)?;
-    let of_book = job(alloc, 2, 40000, &[], &intake)?;
     let other = job(alloc, 2, 40001, &[], &intake)?;
-    strangers::<Brand, _>(&rt, alloc, of_book, &other, Blank::new(2))
-}
-
-fn broken<'a, E: Audit, R: Wait + Abort>(
-    rt: &R,
-    alloc: Global,
-    job: Arc<Job<'a>>,
-    blank: Blank,
-) -> Result<(), Fail>
-    requires blank { (blank.name ≡ E.name) × (blank.parts ≡ E.parts) × (E.parts ≡ 2) }
-    requires named { E.inputs ≡ job.value }
-{
-    let lanes = Arc::try_clone(&job)?;
-    let (book, mut seats) = Book::<E>::open(alloc, job, 2, blank)?;
-    let mut second = seats.pop().ok_or("seat 1")?;
-    let mut first = seats.pop().ok_or("seat 0")?;
-    entered(rt, &book, &mut first, finding(alloc, &lanes, 0)?)?;
-    let seen = View {
-        entered: 1,
-        mine: 1,
-        breaches: 1,
-        least: Some(breach_of(0)),
-    };
-    assert_eq!(rt; book.look(rt, &first), Ok(seen));
-    entered(rt, &book, &mut second, finding(alloc, &lanes, 1)?)?;
-    let seen = View {
-        entered: 2,
-        mine: 1,
-        breaches: 1,
-        least: Some(breach_of(0)),
-    };
-    assert_eq!(rt; book.look(rt, &second), Ok(seen));
+    for Row { broken, steps } in &ROWS {
+        let own = job(alloc, 2, 40000, broken, &intake)?;
+        play_anew::<Brand, _>(&rt, alloc, &own, &other, Blank::new(2), steps)?;
+    }
     Ok(())
-}
-
-#[test]
-fn a_look_shows_the_breach_of_a_broken_lane(rt: HostRuntime) -> Result<(), Fail> {
-    let alloc = rt.alloc();
-    let intake = intake(alloc)?;
-    let job = job(alloc, 2, 40000, &[0], &intake)?;
-    broken::<Brand, _>(&rt, alloc, job, Blank::new(2))
 }
 
 #[test]

@@ -2,9 +2,11 @@
 
 ghost use Rattle.std.specs.Prelude.{◌≡◌};
 
-use super::books::entered;
-use super::lanes::{finding, intake, is_of_lane, job};
-use audit_book::{Audit, Book, CloseFault, Closed, Receipt};
+use super::books::{
+    Deed, FIRST_RECEIPT, Jobs, Opened, SECOND_RECEIPT, Step, Told, open_two_seats, play,
+};
+use super::lanes::{intake, is_of_lane, job};
+use audit_book::{Audit, CloseFault, Closed, Receipt};
 use audit_lane::Job;
 use std::alloc::Global;
 use std::marker::Brand;
@@ -13,31 +15,29 @@ use std::sync::ledger::Blank;
 use std::sync::{Arc, Wait};
 use std::test::Fail;
 
-/// The closed book of two lanes, lane 0 entered by seat 0 and lane 1 by seat 1. Before, it isn't closed with seat 0 alone.
-fn closed<'a, E: Audit, R: Wait + Abort>(
-    rt: &R,
-    alloc: Global,
-    job: Arc<Job<'a>>,
-    blank: Blank,
-) -> Result<Closed<'a>, Fail>
-    requires blank { (blank.name ≡ E.name) × (blank.parts ≡ E.parts) × (E.parts ≡ 2) }
-    requires named { E.inputs ≡ job.value }
-{
-    let lanes = Arc::try_clone(&job)?;
-    let (book, mut seats) = Book::<E>::open(alloc, job, 2, blank)?;
-    let mut second = seats.pop().ok_or("seat 1")?;
-    let mut first = seats.pop().ok_or("seat 0")?;
-    book.claim(rt, &mut second).ok_or("lane 0")?;
-    entered(rt, &book, &mut first, finding(alloc, &lanes, 0)?)?;
-    entered(rt, &book, &mut second, finding(alloc, &lanes, 1)?)?;
-    if seats.push(first).is_err() {
-        return Err(Fail::new("memory"));
-    }
-    let Err((book, mut seats, fault)) = book.close(seats) else {
-        return Err(Fail::new("closed without seat 1"));
+/// Lane 0 is claimed by seat 1 and entered by seat 0, and lane 1 is entered by seat 1.
+static STEPS: [Step; 3] = [
+    (false, Deed::Claim, Told::Claimed(0)),
+    (true, Deed::Enter(0), Told::Entered(FIRST_RECEIPT)),
+    (false, Deed::Enter(1), Told::Entered(SECOND_RECEIPT)),
+];
+
+/// The closed book. Before, it isn't closed with seat 0 alone.
+fn closed<'a, E: Audit>(alloc: Global, opened: Opened<'a, E>) -> Result<Closed<'a>, Fail> {
+    let Opened {
+        book,
+        first,
+        second,
+    } = opened;
+    let Err((book, mut seats, CloseFault::SeatMissing)) = book.close(Vec::from_array(
+        alloc,
+        [first],
+    )?) else {
+        return Err(Fail::new("not refused for want of seat 1"));
     };
-    assert_eq!(rt; fault, CloseFault::SeatMissing);
-    assert_eq!(rt; seats.len(), 1);
+    if seats.len() != 1 {
+        return Err(Fail::new("seat 0 is not given back"));
+    }
     if seats.push(second).is_err() {
         return Err(Fail::new("memory"));
     }
@@ -47,30 +47,58 @@ fn closed<'a, E: Audit, R: Wait + Abort>(
     }
 }
 
+/// A new book of the job, closed after these steps.
+fn closed_after<'a, E: Audit, R: Wait + Abort>(
+    rt: &R,
+    alloc: Global,
+    job: &Arc<Job<'a>>,
+    blank: Blank,
+    steps: &[Step],
+) -> Result<Closed<'a>, Fail>
+    requires blank { (blank.name ≡ E.name) × (blank.parts ≡ E.parts) × (E.parts ≡ 2) }
+    requires named { E.inputs ≡ job.now.value }
+{
+    let mut opened = open_two_seats::<E>(alloc, job, blank)?;
+    let jobs = Jobs {
+        own: job,
+        other: job,
+    };
+    play(rt, alloc, &mut opened, jobs, steps)?;
+    closed(alloc, opened)
+}
+
 #[test]
 fn a_book_is_closed_with_all_its_seats(rt: HostRuntime) -> Result<(), Fail> {
     let alloc = rt.alloc();
     let intake = intake(alloc)?;
     let job = job(alloc, 2, 40000, &[], &intake)?;
-    let lanes = Arc::try_clone(&job)?;
-    let closed = closed::<Brand, _>(&rt, alloc, job, Blank::new(2))?;
-    assert_eq!(rt; closed.entries.len(), 2);
-    assert_eq!(rt; closed.seats.as_slice(), [0, 1].as_slice());
-    assert_eq!(rt; closed.claimants.as_slice(), [1].as_slice());
-    for number in [0, 1] {
-        let receipt = Receipt {
-            lane: number,
-            place: number,
-            seat: number,
-        };
-        let entry = closed.at(&receipt).ok_or("an entry at its place")?;
-        assert!(rt; is_of_lane(entry, &lanes, number));
+    let closed = closed_after::<Brand, _>(&rt, alloc, &job, Blank::new(2), &STEPS)?;
+    assert_eq!(rt;
+        (
+            closed.entries.len(),
+            closed.seats.as_slice(),
+            closed.claimants.as_slice()
+        ),
+        (2, [0, 1].as_slice(), [1].as_slice())
+    );
+    for (receipt, is_there) in [
+        (FIRST_RECEIPT, true),
+        (SECOND_RECEIPT, true),
+        (
+            Receipt {
+                place: 1,
+                ..FIRST_RECEIPT
+            },
+            false,
+        ),
+    ] {
+        let entry = closed.at(&receipt);
+        let is_found = entry.is_some_and(|entry| is_of_lane(entry, &job, receipt.lane));
+        assert_eq!(rt;
+            (entry.is_some(), is_found),
+            (is_there, is_there),
+            "{receipt:?}"
+        );
     }
-    let misplaced = Receipt {
-        lane: 0,
-        place: 1,
-        seat: 0,
-    };
-    assert!(rt; closed.at(&misplaced).is_none());
     Ok(())
 }

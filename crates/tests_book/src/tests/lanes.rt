@@ -152,16 +152,23 @@ pub fn is_of_lane(finding: &Finding<'_>, job: &Job<'_>, lane: u32) -> bool {
     lane < job.len() && finding.input().equals(job.input(lane))
 }
 
+/// The breach of lane 0 where that is broken.
+pub const BREACH_OF_0: Breach = Breach {
+    at: At {
+        key: KEY,
+        lane: 0,
+        place: 0,
+    },
+    sight: DEPARTURE,
+    rule: Rule::LeftWithoutAct,
+    phase: 2,
+};
+
 /// The breach of a broken lane.
 pub fn breach_of(lane: u32) -> Breach {
-    Breach {
-        at: At {
-            key: KEY,
-            lane,
-            place: 0,
-        },
-        sight: DEPARTURE,
-        rule: Rule::LeftWithoutAct,
-        phase: 2,
-    }
+    let at = At {
+        lane,
+        ..BREACH_OF_0.at
+    };
+    Breach { at, ..BREACH_OF_0 }
 }

@@ -3,7 +3,6 @@
 
 ghost use Rattle.std.specs.Prelude.{◌≡◌};
 
-use super::books::entered;
 use super::lanes::{finding, intake, is_of_lane, job};
 use audit_book::{Audit, Book, BookFault, EnterFault, Receipt, Seat};
 use audit_lane::{Finding, Job};
@@ -35,7 +34,10 @@ fn entered_again<'a, E: Audit, R: Wait + Abort>(
             assert!(rt; is_of_lane(&back, job, lane));
             assert_eq!(rt; book.look(rt, seat), before);
             assert_eq!(rt; seat.receipts().len(), receipts);
-            entered(rt, book, seat, back)
+            match book.enter(rt, seat, back) {
+                Ok(receipt) => Ok(receipt),
+                Err(_) => Err(Fail::new("the finding is not entered")),
+            }
         }
     }
 }

@@ -5,8 +5,10 @@ ghost use Rattle.std.specs.Prelude.{◌≡◌};
 use super::lanes::{breach_of, finding, intake, is_of_lane, job};
 use audit_book::{Audit, Book, Closed, Receipt, Seat};
 use audit_lane::{Job, Outcome};
+use audit_model::Breach;
 use std::alloc::Global;
 use std::marker::Brand;
+use std::process::Abort;
 use std::sync::ledger::Blank;
 use std::sync::{Arc, Wait};
 use std::test::Fail;
@@ -103,45 +105,55 @@ fn fill<'r, 'a, E: Audit + Send + Sync, R: Threads + Wait + Sync>(
     })
 }
 
+/// That each lane was entered once, and that each seat saw as many entries of its own as it has receipts.
+fn assert_each_once(rt: &impl Abort, filled: &Filled<'_>) {
+    let mut times = [0u32; LANES as usize];
+    for entry in filled.closed.entries.as_slice() {
+        if let Some(times) = times.get_mut(entry.input().number() as usize) {
+            *times = times.saturating_add(1);
+        }
+    }
+    assert_eq!(rt;
+        (filled.closed.entries.len(), times, filled.counts.len()),
+        (40, [1; LANES as usize], 4)
+    );
+    for (mine, receipts) in filled.counts.as_slice() {
+        assert_eq!(rt; *mine as usize, *receipts);
+    }
+}
+
+/// The breach of what stands at the receipt's place, or none, where that is of its lane.
+fn entry_of(filled: &Filled<'_>, job: &Job<'_>, receipt: &Receipt) -> Option<Option<Breach>> {
+    let entry = filled.closed.at(receipt)?;
+    if !is_of_lane(entry, job, receipt.lane) {
+        return None;
+    }
+    match entry.outcome() {
+        Outcome::Broken(breach) => Some(Some(*breach)),
+        Outcome::Passed(_) => Some(None),
+    }
+}
+
+/// That each receipt has its finding at its place.
+fn assert_receipts(rt: &impl Abort, filled: &Filled<'_>, job: &Job<'_>) {
+    assert_eq!(rt; filled.receipts.len(), 40);
+    for receipt in filled.receipts.as_slice() {
+        let breach = if BROKEN.contains(&receipt.lane) {
+            Some(breach_of(receipt.lane))
+        } else {
+            None
+        };
+        assert_eq!(rt; entry_of(filled, job, receipt), Some(breach), "{receipt:?}");
+    }
+}
+
 #[test]
 fn four_threads_enter_each_lane_once(rt: HostRuntime) -> Result<(), Fail> {
     let alloc = rt.alloc();
     let intake = intake(alloc)?;
     let job = job(alloc, LANES, 40000, &BROKEN, &intake)?;
     let filled = fill::<Brand, _>(&rt, alloc, &job, Blank::new(4))?;
-    assert_eq!(rt; filled.closed.entries.len(), 40);
-    let mut times = [0u32; 40];
-    for entry in filled.closed.entries.as_slice() {
-        let lane = entry.input().number() as usize;
-        assert!(rt; lane < 40);
-        times[lane] = times[lane].saturating_add(1);
-    }
-    assert_eq!(rt; times, [1; 40]);
-    assert_eq!(rt; filled.counts.len(), 4);
-    for (mine, receipts) in filled.counts {
-        assert_eq!(rt; mine as usize, receipts);
-    }
-    Ok(())
-}
-
-#[test]
-fn each_receipt_of_four_threads_has_its_finding(rt: HostRuntime) -> Result<(), Fail> {
-    let alloc = rt.alloc();
-    let intake = intake(alloc)?;
-    let job = job(alloc, LANES, 40000, &BROKEN, &intake)?;
-    let filled = fill::<Brand, _>(&rt, alloc, &job, Blank::new(4))?;
-    assert_eq!(rt; filled.receipts.len(), 40);
-    for receipt in filled.receipts {
-        let entry = filled.closed.at(&receipt).ok_or("an entry at its place")?;
-        assert!(rt; is_of_lane(entry, &job, receipt.lane));
-        let is_broken = BROKEN.contains(&receipt.lane);
-        match entry.outcome() {
-            Outcome::Broken(breach) => assert_eq!(rt;
-                (is_broken, *breach),
-                (true, breach_of(receipt.lane))
-            ),
-            Outcome::Passed(_) => assert!(rt; !is_broken),
-        }
-    }
+    assert_each_once(&rt, &filled);
+    assert_receipts(&rt, &filled, &job);
     Ok(())
 }
