@@ -1,0 +1,254 @@
+//! Whether what was captured explains a departure, as far as a fault says.
+
+ghost use Rattle.std.specs.Prelude.{◌≡◌, ◌⊎◌, ◌↔◌, ℕ, IsTrue, Any, Some, None, IfSome};
+ghost use Rattle.audit_model.specs.declared.sighting.Sighting.{Sighting};
+ghost use Rattle.audit_model.specs.declared.sighting.Side.TheVariants as sides;
+ghost use Rattle.audit_sightings.specs.Intake.{taken, sighting_at};
+ghost use Rattle.audit_faults.specs.declared.fault.Fault.{Fault as FaultKind};
+ghost use Rattle.audit_faults.specs.declared.fault.Lease.TheVariants as leases;
+ghost use Rattle.audit_keys.specs.KeyFor.{key_for};
+ghost use Rattle.audit_stun.specs.Message.{IsMessage};
+ghost use Rattle.audit_stun.specs.Parts.{parts_of};
+ghost use Rattle.audit_faults.specs.Asks.{AnswersAnybody, IsByUser, Responds, SentOn, SentInChannel, Told, ToldInChannel};
+ghost use Rattle.audit_faults.specs.Grants.{IsCaptured};
+ghost use Rattle.audit_faults.specs.Explains.{Holds, SentOnHeld, SentInChannelHeld, ToldHeld, ToldInChannelHeld, IsProved, Explains, IsFault, NoneBefore};
+
+use crate::asks::{in_reach, responds, sent_in_channel, sent_on, told, told_in_channel};
+use crate::fault::{Fault, Grant, Lease};
+use crate::grants::has_grant;
+use crate::values::{is_by_user, message_in};
+use audit_keys::Credentials;
+use audit_model::{Addr, Policy, Side, SightId, Sighting};
+use audit_sightings::Intake;
+use audit_stun::Class;
+use audit_stun::numbers::method::BINDING;
+
+/// Whether the client has the lease, where the fault asks about it.
+fn holds(
+    intake: &Intake,
+    fault: Fault,
+    client: Addr,
+    listen: Addr,
+    lease: Lease,
+    asked: &Sighting,
+    given: &Sighting,
+) -> bool
+    ensures { IsTrue result ↔ Holds (taken intake.now) fault client listen lease asked.now given.now }
+{
+    let grant = Grant {
+        client,
+        listen,
+        lease,
+    };
+    match (fault, lease) {
+        (Fault::Unasked, _) => true,
+        (Fault::Unallocated, Lease::Permission { ip: _ }) => true,
+        (Fault::Unallocated, Lease::Channel { number: _, peer: _ }) => true,
+        (Fault::Unpermitted, Lease::Channel { number: _, peer: _ }) => true,
+        _ => has_grant(intake, &grant, asked, given),
+    }
+}
+
+/// A Send indication's data, with an allocation and a permission.
+fn sent_on_held(intake: &Intake, fault: Fault, asked: &Sighting, given: &Sighting) -> bool
+    ensures { IsTrue result ↔ SentOnHeld (taken intake.now) fault asked.now given.now }
+{
+    let relayed = Lease::Allocation {
+        relayed: given.from,
+    };
+    let permission = Lease::Permission { ip: given.to.ip };
+    sent_on(intake.policy(), asked, given)
+        && holds(intake, fault, asked.from, asked.to, relayed, asked, given)
+        && holds(
+            intake, fault, asked.from, asked.to, permission, asked, given,
+        )
+}
+
+/// A client's ChannelData, with an allocation and a channel.
+fn sent_in_channel_held(intake: &Intake, fault: Fault, asked: &Sighting, given: &Sighting) -> bool
+    ensures { IsTrue result ↔ SentInChannelHeld (taken intake.now) fault asked.now given.now }
+{
+    let Some(number) = sent_in_channel(intake.policy(), asked, given) else {
+        return false;
+    };
+    let relayed = Lease::Allocation {
+        relayed: given.from,
+    };
+    let channel = Lease::Channel {
+        number,
+        peer: given.to,
+    };
+    holds(intake, fault, asked.from, asked.to, relayed, asked, given)
+        && holds(intake, fault, asked.from, asked.to, channel, asked, given)
+}
+
+/// A Data indication, with an allocation and a permission.
+fn told_held(intake: &Intake, fault: Fault, asked: &Sighting, given: &Sighting) -> bool
+    ensures { IsTrue result ↔ ToldHeld (taken intake.now) fault asked.now given.now }
+{
+    let relayed = Lease::Allocation { relayed: asked.to };
+    let permission = Lease::Permission { ip: asked.from.ip };
+    told(intake.policy(), asked, given)
+        && holds(intake, fault, given.to, given.from, relayed, asked, given)
+        && holds(
+            intake, fault, given.to, given.from, permission, asked, given,
+        )
+}
+
+/// ChannelData to a client, with an allocation, a permission and a channel.
+fn told_in_channel_held(intake: &Intake, fault: Fault, asked: &Sighting, given: &Sighting) -> bool
+    ensures { IsTrue result ↔ ToldInChannelHeld (taken intake.now) fault asked.now given.now }
+{
+    let Some(number) = told_in_channel(intake.policy(), asked, given) else {
+        return false;
+    };
+    let relayed = Lease::Allocation { relayed: asked.to };
+    let permission = Lease::Permission { ip: asked.from.ip };
+    let channel = Lease::Channel {
+        number,
+        peer: asked.from,
+    };
+    holds(intake, fault, given.to, given.from, relayed, asked, given)
+        && holds(
+            intake, fault, given.to, given.from, permission, asked, given,
+        )
+        && holds(intake, fault, given.to, given.from, channel, asked, given)
+}
+
+/// Whether a response may answer anybody, or its request is a user's.
+fn is_proved(credentials: &Credentials, asked: &[u8], given: &[u8]) -> bool
+    requires asked { IsMessage asked.now (parts_of asked.now) }
+    requires given { IsMessage given.now (parts_of given.now) }
+    ensures { IsTrue result ↔ (AnswersAnybody given.now ⊎ IsByUser (key_for credentials.now) asked.now) }
+{
+    let Some(response) = message_in(given) else {
+        return false;
+    };
+    let Some(request) = message_in(asked) else {
+        return false;
+    };
+    if response.class() == Class::Error || response.method() == BINDING {
+        return true;
+    }
+    is_by_user(credentials, &request)
+}
+
+/// A response to a request, which is a user's where the fault asks about that.
+fn responds_held(
+    policy: &Policy,
+    credentials: &Credentials,
+    fault: Fault,
+    asked: &Sighting,
+    given: &Sighting,
+) -> bool
+    ensures { IsTrue result ↔ (Responds policy.now asked.now given.now × IsProved (key_for credentials.now) fault asked.now given.now) }
+{
+    if !responds(policy, asked, given) {
+        return false;
+    }
+    match fault {
+        Fault::Unasked => true,
+        Fault::Unallocated => true,
+        Fault::Unpermitted => true,
+        Fault::Unbound => true,
+        Fault::Unauthentic => is_proved(
+            credentials,
+            asked.payload.as_slice(),
+            given.payload.as_slice(),
+        ),
+    }
+}
+
+/// Whether it arrived, in time, and asked for the departure with all reasons that the fault asks about.
+fn explains(
+    intake: &Intake,
+    credentials: &Credentials,
+    fault: Fault,
+    asked: &Sighting,
+    given: &Sighting,
+) -> bool
+    ensures { IsTrue result ↔ Explains (taken intake.now) (key_for credentials.now) fault asked.now given.now }
+{
+    if asked.side != Side::Arrives || !in_reach(intake.policy().hold, asked, given) {
+        return false;
+    }
+    responds_held(intake.policy(), credentials, fault, asked, given)
+        || sent_on_held(intake, fault, asked, given)
+        || sent_in_channel_held(intake, fault, asked, given)
+        || told_held(intake, fault, asked, given)
+        || told_in_channel_held(intake, fault, asked, given)
+}
+
+/// Whether one of these sightings explains the departure.
+fn explained_among(
+    intake: &Intake,
+    credentials: &Credentials,
+    sightings: &[Sighting],
+    fault: Fault,
+    given: &Sighting,
+) -> bool
+    ensures { IsTrue result ↔ Any (λ asked. Explains (taken intake.now) (key_for credentials.now) fault asked given.now) sightings.now }
+{
+    'sightings: for asked in sightings {
+        if explains(intake, credentials, fault, asked, given) {
+            return true;
+        }
+    }
+    false
+}
+
+/// Whether something that was captured explains the departure.
+fn is_explained(intake: &Intake, credentials: &Credentials, fault: Fault, given: &Sighting) -> bool
+    ensures { IsTrue result ↔ ((asked : Sighting) × IsCaptured (taken intake.now) asked × Explains (taken intake.now) (key_for credentials.now) fault asked given.now) }
+{
+    'interfaces: for iface in 0..intake.interfaces() {
+        if explained_among(intake, credentials, intake.interface(iface), fault, given) {
+            return true;
+        }
+    }
+    false
+}
+
+/// Whether the departure of that name shows the fault.
+fn is_fault(
+    intake: &Intake,
+    credentials: &Credentials,
+    fault: Fault,
+    sight: SightId,
+    given: &Sighting,
+) -> bool
+    requires there { sighting_at (taken intake.now) sight ≡ Some given.now }
+    requires leaves { given.now.side ≡ sides.Leaves }
+    ensures { IsTrue result ↔ IsFault (taken intake.now) (key_for credentials.now) fault sight }
+{
+    !is_explained(intake, credentials, fault, given)
+}
+
+/// The first fault that a departure shows; none where there is no departure of that name.
+pub fn first_fault(intake: &Intake, credentials: &Credentials, sight: SightId) -> Option<Fault>
+    ensures shown { IfSome result (λ fault. IsFault (taken intake.now) (key_for credentials.now) fault sight) }
+    ensures first { IfSome result (NoneBefore (λ earlier. IsFault (taken intake.now) (key_for credentials.now) earlier sight)) }
+    ensures none { result ≡ None → (fault : FaultKind) → IsFault (taken intake.now) (key_for credentials.now) fault sight → ⊥ }
+{
+    let given = intake.sighting(sight)?;
+    if given.side != Side::Leaves {
+        return None;
+    }
+    // What is explained with all reasons shows none of the faults.
+    if !is_fault(intake, credentials, Fault::Unauthentic, sight, given) {
+        return None;
+    }
+    if is_fault(intake, credentials, Fault::Unasked, sight, given) {
+        return Some(Fault::Unasked);
+    }
+    if is_fault(intake, credentials, Fault::Unallocated, sight, given) {
+        return Some(Fault::Unallocated);
+    }
+    if is_fault(intake, credentials, Fault::Unpermitted, sight, given) {
+        return Some(Fault::Unpermitted);
+    }
+    if is_fault(intake, credentials, Fault::Unbound, sight, given) {
+        return Some(Fault::Unbound);
+    }
+    Some(Fault::Unauthentic)
+}
