@@ -9,34 +9,20 @@ What `rt` prints is shown only where a crate fails.
 import subprocess
 import sys
 import time
-from pathlib import Path
 
-TOP = Path(__file__).resolve().parent.parent
+import crates
+
 PROGRAM = "turnaudit"
 
 
-def crates_below(program):
-    """The program's crates, lowest first, the program at the end."""
-    uses = {}
-    for line in (TOP / "crates.txt").read_text().splitlines():
-        name, _, below = line.partition(":")
-        if name.strip():
-            uses[name.strip()] = below.split()
-    wanted = {program}
-    for name in reversed(uses):
-        if name in wanted:
-            wanted.update(below for below in uses[name] if below in uses)
-    return [name for name in uses if name in wanted]
-
-
 def main():
-    names = crates_below(PROGRAM)
+    names = [*crates.below([PROGRAM]), PROGRAM]
     print(f"Proving {len(names)} crates and building the program: from nothing this takes 20 to 30 minutes and 3 GB of memory.", flush=True)
     for number, name in enumerate(names, start=1):
         print(f"crate {number} of {len(names)}: {name} ", end="", flush=True)
         began = time.monotonic()
         command = ["rt", "run", "--", "--help"] if name == PROGRAM else ["rt", "lib"]
-        run = subprocess.run(command, cwd=TOP / "crates" / name, stdout=subprocess.PIPE, stderr=subprocess.STDOUT, text=True)
+        run = subprocess.run(command, cwd=crates.TOP / "crates" / name, stdout=subprocess.PIPE, stderr=subprocess.STDOUT, text=True)
         if run.returncode != 0:
             print("failed")
             print(run.stdout, end="")

@@ -1,10 +1,12 @@
 #!/usr/bin/env python3
 """Tells where the time of the gate goes.
 
-    tools/gate_times.py --run LOG    runs `rt ci` at the top of the repository and writes LOG: what it prints, each line behind the
-                                     seconds since the start, and a line for each check that ended. Then prints what LOG says
-    tools/gate_times.py LOG          prints what LOG says: for each crate the seconds of its proof, of its tests and of its edits, and
-                                     the longest chain
+    tools/gate_times.py --run LOG     runs `rt ci` with the edits that are drawn (tools/edits.py) at the top of the repository and writes
+                                      LOG: what it prints, each line behind the seconds since the start, and a line for each check that
+                                      ended. Then prints what LOG says
+    tools/gate_times.py LOG           prints what LOG says: for each crate the seconds of its proof, of its tests and of its edits, and
+                                      the longest chain
+    tools/gate_times.py --page LOG    writes that to docs/GATE.md
 
 A check is a process of `rattle`, which is seen in /proc five times a second, so that a check is told to a fifth of a second. Its
 exit status is that of `rt ci`. On a machine that does other work, the processor seconds are the ones to compare.
@@ -14,11 +16,18 @@ import os
 import re
 import subprocess
 import sys
+import textwrap
 import threading
 import time
 from collections import defaultdict
 from dataclasses import dataclass, field
 
+import crates
+
+# The gate's proofs, tests and edits.
+GATE = ["tools/edits.py", "--with", "rt", "ci"]
+# Where the times stand in docs/GATE.md.
+BEGIN, END = "<!-- what tools/gate_times.py writes begins -->", "<!-- and ends -->"
 # What `rt ci` runs for a crate.
 PROOF, TESTS, EDIT, COMPILE = "proof", "tests", "edit", "compile"
 CHECK = re.compile(r"\s*[\d.]+ @ (?P<crate>\w+) (?P<kind>\w+) (?P<wall>[\d.]+) s (?P<cpu>[\d.]+) cpu (?P<memory>\d+) MB$")
@@ -110,7 +119,7 @@ def run(log):
 
         watcher = threading.Thread(target=watch, args=(ended, write, start))
         watcher.start()
-        gate = subprocess.Popen(["rt", "ci"], stdout=subprocess.PIPE, stderr=subprocess.STDOUT, text=True, errors="replace")
+        gate = subprocess.Popen(GATE, cwd=crates.TOP, stdout=subprocess.PIPE, stderr=subprocess.STDOUT, text=True, errors="replace")
         for line in gate.stdout:
             print(line, end="", flush=True)
             write(time.monotonic() - start, line.rstrip("\n"))
@@ -133,7 +142,7 @@ class Crate:
 
 def read(log):
     """What a log says of each crate, and the seconds from its start to its last line."""
-    crates, last = defaultdict(Crate), 0.0
+    seen, last = defaultdict(Crate), 0.0
     with open(log, encoding="utf-8") as it:
         for line in it:
             end = ENDED.match(line)
@@ -141,69 +150,75 @@ def read(log):
             found = CHECK.match(line)
             if not found:
                 continue
-            crate, kind, wall = crates[found["crate"]], found["kind"], float(found["wall"])
+            crate, kind, wall = seen[found["crate"]], found["kind"], float(found["wall"])
             crate.wall[kind] += wall
             crate.cpu[kind] += float(found["cpu"])
             crate.memory = max(crate.memory, int(found["memory"]))
             if kind == EDIT:
                 crate.first_edit = crate.first_edit or wall
                 crate.edits += 1
-    return crates, last
+    return seen, last
 
 
-def libraries():
-    """The crates of the repository, each with those that it names in crates.txt."""
-    below = {}
-    with open("crates.txt", encoding="utf-8") as it:
-        for line in it:
-            name, colon, named = line.partition("#")[0].partition(":")
-            if colon:
-                below[name.split()[0]] = named.split()
-    return below
-
-
-def chains(crates, below):
+def chains(seen, uses):
     """For each crate its longest chain: the proofs below it, one after the other, then its own proof or tests, then its edits."""
     found = {}
 
     def proofs(name):
         if name not in found:
-            under = max((proofs(it) for it in below.get(name, []) if it in crates), default=(0.0, []))
-            found[name] = under[0] + crates[name].wall[PROOF], [*under[1], name]
+            under = max((proofs(it) for it in uses.get(name, []) if it in seen), default=(0.0, []))
+            found[name] = under[0] + seen[name].wall[PROOF], [*under[1], name]
         return found[name]
 
-    for name, crate in crates.items():
+    for name, crate in seen.items():
         total, names = proofs(name)
         beyond = max(0.0, crate.wall[TESTS] - crate.wall[PROOF])
         yield total + beyond + crate.wall[EDIT] + crate.wall[COMPILE], names
 
 
-def show(log):
-    """Prints what a log says."""
-    crates, last = read(log)
-    total = lambda it: sum(it.wall.values())
-    print("| crate | proof | tests | edits | seconds of the edits | an edit | processor | MB |")
-    print("|---|---|---|---|---|---|---|---|")
-    for name, it in sorted(crates.items(), key=lambda it: -total(it[1])):
+def rows(seen):
+    """The table of what the gate took, the crates that took longest first."""
+    yield "| crate | proof | tests | edits | seconds of the edits | an edit | processor | MB |"
+    yield "|---|---|---|---|---|---|---|---|"
+    for name, it in sorted(seen.items(), key=lambda it: -sum(it[1].wall.values())):
         # (one check more than there are edits: that the crate itself is proved over what the edits left)
         edits = max(it.edits - 1, 0) if it.edits > 1 else it.edits
         each = f"{(it.wall[EDIT] - it.first_edit) / (it.edits - 1):.0f}" if it.edits > 1 else ""
         cells = [it.wall[PROOF] + it.wall[COMPILE], it.wall[TESTS], edits, it.wall[EDIT], each, sum(it.cpu.values()), it.memory]
-        print(f"| {name} | " + " | ".join(f"{c:.0f}" if isinstance(c, float) else f"{c}" for c in cells) + " |")
-    kinds = {kind: sum(it.cpu[kind] for it in crates.values()) for kind in (PROOF, TESTS, EDIT, COMPILE)}
-    print(f"\nThe gate took {last / 60:.0f} minutes, and {sum(kinds.values()) / 60:.0f} processor minutes: " + ", ".join(f"{kind} {it / 60:.0f}" for kind, it in kinds.items()) + ".")
-    if os.path.isfile("crates.txt"):
-        seconds, names = max(chains(crates, libraries()))
-        print(f"The longest chain takes {seconds / 60:.0f} minutes: the proofs of {', '.join(names)}, then the tests and edits of the last.")
+        yield f"| {name} | " + " | ".join(f"{c:.0f}" if isinstance(c, float) else f"{c}" for c in cells) + " |"
+
+
+def said(log):
+    """What a log says, line by line."""
+    seen, last = read(log)
+    minutes = {kind: sum(it.cpu[kind] for it in seen.values()) / 60 for kind in (PROOF, TESTS, EDIT, COMPILE)}
+    parts = ", ".join(f"{kind} {it:.0f}" for kind, it in minutes.items())
+    seconds, names = max(chains(seen, crates.uses()))
+    yield f"It took {last / 60:.0f} minutes, and {sum(minutes.values()):.0f} processor minutes: {parts}."
+    chain = f"The longest chain takes {seconds / 60:.0f} minutes: the proofs of {', '.join(names)}, then the tests and edits of the last."
+    yield from textwrap.wrap(chain, 100)
+    yield ""
+    yield from rows(seen)
+
+
+def write_page(log):
+    """Puts what a log says between the marks of docs/GATE.md."""
+    page = crates.TOP / "docs" / "GATE.md"
+    front, _, rest = page.read_text(encoding="utf-8").partition(BEGIN)
+    _, _, back = rest.partition(END)
+    page.write_text(front + BEGIN + "\n".join(["", *said(log), ""]) + END + back, encoding="utf-8")
 
 
 def main(words):
     if len(words) == 2 and words[0] == "--run":
         status = run(words[1])
-        show(words[1])
+        print("\n".join(said(words[1])))
         return status
+    if len(words) == 2 and words[0] == "--page":
+        write_page(words[1])
+        return 0
     if len(words) == 1 and not words[0].startswith("-"):
-        show(words[0])
+        print("\n".join(said(words[0])))
         return 0
     print(__doc__.strip(), file=sys.stderr)
     return 2
