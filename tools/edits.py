@@ -1,0 +1,216 @@
+#!/usr/bin/env python3
+"""Tries the must-fail edits that stand beside the gate, those of tests/edits/CRATE.
+
+An edit turns the meaning of a line of a crate, and the prover has to refuse the crate with it. The gate tries those of crates/*/must-fail
+each time. Those of tests/edits are tried where they can tell something new: all of a crate that changed since they were tried last, and of
+the others a twentieth, another one for each state of the repository. tests/edits/tried is the ledger of what was tried.
+
+    tools/edits.py                    tells which of them the gate tries now
+    tools/edits.py --with COMMAND..   puts these beside the edits of crates/*/must-fail while COMMAND runs (`rt ci`, which tries all that it
+                                      finds there, over the proofs that it has made), and ends with its status
+    tools/edits.py --all              tries every edit of every crate, on a copy of the repository, and writes the ledger
+    tools/edits.py CRATE..            tries every edit of these crates, and writes their lines of the ledger
+"""
+
+import hashlib
+import os
+import shutil
+import subprocess
+import sys
+import tempfile
+from concurrent.futures import ThreadPoolExecutor, as_completed
+from dataclasses import dataclass
+from pathlib import Path
+
+import crates
+
+TOP = crates.TOP
+EDITS = TOP / "tests" / "edits"
+LEDGER = EDITS / "tried"
+HEADING = "# crate, edits that were refused, digest of the crate and its edits, and what `rt version` said"
+# One of so many edits is tried of the crates that didn't change.
+SHARE = 20
+# How the names begin of edits that are only put beside those of the gate.
+DRAWN = "drawn_"
+
+
+@dataclass
+class Line:
+    """What the ledger says of a crate."""
+
+    refused: int
+    digest: str
+    kit: str
+
+
+def with_edits():
+    """The crates that have edits beside the gate."""
+    return sorted(folder.name for folder in EDITS.iterdir() if folder.is_dir())
+
+
+def edits_of(crate):
+    return sorted((EDITS / crate).glob("*.edit"))
+
+
+def digest_of(crate):
+    """A digest of the crate's sources, specs and proofs, and of its edits."""
+    total = hashlib.sha256()
+    folders = [TOP / "crates" / crate / part for part in ("src", "specs", "proofs")]
+    files = [file for folder in folders for file in folder.rglob("*") if file.is_file()]
+    for file in sorted(files) + edits_of(crate):
+        content = hashlib.sha256(file.read_bytes()).hexdigest()
+        total.update(f"{file.relative_to(TOP)} {content}\n".encode())
+    return total.hexdigest()
+
+
+def kit():
+    return subprocess.run(["rt", "version"], capture_output=True, text=True, check=True).stdout.strip()
+
+
+def logic_of(version):
+    """The part of a kit's line that names its logic: another kit with the same logic refuses the same."""
+    return version.rpartition(" ")[2]
+
+
+def ledger():
+    """The lines of the ledger, by crate."""
+    lines = {}
+    if LEDGER.is_file():
+        for text in LEDGER.read_text().splitlines():
+            if not text.startswith("#"):
+                crate, refused, digest, version = text.split(" ", 3)
+                lines[crate] = Line(int(refused), digest, version)
+    return lines
+
+
+def write_ledger(lines):
+    rows = [f"{crate} {it.refused} {it.digest} {it.kit}" for crate, it in sorted(lines.items()) if crate in with_edits()]
+    LEDGER.write_text("\n".join([HEADING, *rows]) + "\n")
+
+
+def state():
+    """A digest of the repository as it was committed, by which edits are drawn."""
+    return subprocess.run(["git", "rev-parse", "HEAD^{tree}"], cwd=TOP, capture_output=True, text=True, check=True).stdout.strip()
+
+
+def has_changed(crate, line):
+    """Whether a crate isn't as it was when all of its edits were refused, or the kit has another logic."""
+    return line is None or line.digest != digest_of(crate) or logic_of(line.kit) != logic_of(kit())
+
+
+def share_of(crates_left, tree):
+    """A share of all edits, of as few crates as have so many, since the first edit of a crate costs a check of all of it."""
+    wanted = -(-sum(len(edits_of(crate)) for crate in with_edits()) // SHARE)
+    order = lambda it: hashlib.sha256(f"{tree} {it}".encode()).digest()
+    for crate in sorted(crates_left, key=order):
+        chosen = sorted(edits_of(crate), key=lambda edit: order(edit.name))[:wanted]
+        if chosen:
+            yield crate, False, sorted(chosen)
+        wanted -= len(chosen)
+
+
+def drawn():
+    """The edits that the gate tries now, by crate, each with whether the crate changed since all of its edits were tried."""
+    known = ledger()
+    changed = [crate for crate in with_edits() if has_changed(crate, known.get(crate))]
+    yield from ((crate, True, edits_of(crate)) for crate in changed)
+    yield from share_of([crate for crate in with_edits() if crate not in changed], state())
+
+
+def put(crate, edits, top):
+    """Puts edits beside those of the gate."""
+    folder = top / "crates" / crate / "must-fail"
+    folder.mkdir(exist_ok=True)
+    for edit in edits:
+        shutil.copyfile(edit, folder / f"{DRAWN}{edit.name}")
+
+
+def take_away(top):
+    """Takes away what `put` put there, also that of a run that was killed."""
+    for edit in top.glob(f"crates/*/must-fail/{DRAWN}*.edit"):
+        edit.unlink()
+    for folder in top.glob("crates/*/must-fail"):
+        if not any(folder.iterdir()):
+            folder.rmdir()
+
+
+def run_with(command):
+    """Runs the command while the drawn edits stand beside those of the gate."""
+    take_away(TOP)
+    try:
+        for crate, changed, chosen in drawn():
+            put(crate, chosen, TOP)
+        tell()
+        return subprocess.run(command, cwd=TOP, check=False).returncode
+    finally:
+        take_away(TOP)
+
+
+def tell():
+    """Tells which edits are drawn."""
+    count = 0
+    for crate, changed, chosen in drawn():
+        count += len(chosen)
+        why = "changed since all were tried" if changed else "drawn"
+        print(f"edits of {crate} ({why}): {' '.join(edit.stem for edit in chosen)}")
+    print(f"edits beside the gate: {count} of {sum(len(edits_of(crate)) for crate in with_edits())} are tried now", flush=True)
+
+
+def try_all_of(crate, copy):
+    """Tries all edits of a crate in a copy of the repository, and returns how many were refused, and what `rt` said."""
+    run = subprocess.run(["rt", "must-fail", crate], cwd=copy, stdout=subprocess.PIPE, stderr=subprocess.STDOUT, text=True, errors="replace", check=False)
+    said = [line for line in run.stdout.splitlines() if "must-fail" in line]
+    return sum("refused, as it must be" in line for line in said), run.stdout
+
+
+def prove_below(names, copy):
+    """Proves the libraries on which these crates stand, lowest first; what earlier runs kept in out/ isn't proved again."""
+    for name in crates.below(names, copy):
+        if subprocess.run(["rt", "lib"], cwd=copy / "crates" / name, stdout=subprocess.DEVNULL, check=False).returncode:
+            sys.exit(f"{name} isn't proved: no edit of a crate above it can be tried")
+
+
+def try_and_write(names):
+    """Tries every edit of these crates in a copy of the repository, several crates at a time, and writes what was refused to the ledger."""
+    unknown = [crate for crate in names if crate not in with_edits()]
+    if unknown:
+        sys.exit(f"there are no edits of {', '.join(unknown)} in {EDITS}")
+    failed, version = [], kit()
+    with tempfile.TemporaryDirectory(prefix="edits-") as room:
+        copy = Path(room) / "copy"
+        shutil.copytree(TOP, copy, ignore=shutil.ignore_patterns(".git"))
+        for crate in names:
+            shutil.rmtree(copy / "crates" / crate / "must-fail", ignore_errors=True)
+            shutil.copytree(EDITS / crate, copy / "crates" / crate / "must-fail")
+        prove_below(names, copy)
+        with ThreadPoolExecutor(int(os.environ.get("RT_JOBS", len(os.sched_getaffinity(0))))) as pool:
+            tried = {pool.submit(try_all_of, crate, copy): crate for crate in names}
+            for it in as_completed(tried):
+                crate, (refused, said) = tried[it], it.result()
+                print(f"{crate}: {refused} of {len(edits_of(crate))} refused", flush=True)
+                if refused == len(edits_of(crate)):
+                    write_ledger({**ledger(), crate: Line(refused, digest_of(crate), version)})
+                else:
+                    failed.append(crate)
+                    print(said, flush=True)
+    if failed:
+        print(f"not all refused: {' '.join(failed)}", file=sys.stderr)
+    return 1 if failed else 0
+
+
+def main(words):
+    if not words:
+        tell()
+        return 0
+    if words[0] == "--with" and len(words) > 1:
+        return run_with(words[1:])
+    if words == ["--all"]:
+        return try_and_write(with_edits())
+    if not words[0].startswith("-"):
+        return try_and_write(words)
+    print(__doc__.strip(), file=sys.stderr)
+    return 2
+
+
+if __name__ == "__main__":
+    sys.exit(main(sys.argv[1:]))
