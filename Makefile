@@ -1,43 +1,74 @@
-# turnaudit: `make demo` audits a capture of a real server, `make test` runs the gate and judges the captures of real servers; `make format`
-# comes before a commit; `make fuzz SECONDS=600` gives the program damaged input for so long.
+# turnaudit: `make demo` audits a capture of a real server by a build without proofs, in three minutes; `make turnaudit` proves and builds the
+# program; `make install` and `make deb` install it or make a package of it; `make test` runs the gate and judges the captures of real servers;
+# `make format` comes before a commit; `make edits` tries all must-fail edits; `make fuzz SECONDS=600` gives it damaged input for so long.
 
-PROGRAM = crates/turnaudit/out/turnaudit
+PROVED = crates/turnaudit/out/turnaudit
+# The program that is installed, packed and tested. Another one is taken as it is: `make install PROGRAM=/where/it/is`.
+PROGRAM = $(PROVED)
 SOURCES = crates.txt $(shell find crates \( -path '*/src/*.rt' -o -path '*/specs/*.antt' -o -path '*/proofs/*.antt' \) -not -path '*/out/*')
 SECONDS = 60
 DEMO = examples/coturn-channels-two-files
+# Where `make install` puts the program (PREFIX=$$HOME/.local needs no root), and what stands before that.
+PREFIX = /usr/local
+DESTDIR =
+# Where `make deb` puts the package.
+OUT = out
 
-.PHONY: demo format fuzz test
+.PHONY: deb demo edits format fuzz install test turnaudit
 
-# Prints the verdict on the captures of a call over coturn.
-demo: $(PROGRAM)
-	@$(PROGRAM) audit --policy $(DEMO)/policy --creds $(DEMO)/creds $(DEMO)/client.pcapng $(DEMO)/peer.pcapng
+# Prints the verdict on the captures of a call over coturn, by a build that isn't proved.
+demo:
+	@tools/unproved.py audit --policy $(DEMO)/policy --creds $(DEMO)/creds $(DEMO)/client.pcapng $(DEMO)/peer.pcapng
 
-# Proves and builds the program.
-$(PROGRAM): $(SOURCES)
+# Proves and builds the program, $(PROVED).
+turnaudit: $(PROVED)
+
+$(PROVED): $(SOURCES)
 	@tools/build.py
 	@touch $@
+
+# Puts the program, man pages, completions and documents below PREFIX.
+install: $(PROGRAM)
+	@tools/install.py --program '$(PROGRAM)' --prefix '$(PREFIX)' --destdir '$(DESTDIR)'
+
+# Makes a Debian package of it, out/turnaudit_VERSION_ARCHITECTURE.deb.
+deb: $(PROGRAM)
+	@tools/package.py --program '$(PROGRAM)' --out '$(OUT)'
 
 # Lays out the code of every crate as the gate asks for it.
 format:
 	@for crate in crates/*/; do (cd $$crate && rt fmt) || exit 1; done
 
-# Proves every crate from nothing, tries the must-fail edits, and runs the tests and the program; then, with the program that this
-# built, judges the captures in examples, asks that the number of workers changes no answer, tries the examples of docs/REFUSALS.md, compares
-# with the plain checker, gives it hostile input and captures that grow, refuses it memory, and has it find certificates for captures of a simulated server.
+# Tries every must-fail edit beside the gate, and writes the ledger of them, tests/edits/tried. `make edits CRATES="audit_rules"`: those of
+# these crates.
+edits:
+	tools/edits.py $(or $(CRATES),--all)
+
+# Measures the documents. Then proves every crate from nothing, tries the must-fail edits of the gate with those that are drawn of the
+# others, and runs the tests and the program. Then, with the program that this built: judges the captures in examples, asks that the number
+# of workers changes no answer, tries the examples of docs/REFUSALS.md, compares with the plain checker, gives it hostile input and captures
+# that grow, refuses it memory, installs it, audits a fleet by two engines, and has it find certificates for captures of a simulated server.
 test:
-	rt ci
+	python3 tests/documents.py
+	tools/reading_copy.py --check
+	tools/edits.py --with rt ci
 	tests/captures.sh $(PROGRAM)
 	tests/workers.sh $(PROGRAM)
 	python3 tests/beside_plain.py $(PROGRAM) examples/*
+	python3 tests/second_opinion.py $(PROGRAM)
 	python3 tests/hostile.py $(PROGRAM)
 	python3 tests/handed_on.py $(PROGRAM)
 	python3 tests/sha256.py $(PROGRAM)
 	python3 tests/skews.py $(PROGRAM)
 	python3 tests/live.py $(PROGRAM)
 	tests/no_memory.sh $(PROGRAM)
+	tests/install.sh $(PROGRAM)
+	python3 tests/man_pages.py $(PROGRAM)
+	tests/fleet.sh $(PROGRAM)
+	python3 tests/fleet_steps.py $(PROGRAM)
 	python3 tests/fuzz.py $(PROGRAM) --seconds 20 --seed 1 examples/*
-	python3 bench/random_captures.py $(PROGRAM) --count 500 --most 0
-	python3 bench/edge_captures.py $(PROGRAM) --count 2000 --most 13
+	python3 tests/random_captures.py $(PROGRAM) --count 500 --most 0
+	python3 tests/edge_captures.py $(PROGRAM) --count 2000 --most 13
 
 # Gives the program damaged captures, policies, credentials and certificates, and looks at how it answers.
 fuzz: $(PROGRAM)

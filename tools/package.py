@@ -1,0 +1,165 @@
+#!/usr/bin/env python3
+"""Makes a Debian package of a turnaudit that is built already, and prints its name.
+
+    tools/package.py --program FILE [--out out]
+
+It takes dpkg-deb. What the package depends on is told by dpkg-shlibdeps, or, where that is missing, by the versions of the C library that
+objdump finds in the program. DEBFULLNAME and DEBEMAIL name the maintainer, as in Debian's own tools. The times in the package are those of
+CHANGELOG.md's newest release, or SOURCE_DATE_EPOCH, so that the same program gives the same package.
+"""
+
+import argparse
+import calendar
+import contextlib
+import email.utils
+import gzip
+import hashlib
+import os
+import re
+import shutil
+import subprocess
+import sys
+import tempfile
+import time
+from pathlib import Path
+
+import install
+import man_pages
+
+REVISION = "1"
+# Libraries that the program may need, and their packages, where dpkg-shlibdeps can't tell.
+PACKAGES = {"libc.so.6": "libc6", "libm.so.6": "libc6", "libgcc_s.so.1": "libgcc-s1", "ld-linux-x86-64.so.2": "libc6", "ld-linux-aarch64.so.1": "libc6"}
+SHORT = "judges captures of a TURN server by RFC 8656"
+LONG = """\
+ turnaudit reads pcapng captures of a TURN server and a policy that says which
+ endpoints are the server's. It tells whether the server relayed anything for
+ a client without an allocation and a permission or channel: "conforming", or
+ "not shown" with the first rule that is broken and the datagram that shows it.
+ .
+ It judges UDP over IPv4, and long-term credentials by MD5 or SHA-256."""
+
+
+def maintainer():
+    name = os.environ.get("DEBFULLNAME", "turnaudit authors")
+    return f"{name} <{os.environ.get('DEBEMAIL', 'turnaudit@users.noreply.moltzegar.example')}>"
+
+
+def moment():
+    """Seconds since 1970 of all that is in the package."""
+    of_release = calendar.timegm(time.strptime(man_pages.release()[1], "%Y-%m-%d"))
+    return int(os.environ.get("SOURCE_DATE_EPOCH", of_release))
+
+
+def said_by(*words, **others):
+    return subprocess.run(words, check=True, capture_output=True, text=True, **others).stdout.strip()
+
+
+def depends_by_shlibdeps(program):
+    with tempfile.TemporaryDirectory(prefix="package-") as room:
+        (Path(room) / "debian").mkdir()
+        (Path(room) / "debian" / "control").write_text("Source: turnaudit\n\nPackage: turnaudit\nArchitecture: any\n")
+        return said_by("dpkg-shlibdeps", "-O", f"-e{program}", cwd=room).removeprefix("shlibs:Depends=")
+
+
+def depends_by_objdump(program):
+    """The packages of the libraries that are needed, libc6 from the newest version of its symbols on."""
+    told = said_by("objdump", "-p", program)
+    needed = {PACKAGES.get(name) or sys.exit(f"no package is known of {name}: install dpkg-dev") for name in re.findall(r"NEEDED\s+(\S+)", told)}
+    versions = [tuple(int(part) for part in version.split(".")) for version in re.findall(r"GLIBC_([\d.]+)", told)]
+    newest = f" (>= {'.'.join(map(str, max(versions)[:2]))})" if versions else ""
+    return ", ".join(sorted(name + newest if name == "libc6" else name for name in needed))
+
+
+def depends(program):
+    tell = depends_by_shlibdeps if shutil.which("dpkg-shlibdeps") else depends_by_objdump
+    return tell(program.resolve())
+
+
+def control(version, architecture, needs, size):
+    return (
+        f"Package: turnaudit\nVersion: {version}\nArchitecture: {architecture}\nMaintainer: {maintainer()}\nInstalled-Size: {size}\n"
+        f"Depends: {needs}\nSection: net\nPriority: optional\nDescription: {SHORT}\n{LONG}\n"
+    )
+
+
+def changelog(version):
+    date = email.utils.formatdate(moment(), localtime=False).replace("-0000", "+0000")
+    return f"turnaudit ({version}) unstable; urgency=medium\n\n  * Release {version.split('-')[0]}: changelog.gz tells its changes.\n\n -- {maintainer()}  {date}\n"
+
+
+def copyright_text():
+    """LICENSE in the form of Debian's copyright files."""
+    lines = (man_pages.TOP / "LICENSE").read_text(encoding="utf-8").splitlines()
+    holder = next(line for line in lines if line.startswith("Copyright")).replace("Copyright (c) ", "")
+    text = "\n".join(f" {line}" if line else " ." for line in lines[lines.index("", 2) + 1:])
+    return (
+        "Format: https://www.debian.org/doc/packaging-manuals/copyright-format/1.0/\nUpstream-Name: turnaudit\n\n"
+        f"Files: *\nCopyright: {holder}\nLicense: Expat\n\nLicense: Expat\n{text}\n"
+    )
+
+
+def pack(text, place):
+    with open(place, "wb") as into, gzip.GzipFile("", "wb", 9, into, mtime=0) as packed:
+        packed.write(text.encode("utf-8"))
+
+
+def put_debian_files(root, version):
+    """What Debian wants in share/doc beside the documents."""
+    folder = root / "usr" / "share" / "doc" / "turnaudit"
+    (folder / "copyright").write_text(copyright_text(), encoding="utf-8")
+    pack((folder / "CHANGELOG.md").read_text(encoding="utf-8"), folder / "changelog.gz")
+    pack(changelog(version), folder / "changelog.Debian.gz")
+    (folder / "LICENSE").unlink()
+    (folder / "CHANGELOG.md").unlink()
+
+
+def put_control(root, text):
+    folder = root / "DEBIAN"
+    folder.mkdir()
+    (folder / "control").write_text(text, encoding="utf-8")
+    files = sorted(file for file in root.rglob("*") if file.is_file() and folder not in file.parents)
+    sums = "".join(f"{hashlib.md5(file.read_bytes()).hexdigest()}  {file.relative_to(root)}\n" for file in files)
+    (folder / "md5sums").write_text(sums, encoding="utf-8")
+
+
+def settle(root):
+    """Gives every file and folder the mode that Debian wants, and the one time."""
+    for place in [root, *root.rglob("*")]:
+        place.chmod(0o755 if place.is_dir() or place.parent.name == "bin" else 0o644)
+        os.utime(place, (moment(), moment()))
+
+
+def make(program, out):
+    """Makes the package, and returns where it is."""
+    version = f"{man_pages.release()[0]}-{REVISION}"
+    architecture = said_by("dpkg", "--print-architecture")
+    with tempfile.TemporaryDirectory(prefix="package-") as room:
+        root = Path(room) / "turnaudit"
+        with contextlib.redirect_stdout(None):
+            install.install(program, root / "usr", "share/zsh/vendor-completions", packed=True, strip=True)
+        put_debian_files(root, version)
+        size = sum((file.stat().st_size + 1023) // 1024 for file in root.rglob("*") if file.is_file())
+        put_control(root, control(version, architecture, depends(program), size))
+        settle(root)
+        out.mkdir(parents=True, exist_ok=True)
+        package = out / f"turnaudit_{version}_{architecture}.deb"
+        environment = {**os.environ, "SOURCE_DATE_EPOCH": str(moment())}
+        subprocess.run(["dpkg-deb", "--root-owner-group", "-Zxz", "-z2", "--build", root, package], check=True, env=environment, stdout=subprocess.DEVNULL)
+        return package
+
+
+def main():
+    words = argparse.ArgumentParser(description="Makes a Debian package of turnaudit, which is built already.")
+    words.add_argument("--program", type=Path, required=True)
+    words.add_argument("--out", type=Path, default=man_pages.TOP / "out")
+    asked = words.parse_args()
+    if not asked.program.is_file():
+        sys.exit(f"there is no program {asked.program}: `make turnaudit` proves and builds it")
+    missing = [name for name in ("dpkg", "dpkg-deb", "strip", "objdump") if not shutil.which(name)]
+    if missing:
+        sys.exit(f"a package takes {', '.join(missing)}: apt-get install dpkg binutils")
+    print(make(asked.program, asked.out))
+
+
+if __name__ == "__main__":
+    main()
