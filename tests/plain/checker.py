@@ -1,4 +1,9 @@
-"""The verdict of a certificate: placement, then one walk over the one list of all moves, by one table."""
+"""The verdict of a certificate: placement, then one walk over the one list of all moves, by one table.
+
+Of the plain checker `checker` imports `server` and `reading`, `server` imports `stun` and `reading`, and `reading` imports `stun`. Beside
+them it has Python's standard library alone: nothing of turnaudit, of the finder's simulated server (tests/simulated.py) or of bench/.
+tests/beside_plain.py, tests/sha256.py and tests/skews.py run it beside the program; tests/fuzz.py imports `read_policy` of it.
+"""
 
 from .reading import text_of, up_to
 from .server import Broken, Server

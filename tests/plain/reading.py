@@ -1,4 +1,7 @@
-"""Policy, credentials, certificate and captures, of which turnaudit refuses none."""
+"""Policy, credentials, certificate and captures, of which turnaudit refuses none.
+
+Part of the plain checker (tests/plain/checker.py says who uses it). Keys are made by `stun`; it reads pcapng by itself.
+"""
 
 import struct
 from dataclasses import dataclass, field

@@ -1,4 +1,8 @@
-"""The server of RFC 8656: one table for all clients, and whether an answer is one of its answers."""
+"""The server of RFC 8656: one table for all clients, and whether an answer is one of its answers.
+
+Part of the plain checker (tests/plain/checker.py says who uses it). It isn't the simulated server of tests/simulated.py, and
+shares nothing with it. Messages are read by `stun`.
+"""
 
 from dataclasses import dataclass, field
 

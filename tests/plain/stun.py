@@ -1,4 +1,7 @@
-"""STUN messages and ChannelData (RFC 8489, sections 5 and 14; RFC 8656, sections 12.4 and 18)."""
+"""STUN messages and ChannelData (RFC 8489, sections 5 and 14; RFC 8656, sections 12.4 and 18).
+
+Part of the plain checker (tests/plain/checker.py says who uses it). It imports none of its other files.
+"""
 
 import hashlib
 import hmac
