@@ -20,6 +20,8 @@ and the caches come to 5, what is quadratic to 16), or an attack takes over 8 ti
   channels    one client that binds up to 16,383 channels, more numbers than RFC 8656 has, and sends by each
   handed      clients that are given one relayed address in turn, each giving it up again
   reversed_stamps 64 interfaces of one file, each with its datagrams stamped from the last to the first
+
+Messages and captures are made by bench/make_capture.py, which it imports. No other file imports it.
 """
 
 import argparse

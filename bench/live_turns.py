@@ -7,6 +7,8 @@
 
 With --of N the captures come through pipes, in N turns: a piece of each is written once the piece before is read. Else the capture is whole from the start, so that each turn reads 65,536 bytes. How far it is read is seen in /proc, at its file's position: the time of
 the first turns ends where so many pieces were read, and that of the last ones is from there to the piece behind which nothing is left.
+
+It reads the folder that bench/make_capture.py writes. It imports no file of this repository, and none imports it.
 """
 
 import argparse

@@ -8,6 +8,9 @@ FOLDER/certificate, the certificate of what the server did, for the captures in 
 allocates (challenged by a 401 first), asks for a permission or binds a channel, exchanges data with its peer, refreshes, and
 deletes its allocation. The clock of the peer side is OFFSET-US microseconds ahead of the other one's, LOSS of a thousand
 datagrams from a peer reach the server and go no further.
+
+bench/times.py runs it; bench/attacks.py, tests/simulated.py and tests/random_captures.py import its messages and blocks. It shares
+no code with turnaudit or with the plain checker of tests/plain.
 """
 
 import argparse

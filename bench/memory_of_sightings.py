@@ -6,6 +6,8 @@ that all sightings are held in memory before the first of them is found to be un
 peak resident set for each sighting, less those of a run on one sighting.
 
     python3 bench/memory_of_sightings.py [COUNT]    (1,000,000 where no number is given)
+
+It builds its capture by itself. It imports no file of this repository, and none imports it.
 """
 
 import pathlib

@@ -4,8 +4,10 @@
     python3 bench/times.py [--clients 24 1000] [--datagrams 1000000] [--runs 5] [--workers 1 2 4] [--markdown]
 
 Of each number of clients the programs take turns, round after round, on this machine, with the files in its cache; of each the median counts, with the least and
-the greatest. Beside the seconds on the wall stand those of the processors, in the programs and in the system for them, and both as a ratio to those of `capinfos` and of
+the greatest. Beside the seconds on the wall stand those of the processors (cpu), in the programs and in the system for them, and both as a ratio to those of `capinfos` and of
 `sha1sum` in the same rounds. The load is told before and after. `capinfos` is timed where it is installed. The last line of each table tells whether all answers were the same, the certificates of `find` among themselves.
+
+It runs bench/make_capture.py as a program. It imports no file of this repository, and none imports it.
 """
 
 import argparse
@@ -56,7 +58,7 @@ def load():
 def table(rows, markdown):
     """The rows with what each takes in units of capinfos and of sha1sum."""
     units = [unit for unit in ("capinfos", "sha1sum") if unit in rows]
-    heads = ["", "seconds", "least to greatest", "processors"] + [f"{what} / {unit}" for unit in units for what in ("wall", "processors")]
+    heads = ["", "wall", "least to greatest", "cpu"] + [f"{what}/{unit}" for unit in units for what in ("wall", "cpu")]
     lines = [heads] + [["---"] * len(heads)] * markdown
     for name, takes in rows.items():
         wall, spent = (statistics.median(take[part] for take in takes) for part in (0, 1))

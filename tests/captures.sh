@@ -53,6 +53,7 @@ if command -v rt > /dev/null; then
 fi
 
 for folder in */; do
+    [ -f "$folder/policy" ] || continue
     cd "$folder" || exit 1
     judge "${folder%/} by audit" audit
     if [ -f certificate ]; then judge "${folder%/} by check" check --cert certificate; fi

@@ -119,7 +119,7 @@ def grow(tries, name, words, captures, size, rest, wanted):
 def try_examples(tries):
     growing = []
     for folder in sorted((TOP / "examples").iterdir()):
-        if not folder.is_dir():
+        if not (folder / "policy").is_file():
             continue
         captures, wanted, words = captures_in(folder), answer_in(folder), words_in(folder)
         tries.end(f"{folder.name} by audit", tries.start([*words, *captures], "audit"), wanted)
@@ -162,7 +162,7 @@ def feed_pipes(run, pipes, contents, draw):
 
 def try_pipes(tries, scratch):
     """What each turn reads is chosen: so many bytes, or some number drawn for each of them."""
-    examples = [(folder.name, words_in(folder), captures_in(folder), answer_in(folder)) for folder in sorted((TOP / "examples").iterdir()) if folder.is_dir()]
+    examples = [(folder.name, words_in(folder), captures_in(folder), answer_in(folder)) for folder in sorted((TOP / "examples").iterdir()) if (folder / "policy").is_file()]
     examples.append(("binding", ["--policy", POLICY], [BINDING], CONFORMING))
     for name, words, captures, wanted in examples:
         contents = [capture.read_bytes() for capture in captures]

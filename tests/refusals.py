@@ -67,6 +67,7 @@ MADE = {
     "65-listen-lines.txt": b"turnaudit-policy 1\n" + b"".join(b"listen 192.0.2.1:%d\n" % port for port in range(1, 66)),
     "password-of-509.txt": b"user\trealm\t" + b"p" * 509 + b"\n",
     "65537-lanes.txt": b"turnaudit-certificate 1\n" + b"".join(b"lane 10.%d.%d.%d:1 192.0.2.1:3478\n" % (n >> 16, n >> 8 & 255, n & 255) for n in range(65537)) + b"end\n",
+    "lane-twice.txt": b"turnaudit-certificate 1\n" + b"lane 198.51.100.7:40000 192.0.2.1:3478\n" * 2 + b"end\n",
     "torn.pcapng": [capture(packet(DATAGRAM))[:-4]],
     "magic.pcapng": [section(magic=0)],
     "length.pcapng": [section() + struct.pack("<II", 1, 30) + bytes(22)],

@@ -31,6 +31,7 @@ compare() { # WORDS.. : the answers by more workers are that of one
 }
 
 for folder in */; do
+    [ -f "$folder/policy" ] || continue
     cd "$folder" || exit 1
     if [ -f client.pcapng ]; then captures=(client.pcapng peer.pcapng); else captures=(cap.pcapng); fi
     compare audit

@@ -1,14 +1,17 @@
 #!/usr/bin/env python3
 """Audits random captures of a simulated server that keeps to RFC 8656, and tells those that are not shown.
 
-    python3 bench/random_captures.py PROGRAM [--first 1] [--count 500] [--most MISSED] [--one-after-another]
-    python3 bench/random_captures.py --write FOLDER --first SEED
+    python3 tests/random_captures.py PROGRAM [--first 1] [--count 500] [--most MISSED] [--one-after-another]
+    python3 tests/random_captures.py --write FOLDER --first SEED
 
 Requests are lost and copied, up to 4 clients share up to 6 relayed addresses, and each interface's clock is ahead or behind by up to
 450 microseconds, within the skew of the policy. Where a capture is not shown, the certificate of what the simulated server did
 is checked, too: that has to conform. With --write a case is written to a folder, that certificate among it (truth).
 With --one-after-another only those servers count that finish one datagram before the next. With --most it ends with status 1 where
 more than so many are not shown, and always where `check` by the certificate of `find` says otherwise than `audit` of a capture.
+
+The simulated server is tests/simulated.py, messages and blocks are made by bench/make_capture.py; tests/edge_captures.py goes by
+`Case` and `main` of this file. None of them shares code with turnaudit or with the plain checker of tests/plain.
 """
 
 import argparse
@@ -18,7 +21,10 @@ import pathlib
 import random
 import struct
 import subprocess
+import sys
 import tempfile
+
+sys.path.insert(0, str(pathlib.Path(__file__).resolve().parent.parent / "bench"))
 
 from make_capture import INTERFACE, SECTION, SERVER, ip_bytes
 from simulated import FIRST_PORT, SKEW, USERS, Clients, Server, client_address

@@ -1,16 +1,22 @@
 #!/usr/bin/env python3
 """Audits random captures of a simulated server at the edges of what RFC 8656 and a policy allow, and tells those that are not shown.
 
-    python3 bench/edge_captures.py PROGRAM [--first 1] [--count 500]
-    python3 bench/edge_captures.py --write FOLDER --first SEED
+    python3 tests/edge_captures.py PROGRAM [--first 1] [--count 500]
+    python3 tests/edge_captures.py --write FOLDER --first SEED
 
 Beside what random_captures.py has: a hold of 0 to 10 milliseconds, of which the server takes up to all; allocations of 1 to 30
 seconds, and data and requests around the ends of allocations, permissions and channels; captures of the far side of a network, where
 datagrams are seen before the server has them or after they left it, and overtake one another; two clients of one address, that ask
 two listen addresses; many things in one nanosecond. What the simulated server did conforms, and is checked where nothing is found.
+
+It goes by tests/random_captures.py and tests/simulated.py, and by them on bench/make_capture.py.
 """
 
+import pathlib
 import random
+import sys
+
+sys.path.insert(0, str(pathlib.Path(__file__).resolve().parent.parent / "bench"))
 
 from make_capture import SERVER
 from random_captures import Case, main

@@ -1,9 +1,17 @@
-"""A simulated TURN server that keeps to RFC 8656, with random clients, peers, losses and clocks."""
+"""A simulated TURN server that keeps to RFC 8656, with random clients, peers, losses and clocks.
+
+tests/random_captures.py and tests/edge_captures.py import it. It makes its messages by bench/make_capture.py, and shares no code
+with turnaudit or with the plain checker of tests/plain.
+"""
 
 import hashlib
+import pathlib
 import random
 import struct
+import sys
 from dataclasses import dataclass, field
+
+sys.path.insert(0, str(pathlib.Path(__file__).resolve().parent.parent / "bench"))
 
 import make_capture as stun
 from make_capture import SERVER, address, message
