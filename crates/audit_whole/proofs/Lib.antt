@@ -8,6 +8,7 @@ pub mod Saying
 pub mod Keeping
 pub mod Grounds
 pub mod Departures
+pub mod ToClients
 pub mod Writing
 pub mod Paths
 pub mod Written

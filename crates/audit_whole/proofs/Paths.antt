@@ -56,7 +56,7 @@ client_of_test true relay h = refl
 client_of_test false true h = absurd (subst IsClient (sym h) tt)
 client_of_test false false h = absurd (none-some Client h)
 
-relay_of_test : (same relay : Bool) → cond same (Some Client) (cond relay (Some Relay) None) ≡ Some Relay → relay ≡ true
+pub relay_of_test : (same relay : Bool) → cond same (Some Client) (cond relay (Some Relay) None) ≡ Some Relay → relay ≡ true
 relay_of_test true relay h = absurd (subst IsRelay (sym h) tt)
 relay_of_test false true h = refl
 relay_of_test false false h = absurd (none-some Relay h)

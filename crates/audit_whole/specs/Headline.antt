@@ -1,8 +1,10 @@
 -- What it means that a certificate conforms.
 use Rattle.audit_model.specs.declared.certificate.Certificate.{Certificate}
+use Rattle.audit_model.specs.Policy.{AreApart}
 use Rattle.audit_sightings.specs.Intake.{Taken}
 use Rattle.audit_rules.specs.Keys.{KeyFor}
 use Rattle.audit_whole.specs.CaptureRun.{rules_for, IsCaptureRun}
+use Rattle.audit_whole.specs.Departures.{AreRelayed}
 use Rattle.audit_whole.specs.Glued.{glued_steps}
 use Rattle.audit_whole.specs.Grounded.{IsGrounded}
 
@@ -10,6 +12,8 @@ use Rattle.audit_whole.specs.Grounded.{IsGrounded}
 -- window, keeps every interface's own order and is a run of the RFC 8656 server from an empty table that owes nothing at its end.
 -- In it, every datagram that is relayed had an allocation that lasted, and a permission or a channel that lasted, asked for by one
 -- user who has a key; it was relayed with its payload as it was; and every other departure is a response that an act gave.
+-- Where no listen address is in a relay range, whatever left from a relay address, and all data that left from a listen address, was relayed so.
 pub record Headline (taken : Taken) (key_for : KeyFor) (certificate : Certificate) : Type 0 where
   pub run : IsCaptureRun taken (rules_for taken key_for) (glued_steps certificate)
   pub grounded : IsGrounded taken key_for (glued_steps certificate)
+  pub relayed : AreApart taken.policy → AreRelayed taken key_for (glued_steps certificate)

@@ -26,7 +26,7 @@ ghost use Rattle.audit_server.specs.Whole.{EachRuns};
 ghost use Rattle.audit_whole.specs.BindingCapture.{binding_capture, binding_steps};
 ghost use Rattle.audit_whole.specs.CaptureRun.{rules_for, IsCaptureRun};
 ghost use Rattle.audit_whole.specs.Conforms.{Conforms};
-ghost use Rattle.audit_whole.specs.Departures.{IsRelayedUp};
+ghost use Rattle.audit_whole.specs.Departures.{AreRelayed, IsRelayedUp};
 ghost use Rattle.audit_whole.specs.Glued.{by_lane, glued, glued_steps, lanes_from, pairs_of};
 ghost use Rattle.audit_whole.specs.Grounded.{IsGrounded};
 ghost use Rattle.audit_whole.specs.Headline.{Headline};
@@ -64,6 +64,13 @@ pub fn relay_addresses()
     ensures { (taken : Taken) (key_for : KeyFor) → AreApart taken.policy → (list : List Step) → RunFrom (rules_for taken key_for) at_first list →
         (before : List Step) (e : Step) (rest : List Step) → before ++ e ∷ rest ≡ list → (t : SightId) → e.move ≡ Out t →
         (leaves : Sighting) → sighting_at taken t ≡ Some leaves → IsTrue (relays taken.policy leaves.from) → IsRelayedUp taken key_for t leaves before }
+{}
+
+/// All data that leaves from a listen address in a run was given by an act that has its reasons, too: a peer sent it to the relayed
+/// address of a client, under its permission, and where it is ChannelData by its channel.
+pub fn data_to_clients()
+    ensures { (taken : Taken) (key_for : KeyFor) → AreApart taken.policy → (list : List Step) → RunFrom (rules_for taken key_for) at_first list →
+        AreRelayed taken key_for list }
 {}
 
 /// Where all that is checked passes, the headline holds.

@@ -3,6 +3,7 @@ use Rattle.audit_sightings.specs.Intake.{taken}
 use Rattle.audit_verdict.proofs.Joined.{conforming}
 use Rattle.audit_whole.specs.Glued.{glued_steps}
 use Rattle.audit_whole.proofs.Grounds.{grounded}
+use Rattle.audit_whole.proofs.ToClients.{are_relayed}
 use Rattle.audit_pool.proofs.pass.check_parallel.Goals as goal
 
 pub returns-clause-conforming : goal.returns-clause-conforming
@@ -13,4 +14,4 @@ returns-clause-headline g c =
     let taken = taken c.args.intake.now in
     let key = key_for c.args.credentials.now in
     let both = conforming taken c.sightings_are_numbered.ensures key c.args.certificate.now c.in_ok-judged.judged.verdict c.in_ok-judged.ensures.verdict in
-    λ conforms. let k = both.0 conforms in record { run = k.run; grounded = grounded taken key (glued_steps c.args.certificate.now) k.run.run.runs }
+    λ conforms. let k = both.0 conforms in let steps = glued_steps c.args.certificate.now in record { run = k.run; grounded = grounded taken key steps k.run.run.runs; relayed = λ apart. are_relayed taken key apart steps k.run.run.runs }
