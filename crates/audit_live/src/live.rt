@@ -1,6 +1,6 @@
 //! A live audit.
 
-ghost use Rattle.std.specs.Prelude.{◌≡◌, ◌<◌, ◌+◌, ◌++◌, ◌∷◌, ◌↔◌, ℕ, List, [], IfErr, IfOk, IsSome, OnErr, OnOk, None, Some, Ok, Err, vec_len, min, length};
+ghost use Rattle.std.specs.Prelude.{◌≡◌, ◌<◌, ◌+◌, ◌++◌, ◌∷◌, ◌↔◌, ℕ, List, [], IfErr, IfOk, IsOkUnless, IsSome, OnErr, OnOk, None, Some, Ok, Err, vec_len, min, length};
 ghost use Rattle.audit_keys.specs.KeyFor.{key_for};
 ghost use Rattle.audit_model.specs.declared.certificate.TheConstants.{MAX_LANES};
 ghost use Rattle.audit_order.specs.Growing.{placing_count};
@@ -11,6 +11,8 @@ ghost use Rattle.audit_prefix.specs.Told.{LiveBreach};
 ghost use Rattle.audit_sightings.specs.Files.{Fed, GoesOn, Refuses, StandsFor, not_fed};
 ghost use Rattle.audit_sightings.specs.Intake.{taken};
 ghost use Rattle.audit_sightings.specs.declared.fault.IntakeFault.{IntakeFault as Fault};
+ghost use Rattle.audit_sightings.specs.declared.fault.IntakeFaultKind.TheVariants as kinds;
+ghost use Rattle.audit_sightings.specs.declared.intake.TheConstants.{MAX_FILES};
 ghost use Rattle.audit_verdict.specs.Verdicts.{IsConforming, IsVerdict};
 ghost use Rattle.audit_whole.specs.CaptureRun.{rules_for};
 ghost use Rattle.audit_whole.specs.Conforms.{Conforms};
@@ -97,6 +99,14 @@ impl Live {
         ensures err { OnErr result (taken self.new.intake ≡ taken self.old.intake) }
         ensures kept { (files : List Fed) → StandsFor self.old.intake files → OnErr result (StandsFor self.new.intake files) }
         ensures rest { self.new ≡ record self.old { intake = self.new.intake } }
+        // Before the audit has ended, it is refused as an intake refuses a file, and for nothing else.
+        ensures room { self.old.ended ≡ None → self.old.intake.failed ≡ None → vec_len self.old.intake.files < MAX_FILES →
+            IsOkUnless result (Input (record { kind = kinds.Memory; file = vec_len self.old.intake.files })) }
+        ensures full { self.old.ended ≡ None → self.old.intake.failed ≡ None → vec_len self.old.intake.files ≡ MAX_FILES →
+            result ≡ Err (Input (record { kind = kinds.Limit; file = MAX_FILES })) }
+        ensures again { (failed : ℕ) → self.old.ended ≡ None → self.old.intake.failed ≡ Some failed →
+            result ≡ Err (Input (record { kind = kinds.Failed; file = failed })) }
+        ensures failed { self.new.intake.failed ≡ self.old.intake.failed }
     {
         if self.ended.is_some() {
             return Err(LiveFault::Ended);
