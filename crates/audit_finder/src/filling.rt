@@ -22,7 +22,8 @@ pub(crate) fn is_there(intake: &Intake, side: Side, sight: SightId) -> bool
     }
 }
 
-fn names_what_is_there(intake: &Intake, event: Event) -> bool
+/// Whether all that the event names is there.
+pub(crate) fn names_what_is_there(intake: &Intake, event: Event) -> bool
     ensures { IsTrue result ↔ NamesWhatIsThere (taken intake.now) event }
 {
     match event {

@@ -6,8 +6,10 @@ ghost use Rattle.audit_sightings.specs.Intake.{taken, NamesWhatIsThere};
 ghost use Rattle.audit_model.specs.declared.certificate.TheConstants.{MAX_LANES};
 ghost use Rattle.audit_clients.specs.Clients.{same, with_new, row_lengths};
 ghost use Rattle.audit_finder.specs.Found.{AreThere};
+ghost use Rattle.audit_finder.specs.Turn.{StandInside};
 
 use crate::finding::extension;
+use crate::turn::Turn;
 use audit_clients::Clients;
 use audit_keys::Credentials;
 use audit_model::{Extension, Listed};
@@ -58,6 +60,8 @@ impl Finder {
         ensures drops { IfOk result (λ found. AreThere (taken intake.now) found.drops) }
         ensures clients { OnOk result (self.new.clients.pairs ≡ with_new self.old.clients.looked.items (taken intake.now) self.old.clients.pairs) }
         ensures looked { OnOk result (self.new.clients.looked.items ≡ row_lengths (taken intake.now)) }
+        // All of it stands past the last horizon, and no later than this one.
+        ensures inside { IfOk result (StandInside self.old.search.given_to horizon) }
         // The next call gives events past this horizon.
         ensures horizon { OnOk result (self.new.search.given_to ≡ Some horizon) }
     {
@@ -69,7 +73,10 @@ impl Finder {
             credentials,
             clients: &self.clients,
         };
+        let last = self.search.given_to;
         let portion = self.search.go(&judge, &mut self.ahead, horizon)?;
-        extension(self.alloc, intake, self.clients.lanes_from(known), portion)
+        let turn = Turn { last, horizon };
+        let lanes = self.clients.lanes_from(known);
+        extension(self.alloc, intake, lanes, portion, turn)
     }
 }

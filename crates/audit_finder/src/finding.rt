@@ -9,8 +9,10 @@ ghost use Rattle.audit_sightings.specs.Intake.{Taken, taken, NamesWhatIsThere};
 ghost use Rattle.audit_clients.specs.Clients.{same, clients_of, with_new};
 ghost use Rattle.audit_finder.specs.Found.{pair_of, AllNamed, AreThere, KeysRise};
 ghost use Rattle.audit_finder.specs.Departures.{outs, out_count, LeaveOnce, IsNoted};
+ghost use Rattle.audit_finder.specs.Turn.{StandInside};
 
-use crate::filling::{Filled, is_there, named};
+use crate::filling::{Filled, is_there};
+use crate::turn::Turn;
 use crate::writing::written;
 use audit_clients::Clients;
 use audit_keys::Credentials;
@@ -21,21 +23,23 @@ use audit_walk::Portion;
 use std::alloc::{AllocError, Global};
 use std::thread::Threads;
 
-/// The lanes that are new, with the events and the drops of a portion that name what is there.
+/// The lanes that are new, with the events and the drops of a portion that name what is there and stand inside the turn.
 pub(crate) fn extension(
     alloc: Global,
     intake: &Intake,
     lanes: &[(Addr, Addr)],
     portion: Portion,
+    turn: Turn,
 ) -> Result<Extension, AllocError>
     ensures lanes { IfOk result (λ found. found.lanes ≡ lanes.now) }
     ensures events { IfOk result (λ found. All (λ e. NamesWhatIsThere (taken intake.now) e.1) found.events) }
     ensures drops { IfOk result (λ found. AreThere (taken intake.now) found.drops) }
+    ensures inside { IfOk result (λ found. StandInside turn.last turn.horizon found) }
 {
     Ok(Extension {
         lanes: Listed::from(Vec::from_slice(alloc, lanes)?),
-        events: Listed::from(named(intake, portion.events)),
-        drops: Listed::from(there(intake, portion.drops)),
+        events: Listed::from(turn.events(intake, portion.events)),
+        drops: Listed::from(turn.drops(intake, portion.drops)),
     })
 }
 

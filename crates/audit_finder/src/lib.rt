@@ -7,6 +7,7 @@ mod departed;
 mod filling;
 mod finder;
 mod finding;
+mod turn;
 mod walk_and_passes;
 mod walking;
 mod writing;
