@@ -4,6 +4,7 @@ ghost use Rattle.std.specs.Prelude.{◌≡◌, [], ℕ, IfNone, IfOk, IfSome, Li
 ghost use Rattle.std.specs.List.{AllZip};
 ghost use Rattle.audit_files.specs.Judged.{IsAudited};
 ghost use Rattle.audit_model.specs.declared.certificate.Certificate.{Certificate as Found};
+ghost use Rattle.audit_program.specs.Answered.{Answers, IsRun};
 
 use crate::buffered::Buffered;
 use crate::command_line::{Inputs, Request, read as read_words};
@@ -67,7 +68,9 @@ fn run_find<R: Threads + Wait + Sync, F: CertificateFinder, S: Source, O: Sink>(
     workers: Workers,
     source: &mut S,
     out: &mut O,
-) -> Result<u8, Stop> {
+) -> Result<u8, Stop>
+    ensures { IfOk result (λ status. status ≡ 0) }
+{
     let files = read_files(
         rt,
         alloc,
@@ -99,7 +102,10 @@ fn run_request<
     source: &mut S,
     out: &mut O,
     err: &mut E,
-) -> Result<u8, Stop> {
+) -> Result<u8, Stop>
+    ensures { Answers (S.holds source.old) (S.given source.new)
+        (record { before = O.taken out.old; after = O.taken out.new; said_before = E.taken err.old; said_after = E.taken err.new }) request.now result }
+{
     match request {
         Request::Check {
             inputs,
@@ -161,12 +167,18 @@ pub fn run<
     S: Source + Growing,
     O: Sink,
     E: Sink,
->(rt: &R, alloc: Global, finder: &F, words: &[N], source: &mut S, out: &mut O, err: &mut E) -> u8 {
-    let done = match read_words(alloc, words) {
-        Ok(request) => run_request(rt, alloc, finder, &request, source, out, err),
-        Err(error) => Err(Stop::from(error)),
+>(rt: &R, alloc: Global, finder: &F, words: &[N], source: &mut S, out: &mut O, err: &mut E) -> u8
+    ensures { IsRun (S.holds source.old) (S.given source.new)
+        (record { before = O.taken out.old; after = O.taken out.new; said_before = E.taken err.old; said_after = E.taken err.new }) result }
+{
+    let request = match read_words(alloc, words) {
+        Ok(request) => request,
+        Err(_) => {
+            put_line(alloc, err, &Stop::Memory);
+            return Stop::Memory.status();
+        }
     };
-    match done {
+    match run_request(rt, alloc, finder, &request, source, out, err) {
         Ok(status) => status,
         Err(stop) => {
             put_line(alloc, err, &stop);

@@ -1,11 +1,16 @@
 //! What a run writes besides the report.
 
+ghost use Rattle.std.specs.Prelude.{◌≡◌, OnOk};
+ghost use Rattle.audit_model.specs.Sink.{followed_by};
+
 use audit_files::Stop;
 use audit_model::{Sink, put_all};
 use std::alloc::Global;
 
 /// Puts a text.
-pub fn put_text<W: Sink>(sink: &mut W, text: &str) -> Result<(), Stop> {
+pub fn put_text<W: Sink>(sink: &mut W, text: &str) -> Result<(), Stop>
+    ensures { OnOk result (W.taken sink.new ≡ followed_by (W.taken sink.old) text.now) }
+{
     put_all(sink, text.as_bytes())?;
     Ok(())
 }

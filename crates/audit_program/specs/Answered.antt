@@ -1,0 +1,63 @@
+-- What a request comes to, from the bytes of its files to what is written and the status.
+use Rattle.std.specs.Prelude.{◌≡◌, ◌⊎◌, ℕ, List, [], Option, Some, Ok, Err, Result, IfNone, IfOk, IfSome, OnOk, length, string_bytes}
+use Rattle.std.specs.List.{AllZip}
+use Rattle.audit_cert.specs.CertText.{cert_of}
+use Rattle.audit_cert.specs.Spelling.{said_by}
+use Rattle.audit_files.specs.declared.stop.Stop.{Stop}
+use Rattle.audit_files.specs.Judged.{IsAudited}
+use Rattle.audit_files.specs.Stops.{status_of_stop}
+use Rattle.audit_model.specs.declared.certificate.Certificate.{Certificate}
+use Rattle.audit_model.specs.Sink.{followed_by}
+use Rattle.audit_program.specs.declared.command_line.Inputs.{Inputs}
+use Rattle.audit_program.specs.declared.command_line.Request.{Request}
+use Rattle.audit_program.specs.declared.command_line.Request.TheVariants.{Check, Audit, Find, Live, Help, Usage}
+use Rattle.audit_program.specs.Watched.{IsWatched}
+
+-- the policy and the users that are named have these texts; where no users are named there are none
+pub record HaveTexts (holds : List ℕ → Option (List ℕ)) (inputs : Inputs) (policy users : List ℕ) : Type 0 where
+  pub policy' : holds inputs.policy.now ≡ Some policy
+  pub users' : IfSome inputs.credentials (λ name. holds name.now ≡ Some users)
+  pub nobody : IfNone inputs.credentials (users ≡ [])
+
+abbrev pub HaveCaptures : (List ℕ → Option (List ℕ)) → Inputs → List (List ℕ) → Type 0
+HaveCaptures holds inputs texts = AllZip (λ name text. holds name.now ≡ Some text) inputs.captures.items texts
+
+-- The bytes of standard output and of standard error, before and after.
+pub record Streams : Type 0 where
+  pub before : Option (List ℕ)
+  pub after : Option (List ℕ)
+  pub said_before : Option (List ℕ)
+  pub said_after : Option (List ℕ)
+
+-- nothing was said on standard error
+abbrev pub IsSilent : Streams → Type 0
+IsSilent streams = streams.said_after ≡ streams.said_before
+
+module _ (holds : List ℕ → Option (List ℕ)) (given : ℕ → Option (List ℕ)) (streams : Streams) where
+  -- Each command is its own: `check` tells the verdict by the certificate that is named, `audit` by one that is found, `live` that on what the
+  -- captures gave; help goes to standard output alone, and what is no request to standard error alone, with status 5.
+  abbrev pub Answers : Request → Result ℕ Stop → Type 0
+  Answers (Check inputs certificate workers) done =
+      IsSilent streams × ((policy users text : List ℕ) (captures : List (List ℕ)) → HaveTexts holds inputs policy users → HaveCaptures holds inputs captures → holds certificate.now ≡ Some text →
+      IfOk done (λ status. (written : Certificate) × (cert_of text ≡ Ok (said_by written)) × IsAudited policy users captures written streams.before streams.after status))
+  Answers (Audit inputs workers) done =
+      IsSilent streams × ((policy users : List ℕ) (captures : List (List ℕ)) → HaveTexts holds inputs policy users → HaveCaptures holds inputs captures →
+      IfOk done (λ status. (found : Certificate) × IsAudited policy users captures found streams.before streams.after status))
+  Answers (Find inputs workers) done = IsSilent streams × IfOk done (λ status. status ≡ 0)
+  Answers (Live inputs turns) done =
+      IsSilent streams × ((policy users : List ℕ) → HaveTexts holds inputs policy users →
+      IfOk done (λ status. (found : Certificate) × IsWatched policy users (length inputs.captures.items) given found streams.before streams.after status))
+  Answers (Help text) done = IsSilent streams × IfOk done (λ status. (status ≡ 0) × (streams.after ≡ followed_by streams.before (string_bytes text)))
+  Answers (Usage text) done = (streams.after ≡ streams.before) × IfOk done (λ status. (status ≡ 5) × (streams.said_after ≡ followed_by streams.said_before (string_bytes text)))
+
+-- the exit status of an answer, or of what stopped it
+abbrev pub status_told : Result ℕ Stop → ℕ
+status_told (Ok status) = status
+status_told (Err stop) = status_of_stop stop
+
+-- The words came to a request, which was answered; a line about what stopped it may stand behind on standard error. Or there was no memory for the words.
+abbrev pub IsRun : (List ℕ → Option (List ℕ)) → (ℕ → Option (List ℕ)) → Streams → ℕ → Type 0
+IsRun holds given streams status =
+    ((request : Request) × (done : Result ℕ Stop) × (said : Option (List ℕ)) × Answers holds given (record streams { said_after = said }) request done
+    × (status ≡ status_told done) × OnOk done (streams.said_after ≡ said))
+    ⊎ ((streams.after ≡ streams.before) × (status ≡ 3))
