@@ -1,5 +1,9 @@
 //! Streams in memory, and what a run of the program writes to them.
 
+ghost use Rattle.std.specs.Prelude.{[], IfOk, Some};
+ghost use Rattle.audit_program.specs.Answered.{IsRun};
+ghost use Rattle.tests_host.specs.Held.{gave_of, held_among};
+
 use crate::files::Files;
 use audit_finder::WalkAndPasses;
 use audit_model::{Sink, SinkFailed};
@@ -55,7 +59,14 @@ pub fn ask(
     words: &[&str],
     files: &mut Files<'_>,
     room: usize,
-) -> Result<Answer, AllocError> {
+) -> Result<Answer, AllocError>
+    // What the program promises of files that hold these bytes, and of captures that gave them, it promises of each test.
+    ensures { IfOk result (λ answer. IsRun
+        (held_among files.old.policy.now files.old.credentials.now files.old.certificate.now files.old.capture.now files.old.second.now)
+        (gave_of files.new.gave.items files.new.gave_second.items)
+        (record { before = Some []; after = Some answer.out.items; said_before = Some []; said_after = Some answer.err.items })
+        answer.status) }
+{
     let mut out = Stream {
         bytes: Vec::new(alloc),
         room,

@@ -1,7 +1,11 @@
-//! Files in memory.
+//! Files in memory, which claim what they hold and what they gave.
+
+ghost use Rattle.std.specs.Prelude.{◌≡◌, ◌≤◌, ◌++◌, IfOk, length, option_map, take};
+ghost use Rattle.tests_host.specs.Held.{held_among};
 
 use audit_files::{ReadFailed, Source};
 use audit_program::Growing;
+use std::alloc::Global;
 
 /// The files of a run.
 #[derive(Drop)]
@@ -20,15 +24,24 @@ pub struct Files<'a> {
     pub fails: Option<&'a str>,
     /// How many bytes of each capture each of the first turns gives while they grow; later ones give all.
     pub turns: &'a [usize],
-    /// For each capture, how many turns there were, and how many bytes they gave.
-    pub given: [(usize, usize); 2],
+    /// How many turns there were of each of the two captures.
+    asked: usize,
+    asked_second: usize,
+    /// What the turns gave of each.
+    gave: Vec<u8>,
+    gave_second: Vec<u8>,
     /// How many pauses there were.
     pub pauses: u32,
 }
 
 impl<'a> Files<'a> {
     /// Without credentials and a second capture. Each file is read at once, and can be.
-    pub fn new(policy: &'a str, certificate: &'a str, capture: &'a [u8]) -> Files<'a> {
+    pub fn new(
+        alloc: Global,
+        policy: &'a str,
+        certificate: &'a str,
+        capture: &'a [u8],
+    ) -> Files<'a> {
         Files {
             policy: policy.as_bytes(),
             credentials: &[],
@@ -39,62 +52,111 @@ impl<'a> Files<'a> {
             step: 65_536,
             fails: None,
             turns: &[],
-            given: [(0, 0); 2],
+            asked: 0,
+            asked_second: 0,
+            gave: Vec::new(alloc),
+            gave_second: Vec::new(alloc),
             pauses: 0,
         }
+    }
+
+    /// The bytes of the file of that name.
+    fn bytes_of(&self, name: &str) -> Option<&'a [u8]>
+        ensures { option_map (λ bytes. bytes.now) result
+            ≡ held_among self.now.policy.now self.now.credentials.now self.now.certificate.now self.now.capture.now self.now.second.now name.now }
+    {
+        if name == "policy" {
+            return Some(self.policy);
+        }
+        if name == "creds" {
+            return Some(self.credentials);
+        }
+        if name == "cert" {
+            return Some(self.certificate);
+        }
+        if name == "capture" {
+            return Some(self.capture);
+        }
+        if name == "second" {
+            return Some(self.second);
+        }
+        None
+    }
+
+    /// How many bytes the turn of that number gives at the most, where so many are asked for.
+    fn most_of(&self, turn: usize, room: usize) -> usize {
+        self.turns.get(turn).copied().unwrap_or(room)
+    }
+}
+
+/// Gives the next bytes of a capture, of which some were given.
+fn give(file: &[u8], gave: &mut Vec<u8>, most: usize, into: &mut [u8]) -> Result<usize, ReadFailed>
+    ensures within { IfOk result (λ n. n ≤ length into.old) }
+    ensures bytes { IfOk result (λ n. gave.new.items ≡ gave.old.items ++ take n into.new) }
+{
+    let at = gave.len().min(file.len());
+    let count = most.min(into.len()).min(file.len() - at);
+    into[..count].copy_from_slice(&file[at..at + count]);
+    match gave.extend_from_slice(&into[..count]) {
+        Ok(()) => Ok(count),
+        Err(_) => Err(ReadFailed),
     }
 }
 
 impl Source for Files<'_> {
-    ghost use Rattle.std.specs.Prelude.{None};
+    ghost use Rattle.tests_host.specs.Held.{held_among};
 
-    ghost holds = { λ _ _. None };
+    ghost holds = { λ files name. held_among files.policy.now files.credentials.now files.certificate.now files.capture.now files.second.now name };
 
     fn piece(&mut self, name: &str, at: u64, into: &mut [u8]) -> Result<usize, ReadFailed> {
         if self.fails == Some(name) && at > 0 {
             return Err(ReadFailed);
         }
-        let file = match name {
-            "policy" => self.policy,
-            "creds" => self.credentials,
-            "cert" => self.certificate,
-            "capture" => self.capture,
-            "second" => self.second,
-            _ => return Err(ReadFailed),
+        let Some(file) = self.bytes_of(name) else {
+            return Err(ReadFailed);
         };
-        let at = (at as usize).min(file.len());
+        if at >= file.len() as u64 {
+            return Ok(0);
+        }
         let most = if at == 0 { self.first } else { self.step };
-        let count = most.min(into.len()).min(file.len() - at);
+        let at = at as usize;
+        let count = most.max(1).min(into.len()).min(file.len() - at);
         into[..count].copy_from_slice(&file[at..at + count]);
         Ok(count)
     }
 }
 
 impl Growing for Files<'_> {
-    ghost use Rattle.std.specs.Prelude.{None};
+    ghost use Rattle.tests_host.specs.Held.{gave_of};
 
-    ghost given = { λ _ _. None };
+    ghost given = { λ files capture. gave_of files.gave.items files.gave_second.items capture };
 
     fn start(&mut self) {
-        self.given = [(0, 0); 2];
+        self.asked = 0;
+        self.asked_second = 0;
+        self.gave.clear();
+        self.gave_second.clear();
     }
 
     fn more(&mut self, capture: u32, name: &str, into: &mut [u8]) -> Result<usize, ReadFailed> {
-        let number = capture as usize;
-        let Some((turn, at)) = self.given.get(number).copied() else {
-            return Err(ReadFailed);
-        };
         let file = match name {
             "capture" => self.capture,
             "second" => self.second,
             _ => return Err(ReadFailed),
         };
-        let at = at.min(file.len());
-        let most = self.turns.get(turn).copied().unwrap_or(into.len());
-        let count = most.min(into.len()).min(file.len() - at);
-        into[..count].copy_from_slice(&file[at..at + count]);
-        self.given[number] = (turn.saturating_add(1), at + count);
-        Ok(count)
+        if capture == 0 {
+            let turn = self.asked;
+            let most = self.most_of(turn, into.len());
+            self.asked = turn.saturating_add(1);
+            return give(file, &mut self.gave, most, into);
+        }
+        if capture == 1 {
+            let turn = self.asked_second;
+            let most = self.most_of(turn, into.len());
+            self.asked_second = turn.saturating_add(1);
+            return give(file, &mut self.gave_second, most, into);
+        }
+        Err(ReadFailed)
     }
 
     fn pause(&mut self) {

@@ -58,7 +58,13 @@ fn an_answer_that_cannot_be_written_is_said(rt: HostRuntime) -> Result<(), Fail>
     let capture = WHOLE.capture.bytes(alloc)?;
     let report = REPORT.as_bytes();
     for room in 0..report.len() {
-        let answer = ask(&rt, alloc, WHOLE.words, &mut WHOLE.files(&capture), room)?;
+        let answer = ask(
+            &rt,
+            alloc,
+            WHOLE.words,
+            &mut WHOLE.files(alloc, &capture),
+            room,
+        )?;
         assert_eq!(rt;
             (answer.status, answer.out.as_slice(), text_of(&answer.err)),
             (4, &report[..room], "turnaudit: write failed\n"),

@@ -88,7 +88,7 @@ static FIND_WITH_WORKERS: [[&str; 7]; 2] = [
 fn any_number_of_workers_finds_alike(rt: HostRuntime) -> Result<(), Fail> {
     let alloc = rt.alloc();
     let capture = Sample::Binding.bytes(alloc)?;
-    let mut files = Files::new(POLICY, "", &capture);
+    let mut files = Files::new(rt.alloc(), POLICY, "", &capture);
     let by_one = ask(&rt, alloc, &FIND, &mut files, PLENTY)?;
     assert_eq!(rt; by_one.status, 0);
     for words in &FIND_WITH_WORKERS {

@@ -116,7 +116,7 @@ fn a_capture_may_be_cut_at_each_place_by_a_turn_without_bytes(rt: HostRuntime) -
 fn pauses_are_counted(rt: HostRuntime) -> Result<(), Fail> {
     let alloc = rt.alloc();
     let capture = PATIENT.capture.bytes(alloc)?;
-    let mut files = Files::new(POLICY, CERTIFICATE, &capture);
+    let mut files = Files::new(rt.alloc(), POLICY, CERTIFICATE, &capture);
     files.turns = &[100, 0, 152, 0];
     ask(&rt, alloc, PATIENT.words, &mut files, PLENTY)?;
     // After the second turn, and after the fourth.

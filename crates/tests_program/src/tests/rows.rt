@@ -123,8 +123,8 @@ pub const CHECKED: Row<'static> = Row {
 
 impl<'a> Row<'a> {
     /// The row's files, with the capture.
-    pub fn files(&self, capture: &'a [u8]) -> Files<'a> {
-        let mut files = Files::new(self.policy, self.certificate, capture);
+    pub fn files(&self, alloc: Global, capture: &'a [u8]) -> Files<'a> {
+        let mut files = Files::new(alloc, self.policy, self.certificate, capture);
         files.second = self.second;
         (files.first, files.step) = self.pieces;
         files.fails = self.fails;
@@ -139,7 +139,13 @@ pub fn answer_over<'a>(
     row: &Row<'a>,
     capture: &'a [u8],
 ) -> Result<Answer, AllocError> {
-    ask(rt, rt.alloc(), row.words, &mut row.files(capture), PLENTY)
+    ask(
+        rt,
+        rt.alloc(),
+        row.words,
+        &mut row.files(rt.alloc(), capture),
+        PLENTY,
+    )
 }
 
 /// That the row is answered as it says over the bytes of its capture.

@@ -104,8 +104,8 @@ impl Row {
     }
 
     /// The files of the session, with a certificate.
-    fn files<'a>(&self, built: &'a Built, certificate: &'a str) -> Files<'a> {
-        let mut files = Files::new(self.policy, certificate, built.first());
+    fn files<'a>(&self, alloc: Global, built: &'a Built, certificate: &'a str) -> Files<'a> {
+        let mut files = Files::new(alloc, self.policy, certificate, built.first());
         files.credentials = self.credentials.as_bytes();
         files.second = built.second().unwrap_or(&[]);
         files
@@ -129,7 +129,7 @@ impl Row {
             rt,
             alloc,
             &words,
-            &mut self.files(built, certificate),
+            &mut self.files(alloc, built, certificate),
             PLENTY,
         )
     }
