@@ -3,10 +3,11 @@
 ghost use Rattle.std.specs.Prelude.{◌≡◌, ◌⊎◌, ◌↔◌, ℕ, IsTrue, Any, Some, None, IfSome};
 ghost use Rattle.audit_model.specs.declared.sighting.Sighting.{Sighting};
 ghost use Rattle.audit_model.specs.declared.sighting.Side.TheVariants as sides;
-ghost use Rattle.audit_sightings.specs.Intake.{taken, sighting_at};
+ghost use Rattle.audit_sightings.specs.Intake.{taken, sighting_at, interface_at};
 ghost use Rattle.audit_faults.specs.declared.fault.Fault.{Fault as FaultKind};
 ghost use Rattle.audit_faults.specs.declared.fault.Lease.TheVariants as leases;
 ghost use Rattle.audit_keys.specs.KeyFor.{key_for};
+ghost use Rattle.audit_faults.specs.Index.{IsIndex};
 ghost use Rattle.audit_stun.specs.Message.{IsMessage};
 ghost use Rattle.audit_stun.specs.Parts.{parts_of};
 ghost use Rattle.audit_faults.specs.Asks.{AnswersAnybody, IsByUser, Responds, SentOn, SentInChannel, Told, ToldInChannel};
@@ -16,6 +17,7 @@ ghost use Rattle.audit_faults.specs.Explains.{Holds, SentOnHeld, SentInChannelHe
 use crate::asks::{in_reach, responds, sent_in_channel, sent_on, told, told_in_channel};
 use crate::fault::{Fault, Grant, Lease};
 use crate::grants::has_grant;
+use crate::index::{Index, span_in};
 use crate::values::{is_by_user, message_in};
 use audit_keys::Credentials;
 use audit_model::{Addr, Policy, Side, SightId, Sighting};
@@ -26,6 +28,7 @@ use audit_stun::numbers::method::BINDING;
 /// Whether the client has the lease, where the fault asks about it.
 fn holds(
     intake: &Intake,
+    index: &Index<'_>,
     fault: Fault,
     client: Addr,
     listen: Addr,
@@ -33,6 +36,7 @@ fn holds(
     asked: &Sighting,
     given: &Sighting,
 ) -> bool
+    requires { IsIndex (taken intake.now) index.now }
     ensures { IsTrue result ↔ Holds (taken intake.now) fault client listen lease asked.now given.now }
 {
     let grant = Grant {
@@ -45,12 +49,19 @@ fn holds(
         (Fault::Unallocated, Lease::Permission { ip: _ }) => true,
         (Fault::Unallocated, Lease::Channel { number: _, peer: _ }) => true,
         (Fault::Unpermitted, Lease::Channel { number: _, peer: _ }) => true,
-        _ => has_grant(intake, &grant, asked, given),
+        _ => has_grant(intake, index, &grant, asked, given),
     }
 }
 
 /// A Send indication's data, with an allocation and a permission.
-fn sent_on_held(intake: &Intake, fault: Fault, asked: &Sighting, given: &Sighting) -> bool
+fn sent_on_held(
+    intake: &Intake,
+    index: &Index<'_>,
+    fault: Fault,
+    asked: &Sighting,
+    given: &Sighting,
+) -> bool
+    requires { IsIndex (taken intake.now) index.now }
     ensures { IsTrue result ↔ SentOnHeld (taken intake.now) fault asked.now given.now }
 {
     let relayed = Lease::Allocation {
@@ -58,14 +69,23 @@ fn sent_on_held(intake: &Intake, fault: Fault, asked: &Sighting, given: &Sightin
     };
     let permission = Lease::Permission { ip: given.to.ip };
     sent_on(intake.policy(), asked, given)
-        && holds(intake, fault, asked.from, asked.to, relayed, asked, given)
         && holds(
-            intake, fault, asked.from, asked.to, permission, asked, given,
+            intake, index, fault, asked.from, asked.to, relayed, asked, given,
+        )
+        && holds(
+            intake, index, fault, asked.from, asked.to, permission, asked, given,
         )
 }
 
 /// A client's ChannelData, with an allocation and a channel.
-fn sent_in_channel_held(intake: &Intake, fault: Fault, asked: &Sighting, given: &Sighting) -> bool
+fn sent_in_channel_held(
+    intake: &Intake,
+    index: &Index<'_>,
+    fault: Fault,
+    asked: &Sighting,
+    given: &Sighting,
+) -> bool
+    requires { IsIndex (taken intake.now) index.now }
     ensures { IsTrue result ↔ SentInChannelHeld (taken intake.now) fault asked.now given.now }
 {
     let Some(number) = sent_in_channel(intake.policy(), asked, given) else {
@@ -78,25 +98,44 @@ fn sent_in_channel_held(intake: &Intake, fault: Fault, asked: &Sighting, given: 
         number,
         peer: given.to,
     };
-    holds(intake, fault, asked.from, asked.to, relayed, asked, given)
-        && holds(intake, fault, asked.from, asked.to, channel, asked, given)
+    holds(
+        intake, index, fault, asked.from, asked.to, relayed, asked, given,
+    ) && holds(
+        intake, index, fault, asked.from, asked.to, channel, asked, given,
+    )
 }
 
 /// A Data indication, with an allocation and a permission.
-fn told_held(intake: &Intake, fault: Fault, asked: &Sighting, given: &Sighting) -> bool
+fn told_held(
+    intake: &Intake,
+    index: &Index<'_>,
+    fault: Fault,
+    asked: &Sighting,
+    given: &Sighting,
+) -> bool
+    requires { IsIndex (taken intake.now) index.now }
     ensures { IsTrue result ↔ ToldHeld (taken intake.now) fault asked.now given.now }
 {
     let relayed = Lease::Allocation { relayed: asked.to };
     let permission = Lease::Permission { ip: asked.from.ip };
     told(intake.policy(), asked, given)
-        && holds(intake, fault, given.to, given.from, relayed, asked, given)
         && holds(
-            intake, fault, given.to, given.from, permission, asked, given,
+            intake, index, fault, given.to, given.from, relayed, asked, given,
+        )
+        && holds(
+            intake, index, fault, given.to, given.from, permission, asked, given,
         )
 }
 
 /// ChannelData to a client, with an allocation, a permission and a channel.
-fn told_in_channel_held(intake: &Intake, fault: Fault, asked: &Sighting, given: &Sighting) -> bool
+fn told_in_channel_held(
+    intake: &Intake,
+    index: &Index<'_>,
+    fault: Fault,
+    asked: &Sighting,
+    given: &Sighting,
+) -> bool
+    requires { IsIndex (taken intake.now) index.now }
     ensures { IsTrue result ↔ ToldInChannelHeld (taken intake.now) fault asked.now given.now }
 {
     let Some(number) = told_in_channel(intake.policy(), asked, given) else {
@@ -108,11 +147,13 @@ fn told_in_channel_held(intake: &Intake, fault: Fault, asked: &Sighting, given: 
         number,
         peer: asked.from,
     };
-    holds(intake, fault, given.to, given.from, relayed, asked, given)
-        && holds(
-            intake, fault, given.to, given.from, permission, asked, given,
-        )
-        && holds(intake, fault, given.to, given.from, channel, asked, given)
+    holds(
+        intake, index, fault, given.to, given.from, relayed, asked, given,
+    ) && holds(
+        intake, index, fault, given.to, given.from, permission, asked, given,
+    ) && holds(
+        intake, index, fault, given.to, given.from, channel, asked, given,
+    )
 }
 
 /// Whether a response may answer anybody, or its request is a user's.
@@ -162,35 +203,44 @@ fn responds_held(
 /// Whether it arrived, in time, and asked for the departure with all reasons that the fault asks about.
 fn explains(
     intake: &Intake,
+    index: &Index<'_>,
     credentials: &Credentials,
     fault: Fault,
     asked: &Sighting,
     given: &Sighting,
 ) -> bool
+    requires { IsIndex (taken intake.now) index.now }
     ensures { IsTrue result ↔ Explains (taken intake.now) (key_for credentials.now) fault asked.now given.now }
 {
     if asked.side != Side::Arrives || !in_reach(intake.policy().hold, asked, given) {
         return false;
     }
     responds_held(intake.policy(), credentials, fault, asked, given)
-        || sent_on_held(intake, fault, asked, given)
-        || sent_in_channel_held(intake, fault, asked, given)
-        || told_held(intake, fault, asked, given)
-        || told_in_channel_held(intake, fault, asked, given)
+        || sent_on_held(intake, index, fault, asked, given)
+        || sent_in_channel_held(intake, index, fault, asked, given)
+        || told_held(intake, index, fault, asked, given)
+        || told_in_channel_held(intake, index, fault, asked, given)
 }
 
-/// Whether one of these sightings explains the departure.
+/// Whether a sighting of the interface explains the departure. It looks where something is in reach, the last place first,
+/// since what asked for a departure mostly came just before it.
 fn explained_among(
     intake: &Intake,
+    index: &Index<'_>,
     credentials: &Credentials,
-    sightings: &[Sighting],
+    iface: u32,
     fault: Fault,
     given: &Sighting,
 ) -> bool
-    ensures { IsTrue result ↔ Any (λ asked. Explains (taken intake.now) (key_for credentials.now) fault asked given.now) sightings.now }
+    requires { IsIndex (taken intake.now) index.now }
+    ensures { IsTrue result ↔ Any (λ asked. Explains (taken intake.now) (key_for credentials.now) fault asked given.now) (interface_at (taken intake.now) iface) }
 {
-    'sightings: for asked in sightings {
-        if explains(intake, credentials, fault, asked, given) {
+    let row = intake.interface(iface);
+    let span = span_in(intake, index, iface, given);
+    let mut place = span.past;
+    'places: while span.first < place {
+        place -= 1;
+        if explains(intake, index, credentials, fault, &row[place], given) {
             return true;
         }
     }
@@ -198,11 +248,18 @@ fn explained_among(
 }
 
 /// Whether something that was captured explains the departure.
-fn is_explained(intake: &Intake, credentials: &Credentials, fault: Fault, given: &Sighting) -> bool
+fn is_explained(
+    intake: &Intake,
+    index: &Index<'_>,
+    credentials: &Credentials,
+    fault: Fault,
+    given: &Sighting,
+) -> bool
+    requires { IsIndex (taken intake.now) index.now }
     ensures { IsTrue result ↔ ((asked : Sighting) × IsCaptured (taken intake.now) asked × Explains (taken intake.now) (key_for credentials.now) fault asked given.now) }
 {
     'interfaces: for iface in 0..intake.interfaces() {
-        if explained_among(intake, credentials, intake.interface(iface), fault, given) {
+        if explained_among(intake, index, credentials, iface, fault, given) {
             return true;
         }
     }
@@ -212,20 +269,28 @@ fn is_explained(intake: &Intake, credentials: &Credentials, fault: Fault, given:
 /// Whether the departure of that name shows the fault.
 fn is_fault(
     intake: &Intake,
+    index: &Index<'_>,
     credentials: &Credentials,
     fault: Fault,
     sight: SightId,
     given: &Sighting,
 ) -> bool
+    requires index { IsIndex (taken intake.now) index.now }
     requires there { sighting_at (taken intake.now) sight ≡ Some given.now }
     requires leaves { given.now.side ≡ sides.Leaves }
     ensures { IsTrue result ↔ IsFault (taken intake.now) (key_for credentials.now) fault sight }
 {
-    !is_explained(intake, credentials, fault, given)
+    !is_explained(intake, index, credentials, fault, given)
 }
 
 /// The first fault that a departure shows; none where there is no departure of that name.
-pub fn first_fault(intake: &Intake, credentials: &Credentials, sight: SightId) -> Option<Fault>
+pub fn first_fault(
+    intake: &Intake,
+    index: &Index<'_>,
+    credentials: &Credentials,
+    sight: SightId,
+) -> Option<Fault>
+    requires { IsIndex (taken intake.now) index.now }
     ensures shown { IfSome result (λ fault. IsFault (taken intake.now) (key_for credentials.now) fault sight) }
     ensures first { IfSome result (NoneBefore (λ earlier. IsFault (taken intake.now) (key_for credentials.now) earlier sight)) }
     ensures none { result ≡ None → (fault : FaultKind) → IsFault (taken intake.now) (key_for credentials.now) fault sight → ⊥ }
@@ -235,19 +300,19 @@ pub fn first_fault(intake: &Intake, credentials: &Credentials, sight: SightId) -
         return None;
     }
     // What is explained with all reasons shows none of the faults.
-    if !is_fault(intake, credentials, Fault::Unauthentic, sight, given) {
+    if !is_fault(intake, index, credentials, Fault::Unauthentic, sight, given) {
         return None;
     }
-    if is_fault(intake, credentials, Fault::Unasked, sight, given) {
+    if is_fault(intake, index, credentials, Fault::Unasked, sight, given) {
         return Some(Fault::Unasked);
     }
-    if is_fault(intake, credentials, Fault::Unallocated, sight, given) {
+    if is_fault(intake, index, credentials, Fault::Unallocated, sight, given) {
         return Some(Fault::Unallocated);
     }
-    if is_fault(intake, credentials, Fault::Unpermitted, sight, given) {
+    if is_fault(intake, index, credentials, Fault::Unpermitted, sight, given) {
         return Some(Fault::Unpermitted);
     }
-    if is_fault(intake, credentials, Fault::Unbound, sight, given) {
+    if is_fault(intake, index, credentials, Fault::Unbound, sight, given) {
         return Some(Fault::Unbound);
     }
     Some(Fault::Unauthentic)

@@ -14,6 +14,7 @@ ghost use Rattle.audit_faults.specs.Explains.{IsFault, NoneBefore};
 
 use crate::explains::first_fault;
 use crate::fault::Fault;
+use crate::index::Index;
 use crate::laws::{fault_excludes, faults_of_any_users};
 use audit_keys::Credentials;
 use audit_model::SightId;
@@ -39,5 +40,9 @@ pub fn shown_fault(intake: &Intake, credentials: &Credentials, sight: SightId) -
 {
     fault_excludes();
     faults_of_any_users();
-    first_fault(intake, credentials, sight)
+    let everywhere = Index {
+        extents: &[],
+        placed: None,
+    };
+    first_fault(intake, &everywhere, credentials, sight)
 }

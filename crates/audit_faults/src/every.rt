@@ -1,0 +1,91 @@
+//! All faults that captures show.
+
+ghost use Rattle.std.specs.Prelude.{◌≡◌, ◌+◌, List, OnOk, IfOk};
+ghost use Rattle.std.specs.List.{All};
+ghost use Rattle.audit_model.specs.declared.certificate.Certificate.{Certificate};
+ghost use Rattle.audit_keys.specs.KeyFor.{key_for};
+ghost use Rattle.audit_sightings.specs.Intake.{taken};
+ghost use Rattle.audit_server.specs.Step.{Step};
+ghost use Rattle.audit_whole.specs.CaptureRun.{rules_for, IsCaptureRun};
+ghost use Rattle.audit_whole.specs.Conforms.{Conforms};
+ghost use Rattle.audit_faults.specs.Index.{IsIndex};
+ghost use Rattle.audit_faults.specs.Shown.{AreFaults, AreFaultsBefore};
+
+use crate::explains::first_fault;
+use crate::fault::ShownFault;
+use crate::index::{Index, extents_by_interface};
+use crate::laws::fault_excludes;
+use crate::placed::placed_by_client;
+use audit_keys::Credentials;
+use audit_model::SightId;
+use audit_sightings::Intake;
+use std::alloc::{AllocError, Global};
+
+/// Adds the first fault of the sighting, where it shows one.
+fn add_of_sighting(
+    intake: &Intake,
+    index: &Index<'_>,
+    credentials: &Credentials,
+    sight: SightId,
+    faults: &mut Vec<ShownFault>,
+) -> Result<(), AllocError>
+    requires index { IsIndex (taken intake.now) index.now }
+    requires so_far { AreFaultsBefore (taken intake.now) (key_for credentials.now) sight faults.old.items }
+    ensures { OnOk result (AreFaultsBefore (taken intake.now) (key_for credentials.now)
+        (record { iface = sight.iface; index = sight.index + 1 }) faults.new.items) }
+{
+    if let Some(fault) = first_fault(intake, index, credentials, sight) {
+        faults.push(ShownFault { sight, fault })?;
+    }
+    Ok(())
+}
+
+/// Adds the first faults of the interface's sightings.
+fn add_of_interface(
+    intake: &Intake,
+    index: &Index<'_>,
+    credentials: &Credentials,
+    iface: u32,
+    faults: &mut Vec<ShownFault>,
+) -> Result<(), AllocError>
+    requires index { IsIndex (taken intake.now) index.now }
+    requires so_far { AreFaultsBefore (taken intake.now) (key_for credentials.now) (record { iface = iface; index = 0 }) faults.old.items }
+    ensures { OnOk result (AreFaultsBefore (taken intake.now) (key_for credentials.now)
+        (record { iface = iface + 1; index = 0 }) faults.new.items) }
+{
+    'sightings: for sighting in intake.interface(iface) {
+        add_of_sighting(intake, index, credentials, sighting.id, faults)?;
+    }
+    Ok(())
+}
+
+/// The first fault of each departure that shows one, in order of interface and index. For each departure it looks at the
+/// arrivals that are in reach, and for each lease at the client's requests for leases and their successes. It takes memory for two
+/// numbers a sighting, the places of these and the faults, and fails only where there is none.
+pub fn shown_faults(
+    alloc: Global,
+    intake: &Intake,
+    credentials: &Credentials,
+) -> Result<Vec<ShownFault>, AllocError>
+    // Of each departure that shows a fault the first, and no others.
+    ensures exact { IfOk result (λ faults. AreFaults (taken intake.now) (key_for credentials.now) faults.items) }
+    // With any of them no list of moves is a run of the server that explains the captures,
+    ensures no_run { IfOk result (λ faults. All (λ shown. (steps : List Step) →
+        IsCaptureRun (taken intake.now) (rules_for (taken intake.now) (key_for credentials.now)) steps → ⊥) faults.items) }
+    // and no certificate conforms.
+    ensures no_certificate { IfOk result (λ faults. All (λ shown. (certificate : Certificate) →
+        Conforms (taken intake.now) (rules_for (taken intake.now) (key_for credentials.now)) certificate → ⊥) faults.items) }
+{
+    fault_excludes();
+    let extents = extents_by_interface(alloc, intake)?;
+    let placed = placed_by_client(alloc, intake)?;
+    let index = Index {
+        extents: extents.as_slice(),
+        placed: Some(placed.as_slice()),
+    };
+    let mut faults = Vec::new(alloc);
+    'interfaces: for iface in 0..intake.interfaces() {
+        add_of_interface(intake, &index, credentials, iface, &mut faults)?;
+    }
+    Ok(faults)
+}

@@ -1,0 +1,47 @@
+//! Where to look in what was captured.
+
+ghost use Rattle.std.specs.Prelude.{◌≡◌, ℕ, ◌≤◌, length, IfOk, IsNone};
+ghost use Rattle.audit_sightings.specs.Intake.{taken, interface_at};
+ghost use Rattle.audit_faults.specs.Index.{IsIndex};
+ghost use Rattle.audit_faults.specs.Reach.{AreExtents, OutsideIsOut};
+
+use crate::placed::Placed;
+use crate::reach::{Extents, Span, extents_of, span_of};
+use audit_model::Sighting;
+use audit_sightings::Intake;
+use std::alloc::{AllocError, Global};
+
+/// What is known of what was captured. Where nothing is known, all is looked at.
+#[derive(Clone, Copy)]
+pub struct Index<'a> {
+    /// Of each interface, by its number.
+    pub extents: &'a [Extents],
+    /// Of each request for a lease and each success, by client.
+    pub placed: Option<&'a [Placed]>,
+}
+
+/// The moments of each interface. It takes memory for two numbers a sighting, and linear time.
+pub fn extents_by_interface(alloc: Global, intake: &Intake) -> Result<Vec<Extents>, AllocError>
+    ensures { IfOk result (λ extents. AreExtents (taken intake.now) extents.items) }
+{
+    let mut extents = Vec::new(alloc);
+    'interfaces: for iface in 0..intake.interfaces() {
+        extents.push(extents_of(alloc, intake.interface(iface))?)?;
+    }
+    Ok(extents)
+}
+
+/// The places of the interface outside of which nothing is in reach of the departure. It takes logarithmic time.
+pub fn span_in(intake: &Intake, index: &Index<'_>, iface: u32, given: &Sighting) -> Span
+    requires { IsIndex (taken intake.now) index.now }
+    ensures past { result.past ≤ length (interface_at (taken intake.now) iface) }
+    ensures out { OutsideIsOut (taken intake.now).policy.hold given.now (interface_at (taken intake.now) iface) result.first result.past }
+{
+    match index.extents.get(iface as usize) {
+        Some(extents) => span_of(extents, intake.policy().hold, given),
+        None => Span {
+            first: 0,
+            past: intake.interface(iface).len(),
+        },
+    }
+}
