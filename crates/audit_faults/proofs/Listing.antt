@@ -1,5 +1,5 @@
 -- All faults that captures show, sighting by sighting.
-use Rattle.std.proofs.Common.{◌≡◌, ◌⊎◌, ◌<◌, ◌≤◌, ◌+◌, inl, inr, ℕ, Some, List, [], ◌∷◌, ◌++◌, length, length-append, refl, sym, ◌∙◌, ap, subst, arith}
+use Rattle.std.proofs.Common.{◌≡◌, ◌⊎◌, ◌<◌, ◌≤◌, ◌+◌, inl, inr, ℕ, Some, List, [], ◌∷◌, ◌++◌, get_or, length, length-append, sym, ◌∙◌, ap, subst, arith}
 use Rattle.std.specs.Prelude.{Any}
 use Rattle.std.proofs.lemmas.Bool.{cases_lt}
 use Rattle.std.proofs.lemmas.List.{get_or_append_left}
@@ -64,20 +64,19 @@ module _ (taken : Taken) (key_for : KeyFor) where
     before = All-weaker (λ shown. IsBefore shown.sight bound) (λ shown. IsBefore shown.sight (record { iface = bound.iface; index = bound.index + 1 })) (λ shown h. later bound shown.sight h) faults a.before;
   }
 
-  pub more_one : (bound : SightId) (faults : List ShownFault) (fault : Fault) → AreFaultsBefore taken key_for bound faults → IsFirstFault taken key_for (record { sight = bound; fault = fault }) →
-      AreFaultsBefore taken key_for (record { iface = bound.iface; index = bound.index + 1 }) (faults ++ record { sight = bound; fault = fault } ∷ [])
-  more_one bound faults fault a first =
-      let shown : ShownFault = record { sight = bound; fault = fault } in
+  pub more_one : (bound : SightId) (faults : List ShownFault) (shown : ShownFault) → shown.sight ≡ bound → AreFaultsBefore taken key_for bound faults → IsFirstFault taken key_for shown →
+      AreFaultsBefore taken key_for (record { iface = bound.iface; index = bound.index + 1 }) (faults ++ shown ∷ [])
+  more_one bound faults shown named a first =
       record {
         each = All-push (IsFirstFault taken key_for) faults shown a.each first;
         every = λ fault sight before f. elim (past bound sight before) [
           | inl h ↦ any_kept (λ it. it.sight ≡ sight) faults (shown ∷ []) (a.every fault sight h f)
-          | inr e ↦ Any-push (λ it. it.sight ≡ sight) faults shown (sym e)
+          | inr e ↦ Any-push (λ it. it.sight ≡ sight) faults shown (named ∙ sym e)
         ];
-        rising = all_pairs_push (λ one other. IsBefore one.sight other.sight) faults shown a.rising a.before;
+        rising = all_pairs_push (λ one other. IsBefore one.sight other.sight) faults shown a.rising (λ k d inside. subst (λ (id : SightId). IsBefore (get_or faults k d).sight id) (sym named) (a.before k d inside));
         before = All-push (λ it. IsBefore it.sight (record { iface = bound.iface; index = bound.index + 1 })) faults shown
             (All-weaker (λ it. IsBefore it.sight bound) (λ it. IsBefore it.sight (record { iface = bound.iface; index = bound.index + 1 })) (λ it h. later bound it.sight h) faults a.before)
-            (inr (refl, omega arith));
+            (let at = ap (λ (id : SightId). id.iface) named in let after = ap (λ (id : SightId). id.index) named in inr (at, omega (arith, after)));
       }
 
   pub more_interface : (iface index : ℕ) (faults : List ShownFault) → length (interface_at taken iface) ≤ index → AreFaultsBefore taken key_for (record { iface = iface; index = index }) faults →

@@ -15,6 +15,7 @@ use Rattle.audit_faults.specs.declared.fault.Grant.{Grant}
 use Rattle.audit_faults.specs.declared.fault.Lease.{Lease}
 use Rattle.audit_faults.specs.declared.fault.Lease.TheVariants.{Allocation, Permission, Channel}
 use Rattle.audit_faults.specs.declared.placed.Placed.{Placed}
+use Rattle.audit_faults.specs.Beginning.{IsAllocated}
 use Rattle.audit_faults.specs.Grants.{IsCaptured, AsksFor, IsGranted, Succeeds}
 use Rattle.audit_faults.specs.Placed.{IsLeaseMethod, IsLeaseMessage, MayGrant, IsListing, HasPlaces, AreListedBefore, number_of}
 use Rattle.audit_faults.proofs.Listing.{past, within, all_before}
@@ -33,6 +34,9 @@ by_request taken grant asked given s h = inl (h.0.arrives, h.0.from, lease_messa
 
 pub by_success : (policy : Policy) (grant : Grant) (asked request s : Sighting) → IsLeaseMethod (parts_of request.payload).method → Succeeds policy grant asked request s → MayGrant grant.client s
 by_success policy grant asked request s method h = inr (h.leaves, h.to, (h.succeeds.0, h.succeeds.1, subst IsLeaseMethod (sym h.succeeds.2) method))
+
+pub by_allocated : (client : Addr) (s : Sighting) → IsAllocated client s → MayGrant client s
+by_allocated client s h = inr (h.0, h.1, (h.2.0, h.2.1, inl h.2.2))
 
 -- ---- the list
 

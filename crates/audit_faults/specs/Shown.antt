@@ -1,21 +1,28 @@
 -- All faults that captures show.
-use Rattle.std.specs.Prelude.{◌≡◌, ◌⊎◌, ◌<◌, List, Any}
+use Rattle.std.specs.Prelude.{◌≡◌, ◌⊎◌, ◌↔◌, ◌<◌, IsTrue, List, Some, Any}
 use Rattle.std.specs.List.{All, AllPairs}
 use Rattle.audit_model.specs.declared.sighting.SightId.{SightId}
-use Rattle.audit_sightings.specs.Intake.{Taken}
+use Rattle.audit_model.specs.declared.sighting.Sighting.{Sighting}
+use Rattle.audit_sightings.specs.Intake.{Taken, sighting_at}
 use Rattle.audit_rules.specs.Keys.{KeyFor}
 use Rattle.audit_faults.specs.declared.fault.Fault.{Fault}
+use Rattle.audit_faults.specs.declared.fault.Fault.TheVariants.{Unallocated}
 use Rattle.audit_faults.specs.declared.fault.ShownFault.{ShownFault}
+use Rattle.audit_faults.specs.Beginning.{HasBeginning}
 use Rattle.audit_faults.specs.Explains.{IsFault, NoneBefore}
 
 -- the order of interface and index
 abbrev pub IsBefore : SightId → SightId → Type 0
 IsBefore one other = (one.iface < other.iface) ⊎ ((one.iface ≡ other.iface) × (one.index < other.index))
 
+-- it has no allocation, and no Allocate success to a client that asked for it was captured: the client may have one from before the captures
+abbrev pub MayPredate : Taken → Fault → SightId → Type 0
+MayPredate taken fault sight = (fault ≡ Unallocated) × ((given : Sighting) → sighting_at taken sight ≡ Some given → HasBeginning taken given → ⊥)
+
 module _ (taken : Taken) (key_for : KeyFor) where
   -- the departure shows this fault, and none of those that are told before it
   abbrev pub IsFirstFault : ShownFault → Type 0
-  IsFirstFault shown = IsFault taken key_for shown.fault shown.sight × NoneBefore (λ earlier. IsFault taken key_for earlier shown.sight) shown.fault
+  IsFirstFault shown = IsFault taken key_for shown.fault shown.sight × NoneBefore (λ earlier. IsFault taken key_for earlier shown.sight) shown.fault × (IsTrue shown.may_predate ↔ MayPredate taken shown.fault shown.sight)
 
   -- All shown faults: of each departure that shows one the first, in rising order, and so once.
   pub record AreFaults (faults : List ShownFault) : Type 0 where

@@ -1,41 +1,90 @@
 //! All faults that captures show.
 
-ghost use Rattle.std.specs.Prelude.{◌≡◌, ◌+◌, List, OnOk, IfOk};
+ghost use Rattle.std.specs.Prelude.{◌≡◌, ◌↔◌, ◌+◌, List, Some, IsSome, IsTrue, OnOk, IfOk};
 ghost use Rattle.std.specs.List.{All};
+ghost use Rattle.audit_model.specs.declared.sighting.Sighting.{Sighting as OneSighting};
 ghost use Rattle.audit_model.specs.declared.certificate.Certificate.{Certificate};
 ghost use Rattle.audit_keys.specs.KeyFor.{key_for};
-ghost use Rattle.audit_sightings.specs.Intake.{taken};
+ghost use Rattle.audit_sightings.specs.Intake.{taken, sighting_at};
 ghost use Rattle.audit_server.specs.Step.{Step};
 ghost use Rattle.audit_whole.specs.CaptureRun.{rules_for, IsCaptureRun};
 ghost use Rattle.audit_whole.specs.Conforms.{Conforms};
+ghost use Rattle.audit_faults.specs.Beginning.{HasBeginning};
 ghost use Rattle.audit_faults.specs.Index.{IsIndex};
-ghost use Rattle.audit_faults.specs.Shown.{AreFaults, AreFaultsBefore};
+ghost use Rattle.audit_faults.specs.Placed.{IsListing};
+ghost use Rattle.audit_faults.specs.Shown.{AreFaults, AreFaultsBefore, MayPredate};
 
+use crate::beginning::has_beginning;
 use crate::explains::first_fault;
-use crate::fault::ShownFault;
+use crate::fault::{Fault, ShownFault};
 use crate::index::{Index, extents_by_interface};
 use crate::laws::fault_excludes;
-use crate::placed::placed_by_client;
+use crate::placed::{Placed, placed_by_client};
 use audit_keys::Credentials;
 use audit_model::SightId;
 use audit_sightings::Intake;
 use std::alloc::{AllocError, Global};
 
+/// Whether no Allocate success was captured to a client that asked for the departure.
+fn lacks_beginning(intake: &Intake, index: &Index<'_>, placed: &[Placed], sight: SightId) -> bool
+    requires index { IsIndex (taken intake.now) index.now }
+    requires listing { IsListing (taken intake.now) placed.now }
+    requires there { IsSome (sighting_at (taken intake.now) sight) }
+    ensures { IsTrue result ↔ ((given : OneSighting) → sighting_at (taken intake.now) sight ≡ Some given → HasBeginning (taken intake.now) given → ⊥) }
+{
+    let Some(given) = intake.sighting(sight) else {
+        return false;
+    };
+    if has_beginning(intake, index, placed, given) {
+        return false;
+    }
+    true
+}
+
+/// Whether the captures may have begun after the allocation that a departure without one needs.
+fn may_predate(
+    intake: &Intake,
+    index: &Index<'_>,
+    placed: &[Placed],
+    fault: Fault,
+    sight: SightId,
+) -> bool
+    requires index { IsIndex (taken intake.now) index.now }
+    requires listing { IsListing (taken intake.now) placed.now }
+    requires there { IsSome (sighting_at (taken intake.now) sight) }
+    ensures { IsTrue result ↔ MayPredate (taken intake.now) fault sight }
+{
+    match fault {
+        Fault::Unallocated => lacks_beginning(intake, index, placed, sight),
+        Fault::Unasked => false,
+        Fault::Unpermitted => false,
+        Fault::Unbound => false,
+        Fault::Unauthentic => false,
+    }
+}
+
 /// Adds the first fault of the sighting, where it shows one.
 fn add_of_sighting(
     intake: &Intake,
     index: &Index<'_>,
+    placed: &[Placed],
     credentials: &Credentials,
     sight: SightId,
     faults: &mut Vec<ShownFault>,
 ) -> Result<(), AllocError>
     requires index { IsIndex (taken intake.now) index.now }
+    requires listing { IsListing (taken intake.now) placed.now }
     requires so_far { AreFaultsBefore (taken intake.now) (key_for credentials.now) sight faults.old.items }
     ensures { OnOk result (AreFaultsBefore (taken intake.now) (key_for credentials.now)
         (record { iface = sight.iface; index = sight.index + 1 }) faults.new.items) }
 {
     if let Some(fault) = first_fault(intake, index, credentials, sight) {
-        faults.push(ShownFault { sight, fault })?;
+        let may_predate = may_predate(intake, index, placed, fault, sight);
+        faults.push(ShownFault {
+            sight,
+            fault,
+            may_predate,
+        })?;
     }
     Ok(())
 }
@@ -44,17 +93,19 @@ fn add_of_sighting(
 fn add_of_interface(
     intake: &Intake,
     index: &Index<'_>,
+    placed: &[Placed],
     credentials: &Credentials,
     iface: u32,
     faults: &mut Vec<ShownFault>,
 ) -> Result<(), AllocError>
     requires index { IsIndex (taken intake.now) index.now }
+    requires listing { IsListing (taken intake.now) placed.now }
     requires so_far { AreFaultsBefore (taken intake.now) (key_for credentials.now) (record { iface = iface; index = 0 }) faults.old.items }
     ensures { OnOk result (AreFaultsBefore (taken intake.now) (key_for credentials.now)
         (record { iface = iface + 1; index = 0 }) faults.new.items) }
 {
     'sightings: for sighting in intake.interface(iface) {
-        add_of_sighting(intake, index, credentials, sighting.id, faults)?;
+        add_of_sighting(intake, index, placed, credentials, sighting.id, faults)?;
     }
     Ok(())
 }
@@ -85,7 +136,7 @@ pub fn shown_faults(
     };
     let mut faults = Vec::new(alloc);
     'interfaces: for iface in 0..intake.interfaces() {
-        add_of_interface(intake, &index, credentials, iface, &mut faults)?;
+        add_of_interface(intake, &index, &placed, credentials, iface, &mut faults)?;
     }
     Ok(faults)
 }
