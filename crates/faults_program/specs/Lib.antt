@@ -1,0 +1,3 @@
+pub mod Wording
+pub mod FaultsText
+pub mod Told
