@@ -1,5 +1,5 @@
 -- A splitter's relation, block by block.
-use Rattle.std.proofs.Common.{◌≡◌, ◌≢◌, ℕ, List, [], ◌∷◌, ◌++◌, length, map, Option, Some, None, refl, sym, ap, subst, ◌∙◌, append_assoc, false, Bor, arith}
+use Rattle.std.proofs.Common.{◌≤◌, ◌<◌, ◌≡◌, ◌≢◌, ℕ, List, [], ◌∷◌, ◌++◌, length, map, Option, Some, None, Ok, refl, sym, ap, subst, ◌∙◌, append_assoc, false, Bor, arith}
 use Rattle.std.specs.Option.{option_to_list, IfSome}
 use Rattle.std.specs.List.{concat}
 use Rattle.std.proofs.lemmas.List.{append-nil, length-append, map-append}
@@ -7,6 +7,7 @@ use Rattle.std.proofs.lemmas.List.Folds.{concat-append}
 use Rattle.audit_pcapng.specs.declared.packet.Packet.{Packet}
 use Rattle.audit_pcapng.specs.declared.scope.Scope.{Scope}
 use Rattle.audit_pcapng.specs.declared.fault.CaptureFault.{CaptureFault}
+use Rattle.audit_pcapng.specs.Headings.{heading}
 use Rattle.audit_pcapng.specs.Sections.{no_blocks}
 use Rattle.audit_pcapng.specs.Captures.{IsBlock, Blocks, Front, IsCut, IsFaulty, FirstFault}
 use Rattle.audit_pcapng.proofs.Texts.{Front-more, cut_by_end}
@@ -66,13 +67,26 @@ left_over text (x ∷ xs) blocks scope split some e =
     let long : length (bytes_of blocks) ≡ length (bytes_of blocks ++ x ∷ xs) = ap length (sym e ∙ split.spelled) in
     absurd (omega (arith, long, length-append (bytes_of blocks) (x ∷ xs)))
 
+some_byte_of : (taken : List ℕ) → (taken ≡ [] → ⊥) → 1 ≤ length taken
+some_byte_of [] some = absurd (some refl)
+some_byte_of (x ∷ xs) some = omega arith
+
+-- what was held was no whole block
+some_taken : (scope after : Scope) (held piece rest : List ℕ) (b : Block) → IsCut scope held → (s : Splits scope held piece b rest after) → 1 ≤ length s.moved.taken
+some_taken scope after held piece rest b cut s = some_byte_of s.moved.taken (λ none.
+    let same : b.bytes ≡ held = s.moved.grown ∙ ap (λ (t : List ℕ). held ++ t) none ∙ append-nil held in
+    let shown : heading scope.order held ≡ Ok (Some s.read.head) = ap (λ (t : List ℕ). heading scope.order t) (sym same) ∙ s.read.shown in
+    let short : length held < s.read.head.length = rw shown at cut in
+    let size : s.read.head.length ≡ length held = s.read.size ∙ ap length same in
+    omega (arith, short, size))
+
 -- a step of a splitter that gave a block
 pub gave_block : (old new : BlockSplitter) (text piece : List ℕ) (blocks : List Block) (step : Option (Block × Bor (List ℕ))) → StandsFor old text blocks → new.failed ≡ false
     → IfSome step (λ given. Splits old.scope old.held.items piece given.0 given.1.now new.scope) → IfSome step (λ given. new.held.items ≡ []) → IfSome step (λ given. Gave new text blocks piece given.0 given.1.now)
 gave_block old new text piece blocks None stands sound splits empty = tt
 gave_block old new text piece blocks (Some given) stands sound splits empty =
     let more = gave text old.held.items piece given.1.now blocks given.0 old.scope new.scope stands.1 splits in
-    record { taken = splits.moved.taken; cut = splits.moved.cut; stands = (sound, rw empty more) }
+    record { taken = splits.moved.taken; cut = splits.moved.cut; some = some_taken old.scope new.scope old.held.items piece given.1.now given.0 stands.1.cut splits; stands = (sound, rw empty more) }
 
 pub with_nothing : (text held : List ℕ) (blocks : List Block) (scope : Scope) → held ≡ [] → IsSplit text blocks scope held → IsSplit text blocks scope []
 with_nothing text held blocks scope e split = subst (λ (h : List ℕ). IsSplit text blocks scope h) e split

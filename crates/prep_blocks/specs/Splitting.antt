@@ -1,5 +1,5 @@
 -- Which bytes a splitter stands for, and what it gives.
-use Rattle.std.specs.Prelude.{◌≡◌, ◌≢◌, ℕ, true, false, List, [], ◌∷◌, ◌++◌, Result, Ok, Err}
+use Rattle.std.specs.Prelude.{◌≡◌, ◌≢◌, ℕ, true, false, List, [], ◌∷◌, ◌++◌, ◌≤◌, length, Result, Ok, Err}
 use Rattle.audit_pcapng.specs.declared.packet.Packet.{Packet}
 use Rattle.audit_pcapng.specs.declared.scope.Scope.{Scope}
 use Rattle.audit_pcapng.specs.declared.fault.CaptureFault.{CaptureFault}
@@ -27,6 +27,7 @@ IsFailed splitter = splitter.failed ≡ true
 pub record Gave (splitter : BlockSplitter) (text : List ℕ) (blocks : List Block) (piece : List ℕ) (given : Block) (rest : List ℕ) : Type 0 where
   pub taken : List ℕ
   pub cut : piece ≡ taken ++ rest
+  pub some : 1 ≤ length taken
   pub stands : StandsFor splitter (text ++ taken) (blocks ++ given ∷ [])
 
 -- the text is a whole capture of these blocks

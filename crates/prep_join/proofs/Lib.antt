@@ -1,0 +1,4 @@
+pub mod Snoc
+pub mod ShapesGrown
+pub mod Written
+pub mod Going

@@ -1,0 +1,20 @@
+-- What is known behind captures that are done, and blocks of the one that comes.
+use Rattle.std.specs.Prelude.{List, ◌⊎◌}
+use Rattle.prep_blocks.specs.declared.block.Block.{Block}
+use Rattle.prep_join.specs.declared.ring.Ring.{Ring}
+use Rattle.prep_join.specs.declared.fault.JoinFault.{JoinFault}
+use Rattle.prep_join.specs.Shapes.{IsShaped, FitsShape, RefusesShape}
+use Rattle.prep_join.specs.Stamped.{IsStamped, FitsStamps, RefusesStamps}
+
+pub record IsAt (ring : Ring) (done : List (List Block)) (current : List Block) : Type 0 where
+  pub shape : IsShaped ring.shape done current
+  pub stamps : IsStamped ring.stamps done current
+
+-- the block goes on with what was before
+pub record Fits (done : List (List Block)) (current : List Block) (block : Block) : Type 0 where
+  pub shape : FitsShape done current block
+  pub stamps : FitsStamps done current block
+
+-- or it is refused for this
+abbrev pub Refuses : JoinFault → List (List Block) → List Block → Block → Type 0
+Refuses fault done current block = RefusesShape fault done current block ⊎ RefusesStamps fault done current block
