@@ -1,0 +1,118 @@
+//! The command line, as clap reads it. No other file knows clap.
+
+use clap::error::ErrorKind;
+use clap::{Arg, ArgAction, ArgMatches, Command, Error};
+use std::alloc::{AllocError, Global};
+use std::convert::AsStr;
+
+/// What is asked for.
+#[derive(Drop)]
+pub enum Request<'a> {
+    /// Join captures to a new file.
+    Join {
+        captures: Vec<&'a str>,
+        file: &'a str,
+    },
+    /// Tell how to use the program, or its release, on standard output.
+    Help(String),
+    /// The words are no request; what clap says of it, for standard error.
+    Usage(String),
+}
+
+/// The release, and the line of `rt version` that names what it is proved with.
+const VERSION: &str = "0.1.0, proved with rattle-kit-13b logic dac8208d650f15bf";
+
+const ABOUT: &str = "Makes captures and a policy ready for turnaudit. It judges nothing";
+
+const STATUSES: &str =
+    "Exit status:\n  0  done\n  2  an input is refused; its number is told on standard error\n  3  out of memory\n  4  a file can't be read or made, or something can't be written\n  5  wrong words";
+
+const ABOUT_JOIN: &str = "Joins the captures of a ring, in their order, to one capture";
+
+const EXAMPLE_JOIN: &str =
+    "Example:\n  turnprep join -o call.pcapng ring_00001_20261126120000.pcapng ring_00002_20261126120500.pcapng\n\nwrites call.pcapng: the first file whole, and of each other all blocks but the section header and the interfaces.";
+
+/// The captures that a command reads.
+fn captures_argument<'a>(alloc: Global) -> Arg<'a> {
+    Arg::new(alloc, "captures")
+        .value_name("CAPTURE")
+        .help("Captures, as dumpcap writes them, in their order")
+        .required(true)
+        .num_args(1..)
+        .action(ArgAction::Append)
+}
+
+/// The command `join`.
+fn join_command<'a>(alloc: Global) -> Result<Command<'a>, AllocError> {
+    let file = Arg::new(alloc, "out")
+        .short('o')
+        .value_name("FILE")
+        .help("The file that is made; one that is there is never written over")
+        .required(true)
+        .action(ArgAction::Set);
+    Command::new(alloc, "join")
+        .about(ABOUT_JOIN)
+        .after_help(EXAMPLE_JOIN)
+        .arg(file)?
+        .arg(captures_argument(alloc))
+}
+
+fn command<'a>(alloc: Global) -> Result<Command<'a>, AllocError> {
+    Command::new(alloc, "turnprep")
+        .version(VERSION)
+        .about(ABOUT)
+        .after_help(STATUSES)
+        .arg_required_else_help(true)
+        .subcommand_required(true)
+        .subcommand(join_command(alloc)?)
+}
+
+/// The request that an error of clap stands for.
+fn refused<'a>(alloc: Global, error: Error) -> Result<Request<'a>, AllocError> {
+    let text = format!(in alloc; "{error}")?;
+    if error.kind() == ErrorKind::OutOfMemory {
+        return Err(AllocError);
+    }
+    if error.use_stderr() {
+        Ok(Request::Usage(text))
+    } else {
+        Ok(Request::Help(text))
+    }
+}
+
+/// The request that the words of the command `join` are.
+fn join_request<'a>(
+    alloc: Global,
+    matches: &ArgMatches<'a>,
+) -> Result<Option<Request<'a>>, AllocError> {
+    let (Some(file), Some(names)) = (matches.get_str("out"), matches.get_strs("captures")) else {
+        return Ok(None);
+    };
+    Ok(Some(Request::Join {
+        captures: Vec::from_slice(alloc, names)?,
+        file,
+    }))
+}
+
+/// The request that the words of a command are.
+fn request_of<'a>(
+    alloc: Global,
+    matches: &ArgMatches<'a>,
+) -> Result<Option<Request<'a>>, AllocError> {
+    if let Some(join) = matches.subcommand_matches("join") {
+        return join_request(alloc, join);
+    }
+    Ok(None)
+}
+
+/// Reads the words, the first of which is the program's name.
+pub fn read<'a, N: AsStr>(alloc: Global, words: &'a [N]) -> Result<Request<'a>, AllocError> {
+    let matches = match command(alloc)?.try_get_matches_from(words) {
+        Ok(matches) => matches,
+        Err(error) => return refused(alloc, error),
+    };
+    match request_of(alloc, &matches)? {
+        Some(request) => Ok(request),
+        None => Ok(Request::Usage(command(alloc)?.render_usage()?)),
+    }
+}

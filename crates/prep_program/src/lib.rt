@@ -1,0 +1,17 @@
+//! The whole program as a function: words in, files by a source, new files by a maker, what is told by two sinks, and the exit status.
+#![tactic(auto)]
+
+mod command_line;
+mod joining;
+mod maker;
+mod ring_name;
+mod running;
+mod source;
+mod stop;
+
+pub use joining::join_captures;
+pub use maker::{MakeFault, Maker};
+pub use ring_name::{RingName, gap_in};
+pub use running::run;
+pub use source::{ReadFailed, Source};
+pub use stop::Stop;

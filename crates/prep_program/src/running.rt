@@ -1,0 +1,96 @@
+//! The whole program as a function.
+
+use crate::command_line::{Request, read as read_words};
+use crate::joining::join_captures;
+use crate::maker::Maker;
+use crate::ring_name::gap_in;
+use crate::source::Source;
+use crate::stop::Stop;
+use audit_model::{Sink, put_all};
+use std::alloc::Global;
+use std::convert::AsStr;
+
+/// Puts the line that says why the run ended. Nothing more can be done where that fails.
+fn put_line<W: Sink>(alloc: Global, sink: &mut W, stop: &Stop) {
+    match format!(in alloc; "turnprep: {stop}\n") {
+        Ok(line) => {
+            let _ = put_all(sink, line.as_bytes());
+        }
+        Err(_) => {
+            let _ = put_all(sink, b"turnprep: out of memory\n");
+        }
+    }
+}
+
+/// Joins captures to a new file, and tells how many blocks each has.
+fn run_join<S: Source, M: Maker, O: Sink>(
+    alloc: Global,
+    captures: &[&str],
+    file: &str,
+    source: &mut S,
+    maker: &mut M,
+    out: &mut O,
+) -> Result<u8, Stop> {
+    if let Some(gap) = gap_in(captures) {
+        return Err(Stop::Missing(gap));
+    }
+    maker.make(file)?;
+    let all = join_captures(alloc, source, captures, maker)?;
+    put_all(out, b"turnprep-joined 1\n")?;
+    for (capture, counts) in all.iter().enumerate() {
+        let interfaces = counts.interfaces;
+        let packets = counts.packets;
+        let statistics = counts.statistics;
+        let line = format!(in alloc;
+            "capture {capture} interfaces {interfaces} packets {packets} statistics {statistics}\n"
+        )?;
+        put_all(out, line.as_bytes())?;
+    }
+    Ok(0)
+}
+
+/// Does what is asked for, and gives the exit status.
+fn run_request<S: Source, M: Maker, O: Sink, E: Sink>(
+    alloc: Global,
+    request: &Request<'_>,
+    source: &mut S,
+    maker: &mut M,
+    out: &mut O,
+    err: &mut E,
+) -> Result<u8, Stop> {
+    match request {
+        Request::Join { captures, file } => run_join(alloc, captures, file, source, maker, out),
+        Request::Help(text) => {
+            put_all(out, text.as_bytes())?;
+            Ok(0)
+        }
+        Request::Usage(text) => {
+            put_all(err, text.as_bytes())?;
+            Ok(5)
+        }
+    }
+}
+
+/// Runs the program on its words, the first of which is its name, and gives its exit status: 0 done, help or the release; 2 an input is
+/// refused; 3 out of memory; 4 a file that can't be read or made, or something that can't be written; 5 words that are no request.
+/// What ended it is one line on `err`.
+pub fn run<N: AsStr, S: Source, M: Maker, O: Sink, E: Sink>(
+    alloc: Global,
+    words: &[N],
+    source: &mut S,
+    maker: &mut M,
+    out: &mut O,
+    err: &mut E,
+) -> u8 {
+    let done = match read_words(alloc, words) {
+        Ok(request) => run_request(alloc, &request, source, maker, out, err),
+        Err(error) => Err(Stop::from(error)),
+    };
+    match done {
+        Ok(status) => status,
+        Err(stop) => {
+            put_line(alloc, err, &stop);
+            stop.status()
+        }
+    }
+}

@@ -1,0 +1,25 @@
+//! Where files are read from.
+
+ghost use Rattle.std.specs.Prelude.{◌≡◌, ◌≤◌, ℕ, IfOk, List, Some, length};
+ghost use Rattle.prep_program.specs.Pieces.{IsPieceAt};
+
+/// How many bytes are asked for at once.
+pub const PIECE: usize = 65_536;
+
+/// A file could not be read.
+#[derive(Clone, Copy, Debug, PartialEq, Eq)]
+pub struct ReadFailed;
+
+/// Gives the bytes of files, piece by piece.
+pub trait Source {
+    ghost use Rattle.std.specs.Prelude.{ℕ, List, Option};
+
+    /// The bytes of the file of a name. A source that is None claims nothing of them.
+    ghost holds: { Self → List ℕ → Option (List ℕ) };
+
+    /// Reads bytes of the file from an offset on into the buffer, and tells how many: 0 at the end of the file, or where the buffer has no room.
+    fn piece(&mut self, name: &str, at: u64, into: &mut [u8]) -> Result<usize, ReadFailed>
+        ensures within { IfOk result (λ n. n ≤ length into.old) }
+        ensures kept { holds self.new ≡ holds self.old }
+        ensures bytes { (bytes : List ℕ) → holds self.old name.now ≡ Some bytes → IfOk result (λ n. IsPieceAt bytes at n into.new) };
+}

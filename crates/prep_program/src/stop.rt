@@ -1,0 +1,107 @@
+//! Why a run ends before its end.
+
+ghost use Rattle.std.specs.Prelude.{◌≡◌};
+ghost use Rattle.prep_program.specs.Stops.{status_of_stop};
+
+use crate::maker::MakeFault;
+use crate::ring_name::Gap;
+use crate::source::ReadFailed;
+use audit_model::SinkFailed;
+use audit_pcapng::CaptureFault;
+use prep_join::{JoinFault, Refused};
+use std::alloc::{AllocError, AllocFailed};
+use std::fmt;
+
+/// What ended a run.
+#[derive(Clone, Copy, Debug)]
+pub enum Stop {
+    /// A capture was refused.
+    Capture(Refused),
+    /// A file of a ring is missing.
+    Missing(Gap),
+    /// There was no memory.
+    Memory,
+    /// A file could not be read.
+    Read,
+    /// A file could not be made, or something not written.
+    Write,
+    /// A file that was to be made is there.
+    Exists,
+}
+
+impl Stop {
+    /// The exit status that says so.
+    pub fn status(&self) -> u8
+        ensures { result ≡ status_of_stop self.now }
+    {
+        match self {
+            Stop::Capture(_) | Stop::Missing(_) => 2,
+            Stop::Memory => 3,
+            Stop::Read | Stop::Write | Stop::Exists => 4,
+        }
+    }
+
+    /// A capture's fault, by its number.
+    pub fn of_capture(capture: u32, fault: JoinFault) -> Stop {
+        match fault {
+            JoinFault::Capture(CaptureFault::Memory) => Stop::Memory,
+            _ => Stop::Capture(Refused { capture, fault }),
+        }
+    }
+}
+
+/// The line that goes to standard error, without its end.
+impl fmt::Display for Stop {
+    fn fmt<W: fmt::Write>(&self, f: &mut fmt::Formatter<W>) -> fmt::Result {
+        match self {
+            Stop::Capture(refused) => write!(f, "refused {refused}"),
+            Stop::Missing(gap) => {
+                let capture = gap.capture;
+                let earlier = capture.saturating_sub(1);
+                let before = gap.before;
+                let here = gap.here;
+                write!(
+                    f,
+                    "refused capture {earlier} is number {before} of the ring and capture {capture} is number {here}"
+                )
+            }
+            Stop::Memory => f.write_str("out of memory"),
+            Stop::Read => f.write_str("read failed"),
+            Stop::Write => f.write_str("write failed"),
+            Stop::Exists => f.write_str("a file of that name exists"),
+        }
+    }
+}
+
+impl From<AllocError> for Stop {
+    fn from(_error: AllocError) -> Stop {
+        Stop::Memory
+    }
+}
+
+impl<T: Drop> From<AllocFailed<T>> for Stop {
+    fn from(_failed: AllocFailed<T>) -> Stop {
+        Stop::Memory
+    }
+}
+
+impl From<ReadFailed> for Stop {
+    fn from(_failed: ReadFailed) -> Stop {
+        Stop::Read
+    }
+}
+
+impl From<SinkFailed> for Stop {
+    fn from(_failed: SinkFailed) -> Stop {
+        Stop::Write
+    }
+}
+
+impl From<MakeFault> for Stop {
+    fn from(fault: MakeFault) -> Stop {
+        match fault {
+            MakeFault::Exists => Stop::Exists,
+            MakeFault::Failed => Stop::Write,
+        }
+    }
+}

@@ -1,0 +1,48 @@
+//! turnprep makes captures and a policy ready for turnaudit.
+#![tactic(auto)]
+
+mod host;
+
+use audit_model::{Sink, put_all};
+use host::{HostFiles, HostMaker, HostStream};
+use prep_program::run;
+use std::process::ExitCode;
+use std::rt::Env;
+use std::{env, io};
+
+/// The words that the program was started with, its name among them.
+fn words_of<R: Env + AllocGlobal>(rt: &R) -> io::Result<Vec<String>> {
+    let mut words = Vec::new(rt.alloc());
+    for word in env::args(rt)? {
+        words.push(word)?;
+    }
+    Ok(words)
+}
+
+/// Says that the words could not be read, and gives the exit status.
+fn refuse_words<W: Sink>(err: &mut W, error: &io::Error) -> u8 {
+    if error.kind() == io::ErrorKind::OutOfMemory {
+        let _ = put_all(err, b"turnprep: out of memory\n");
+        return 3;
+    }
+    let _ = put_all(err, b"turnprep: a word is not UTF-8\n");
+    5
+}
+
+fn main(rt: HostRuntime) -> ExitCode {
+    let alloc = rt.alloc();
+    let mut out = HostStream::new(rt.stdout());
+    let mut err = HostStream::new(rt.stderr());
+    let status = match words_of(&rt) {
+        Ok(words) => run(
+            alloc,
+            &words,
+            &mut HostFiles::new(&rt),
+            &mut HostMaker::new(&rt),
+            &mut out,
+            &mut err,
+        ),
+        Err(error) => refuse_words(&mut err, &error),
+    };
+    ExitCode::from(status)
+}
