@@ -2,6 +2,7 @@
 use Rattle.std.proofs.Common.{◌≡◌, ℕ, true, false, not, List, [], ◌∷◌, ◌++◌, map, filter, refl, sym, ap, ◌∙◌, append_assoc}
 use Rattle.std.specs.List.{concat}
 use Rattle.std.proofs.lemmas.List.{append-nil, map-append}
+use Rattle.std.proofs.lemmas.List.Elements.{filter-append}
 use Rattle.std.proofs.lemmas.List.Folds.{concat-append}
 use Rattle.prep_blocks.specs.declared.block.Block.{Block}
 use Rattle.prep_blocks.specs.Read.{bytes_of}
@@ -28,3 +29,8 @@ joined-one (first ∷ others) current =
     ap (λ (t : List (List ℕ)). bytes_of first ++ concat t) (map-append rest_of others (current ∷ []))
     ∙ ap (λ (t : List ℕ). bytes_of first ++ t) (concat-append (map rest_of others) (rest_of current ∷ []) ∙ ap (λ (t : List ℕ). concat (map rest_of others) ++ t) (append-nil (rest_of current)))
     ∙ sym (append_assoc (bytes_of first) (concat (map rest_of others)) (rest_of current))
+
+pub written_of-append : (done : List (List Block)) (a b : List Block) → written_of done (a ++ b) ≡ written_of done a ++ written_of done b
+written_of-append done a b =
+    let bytes = λ (x : Block). x.bytes in
+    ap bytes_of (filter-append (is_kept done) a b) ∙ ap concat (map-append bytes (filter (is_kept done) a) (filter (is_kept done) b)) ∙ concat-append (map bytes (filter (is_kept done) a)) (map bytes (filter (is_kept done) b))

@@ -1,0 +1,4 @@
+pub mod Names
+pub mod Confs
+pub mod Plans
+pub mod PolicyLines

@@ -1,0 +1,108 @@
+-- The policy that a configuration comes to.
+use Rattle.std.specs.Prelude.{◌≡◌, ◌≢◌, ℕ, ◌+◌, ◌<◌, min, Bool, true, false, not, List, [], ◌∷◌, ◌++◌, map, filter, fold, Option, Some, None, ◌==◌, ◌&&◌, nat_le, nat_lt, length, if◌then◌else◌, ◌⊎◌}
+use Rattle.std.specs.List.{flat_map, list_any}
+use Rattle.audit_model.specs.declared.address.Addr.{Addr}
+use Rattle.audit_model.specs.declared.policy.PortRange.{PortRange}
+use Rattle.prep_coturn.specs.declared.conf.Conf.{Conf}
+use Rattle.prep_coturn.specs.declared.conf.External.{External}
+use Rattle.prep_coturn.specs.declared.plan.Asked.{Asked}
+use Rattle.prep_coturn.specs.declared.plan.Plan.{Plan}
+use Rattle.prep_coturn.specs.declared.fault.ConfFault.{ConfFault}
+use Rattle.prep_coturn.specs.declared.fault.ConfFault.TheVariants as faults
+
+abbrev pub is_new : List ℕ → ℕ → Bool
+is_new said ip = not (list_any (λ one. one == ip) said)
+
+-- the addresses that are said, and those besides that aren't
+abbrev pub with_asked : List ℕ → List ℕ → List ℕ
+with_asked said besides = said ++ filter (is_new said) besides
+
+abbrev pub listening_of : Conf → Asked → List ℕ
+listening_of conf asked = with_asked conf.listening asked.listening.now
+
+abbrev pub relaying_of : Conf → Asked → List ℕ
+relaying_of conf asked = with_asked conf.relaying asked.relaying.now
+
+-- the port over another one, unless one is said
+abbrev pub alternative_of : ℕ → ℕ → ℕ
+alternative_of said port = if said == 0 then min (port + 1) 65535 else said
+
+-- coturn takes plain UDP at the port for TLS as well, where it has a certificate
+abbrev pub has_tls : Conf → Bool
+has_tls conf = not conf.no_dtls && conf.has_cert && conf.has_key && not (conf.tls_port == conf.listening_port)
+
+abbrev pub alternatives_of : Conf → List ℕ
+alternatives_of conf = alternative_of conf.alt_port conf.listening_port ∷ (if has_tls conf then alternative_of conf.alt_tls_port conf.tls_port ∷ [] else [])
+
+-- with two listening addresses at the alternative ports too
+abbrev pub ports_of : Conf → Bool → List ℕ
+ports_of conf is_many = (conf.listening_port ∷ (if has_tls conf then conf.tls_port ∷ [] else [])) ++ (if is_many && not conf.no_rfc5780 then alternatives_of conf else [])
+
+abbrev pub addr_at : ℕ → ℕ → Addr
+addr_at ip port = record { ip = ip; port = port }
+
+-- each address with each port
+abbrev pub listens_at : List ℕ → List ℕ → List Addr
+listens_at ips ports = flat_map (λ ip. map (addr_at ip) ports) ips
+
+abbrev pub wire_at : Option ℕ → List ℕ → ℕ
+wire_at (Some wire) relaying = wire
+wire_at None [] = 0
+wire_at None (first ∷ others) = first
+
+-- the relay address that an external-ip line is for
+abbrev pub wire_of : List ℕ → External → ℕ
+wire_of relaying external = wire_at external.wire relaying
+
+-- the last line for a relay address says as which one it is told
+abbrev pub told_of : List ℕ → List External → ℕ → ℕ
+told_of relaying external wire = fold (λ told one. if wire_of relaying one == wire then one.told else told) wire external
+
+abbrev pub is_apart : List ℕ → List External → ℕ → Bool
+is_apart relaying external wire = not (told_of relaying external wire == wire)
+
+-- some relay address is told as another one
+abbrev pub is_renamed : List ℕ → List External → Bool
+is_renamed relaying external = list_any (is_apart relaying external) relaying
+
+-- and this is refused, but where the captures are translated
+abbrev pub IsMistold : ConfFault → List ℕ → List External → Bool → Type 0
+IsMistold (faults.Told line renamed) relaying external is_translated = (is_translated ≡ false) × (is_renamed relaying external ≡ true)
+IsMistold (faults.OneForMany line count) relaying external is_translated = (count ≡ length relaying) × (length relaying ≢ 1)
+IsMistold faults.Memory relaying external is_translated = Unit {0}
+IsMistold other relaying external is_translated = ⊥
+
+abbrev pub range_at : Conf → List ℕ → ℕ → PortRange
+range_at conf relaying wire = record { ip = told_of relaying conf.external wire; low = conf.min_port; high = conf.max_port }
+
+abbrev pub ranges_of : Conf → List ℕ → List PortRange
+ranges_of conf relaying = map (range_at conf relaying) relaying
+
+abbrev pub listens_of : Conf → Asked → List Addr
+listens_of conf asked = listens_at (listening_of conf asked) (ports_of conf (nat_lt 1 (length (listening_of conf asked)))) ++ conf.aux
+
+-- a listening port is inside the relay range
+abbrev pub is_inside_at : Conf → List ℕ → Addr → Bool
+is_inside_at conf relaying addr = list_any (λ ip. ip == addr.ip) relaying && nat_le conf.min_port addr.port && nat_le addr.port conf.max_port
+
+abbrev pub is_inside : Conf → List ℕ → List Addr → Bool
+is_inside conf relaying listens = list_any (is_inside_at conf relaying) listens
+
+-- the lines of the policy
+pub record IsPlanned (plan : Plan) (conf : Conf) (asked : Asked) : Type 0 where
+  pub listens : plan.listens ≡ listens_of conf asked
+  pub relays : plan.relays ≡ ranges_of conf (relaying_of conf asked)
+  pub told : asked.is_translated ≡ false → is_renamed (relaying_of conf asked) conf.external ≡ false
+  pub apart : is_inside conf (relaying_of conf asked) (listens_of conf asked) ≡ false
+
+-- what it is refused for
+abbrev pub IsRefused : ConfFault → Conf → Asked → Type 0
+IsRefused faults.NoListening conf asked = listening_of conf asked ≡ []
+IsRefused (faults.NoRelaying listening) conf asked = relaying_of conf asked ≡ []
+IsRefused faults.Range conf asked = (conf.max_port < conf.min_port) ⊎ (conf.min_port ≡ 0)
+IsRefused faults.Inside conf asked = is_inside conf (relaying_of conf asked) (listens_of conf asked) ≡ true
+IsRefused (faults.Told line renamed) conf asked = IsMistold (faults.Told line renamed) (relaying_of conf asked) conf.external asked.is_translated
+IsRefused (faults.OneForMany line count) conf asked = IsMistold (faults.OneForMany line count) (relaying_of conf asked) conf.external asked.is_translated
+IsRefused (faults.Unjudged line setting) conf asked = ⊥
+IsRefused (faults.Value line setting) conf asked = ⊥
+IsRefused faults.Memory conf asked = Unit {0}

@@ -1,0 +1,135 @@
+//! Why no policy is made of a configuration.
+
+ghost use Rattle.std.specs.Prelude.{◌≡◌};
+ghost use Rattle.prep_coturn.specs.declared.fault.ConfFault.TheVariants.{Memory};
+
+use crate::conf::Renamed;
+use crate::setting::{Setting, Unjudged};
+use audit_model::Listed;
+use std::alloc::{AllocError, AllocFailed};
+use std::fmt;
+
+/// What is wrong with a configuration, or with what it lacks.
+#[derive(Debug, Drop)]
+pub enum ConfFault {
+    /// With this setting nothing could conform, or nothing would be judged.
+    Unjudged { line: u64, setting: Unjudged },
+    /// The value of a setting is no address or no port.
+    Value { line: u64, setting: Setting },
+    /// An `external-ip` names no relay address, and there are more than one, or none.
+    OneForMany { line: u64, relaying: usize },
+    /// No `listening-ip`.
+    NoListening,
+    /// No `relay-ip`; the addresses that listen.
+    NoRelaying { listening: Listed<u32> },
+    /// A relay address is told as another one.
+    Told { line: u64, renamed: Listed<Renamed> },
+    /// `min-port` is over `max-port`, or 0.
+    Range,
+    /// A listening port is inside the relay range.
+    Inside,
+    /// There was no memory.
+    Memory,
+}
+
+impl From<AllocError> for ConfFault {
+    ghost from_gives = { λ _ fault. fault ≡ Memory };
+
+    fn from(_error: AllocError) -> ConfFault {
+        ConfFault::Memory
+    }
+}
+
+impl<T: Drop> From<AllocFailed<T>> for ConfFault {
+    ghost from_gives = { λ _ fault. fault ≡ Memory };
+
+    fn from(_failed: AllocFailed<T>) -> ConfFault {
+        ConfFault::Memory
+    }
+}
+
+/// An IPv4 address without a port.
+#[derive(Drop)]
+struct Ip(u32);
+
+impl fmt::Display for Ip {
+    fn fmt<W: fmt::Write>(&self, f: &mut fmt::Formatter<W>) -> fmt::Result {
+        let [a, b, c, d] = self.0.to_be_bytes();
+        write!(f, "{a}.{b}.{c}.{d}")
+    }
+}
+
+/// What a setting's value isn't.
+fn lacks(setting: Setting) -> &'static str {
+    match setting {
+        Setting::ListeningIp | Setting::RelayIp => "not an address",
+        Setting::AuxServer => "not an address and a port",
+        Setting::ExternalIp => "not IPv4",
+        _ => "not a port",
+    }
+}
+
+/// The words that say the addresses of which each client is relayed.
+fn write_relaying<W: fmt::Write>(
+    f: &mut fmt::Formatter<W>,
+    listening: &Listed<u32>,
+) -> fmt::Result {
+    f.write_str(
+        "turnserver-conf: no relay-ip: coturn relays from the address at which the client came: say",
+    )?;
+    for ip in listening.as_slice() {
+        let ip = Ip(*ip);
+        write!(f, " --relay-ip {ip}")?;
+    }
+    Ok(())
+}
+
+/// The words that translate.
+fn write_told<W: fmt::Write>(
+    f: &mut fmt::Formatter<W>,
+    line: u64,
+    renamed: &Listed<Renamed>,
+) -> fmt::Result {
+    write!(
+        f,
+        "turnserver-conf line {line} external-ip: the told address is not the one on the wire (R14): say --translated, and pass the captures through translate"
+    )?;
+    for one in renamed.as_slice() {
+        let told = Ip(one.told);
+        let wire = Ip(one.wire);
+        write!(f, " --external-ip {told}/{wire}")?;
+    }
+    Ok(())
+}
+
+/// What standard error tells of it.
+impl fmt::Display for ConfFault {
+    fn fmt<W: fmt::Write>(&self, f: &mut fmt::Formatter<W>) -> fmt::Result {
+        match self {
+            ConfFault::Unjudged { line, setting } => {
+                let name = setting.name();
+                let why = setting.why();
+                write!(f, "turnserver-conf line {line} {name}: {why}")
+            }
+            ConfFault::Value { line, setting } => {
+                let name = setting.name();
+                let lacking = lacks(*setting);
+                write!(f, "turnserver-conf line {line} {name}: {lacking}")
+            }
+            ConfFault::OneForMany { line, relaying } => write!(
+                f,
+                "turnserver-conf line {line} external-ip: one address for {relaying} relay addresses"
+            ),
+            ConfFault::NoListening => f.write_str(
+                "turnserver-conf: no listening-ip: coturn takes all addresses of its host: say each by --listening-ip",
+            ),
+            ConfFault::NoRelaying { listening } => write_relaying(f, listening),
+            ConfFault::Told { line, renamed } => write_told(f, *line, renamed),
+            ConfFault::Range => f.write_str("turnserver-conf: min-port over max-port"),
+            ConfFault::Inside => {
+                f.write_str("turnserver-conf: a listening port is inside the relay range")
+            }
+            ConfFault::Memory => f.write_str("out of memory"),
+        }
+    }
+}

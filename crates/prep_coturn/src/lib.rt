@@ -1,0 +1,18 @@
+//! A policy out of coturn's configuration.
+#![tactic(auto)]
+
+mod conf;
+mod fault;
+mod notes;
+mod plan;
+mod reading;
+mod rows;
+mod setting;
+mod writing;
+
+pub use conf::{Conf, External, Renamed};
+pub use fault::ConfFault;
+pub use plan::{Asked, Plan, plan_of};
+pub use reading::{Prepared, prepare};
+pub use setting::{Setting, Unjudged};
+pub use writing::policy_text;

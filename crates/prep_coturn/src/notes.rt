@@ -1,0 +1,72 @@
+//! What is told of a configuration besides its policy, for people.
+
+use crate::conf::Conf;
+use crate::rows::Row;
+use crate::setting::Setting;
+use audit_text::number;
+use std::alloc::{AllocError, Global};
+use std::fmt::Write;
+
+/// The longest that RFC 8656 has a permission, in seconds.
+const PERMISSION: u64 = 300;
+
+/// The longest that it has a channel.
+const CHANNEL: u64 = 600;
+
+/// A line for each thing that turnaudit does not judge, or will tell.
+pub fn notes_of(alloc: Global, rows: &[Row<'_>], conf: &Conf) -> Result<String, AllocError> {
+    let mut notes = String::new(alloc);
+    for row in rows {
+        if let Some(setting) = Setting::of(row.name) {
+            note_row(&mut notes, row, setting)?;
+        }
+    }
+    if !conf.no_tcp {
+        notes.push_str(
+            "turnprep: note: without no-tcp clients may come by TCP: their relayed datagrams are nobody's (cut)\n",
+        )?;
+    }
+    if !conf.no_tls {
+        notes.push_str(
+            "turnprep: note: without no-tls clients may come by TLS: their relayed datagrams are nobody's (cut)\n",
+        )?;
+    }
+    Ok(notes)
+}
+
+/// What is told of one line.
+fn note_row(notes: &mut String, row: &Row<'_>, setting: Setting) -> Result<(), AllocError> {
+    let line = row.line;
+    let name = setting.name();
+    match setting {
+        Setting::ListeningIp | Setting::RelayIp if row.value.contains(&b':') => {
+            write!(
+                notes,
+                "turnprep: note: line {line} {name}: IPv6 is passed over\n"
+            )
+        }
+        Setting::AuxServer if row.value.first() == Some(&b'[') => {
+            write!(
+                notes,
+                "turnprep: note: line {line} {name}: IPv6 is passed over\n"
+            )
+        }
+        Setting::PermissionLifetime if number(row.value, PERMISSION).is_err() => write!(
+            notes,
+            "turnprep: note: line {line} {name}: RFC 8656 has {PERMISSION}, so that R7 will be told\n"
+        ),
+        Setting::ChannelLifetime if number(row.value, CHANNEL).is_err() => write!(
+            notes,
+            "turnprep: note: line {line} {name}: RFC 8656 has {CHANNEL}, so that R9 will be told\n"
+        ),
+        Setting::Mobility if row.is_on() => write!(
+            notes,
+            "turnprep: note: line {line} {name}: clients that move (MOBILITY-TICKET) are not judged\n"
+        ),
+        Setting::AlternateServer if row.is_on() => write!(
+            notes,
+            "turnprep: note: line {line} {name}: answers of 300 are judged as errors without a condition\n"
+        ),
+        _ => Ok(()),
+    }
+}

@@ -1,0 +1,283 @@
+//! The policy that a configuration comes to.
+
+ghost use Rattle.std.specs.Prelude.{◌≡◌, ◌==◌, false, [], ◌∷◌, ◌++◌, map, if◌then◌else◌, IfOk, IfErr, OnOk};
+ghost use Rattle.std.specs.List.{list_any};
+ghost use Rattle.prep_coturn.specs.Plans.{IsPlanned, IsRefused, alternative_of, has_tls, ports_of, with_asked, is_new, addr_at, listens_at, wire_of, told_of, ranges_of, is_inside, is_inside_at, is_renamed, is_apart, IsMistold};
+
+use crate::conf::{Conf, External, Renamed};
+use crate::fault::ConfFault;
+use audit_model::{Addr, Listed, PortRange};
+use std::alloc::{AllocError, Global};
+
+/// What an operator says besides the configuration.
+#[derive(Clone, Copy, Debug)]
+pub struct Asked<'a> {
+    pub listening: &'a [u32],
+    pub relaying: &'a [u32],
+    /// The captures go through `translate`.
+    pub is_translated: bool,
+}
+
+/// The listen and relay lines of a policy.
+#[derive(Debug, Drop)]
+pub struct Plan {
+    pub listens: Listed<Addr>,
+    pub relays: Listed<PortRange>,
+}
+
+/// The policy that a configuration comes to, or why none is made. The cost is the number of listen lines, and of relay addresses times
+/// `external-ip` lines.
+pub fn plan_of(alloc: Global, conf: &Conf, asked: &Asked<'_>) -> Result<Plan, ConfFault>
+    ensures ok { IfOk result (λ plan. IsPlanned plan conf.now asked.now) }
+    ensures err { IfErr result (λ fault. IsRefused fault conf.now asked.now) }
+{
+    let listening = with_those(alloc, conf.listening.as_slice(), asked.listening)?;
+    if listening.is_empty() {
+        return Err(ConfFault::NoListening);
+    }
+    let relaying = with_those(alloc, conf.relaying.as_slice(), asked.relaying)?;
+    if relaying.is_empty() {
+        return Err(ConfFault::NoRelaying {
+            listening: Listed::from(listening),
+        });
+    }
+    check_told(alloc, conf, &relaying, asked.is_translated)?;
+    let ports = ports(alloc, conf, listening.len() > 1)?;
+    let listens = listens(alloc, &listening, &ports, conf.aux.as_slice())?;
+    if conf.min_port > conf.max_port || conf.min_port == 0 {
+        return Err(ConfFault::Range);
+    }
+    if is_any_inside(conf, &relaying, &listens) {
+        return Err(ConfFault::Inside);
+    }
+    let relays = ranges(alloc, conf, &relaying)?;
+    Ok(Plan {
+        listens: Listed::from(listens),
+        relays: Listed::from(relays),
+    })
+}
+
+/// The addresses that the configuration says, and those besides that it doesn't.
+fn with_those(alloc: Global, said: &[u32], besides: &[u32]) -> Result<Vec<u32>, AllocError>
+    ensures { IfOk result (λ all. all.items ≡ with_asked said.now besides.now) }
+{
+    let mut all = Vec::from_slice(alloc, said)?;
+    for ip in besides {
+        push_new(&mut all, said, *ip)?;
+    }
+    Ok(all)
+}
+
+/// Adds an address that isn't said.
+fn push_new(all: &mut Vec<u32>, said: &[u32], ip: u32) -> Result<(), AllocError>
+    ensures { OnOk result (all.new.items ≡ all.old.items ++ (if is_new said.now ip then ip ∷ [] else [])) }
+{
+    if !is_among(said, ip) {
+        all.push(ip)?;
+    }
+    Ok(())
+}
+
+fn is_among(ips: &[u32], ip: u32) -> bool
+    ensures { result ≡ list_any (λ one. one == ip) ips.now }
+{
+    ips.iter().any(|one| *one == ip)
+}
+
+/// A relay address has to be told as it is, but where the captures are translated.
+fn check_told(
+    alloc: Global,
+    conf: &Conf,
+    relaying: &[u32],
+    is_translated: bool,
+) -> Result<(), ConfFault>
+    ensures ok { OnOk result (is_translated ≡ false → is_renamed relaying.now conf.now.external ≡ false) }
+    ensures err { IfErr result (λ fault. IsMistold fault relaying.now conf.now.external is_translated) }
+{
+    let external = conf.external.as_slice();
+    if relaying.len() != 1 {
+        if let Some(line) = line_for_one(external) {
+            return Err(ConfFault::OneForMany {
+                line,
+                relaying: relaying.len(),
+            });
+        }
+    }
+    if !is_translated && is_any_renamed(external, relaying) {
+        let renamed = renamed(alloc, external, relaying)?;
+        return Err(ConfFault::Told {
+            line: first_line(renamed.as_slice(), external, relaying),
+            renamed,
+        });
+    }
+    Ok(())
+}
+
+/// The first `external-ip` line that names no relay address.
+fn line_for_one(external: &[External]) -> Option<u64> {
+    for one in external {
+        if one.wire.is_none() {
+            return Some(one.line);
+        }
+    }
+    None
+}
+
+/// Whether clients are told some relay address as another one.
+fn is_any_renamed(external: &[External], relaying: &[u32]) -> bool
+    ensures { result ≡ is_renamed relaying.now external.now }
+{
+    relaying
+        .iter()
+        .any(|wire| is_told_apart(external, relaying, *wire))
+}
+
+fn is_told_apart(external: &[External], relaying: &[u32], wire: u32) -> bool
+    ensures { result ≡ is_apart relaying.now external.now wire }
+{
+    told_as(wire, external, relaying) != wire
+}
+
+/// The relay addresses that are told as others.
+fn renamed(
+    alloc: Global,
+    external: &[External],
+    relaying: &[u32],
+) -> Result<Listed<Renamed>, AllocError> {
+    let mut renamed = Vec::new(alloc);
+    for wire in relaying {
+        let told = told_as(*wire, external, relaying);
+        if told != *wire {
+            renamed.push(Renamed { told, wire: *wire })?;
+        }
+    }
+    Ok(Listed::from(renamed))
+}
+
+/// The line that tells of the first of them.
+fn first_line(renamed: &[Renamed], external: &[External], relaying: &[u32]) -> u64 {
+    match renamed.first() {
+        Some(first) => line_of(first.wire, external, relaying),
+        None => 0,
+    }
+}
+
+/// The line that tells of a relay address.
+fn line_of(wire: u32, external: &[External], relaying: &[u32]) -> u64 {
+    let mut line = 0;
+    for one in external {
+        if on_wire(one, relaying) == wire {
+            line = one.line;
+        }
+    }
+    line
+}
+
+/// The relay address that an `external-ip` line is for.
+fn on_wire(external: &External, relaying: &[u32]) -> u32
+    ensures { result ≡ wire_of relaying.now external.now }
+{
+    match (external.wire, relaying.first()) {
+        (Some(wire), _) => wire,
+        (None, Some(first)) => *first,
+        (None, None) => 0,
+    }
+}
+
+/// As which address clients are told a relay address: by the last line for it, or else as it is.
+fn told_as(wire: u32, external: &[External], relaying: &[u32]) -> u32
+    ensures { result ≡ told_of relaying.now external.now wire }
+{
+    let mut told = wire;
+    for one in external {
+        if on_wire(one, relaying) == wire {
+            told = one.told;
+        }
+    }
+    told
+}
+
+/// The port over another one, or the one that is said.
+fn alternative(said: u16, port: u16) -> u16
+    ensures { result ≡ alternative_of said port }
+{
+    if said == 0 {
+        port.saturating_add(1)
+    } else {
+        said
+    }
+}
+
+/// The ports at which coturn takes plain UDP.
+fn ports(alloc: Global, conf: &Conf, is_many: bool) -> Result<Vec<u16>, AllocError>
+    ensures { IfOk result (λ ports. ports.items ≡ ports_of conf.now is_many) }
+{
+    let with_tls = !conf.no_dtls
+        && conf.has_cert
+        && conf.has_key
+        && conf.tls_port != conf.listening_port;
+    let mut ports = Vec::new(alloc);
+    ports.push(conf.listening_port)?;
+    if with_tls {
+        ports.push(conf.tls_port)?;
+    }
+    if is_many && !conf.no_rfc5780 {
+        ports.push(alternative(conf.alt_port, conf.listening_port))?;
+        if with_tls {
+            ports.push(alternative(conf.alt_tls_port, conf.tls_port))?;
+        }
+    }
+    Ok(ports)
+}
+
+/// Adds an address with each of the ports.
+fn push_ports(listens: &mut Vec<Addr>, ip: u32, ports: &[u16]) -> Result<(), AllocError>
+    ensures { OnOk result (listens.new.items ≡ listens.old.items ++ map (addr_at ip) ports.now) }
+{
+    for port in ports {
+        listens.push(Addr { ip, port: *port })?;
+    }
+    Ok(())
+}
+
+/// Each address with each port, and the others.
+fn listens(alloc: Global, ips: &[u32], ports: &[u16], aux: &[Addr]) -> Result<Vec<Addr>, AllocError>
+    ensures { IfOk result (λ all. all.items ≡ listens_at ips.now ports.now ++ aux.now) }
+{
+    let mut listens = Vec::new(alloc);
+    for ip in ips {
+        push_ports(&mut listens, *ip, ports)?;
+    }
+    listens.extend_from_slice(aux)?;
+    Ok(listens)
+}
+
+/// Whether a listening port is inside the relay range.
+fn is_any_inside(conf: &Conf, relaying: &[u32], listens: &[Addr]) -> bool
+    ensures { result ≡ is_inside conf.now relaying.now listens.now }
+{
+    listens
+        .iter()
+        .any(|addr| is_one_inside(conf, relaying, *addr))
+}
+
+fn is_one_inside(conf: &Conf, relaying: &[u32], addr: Addr) -> bool
+    ensures { result ≡ is_inside_at conf.now relaying.now addr }
+{
+    is_among(relaying, addr.ip) && conf.min_port <= addr.port && addr.port <= conf.max_port
+}
+
+/// The relay range of each relay address, as it is told.
+fn ranges(alloc: Global, conf: &Conf, relaying: &[u32]) -> Result<Vec<PortRange>, AllocError>
+    ensures { IfOk result (λ all. all.items ≡ ranges_of conf.now relaying.now) }
+{
+    let mut ranges = Vec::new(alloc);
+    for wire in relaying {
+        ranges.push(PortRange {
+            ip: told_as(*wire, conf.external.as_slice(), relaying),
+            low: conf.min_port,
+            high: conf.max_port,
+        })?;
+    }
+    Ok(ranges)
+}

@@ -1,0 +1,41 @@
+//! From a configuration's text to a policy's.
+
+use crate::conf::{Conf, first_unjudged};
+use crate::fault::ConfFault;
+use crate::notes::notes_of;
+use crate::plan::{Asked, plan_of};
+use crate::rows::{Row, rows_of};
+use crate::writing::policy_text;
+use std::alloc::Global;
+
+/// What a configuration comes to.
+#[derive(Drop)]
+pub struct Prepared {
+    /// The text of the policy.
+    pub policy: String,
+    /// What is told besides, a line each.
+    pub notes: String,
+}
+
+/// What all lines say.
+fn conf_of(alloc: Global, rows: &[Row<'_>]) -> Result<Conf, ConfFault> {
+    let mut conf = Conf::new(alloc);
+    for row in rows {
+        conf.take(row)?;
+    }
+    Ok(conf)
+}
+
+/// The policy's text for a configuration's, with what an operator says besides, or why there is none.
+pub fn prepare(alloc: Global, text: &[u8], asked: &Asked<'_>) -> Result<Prepared, ConfFault> {
+    let rows = rows_of(alloc, text)?;
+    if let Some((line, setting)) = first_unjudged(&rows) {
+        return Err(ConfFault::Unjudged { line, setting });
+    }
+    let conf = conf_of(alloc, &rows)?;
+    let plan = plan_of(alloc, &conf, asked)?;
+    Ok(Prepared {
+        policy: policy_text(alloc, &plan)?,
+        notes: notes_of(alloc, &rows, &conf)?,
+    })
+}
