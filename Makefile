@@ -3,6 +3,8 @@
 # `make format` comes before a commit; `make edits` tries all must-fail edits; `make fuzz SECONDS=600` gives it damaged input for so long.
 
 PROVED = crates/turnaudit/out/turnaudit
+# The second program, which prepares captures.
+PREPARES = crates/turnprep/out/turnprep
 # The program that is installed, packed and tested. Another one is taken as it is: `make install PROGRAM=/where/it/is`.
 PROGRAM = $(PROVED)
 SOURCES = crates.txt $(shell find crates \( -path '*/src/*.rt' -o -path '*/specs/*.antt' -o -path '*/proofs/*.antt' \) -not -path '*/out/*')
@@ -48,6 +50,7 @@ edits:
 # others, and runs the tests and the program. Then, with the program that this built: judges the captures in examples, asks that the number
 # of workers changes no answer, tries the examples of docs/REFUSALS.md, compares with the plain checker, gives it hostile input and captures
 # that grow, refuses it memory, installs it, audits a fleet by two engines, and has it find certificates for captures of a simulated server.
+# At last it runs turnprep on its cases.
 test:
 	python3 tests/documents.py
 	tools/reading_copy.py --check
@@ -69,6 +72,7 @@ test:
 	python3 tests/fuzz.py $(PROGRAM) --seconds 20 --seed 1 examples/*
 	python3 tests/random_captures.py $(PROGRAM) --count 500 --most 0
 	python3 tests/edge_captures.py $(PROGRAM) --count 2000 --most 13
+	python3 tests/prepare.py $(PREPARES)
 
 # Gives the program damaged captures, policies, credentials and certificates, and looks at how it answers.
 fuzz: $(PROGRAM)

@@ -1,3 +1,4 @@
 pub mod Pieces
 pub mod Making
 pub mod Stops
+pub mod Joins

@@ -1,5 +1,6 @@
 //! The command line, as clap reads it. No other file knows clap.
 
+use audit_model::read_ip;
 use clap::error::ErrorKind;
 use clap::{Arg, ArgAction, ArgMatches, Command, Error};
 use std::alloc::{AllocError, Global};
@@ -12,6 +13,13 @@ pub enum Request<'a> {
     Join {
         captures: Vec<&'a str>,
         file: &'a str,
+    },
+    /// Write the policy that a configuration of coturn comes to.
+    Policy {
+        file: &'a str,
+        listening: Vec<u32>,
+        relaying: Vec<u32>,
+        is_translated: bool,
     },
     /// Tell how to use the program, or its release, on standard output.
     Help(String),
@@ -31,6 +39,13 @@ const ABOUT_JOIN: &str = "Joins the captures of a ring, in their order, to one c
 
 const EXAMPLE_JOIN: &str =
     "Example:\n  turnprep join -o call.pcapng ring_00001_20261126120000.pcapng ring_00002_20261126120500.pcapng\n\nwrites call.pcapng: the first file whole, and of each other all blocks but the section header and the interfaces.";
+
+const ABOUT_POLICY: &str = "Writes the policy that coturn's configuration comes to";
+
+const EXAMPLE_POLICY: &str =
+    "Example:\n  turnprep policy --turnserver-conf /etc/turnserver.conf > policy\n\nwrites a listen line for each address and port at which coturn takes UDP, and a relay line for each relay address.";
+
+const NOT_AN_ADDRESS: &str = "turnprep: --listening-ip and --relay-ip are IPv4 addresses\n";
 
 /// The captures that a command reads.
 fn captures_argument<'a>(alloc: Global) -> Arg<'a> {
@@ -57,6 +72,46 @@ fn join_command<'a>(alloc: Global) -> Result<Command<'a>, AllocError> {
         .arg(captures_argument(alloc))
 }
 
+/// An option with addresses.
+fn addresses_option<'a>(alloc: Global, name: &'a str, help: &'a str) -> Arg<'a> {
+    Arg::new(alloc, name)
+        .long(name)
+        .value_name("IP")
+        .help(help)
+        .action(ArgAction::Append)
+}
+
+/// The command `policy`.
+fn policy_command<'a>(alloc: Global) -> Result<Command<'a>, AllocError> {
+    let file = Arg::new(alloc, "turnserver-conf")
+        .long("turnserver-conf")
+        .value_name("FILE")
+        .help("coturn's configuration")
+        .required(true)
+        .action(ArgAction::Set);
+    let translated = Arg::new(alloc, "translated")
+        .long("translated")
+        .help("The captures are those with external-ip's addresses put in")
+        .action(ArgAction::SetTrue);
+    let listening = addresses_option(
+        alloc,
+        "listening-ip",
+        "An address at which coturn listens, which its configuration doesn't say",
+    );
+    let relaying = addresses_option(
+        alloc,
+        "relay-ip",
+        "An address from which coturn relays, which its configuration doesn't say",
+    );
+    Command::new(alloc, "policy")
+        .about(ABOUT_POLICY)
+        .after_help(EXAMPLE_POLICY)
+        .arg(file)?
+        .arg(listening)?
+        .arg(relaying)?
+        .arg(translated)
+}
+
 fn command<'a>(alloc: Global) -> Result<Command<'a>, AllocError> {
     Command::new(alloc, "turnprep")
         .version(VERSION)
@@ -64,6 +119,7 @@ fn command<'a>(alloc: Global) -> Result<Command<'a>, AllocError> {
         .after_help(STATUSES)
         .arg_required_else_help(true)
         .subcommand_required(true)
+        .subcommand(policy_command(alloc)?)?
         .subcommand(join_command(alloc)?)
 }
 
@@ -94,6 +150,47 @@ fn join_request<'a>(
     }))
 }
 
+/// The addresses that an option says, or nothing where one of them is none.
+fn addresses_of(
+    alloc: Global,
+    matches: &ArgMatches<'_>,
+    name: &str,
+) -> Result<Option<Vec<u32>>, AllocError> {
+    let mut addresses = Vec::new(alloc);
+    if let Some(words) = matches.get_strs(name) {
+        for word in words {
+            match read_ip(word.as_bytes()) {
+                Ok(ip) => addresses.push(ip)?,
+                Err(_) => return Ok(None),
+            }
+        }
+    }
+    Ok(Some(addresses))
+}
+
+/// The request that the words of the command `policy` are.
+fn policy_request<'a>(
+    alloc: Global,
+    matches: &ArgMatches<'a>,
+) -> Result<Option<Request<'a>>, AllocError> {
+    let Some(file) = matches.get_str("turnserver-conf") else {
+        return Ok(None);
+    };
+    let (Some(listening), Some(relaying)) = (
+        addresses_of(alloc, matches, "listening-ip")?,
+        addresses_of(alloc, matches, "relay-ip")?,
+    ) else {
+        let text = String::from_str(alloc, NOT_AN_ADDRESS)?;
+        return Ok(Some(Request::Usage(text)));
+    };
+    Ok(Some(Request::Policy {
+        file,
+        listening,
+        relaying,
+        is_translated: matches.get_flag("translated"),
+    }))
+}
+
 /// The request that the words of a command are.
 fn request_of<'a>(
     alloc: Global,
@@ -101,6 +198,9 @@ fn request_of<'a>(
 ) -> Result<Option<Request<'a>>, AllocError> {
     if let Some(join) = matches.subcommand_matches("join") {
         return join_request(alloc, join);
+    }
+    if let Some(policy) = matches.subcommand_matches("policy") {
+        return policy_request(alloc, policy);
     }
     Ok(None)
 }

@@ -1,5 +1,11 @@
 //! Joining captures that are files.
 
+ghost use Rattle.std.specs.Prelude.{◌≡◌, [], ℕ, List, Some, IfOk, OnOk};
+ghost use Rattle.std.specs.List.{AllZip};
+ghost use Rattle.prep_blocks.specs.declared.block.Block.{Block};
+ghost use Rattle.prep_join.specs.Joined.{IsDone, IsJoining};
+ghost use Rattle.prep_program.specs.Joins.{Joins, JoinsAll};
+
 use crate::maker::Maker;
 use crate::source::{PIECE, Source};
 use crate::stop::Stop;
@@ -15,24 +21,26 @@ fn join_capture<S: Source, M: Maker>(
     joiner: &mut Joiner,
     capture: u32,
     made: &mut M,
-) -> Result<Counts, Stop> {
+) -> Result<Counts, Stop>
+    ensures kept { S.holds source.new ≡ S.holds source.old }
+    ensures joins { (text : List ℕ) (done : List (List Block)) → S.holds source.old name.now ≡ Some text → IsJoining joiner.old done [] [] →
+        IfOk result (λ counts. Joins joiner.new done text counts (M.taken made.old) (M.taken made.new)) }
+{
     let mut piece = vec![in alloc; 0u8; PIECE]?;
     let mut out = Vec::new(alloc);
     let mut at = 0u64;
     'pieces: for _ in 0..u64::MAX {
         let read = source.piece(name, at, &mut piece)?;
         if read == 0 {
-            return match joiner.end() {
-                Ok(counts) => Ok(counts),
-                Err(fault) => Err(Stop::of_capture(capture, fault)),
-            };
+            return end_capture(joiner, capture);
         }
-        let fed = joiner.feed(&piece[..read], &mut out);
-        put_all(made, &out)?;
-        out.clear();
-        if let Err(fault) = fed {
+        if let Err(fault) = joiner.feed(&piece[..read], &mut out) {
+            // what the capture has before its fault is written
+            put_all(made, &out)?;
             return Err(Stop::of_capture(capture, fault));
         }
+        put_all(made, &out)?;
+        out.clear();
         let Some(next) = at.checked_add(read as u64) else {
             return Err(Stop::Read);
         };
@@ -41,13 +49,28 @@ fn join_capture<S: Source, M: Maker>(
     Err(Stop::Read)
 }
 
-/// Joins captures in their order to the file that was made last, and tells how many blocks each has.
+/// Ends a capture.
+fn end_capture(joiner: &mut Joiner, capture: u32) -> Result<Counts, Stop>
+    ensures { (done : List (List Block)) (text : List ℕ) (current : List Block) → IsJoining joiner.old done text current →
+        IfOk result (λ counts. IsDone joiner.new done text current counts) }
+{
+    match joiner.end() {
+        Ok(counts) => Ok(counts),
+        Err(fault) => Err(Stop::of_capture(capture, fault)),
+    }
+}
+
+/// Joins captures in their order to the file that was made last, and tells how many blocks each has. Of a capture that is refused the
+/// blocks before its fault are written.
 pub fn join_captures<S: Source, M: Maker>(
     alloc: Global,
     source: &mut S,
     names: &[&str],
     made: &mut M,
-) -> Result<Vec<Counts>, Stop> {
+) -> Result<Vec<Counts>, Stop>
+    ensures { (texts : List (List ℕ)) → AllZip (λ name text. S.holds source.old name.now ≡ Some text) names.now texts →
+        OnOk result (JoinsAll texts (M.taken made.old) (M.taken made.new)) }
+{
     let mut joiner = Joiner::new(alloc);
     let mut all = Vec::new(alloc);
     let mut capture = 0u32;

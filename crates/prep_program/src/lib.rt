@@ -4,10 +4,12 @@
 mod command_line;
 mod joining;
 mod maker;
+mod policy;
 mod ring_name;
 mod running;
 mod source;
 mod stop;
+mod text;
 
 pub use joining::join_captures;
 pub use maker::{MakeFault, Maker};

@@ -3,10 +3,12 @@
 use crate::command_line::{Request, read as read_words};
 use crate::joining::join_captures;
 use crate::maker::Maker;
+use crate::policy::run_policy;
 use crate::ring_name::gap_in;
 use crate::source::Source;
 use crate::stop::Stop;
 use audit_model::{Sink, put_all};
+use prep_coturn::Asked;
 use std::alloc::Global;
 use std::convert::AsStr;
 
@@ -60,6 +62,19 @@ fn run_request<S: Source, M: Maker, O: Sink, E: Sink>(
 ) -> Result<u8, Stop> {
     match request {
         Request::Join { captures, file } => run_join(alloc, captures, file, source, maker, out),
+        Request::Policy {
+            file,
+            listening,
+            relaying,
+            is_translated,
+        } => {
+            let asked = Asked {
+                listening,
+                relaying,
+                is_translated: *is_translated,
+            };
+            run_policy(alloc, file, &asked, source, out, err)
+        }
         Request::Help(text) => {
             put_all(out, text.as_bytes())?;
             Ok(0)

@@ -8,13 +8,16 @@ use crate::ring_name::Gap;
 use crate::source::ReadFailed;
 use audit_model::SinkFailed;
 use audit_pcapng::CaptureFault;
+use prep_coturn::ConfFault;
 use prep_join::{JoinFault, Refused};
 use std::alloc::{AllocError, AllocFailed};
 use std::fmt;
 
 /// What ended a run.
-#[derive(Clone, Copy, Debug)]
+#[derive(Debug, Drop)]
 pub enum Stop {
+    /// No policy is made of a configuration.
+    Conf(ConfFault),
     /// A capture was refused.
     Capture(Refused),
     /// A file of a ring is missing.
@@ -35,7 +38,7 @@ impl Stop {
         ensures { result ≡ status_of_stop self.now }
     {
         match self {
-            Stop::Capture(_) | Stop::Missing(_) => 2,
+            Stop::Conf(_) | Stop::Capture(_) | Stop::Missing(_) => 2,
             Stop::Memory => 3,
             Stop::Read | Stop::Write | Stop::Exists => 4,
         }
@@ -54,6 +57,7 @@ impl Stop {
 impl fmt::Display for Stop {
     fn fmt<W: fmt::Write>(&self, f: &mut fmt::Formatter<W>) -> fmt::Result {
         match self {
+            Stop::Conf(fault) => write!(f, "refused {fault}"),
             Stop::Capture(refused) => write!(f, "refused {refused}"),
             Stop::Missing(gap) => {
                 let capture = gap.capture;
@@ -102,6 +106,15 @@ impl From<MakeFault> for Stop {
         match fault {
             MakeFault::Exists => Stop::Exists,
             MakeFault::Failed => Stop::Write,
+        }
+    }
+}
+
+impl From<ConfFault> for Stop {
+    fn from(fault: ConfFault) -> Stop {
+        match fault {
+            ConfFault::Memory => Stop::Memory,
+            fault => Stop::Conf(fault),
         }
     }
 }

@@ -1,0 +1,24 @@
+//! A policy out of a configuration that is a file.
+
+use crate::source::Source;
+use crate::stop::Stop;
+use crate::text::read_text;
+use audit_model::{Sink, put_all};
+use prep_coturn::{Asked, prepare};
+use std::alloc::Global;
+
+/// Writes the policy that a configuration comes to, and what is told of it besides.
+pub fn run_policy<S: Source, O: Sink, E: Sink>(
+    alloc: Global,
+    file: &str,
+    asked: &Asked<'_>,
+    source: &mut S,
+    out: &mut O,
+    err: &mut E,
+) -> Result<u8, Stop> {
+    let text = read_text(alloc, source, file)?;
+    let prepared = prepare(alloc, &text, asked)?;
+    put_all(out, prepared.policy.as_bytes())?;
+    put_all(err, prepared.notes.as_bytes())?;
+    Ok(0)
+}

@@ -1,0 +1,24 @@
+//! Texts that are read whole.
+
+use crate::source::{PIECE, Source};
+use crate::stop::Stop;
+use std::alloc::Global;
+
+/// The bytes of a file, from its first to its last.
+pub fn read_text<S: Source>(alloc: Global, source: &mut S, name: &str) -> Result<Vec<u8>, Stop> {
+    let mut piece = vec![in alloc; 0u8; PIECE]?;
+    let mut text = Vec::new(alloc);
+    let mut at = 0u64;
+    'pieces: for _ in 0..u64::MAX {
+        let read = source.piece(name, at, &mut piece)?;
+        if read == 0 {
+            return Ok(text);
+        }
+        text.extend_from_slice(&piece[..read])?;
+        let Some(next) = at.checked_add(read as u64) else {
+            return Err(Stop::Read);
+        };
+        at = next;
+    }
+    Err(Stop::Read)
+}

@@ -1,0 +1,84 @@
+#!/usr/bin/env python3
+"""Runs turnprep on the cases of tests/prepare, and compares its status, what it tells and what it wrote.
+
+    tests/prepare.py PROGRAM
+
+Each line of tests/prepare/cases is a name and the words, in which OUT is a new folder. Of words that are no request
+only the status is compared, since clap says the rest. Then it asks for what no case has: that a file that is there is
+never written over, and that a missing file of a ring is told.
+"""
+
+import hashlib
+import pathlib
+import subprocess
+import sys
+import tempfile
+
+HERE = pathlib.Path(__file__).resolve().parent / "prepare"
+
+
+def run(program, words):
+    return subprocess.run([program, *words], cwd=HERE, capture_output=True, text=True)
+
+
+def told_by(program, words):
+    """What a case's file in expected/ has."""
+    with tempfile.TemporaryDirectory() as folder:
+        done = run(program, [word.replace("OUT", folder) for word in words])
+        if done.returncode == 5:
+            return "status 5\n"
+        text = f"status {done.returncode}\n{done.stdout}"
+        if done.stderr:
+            text += f"stderr\n{done.stderr}"
+        for file in sorted(pathlib.Path(folder).iterdir()):
+            written = file.read_bytes()
+            text += f"wrote {file.name} {len(written)} bytes {hashlib.sha256(written).hexdigest()}\n"
+        return text
+
+
+def expected(name):
+    text = (HERE / "expected" / name).read_text()
+    return "status 5\n" if text.startswith("status 5\n") else text
+
+
+def check_files(program):
+    """What a run does with files that are there, and with a ring that lacks one."""
+    faults = []
+    with tempfile.TemporaryDirectory() as folder:
+        there = pathlib.Path(folder) / "there"
+        there.write_text("kept")
+        done = run(program, ["join", "-o", str(there), "inputs/ring1.pcapng"])
+        if done.returncode != 4 or there.read_text() != "kept":
+            faults.append("writes over a file that is there")
+        names = [f"{folder}/ring_0000{n}_20261126120000.pcapng" for n in (1, 3)]
+        for name, number in zip(names, (1, 2)):
+            pathlib.Path(name).write_bytes((HERE / f"inputs/ring{number}.pcapng").read_bytes())
+        done = run(program, ["join", "-o", f"{folder}/out", *names])
+        if done.returncode != 2 or "number 3" not in done.stderr:
+            faults.append("joins a ring that lacks a file")
+        torn = pathlib.Path(folder) / "torn"
+        torn.write_bytes((HERE / "inputs/ring1.pcapng").read_bytes()[:-3])
+        done = run(program, ["join", "-o", f"{folder}/out2", str(torn)])
+        if done.stderr != "turnprep: refused C1 in capture 0\n":
+            faults.append("takes a torn capture")
+        done = run(program, ["join", "-o", f"{folder}/out3", f"{folder}/absent"])
+        if done.returncode != 4:
+            faults.append("reads a file that is not there")
+    return faults
+
+
+def main():
+    program = pathlib.Path(sys.argv[1]).resolve()
+    faults = check_files(program)
+    cases = [line.split(" | ") for line in (HERE / "cases").read_text().splitlines()]
+    for name, words in cases:
+        if told_by(program, words.split()) != expected(name):
+            faults.append(f"case {name} differs")
+    for fault in faults:
+        print(fault)
+    print(f"{len(cases)} cases, {len(faults)} faults")
+    return 1 if faults else 0
+
+
+if __name__ == "__main__":
+    sys.exit(main())
