@@ -8,8 +8,8 @@
                                       the longest chain
     tools/gate_times.py --page LOG    writes that to docs/GATE.md
 
-A check is a process of `rattle`, which is seen in /proc five times a second, so that a check is told to a fifth of a second. Its
-exit status is that of `rt ci`. On a machine that does other work, the processor seconds are the ones to compare.
+A check is a process of `rattle` in the same session, which is seen in /proc five times a second, so that a check is told to a fifth of a
+second; run by `setsid`, checks that others run on the machine aren't counted. Its exit status is that of `rt ci`. On a machine that does other work, the processor seconds are the ones to compare.
 """
 
 import os
@@ -60,8 +60,10 @@ def kind_of(words, folder):
 
 
 def look(pid, now):
-    """The check that a process is, if it is one."""
+    """The check that a process is, if it is one of this session."""
     try:
+        if os.getsid(int(pid)) != os.getsid(0):
+            return None
         with open(f"/proc/{pid}/cmdline", "rb") as it:
             words = it.read().decode(errors="replace").split("\0")
         if not words[0].endswith("/rattle") or "--crate-name" not in words:
