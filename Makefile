@@ -16,7 +16,7 @@ DESTDIR =
 # Where `make deb` puts the package.
 OUT = out
 
-.PHONY: deb demo edits format fuzz install test turnaudit
+.PHONY: deb demo edits format fuzz install test turnaudit turnaudit_faults turnprep
 
 # Prints the verdict on the captures of a call over coturn, by a build that isn't proved.
 demo:
@@ -28,6 +28,10 @@ turnaudit: $(PROVED)
 $(PROVED): $(SOURCES)
 	@tools/build.py
 	@touch $@
+
+# Proves and builds the programs beside it: what makes captures ready, and what prints the datagrams that no order explains.
+turnprep turnaudit_faults:
+	@tools/build.py $@
 
 # Puts the program, man pages, completions and documents below PREFIX.
 install: $(PROGRAM)

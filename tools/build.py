@@ -1,7 +1,8 @@
 #!/usr/bin/env python3
-"""Proves and builds turnaudit, crate by crate, and tells how far it is.
+"""Proves and builds a program, crate by crate, and tells how far it is.
 
-    tools/build.py    at any place; the program is crates/turnaudit/out/turnaudit then
+    tools/build.py              turnaudit; the program is crates/turnaudit/out/turnaudit then
+    tools/build.py PROGRAM      another one: turnprep or turnaudit_faults
 
 What `rt` prints is shown only where a crate fails.
 """
@@ -12,16 +13,20 @@ import time
 
 import crates
 
-PROGRAM = "turnaudit"
+# What the proofs of a program take from nothing on an idle core, in minutes, as docs/GATE.md has it by crate.
+MINUTES = {"turnaudit": 60, "turnaudit_faults": 25, "turnprep": 12}
 
 
-def main():
-    names = [*crates.below([PROGRAM]), PROGRAM]
-    print(f"Proving {len(names)} crates and building the program: from nothing this takes 20 to 30 minutes and 3 GB of memory.", flush=True)
+def main(program="turnaudit"):
+    if program not in MINUTES:
+        print(f"{program} is no program of {', '.join(MINUTES)}", file=sys.stderr)
+        return 2
+    names = [*crates.below([program]), program]
+    print(f"Proving {len(names)} crates and building {program}: from nothing some {MINUTES[program]} minutes, and 3 GB of memory.", flush=True)
     for number, name in enumerate(names, start=1):
         print(f"crate {number} of {len(names)}: {name} ", end="", flush=True)
         began = time.monotonic()
-        command = ["rt", "run", "--", "--help"] if name == PROGRAM else ["rt", "lib"]
+        command = ["rt", "run", "--", "--help"] if name == program else ["rt", "lib"]
         run = subprocess.run(command, cwd=crates.TOP / "crates" / name, stdout=subprocess.PIPE, stderr=subprocess.STDOUT, text=True)
         if run.returncode != 0:
             print("failed")
@@ -32,4 +37,4 @@ def main():
 
 
 if __name__ == "__main__":
-    sys.exit(main())
+    sys.exit(main(*sys.argv[1:]))
