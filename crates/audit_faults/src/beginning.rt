@@ -1,6 +1,6 @@
 //! Whether the captures show the beginning of a client that asked for a departure.
 
-ghost use Rattle.std.specs.Prelude.{◌≡◌, ◌⊎◌, ◌↔◌, ℕ, IsTrue, Any, Some};
+ghost use Rattle.std.specs.Prelude.{◌≡◌, ◌↔◌, IsTrue, Any, Some};
 ghost use Rattle.audit_model.specs.declared.sighting.Sighting.{Sighting};
 ghost use Rattle.audit_sightings.specs.Intake.{taken, sighting_at, interface_at};
 ghost use Rattle.audit_faults.specs.Beginning.{IsAllocated, HasAllocated, IsByClient, IsToClient, Begins, HasBeginning};

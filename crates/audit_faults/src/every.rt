@@ -15,11 +15,11 @@ ghost use Rattle.audit_faults.specs.Placed.{IsListing};
 ghost use Rattle.audit_faults.specs.Shown.{AreFaults, AreFaultsBefore, MayPredate};
 
 use crate::beginning::has_beginning;
-use crate::explains::first_fault;
 use crate::fault::{Fault, ShownFault};
 use crate::index::{Index, extents_by_interface};
 use crate::laws::fault_excludes;
 use crate::placed::{Placed, placed_by_client};
+use crate::telling::first_fault;
 use audit_keys::Credentials;
 use audit_model::SightId;
 use audit_sightings::Intake;

@@ -1,6 +1,6 @@
 //! Where to look in what was captured.
 
-ghost use Rattle.std.specs.Prelude.{◌≡◌, ℕ, ◌≤◌, length, IfOk, IsNone};
+ghost use Rattle.std.specs.Prelude.{◌≤◌, length, IfOk};
 ghost use Rattle.audit_sightings.specs.Intake.{taken, interface_at};
 ghost use Rattle.audit_faults.specs.Index.{IsIndex};
 ghost use Rattle.audit_faults.specs.Reach.{AreExtents, OutsideIsOut};

@@ -1,6 +1,6 @@
 //! Where in an interface something may be in reach of a departure.
 
-ghost use Rattle.std.specs.Prelude.{◌≡◌, ℕ, ◌<◌, ◌≤◌, ◌-◌, List, length, slice_index_or, IfOk};
+ghost use Rattle.std.specs.Prelude.{◌<◌, ◌≤◌, ◌-◌, List, length, slice_index_or, IfOk};
 ghost use Rattle.audit_model.specs.declared.sighting.Sighting.{Sighting};
 ghost use Rattle.audit_model.specs.Window.{later};
 ghost use Rattle.audit_faults.specs.Reach.{AreLatest, AreEarliest, OutsideIsOut};

@@ -12,10 +12,10 @@ ghost use Rattle.audit_faults.specs.declared.fault.Fault.TheVariants as faults;
 ghost use Rattle.audit_keys.specs.KeyFor.{key_for};
 ghost use Rattle.audit_faults.specs.Explains.{IsFault, NoneBefore};
 
-use crate::explains::first_fault;
 use crate::fault::Fault;
 use crate::index::Index;
 use crate::laws::{fault_excludes, faults_of_any_users};
+use crate::telling::first_fault;
 use audit_keys::Credentials;
 use audit_model::SightId;
 use audit_sightings::Intake;
