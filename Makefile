@@ -3,8 +3,9 @@
 # `make format` comes before a commit; `make edits` tries all must-fail edits; `make fuzz SECONDS=600` gives it damaged input for so long.
 
 PROVED = crates/turnaudit/out/turnaudit
-# The second program, which prepares captures.
+# The programs beside it, which make captures ready and print what no order explains.
 PREPARES = crates/turnprep/out/turnprep
+SHOWS = crates/turnaudit_faults/out/turnaudit_faults
 # The program that is installed, packed and tested. Another one is taken as it is: `make install PROGRAM=/where/it/is`.
 PROGRAM = $(PROVED)
 SOURCES = crates.txt $(shell find crates \( -path '*/src/*.rt' -o -path '*/specs/*.antt' -o -path '*/proofs/*.antt' \) -not -path '*/out/*')
@@ -54,7 +55,7 @@ edits:
 # others, and runs the tests and the program. Then, with the program that this built: judges the captures in examples, asks that the number
 # of workers changes no answer, tries the examples of docs/REFUSALS.md, compares with the plain checker, gives it hostile input and captures
 # that grow, refuses it memory, installs it, audits a fleet by two engines, and has it find certificates for captures of a simulated server.
-# At last it runs turnprep on its cases.
+# At last it runs turnprep on its cases, and asks turnaudit_faults for what is known of captures.
 test:
 	python3 tests/documents.py
 	tools/reading_copy.py --check
@@ -77,6 +78,7 @@ test:
 	python3 tests/random_captures.py $(PROGRAM) --count 500 --most 0
 	python3 tests/edge_captures.py $(PROGRAM) --count 2000 --most 13
 	python3 tests/prepare.py $(PREPARES)
+	python3 tests/shown_faults.py $(SHOWS) $(PROGRAM)
 
 # Gives the program damaged captures, policies, credentials and certificates, and looks at how it answers.
 fuzz: $(PROGRAM)
