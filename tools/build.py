@@ -13,8 +13,8 @@ import time
 
 import crates
 
-# What the proofs of a program take from nothing on an idle core, in minutes, as docs/GATE.md has it by crate.
-MINUTES = {"turnaudit": 60, "turnaudit_faults": 25, "turnprep": 12}
+# Processor minutes of the proofs of a program and of all below it from nothing, summed up of the run in docs/GATE.md.
+MINUTES = {"turnaudit": 95, "turnaudit_faults": 40, "turnprep": 15}
 
 
 def main(program="turnaudit"):
@@ -22,7 +22,7 @@ def main(program="turnaudit"):
         print(f"{program} is no program of {', '.join(MINUTES)}", file=sys.stderr)
         return 2
     names = [*crates.below([program]), program]
-    print(f"Proving {len(names)} crates and building {program}: from nothing some {MINUTES[program]} minutes, and 3 GB of memory.", flush=True)
+    print(f"Proving {len(names)} crates and building {program}: from nothing some {MINUTES[program]} processor minutes, and 3 GB of memory.", flush=True)
     for number, name in enumerate(names, start=1):
         print(f"crate {number} of {len(names)}: {name} ", end="", flush=True)
         began = time.monotonic()

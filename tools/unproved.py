@@ -27,7 +27,7 @@ RELEASE = crates.TOP / "crates" / "audit_program" / "src" / "command_line.rt"
 PROVED_WITH = ", proved with "
 # What the one line says of it.
 TOLD = "out/turnaudit-unproved has run-time checks in place of proofs"
-PROVES = "`make turnaudit` proves and builds the program (an hour, reckoned), `make install` installs it"
+PROVES = "`make turnaudit` proves and builds the program (95 processor minutes), `make install` installs it"
 
 
 def sources():
