@@ -6,20 +6,10 @@
 # `check` with the certificate that `find` writes; and the number of sightings of each interface, seen by placing one more than the last
 # (S3, no such sighting) and the last (another rule) at moment 0.
 program=$(realpath "$1") || exit 1
+. "$(dirname "$0")/telling.sh" || exit 1
 cd "$(dirname "$0")/../examples" || exit 1
 scratch=$(mktemp -d)
 trap 'rm -rf "$scratch"' EXIT
-passed=0
-failed=0
-
-tell() { # NAME OK
-    if [ "$2" = yes ]; then
-        passed=$((passed + 1))
-    else
-        failed=$((failed + 1))
-        echo "failed: $1"
-    fi
-}
 
 without_moment() {
     sed 's/ moment .*//' "$1"

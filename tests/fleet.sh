@@ -5,14 +5,13 @@
 # count as, and examples/fleet/job.yaml is checked. slurmctld and slurmd are this test's own, on the loopback address, and end with it. An engine that
 # isn't installed is left out, which is told.
 program=$(realpath "$1") || exit 1
+. "$(dirname "$0")/telling.sh" || exit 1
 cd "$(dirname "$0")/.." || exit 1
 top=$PWD
 scratch=$(mktemp -d)
 export PYTHONDONTWRITEBYTECODE=1
 unset SLURM_CONF
 started=()
-passed=0
-failed=0
 
 await() { # SECONDS COMMAND.. : until it succeeds
     end=$((SECONDS + $1))
@@ -37,15 +36,6 @@ finish() {
     rm -rf "$scratch"
 }
 trap finish EXIT
-
-tell() { # NAME OK
-    if [ "$2" = yes ]; then
-        passed=$((passed + 1))
-    else
-        failed=$((failed + 1))
-        echo "failed: $1"
-    fi
-}
 
 cp -r examples/fleet/cases "$scratch/cases"
 cp -r "$scratch/cases/ams-1" "$scratch/cases/killed"

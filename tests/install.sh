@@ -4,22 +4,12 @@
 # package's has the same code, that both packages are the same, that nothing was proved for it, and that the repository's folder is as it was. What
 # lintian calls an error is a failure. Without dpkg-deb or lintian their part is left out, which is told.
 program=$(realpath "$1") || exit 1
+. "$(dirname "$0")/telling.sh" || exit 1
 cd "$(dirname "$0")/.." || exit 1
 scratch=$(mktemp -d)
 trap 'rm -rf "$scratch"' EXIT
 export PYTHONDONTWRITEBYTECODE=1
 call=examples/coturn-channels-two-files
-passed=0
-failed=0
-
-tell() { # NAME OK
-    if [ "$2" = yes ]; then
-        passed=$((passed + 1))
-    else
-        failed=$((failed + 1))
-        echo "failed: $1"
-    fi
-}
 
 same() { # NAME FILE FILE
     if diff "$2" "$3"; then tell "$1" yes; else tell "$1" no; fi
