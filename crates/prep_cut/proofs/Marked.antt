@@ -116,3 +116,21 @@ written_yes xs one e = ap bytes_in (filter_yes xs one e) ∙ bytes_in-one (filte
 
 pub written_no : (xs : List Marked) (one : Marked) → is_written one ≡ false → written_of (xs ++ one ∷ []) ≡ written_of xs
 written_no xs one e = ap bytes_in (filter_no xs one e)
+
+marked-append : (plan : Plan) (proposals : List (Option ℕ)) (a b : List Block) → marked plan proposals (a ++ b) ≡ marked plan proposals a ++ marked plan (proposals_behind proposals a) b
+marked-append plan proposals [] b = refl
+marked-append plan proposals (first ∷ others) b = ap (λ (t : List Marked). marked_by plan proposals first ∷ t) (marked-append plan (behind first.packet proposals) others b)
+
+bytes_in-append : (xs ys : List Marked) → bytes_in (xs ++ ys) ≡ bytes_in xs ++ bytes_in ys
+bytes_in-append xs ys =
+    let bytes = λ (b : Block). b.bytes in
+    let block = λ (m : Marked). m.block in
+    ap bytes_of (map-append block xs ys) ∙ ap concat (map-append bytes (map block xs) (map block ys)) ∙ concat-append (map bytes (map block xs)) (map bytes (map block ys))
+
+-- what is written of blocks and of those behind them
+pub written_of-append : (plan : Plan) (proposals : List (Option ℕ)) (a b : List Block)
+    → written_of (marked plan proposals (a ++ b)) ≡ written_of (marked plan proposals a) ++ written_of (marked plan (proposals_behind proposals a) b)
+written_of-append plan proposals a b =
+    let first = marked plan proposals a in
+    let second = marked plan (proposals_behind proposals a) b in
+    ap written_of (marked-append plan proposals a b) ∙ ap bytes_in (filter-append is_written first second) ∙ bytes_in-append (filter is_written first) (filter is_written second)

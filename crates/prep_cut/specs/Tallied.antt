@@ -1,5 +1,5 @@
 -- What a line of the list says of the datagrams that it sets aside.
-use Rattle.std.specs.Prelude.{◌≡◌, ℕ, ◌+◌, min, max, ◌==◌, if◌then◌else◌, List, length, get_or, fold, Bool, true, false, Option, Some, None}
+use Rattle.std.specs.Prelude.{◌≡◌, nat_lt, ◌||◌, ℕ, ◌+◌, min, max, ◌==◌, if◌then◌else◌, List, length, get_or, fold, Bool, true, false, Option, Some, None}
 use Rattle.audit_model.specs.declared.sighting.Side.{Side}
 use Rattle.audit_model.specs.declared.sighting.Side.TheVariants.{Arrives, Leaves}
 use Rattle.prep_blocks.specs.declared.block.PacketHead.{PacketHead}
@@ -20,6 +20,13 @@ no_tally = record { arrived = no_count; left = no_count; first = 184467440737095
 
 abbrev pub counted : Count → ℕ → Count
 counted count size = record { datagrams = capped (count.datagrams + 1); bytes = capped (count.bytes + size) }
+
+abbrev pub counted_both : Count → Count → Count
+counted_both one other = record { datagrams = capped (one.datagrams + other.datagrams); bytes = capped (one.bytes + other.bytes) }
+
+-- some datagram is in it
+abbrev pub is_counted : Tally → Bool
+is_counted tally = nat_lt 0 tally.arrived.datagrams || nat_lt 0 tally.left.datagrams
 
 abbrev pub tallied_on : Side → Tally → Datagram → Tally
 tallied_on Arrives tally datagram = record { arrived = counted tally.arrived datagram.size; left = tally.left; first = min tally.first datagram.stamp; last = max tally.last datagram.stamp }

@@ -1,7 +1,7 @@
 //! How many datagrams are set aside, and how much they carried.
 
 ghost use Rattle.std.specs.Prelude.{◌≡◌, ◌<◌, ℕ, length, get_or, IfOk};
-ghost use Rattle.prep_cut.specs.Tallied.{no_count, no_tally, no_totals, counted, tallied, tallied_at, totals_with, AreNone};
+ghost use Rattle.prep_cut.specs.Tallied.{no_count, no_tally, no_totals, counted, counted_both, tallied, tallied_at, totals_with, is_counted, AreNone};
 
 use crate::datagram::Datagram;
 use audit_model::Side;
@@ -16,12 +16,23 @@ pub struct Count {
 }
 
 impl Count {
-    fn none() -> Self
+    /// Of no datagram.
+    pub fn none() -> Self
         ensures { result ≡ no_count }
     {
         Count {
             datagrams: 0,
             bytes: 0,
+        }
+    }
+
+    /// With those of another count.
+    pub fn plus(self, other: Count) -> Self
+        ensures { result ≡ counted_both self other }
+    {
+        Count {
+            datagrams: self.datagrams.saturating_add(other.datagrams),
+            bytes: self.bytes.saturating_add(other.bytes),
         }
     }
 
@@ -57,6 +68,13 @@ impl Tally {
             first: u64::MAX,
             last: 0,
         }
+    }
+
+    /// Whether it is of some datagram.
+    pub fn is_some(&self) -> bool
+        ensures { result ≡ is_counted self.now }
+    {
+        self.arrived.datagrams > 0 || self.left.datagrams > 0
     }
 
     /// With a datagram more.
