@@ -14,5 +14,6 @@ pub use conf::{Conf, External, Renamed};
 pub use fault::ConfFault;
 pub use plan::{Asked, Plan, plan_of};
 pub use reading::{Prepared, prepare};
+pub use rows::{Row, rows_of};
 pub use setting::{Setting, Unjudged};
 pub use writing::policy_text;

@@ -14,11 +14,11 @@ use Rattle.prep_join.proofs.Written.{joined-one, written_of-append}
 use Rattle.prep_program.specs.declared.stop.Stop.{Stop}
 use Rattle.prep_program.specs.Joins.{SoFar, Joins, IsPart}
 
-followed_twice : (before : Option (List ℕ)) (a b : List ℕ) → followed_by (followed_by before a) b ≡ followed_by before (a ++ b)
+pub followed_twice : (before : Option (List ℕ)) (a b : List ℕ) → followed_by (followed_by before a) b ≡ followed_by before (a ++ b)
 followed_twice None a b = refl
 followed_twice (Some bytes) a b = ap Some (append_assoc bytes a b)
 
-followed_none : (before : Option (List ℕ)) → before ≡ followed_by before []
+pub followed_none : (before : Option (List ℕ)) → before ≡ followed_by before []
 followed_none None = refl
 followed_none (Some bytes) = ap Some (sym (append-nil bytes))
 

@@ -1,2 +1,4 @@
 pub mod Pieces
 pub mod Captures
+pub mod Outer
+pub mod Together

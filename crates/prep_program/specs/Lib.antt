@@ -2,3 +2,5 @@ pub mod Pieces
 pub mod Making
 pub mod Stops
 pub mod Joins
+pub mod Translations
+pub mod Reassemblies

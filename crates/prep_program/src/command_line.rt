@@ -1,5 +1,15 @@
-//! The command line, as clap reads it. No other file knows clap.
+//! The command line, as clap reads it. No file but this one and those in `command_line/` knows clap.
 
+mod reassemble;
+mod translate;
+mod users;
+
+use self::reassemble::{reassemble_command, reassemble_request};
+use self::translate::{translate_command, translate_request};
+use self::users::{users_command, users_request};
+use crate::reassembling::ReassembleRequest;
+use crate::translating::TranslateRequest;
+use crate::users::UsersRequest;
 use audit_model::read_ip;
 use clap::error::ErrorKind;
 use clap::{Arg, ArgAction, ArgMatches, Command, Error};
@@ -21,6 +31,12 @@ pub enum Request<'a> {
         relaying: Vec<u32>,
         is_translated: bool,
     },
+    /// Translate captures to files in a folder.
+    Translate(TranslateRequest<'a>),
+    /// Reassemble captures to files in a folder.
+    Reassemble(ReassembleRequest<'a>),
+    /// Write credentials.
+    Users(UsersRequest<'a>),
     /// Tell how to use the program, or its release, on standard output.
     Help(String),
     /// The words are no request; what clap says of it, for standard error.
@@ -55,6 +71,23 @@ fn captures_argument<'a>(alloc: Global) -> Arg<'a> {
         .required(true)
         .num_args(1..)
         .action(ArgAction::Append)
+}
+
+/// The folder in which files are made.
+fn folder_option<'a>(alloc: Global) -> Arg<'a> {
+    Arg::new(alloc, "out")
+        .short('o')
+        .value_name("DIR")
+        .help(
+            "The folder, which is there, in which files are made; one that is there is never written over",
+        )
+        .required(true)
+        .action(ArgAction::Set)
+}
+
+/// Words that are no request.
+fn usage<'a>(alloc: Global, text: &str) -> Result<Option<Request<'a>>, AllocError> {
+    Ok(Some(Request::Usage(String::from_str(alloc, text)?)))
 }
 
 /// The command `join`.
@@ -120,7 +153,10 @@ fn command<'a>(alloc: Global) -> Result<Command<'a>, AllocError> {
         .arg_required_else_help(true)
         .subcommand_required(true)
         .subcommand(policy_command(alloc)?)?
-        .subcommand(join_command(alloc)?)
+        .subcommand(join_command(alloc)?)?
+        .subcommand(translate_command(alloc)?)?
+        .subcommand(users_command(alloc)?)?
+        .subcommand(reassemble_command(alloc)?)
 }
 
 /// The request that an error of clap stands for.
@@ -201,6 +237,15 @@ fn request_of<'a>(
     }
     if let Some(policy) = matches.subcommand_matches("policy") {
         return policy_request(alloc, policy);
+    }
+    if let Some(translate) = matches.subcommand_matches("translate") {
+        return translate_request(alloc, translate);
+    }
+    if let Some(users) = matches.subcommand_matches("users") {
+        return users_request(alloc, users);
+    }
+    if let Some(reassemble) = matches.subcommand_matches("reassemble") {
+        return reassemble_request(alloc, reassemble);
     }
     Ok(None)
 }

@@ -2,18 +2,25 @@
 #![tactic(auto)]
 
 mod command_line;
+mod folder;
 mod joining;
 mod maker;
 mod policy;
+mod reassembling;
 mod ring_name;
 mod running;
 mod source;
 mod stop;
 mod text;
+mod translating;
+mod users;
 
 pub use joining::join_captures;
 pub use maker::{MakeFault, Maker};
+pub use reassembling::{ReassembleRequest, reassemble_capture};
 pub use ring_name::{RingName, gap_in};
 pub use running::run;
 pub use source::{ReadFailed, Source};
 pub use stop::Stop;
+pub use translating::{TranslateRequest, translate_capture};
+pub use users::{UsersRequest, UsersSource};

@@ -4,9 +4,12 @@ use crate::command_line::{Request, read as read_words};
 use crate::joining::join_captures;
 use crate::maker::Maker;
 use crate::policy::run_policy;
+use crate::reassembling::run_reassemble;
 use crate::ring_name::gap_in;
 use crate::source::Source;
 use crate::stop::Stop;
+use crate::translating::run_translate;
+use crate::users::run_users;
 use audit_model::{Sink, put_all};
 use prep_coturn::Asked;
 use std::alloc::Global;
@@ -75,6 +78,9 @@ fn run_request<S: Source, M: Maker, O: Sink, E: Sink>(
             };
             run_policy(alloc, file, &asked, source, out, err)
         }
+        Request::Translate(asked) => run_translate(alloc, asked, source, maker, out),
+        Request::Reassemble(asked) => run_reassemble(alloc, asked, source, maker, out),
+        Request::Users(asked) => run_users(alloc, asked, source, out, err),
         Request::Help(text) => {
             put_all(out, text.as_bytes())?;
             Ok(0)

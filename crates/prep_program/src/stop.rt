@@ -6,10 +6,13 @@ ghost use Rattle.prep_program.specs.Stops.{status_of_stop};
 use crate::maker::MakeFault;
 use crate::ring_name::Gap;
 use crate::source::ReadFailed;
-use audit_model::SinkFailed;
+use audit_model::{PolicyFault, PolicyFaultKind, SinkFailed};
 use audit_pcapng::CaptureFault;
 use prep_coturn::ConfFault;
+use prep_fragments::Refused as ReassembleRefused;
 use prep_join::{JoinFault, Refused};
+use prep_translate::{Refused as TranslateRefused, RenamingFault};
+use prep_users::{ConfiguredFault, UsersFault};
 use std::alloc::{AllocError, AllocFailed};
 use std::fmt;
 
@@ -22,6 +25,20 @@ pub enum Stop {
     Capture(Refused),
     /// A file of a ring is missing.
     Missing(Gap),
+    /// The policy was refused.
+    Policy(PolicyFault),
+    /// Translations don't go with the policy.
+    Renaming(RenamingFault),
+    /// A capture can't be translated.
+    Translate(TranslateRefused),
+    /// A capture's fragments can't be put together.
+    Reassemble(ReassembleRefused),
+    /// A configuration tells no users.
+    Users(UsersFault),
+    /// The capture of this number has the name of an earlier one.
+    SameName(u32),
+    /// The words are no request.
+    Words(&'static str),
     /// There was no memory.
     Memory,
     /// A file could not be read.
@@ -39,6 +56,13 @@ impl Stop {
     {
         match self {
             Stop::Conf(_) | Stop::Capture(_) | Stop::Missing(_) => 2,
+            Stop::Policy(_)
+            | Stop::Renaming(_)
+            | Stop::Translate(_)
+            | Stop::SameName(_)
+            | Stop::Users(_)
+            | Stop::Reassemble(_) => 2,
+            Stop::Words(_) => 5,
             Stop::Memory => 3,
             Stop::Read | Stop::Write | Stop::Exists => 4,
         }
@@ -69,6 +93,20 @@ impl fmt::Display for Stop {
                     "refused capture {earlier} is number {before} of the ring and capture {capture} is number {here}"
                 )
             }
+            Stop::Policy(fault) => {
+                let code = fault.kind.code();
+                let line = fault.line;
+                write!(f, "refused {code} in policy line {line}")
+            }
+            Stop::Renaming(fault) => write!(f, "refused {fault}"),
+            Stop::Translate(refused) => write!(f, "refused {refused}"),
+            Stop::Reassemble(refused) => write!(f, "refused {refused}"),
+            Stop::Users(fault) => write!(f, "refused {fault}"),
+            Stop::SameName(capture) => write!(
+                f,
+                "refused the name of capture {capture}: an earlier one has it"
+            ),
+            Stop::Words(text) => f.write_str(text),
             Stop::Memory => f.write_str("out of memory"),
             Stop::Read => f.write_str("read failed"),
             Stop::Write => f.write_str("write failed"),
@@ -115,6 +153,34 @@ impl From<ConfFault> for Stop {
         match fault {
             ConfFault::Memory => Stop::Memory,
             fault => Stop::Conf(fault),
+        }
+    }
+}
+
+impl From<PolicyFault> for Stop {
+    fn from(fault: PolicyFault) -> Stop {
+        match fault.kind {
+            PolicyFaultKind::Memory => Stop::Memory,
+            _ => Stop::Policy(fault),
+        }
+    }
+}
+
+impl From<RenamingFault> for Stop {
+    fn from(fault: RenamingFault) -> Stop {
+        match fault {
+            RenamingFault::Memory => Stop::Memory,
+            RenamingFault::Twice(_) => Stop::Words("--external-ip names an address twice"),
+            fault => Stop::Renaming(fault),
+        }
+    }
+}
+
+impl From<UsersFault> for Stop {
+    fn from(fault: UsersFault) -> Stop {
+        match fault {
+            UsersFault::Configured(ConfiguredFault::Memory) => Stop::Memory,
+            fault => Stop::Users(fault),
         }
     }
 }

@@ -1,0 +1,44 @@
+-- The datagram of the service in a packet's block, by the definition of what a frame holds.
+use Rattle.std.specs.Prelude.{ℕ, Bool, true, false, ◌&&◌, ◌||◌, List, [], ◌∷◌, length, take, drop, Option, Some, None, nat_lt, nat_le}
+use Rattle.audit_model.specs.declared.address.Addr.{Addr}
+use Rattle.audit_model.specs.declared.policy.Policy.{Policy}
+use Rattle.audit_model.specs.declared.sighting.Side.TheVariants.{Arrives, Leaves}
+use Rattle.audit_packets.specs.Reading as frame
+use Rattle.audit_packets.specs.Reading.{Datagram as Held, datagram_of}
+use Rattle.audit_model.specs.Policy.{listens, relays}
+use Rattle.prep_blocks.specs.declared.block.Block.{Block}
+use Rattle.prep_blocks.specs.declared.block.PacketHead.{PacketHead}
+use Rattle.prep_cut.specs.declared.datagram.Datagram.{Datagram}
+
+-- an end of the service
+abbrev pub is_endpoint : Policy → Addr → Bool
+is_endpoint policy addr = listens policy addr || relays policy addr
+
+-- a packet's bytes stand behind 28 bytes of its block
+abbrev pub frame_of : Block → PacketHead → List ℕ
+frame_of block head = take head.captured (drop 28 block.bytes)
+
+-- the first byte is 20 to 63
+abbrev pub is_secured : List ℕ → Bool
+is_secured [] = false
+is_secured (first ∷ rest) = nat_le 20 first && nat_lt first 64
+
+-- by whether a datagram is from an end of the service, and whether it is to one
+abbrev pub of_ends : Bool → Bool → ℕ → Addr → Addr → List ℕ → Option Datagram
+of_ends true arrives stamp from to payload = Some (record { stamp = stamp; from = from; to = to; side = Leaves; is_inside = arrives; is_dtls = is_secured payload; size = length payload })
+of_ends false true stamp from to payload = Some (record { stamp = stamp; from = from; to = to; side = Arrives; is_inside = false; is_dtls = is_secured payload; size = length payload })
+of_ends false false stamp from to payload = None
+
+abbrev pub of_seen : Policy → ℕ → Held → Option Datagram
+of_seen policy stamp (frame.Udp from to payload) = of_ends (is_endpoint policy from) (is_endpoint policy to) stamp from to payload
+of_seen policy stamp frame.Other = None
+of_seen policy stamp (frame.Fragment from to) = None
+of_seen policy stamp (frame.Cut ips) = None
+
+abbrev pub of_packet : Policy → Block → Option PacketHead → Option Datagram
+of_packet policy block None = None
+of_packet policy block (Some head) = of_seen policy head.stamp (datagram_of (frame_of block head) (nat_lt head.captured head.original))
+
+-- the datagram that the block's packet holds, where it is one of the service
+abbrev pub datagram_of_block : Policy → Block → Option Datagram
+datagram_of_block policy block = of_packet policy block block.packet

@@ -1,0 +1,82 @@
+-- Which packets a reason may set aside.
+use Rattle.std.specs.Prelude.{ℕ, Bool, true, false, not, ◌&&◌, ◌==◌, Option, Some, None, nat_lt}
+use Rattle.audit_model.specs.declared.address.Addr.{Addr}
+use Rattle.audit_model.specs.declared.pair.Pair.{Pair}
+use Rattle.audit_model.specs.declared.sighting.Side.{Side}
+use Rattle.audit_model.specs.declared.sighting.Side.TheVariants.{Arrives, Leaves}
+use Rattle.prep_cut.specs.declared.datagram.Datagram.{Datagram}
+use Rattle.prep_cut.specs.declared.reason.Reason.{Reason}
+use Rattle.prep_cut.specs.declared.reason.Reason.TheVariants as reasons
+use Rattle.prep_cut.specs.declared.stated.Stated.{Stated}
+
+abbrev pub same : Addr → Addr → Bool
+same a b = (a.ip == b.ip) && (a.port == b.port)
+
+-- before the moment that is stated
+abbrev pub is_early : Option ℕ → ℕ → Bool
+is_early None stamp = false
+is_early (Some since) stamp = nat_lt stamp since
+
+-- after the moment that is stated
+abbrev pub is_late : Option ℕ → ℕ → Bool
+is_late None stamp = false
+is_late (Some until) stamp = nat_lt until stamp
+
+abbrev pub is_between : Side → Datagram → Pair → Bool
+is_between Arrives datagram pair = same datagram.from pair.client && same datagram.to pair.listen
+is_between Leaves datagram pair = same datagram.from pair.listen && same datagram.to pair.client
+
+-- between a client and its listen address
+abbrev pub is_of_pair : Datagram → Pair → Bool
+is_of_pair datagram pair = is_between datagram.side datagram pair
+
+abbrev pub is_on_side : Side → Datagram → Addr → Bool
+is_on_side Arrives datagram relayed = same datagram.to relayed
+is_on_side Leaves datagram relayed = same datagram.from relayed
+
+-- to or from an address of the service
+abbrev pub is_at : Datagram → Addr → Bool
+is_at datagram relayed = is_on_side datagram.side datagram relayed
+
+-- with a server that started with the captures there is no client from before, without clients by TCP no address of such a one
+abbrev pub is_stated : Stated → Reason → Bool
+is_stated stated reasons.BeforeSince = true
+is_stated stated (reasons.Client pair) = not stated.is_from_start
+is_stated stated (reasons.Answer pair) = not stated.is_from_start
+is_stated stated (reasons.AddressOf relayed tenure pair) = not stated.is_from_start
+is_stated stated (reasons.AddressTold relayed tenure client) = not stated.has_no_tcp
+is_stated stated (reasons.Address relayed tenure) = not stated.has_no_tcp
+is_stated stated (reasons.Dtls pair) = true
+is_stated stated (reasons.Inner pair peer) = not stated.keeps_inner
+is_stated stated (reasons.Inside from to) = not stated.keeps_inner
+is_stated stated reasons.AfterUntil = true
+
+-- the datagram is of the client or the address that the reason names
+abbrev pub is_named : Reason → Datagram → Bool
+is_named reasons.BeforeSince datagram = true
+is_named (reasons.Client pair) datagram = is_of_pair datagram pair
+is_named (reasons.Answer pair) datagram = is_of_pair datagram pair
+is_named (reasons.AddressOf relayed tenure pair) datagram = is_at datagram relayed
+is_named (reasons.AddressTold relayed tenure client) datagram = is_at datagram relayed
+is_named (reasons.Address relayed tenure) datagram = is_at datagram relayed
+is_named (reasons.Dtls pair) datagram = datagram.is_dtls && is_of_pair datagram pair
+is_named (reasons.Inner pair peer) datagram = is_of_pair datagram pair
+is_named (reasons.Inside from to) datagram = datagram.is_inside && (same datagram.from from && same datagram.to to)
+is_named reasons.AfterUntil datagram = true
+
+abbrev pub may_leave_datagram : Stated → Reason → Option Datagram → Bool
+may_leave_datagram stated reason None = false
+may_leave_datagram stated reason (Some datagram) = is_stated stated reason && is_named reason datagram
+
+-- the reason may set aside a packet of this stamp, which holds this datagram or none
+abbrev pub may_leave_packet : Stated → Reason → ℕ → Option Datagram → Bool
+may_leave_packet stated reasons.BeforeSince stamp datagram = is_early stated.since stamp
+may_leave_packet stated reasons.AfterUntil stamp datagram = is_late stated.until stamp
+may_leave_packet stated (reasons.Client pair) stamp datagram = may_leave_datagram stated (reasons.Client pair) datagram
+may_leave_packet stated (reasons.Answer pair) stamp datagram = may_leave_datagram stated (reasons.Answer pair) datagram
+may_leave_packet stated (reasons.AddressOf relayed tenure pair) stamp datagram = may_leave_datagram stated (reasons.AddressOf relayed tenure pair) datagram
+may_leave_packet stated (reasons.AddressTold relayed tenure client) stamp datagram = may_leave_datagram stated (reasons.AddressTold relayed tenure client) datagram
+may_leave_packet stated (reasons.Address relayed tenure) stamp datagram = may_leave_datagram stated (reasons.Address relayed tenure) datagram
+may_leave_packet stated (reasons.Dtls pair) stamp datagram = may_leave_datagram stated (reasons.Dtls pair) datagram
+may_leave_packet stated (reasons.Inner pair peer) stamp datagram = may_leave_datagram stated (reasons.Inner pair peer) datagram
+may_leave_packet stated (reasons.Inside from to) stamp datagram = may_leave_datagram stated (reasons.Inside from to) datagram

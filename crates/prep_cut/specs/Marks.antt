@@ -1,0 +1,81 @@
+-- Which blocks of a capture are left out, and by which line of the list.
+use Rattle.std.specs.Prelude.{ℕ, Bool, false, ◌==◌, if◌then◌else◌, List, [], ◌∷◌, map, filter, drop, Option, Some, None, is_none, slice_get}
+use Rattle.std.specs.List.{flat_map}
+use Rattle.std.specs.Option.{option_to_list}
+use Rattle.prep_blocks.specs.declared.block.Block.{Block}
+use Rattle.prep_blocks.specs.declared.block.PacketHead.{PacketHead}
+use Rattle.prep_blocks.specs.Read.{bytes_of}
+use Rattle.prep_cut.specs.declared.datagram.Datagram.{Datagram}
+use Rattle.prep_cut.specs.declared.plan.Plan.{Plan}
+use Rattle.prep_cut.specs.declared.reason.Reason.{Reason}
+use Rattle.prep_cut.specs.Datagrams.{datagram_of_block}
+use Rattle.prep_cut.specs.Guard.{may_leave_packet}
+
+abbrev pub may_leave_head : Plan → Option Reason → Block → Option PacketHead → Bool
+may_leave_head plan None block packet = false
+may_leave_head plan (Some reason) block None = false
+may_leave_head plan (Some reason) block (Some head) = may_leave_packet plan.stated reason head.stamp (datagram_of_block plan.policy block)
+
+-- the line's reason may set aside the block's packet
+abbrev pub may_leave_at : Plan → ℕ → Block → Bool
+may_leave_at plan line block = may_leave_head plan (slice_get plan.lines line) block block.packet
+
+-- the line by which a block is left out, none where it is written
+abbrev pub line_of : Plan → Option ℕ → Block → Option ℕ
+line_of plan None block = None
+line_of plan (Some line) block = if may_leave_at plan line block then Some line else None
+
+abbrev pub first_of : List (Option ℕ) → Option ℕ
+first_of [] = None
+first_of (first ∷ others) = first
+
+-- proposals are for the packets in their order: that of a block's packet
+abbrev pub proposed_for : Option PacketHead → List (Option ℕ) → Option ℕ
+proposed_for None proposals = None
+proposed_for (Some head) proposals = first_of proposals
+
+-- and those for the packets behind it
+abbrev pub behind : Option PacketHead → List (Option ℕ) → List (Option ℕ)
+behind None proposals = proposals
+behind (Some head) proposals = drop 1 proposals
+
+-- a block, and the line by which it is left out
+pub record Marked : Type 0 where
+  pub block : Block
+  pub line : Option ℕ
+
+abbrev pub marked_by : Plan → List (Option ℕ) → Block → Marked
+marked_by plan proposals block = record { block = block; line = line_of plan (proposed_for block.packet proposals) block }
+
+-- the blocks of a capture, each with its line
+abbrev pub marked : Plan → List (Option ℕ) → List Block → List Marked
+marked plan proposals [] = []
+marked plan proposals (first ∷ others) = marked_by plan proposals first ∷ marked plan (behind first.packet proposals) others
+
+-- the proposals behind blocks
+abbrev pub proposals_behind : List (Option ℕ) → List Block → List (Option ℕ)
+proposals_behind proposals [] = proposals
+proposals_behind proposals (first ∷ others) = proposals_behind (behind first.packet proposals) others
+
+-- no line leaves it out
+abbrev pub is_written : Marked → Bool
+is_written one = is_none one.line
+
+-- what is written: byte for byte and in order, every block but those that are left out
+abbrev pub written_of : List Marked → List ℕ
+written_of blocks = bytes_of (map (λ (one : Marked). one.block) (filter is_written blocks))
+
+abbrev pub is_line : ℕ → Option ℕ → Bool
+is_line line None = false
+is_line line (Some other) = line == other
+
+abbrev pub is_of_line : ℕ → Marked → Bool
+is_of_line line one = is_line line one.line
+
+-- the datagrams of the service in blocks
+abbrev pub datagrams_of : Plan → List Marked → List Datagram
+datagrams_of plan blocks = flat_map (λ (one : Marked). option_to_list (datagram_of_block plan.policy one.block)) blocks
+
+-- the datagrams of the service that are left out by a line
+abbrev pub datagrams_at : Plan → ℕ → List Marked → List Datagram
+datagrams_at plan line blocks = datagrams_of plan (filter (is_of_line line) blocks)

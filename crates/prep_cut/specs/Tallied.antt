@@ -1,0 +1,66 @@
+-- What a line of the list says of the datagrams that it sets aside.
+use Rattle.std.specs.Prelude.{◌≡◌, nat_lt, ◌||◌, ℕ, ◌+◌, min, max, ◌==◌, if◌then◌else◌, List, length, get_or, fold, Bool, true, false, Option, Some, None}
+use Rattle.audit_model.specs.declared.sighting.Side.{Side}
+use Rattle.audit_model.specs.declared.sighting.Side.TheVariants.{Arrives, Leaves}
+use Rattle.prep_blocks.specs.declared.block.PacketHead.{PacketHead}
+use Rattle.prep_cut.specs.declared.datagram.Datagram.{Datagram}
+use Rattle.prep_cut.specs.declared.tally.Count.{Count}
+use Rattle.prep_cut.specs.declared.tally.Tally.{Tally}
+use Rattle.prep_cut.specs.declared.tally.Totals.{Totals}
+
+-- up to what 64 bits hold
+abbrev pub capped : ℕ → ℕ
+capped n = min n 18446744073709551615
+
+abbrev pub no_count : Count
+no_count = record { datagrams = 0; bytes = 0 }
+
+abbrev pub no_tally : Tally
+no_tally = record { arrived = no_count; left = no_count; first = 18446744073709551615; last = 0 }
+
+abbrev pub counted : Count → ℕ → Count
+counted count size = record { datagrams = capped (count.datagrams + 1); bytes = capped (count.bytes + size) }
+
+abbrev pub counted_both : Count → Count → Count
+counted_both one other = record { datagrams = capped (one.datagrams + other.datagrams); bytes = capped (one.bytes + other.bytes) }
+
+-- some datagram is in it
+abbrev pub is_counted : Tally → Bool
+is_counted tally = nat_lt 0 tally.arrived.datagrams || nat_lt 0 tally.left.datagrams
+
+abbrev pub tallied_on : Side → Tally → Datagram → Tally
+tallied_on Arrives tally datagram = record { arrived = counted tally.arrived datagram.size; left = tally.left; first = min tally.first datagram.stamp; last = max tally.last datagram.stamp }
+tallied_on Leaves tally datagram = record { arrived = tally.arrived; left = counted tally.left datagram.size; first = min tally.first datagram.stamp; last = max tally.last datagram.stamp }
+
+abbrev pub tallied : Tally → Datagram → Tally
+tallied tally datagram = tallied_on datagram.side tally datagram
+
+-- of datagrams, one after another
+abbrev pub tally_of : List Datagram → Tally
+tally_of datagrams = fold tallied no_tally datagrams
+
+-- a line's tally, where the datagram is of this line
+abbrev pub tallied_at : ℕ → Datagram → ℕ → Tally → Tally
+tallied_at line datagram other tally = if other == line then tallied tally datagram else tally
+
+-- so many lines without a datagram
+pub record AreNone (lines : List Tally) (count : ℕ) : Type 0 where
+  pub len : length lines ≡ count
+  pub none : (line : ℕ) → get_or lines line no_tally ≡ no_tally
+
+abbrev pub no_totals : Totals
+no_totals = record { written = 0; left = 0; datagrams = 0 }
+
+-- a datagram with one end in the service
+abbrev pub lone : Option Datagram → ℕ
+lone None = 0
+lone (Some datagram) = if datagram.is_inside then 0 else 1
+
+abbrev pub with_packet : Totals → Bool → Option Datagram → Totals
+with_packet totals true datagram = record { written = capped (totals.written + 1); left = totals.left; datagrams = capped (totals.datagrams + lone datagram) }
+with_packet totals false datagram = record { written = totals.written; left = capped (totals.left + 1); datagrams = totals.datagrams }
+
+-- with a block more, which is written or not, and has a packet or none
+abbrev pub totals_with : Totals → Bool → Option PacketHead → Option Datagram → Totals
+totals_with totals written None datagram = totals
+totals_with totals written (Some head) datagram = with_packet totals written datagram

@@ -1,0 +1,103 @@
+//! The datagram of the service in a packet's block.
+
+ghost use Rattle.std.specs.Prelude.{◌≡◌};
+ghost use Rattle.audit_packets.specs.View.{view};
+ghost use Rattle.prep_cut.specs.Datagrams.{frame_of, is_endpoint, datagram_of_block, of_seen, of_ends, is_secured};
+
+use audit_model::{Addr, Policy, Side};
+use audit_packets::{Seen, slice_datagram};
+use audit_pcapng::PacketSlice;
+use prep_blocks::{Block, PacketHead};
+
+/// A UDP datagram with at least one end in the service.
+#[derive(Clone, Copy, Debug, PartialEq, Eq)]
+pub struct Datagram {
+    /// Nanoseconds since 1970.
+    pub stamp: u64,
+    pub from: Addr,
+    pub to: Addr,
+    /// One that leaves an end of the service leaves, wherever it goes.
+    pub side: Side,
+    /// Whether both ends are of the service.
+    pub is_inside: bool,
+    /// Whether its payload begins as DTLS does: 20 to 63 (RFC 7983).
+    pub is_dtls: bool,
+    /// How many bytes its payload has.
+    pub size: usize,
+}
+
+/// Where a packet's bytes begin in its block.
+const FRAME: usize = 28;
+
+/// The packet's bytes: as many as were captured, as far as the block has them.
+#[tactic(auto, using(std::proofs::lemmas::List::take_all, std::proofs::lemmas::List::drop_all))]
+pub fn frame_in<'a>(block: &'a Block, head: PacketHead) -> &'a [u8]
+    ensures { result.now ≡ frame_of block.now head }
+{
+    let bytes = block.bytes.as_slice();
+    if bytes.len() < FRAME {
+        return &[];
+    }
+    let (_, from) = bytes.split_at(FRAME);
+    let captured = head.captured as usize;
+    if from.len() < captured {
+        return from;
+    }
+    let (frame, _) = from.split_at(captured);
+    frame
+}
+
+/// The datagram of the service that the block's packet holds.
+pub fn datagram_in(policy: &Policy, block: &Block) -> Option<Datagram>
+    ensures { result ≡ datagram_of_block policy.now block.now }
+{
+    let head = block.packet?;
+    let frame = PacketSlice {
+        stamp: head.stamp,
+        bytes: frame_in(block, head),
+        iface: head.iface,
+        captured: head.captured,
+        original: head.original,
+    };
+    in_seen(policy, head.stamp, slice_datagram(frame))
+}
+
+fn in_seen(policy: &Policy, stamp: u64, seen: Seen<'_>) -> Option<Datagram>
+    ensures { result ≡ of_seen policy.now stamp (view seen.entry) }
+{
+    match seen {
+        Seen::Udp { from, to, payload } => in_ends(policy, stamp, from, to, payload),
+        Seen::Other | Seen::Fragment { .. } | Seen::Cut { .. } => None,
+    }
+}
+
+fn in_ends(policy: &Policy, stamp: u64, from: Addr, to: Addr, payload: &[u8]) -> Option<Datagram>
+    ensures { result ≡ of_ends (is_endpoint policy.now from) (is_endpoint policy.now to) stamp from to payload.now }
+{
+    let leaves = policy.listens(from) || policy.relays(from);
+    let arrives = policy.listens(to) || policy.relays(to);
+    let side = match (leaves, arrives) {
+        (true, _) => Side::Leaves,
+        (false, true) => Side::Arrives,
+        (false, false) => return None,
+    };
+    Some(Datagram {
+        stamp,
+        from,
+        to,
+        side,
+        is_inside: leaves && arrives,
+        is_dtls: is_dtls(payload),
+        size: payload.len(),
+    })
+}
+
+/// Whether a payload begins as DTLS does (RFC 7983).
+fn is_dtls(payload: &[u8]) -> bool
+    ensures { result ≡ is_secured payload.now }
+{
+    match payload {
+        [first, ..] => 20 <= *first && *first < 64,
+        [] => false,
+    }
+}

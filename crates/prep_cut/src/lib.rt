@@ -1,0 +1,19 @@
+//! Captures without the packets that are set aside, and what is told of these.
+#![tactic(auto)]
+
+mod cutter;
+mod datagram;
+mod fault;
+mod marker;
+mod plan;
+mod reason;
+mod stated;
+mod tally;
+
+pub use cutter::{Cutter, WasCut};
+pub use datagram::{Datagram, datagram_in, frame_in};
+pub use fault::{CutFault, CutRefused};
+pub use plan::{LineNumber, Plan};
+pub use reason::{FarEnd, Reason};
+pub use stated::Stated;
+pub use tally::{Count, Tallies, Tally, Totals};

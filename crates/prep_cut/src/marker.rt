@@ -1,0 +1,121 @@
+//! Telling which blocks are left out, and counting them.
+
+ghost use Rattle.std.specs.Prelude.{◌≡◌, ◌<◌, ◌∷◌, ◌++◌, [], ℕ, List, Option, is_none, get_or, length, true, OnOk, IfOk, IfErr};
+ghost use Rattle.prep_blocks.specs.declared.block.Block.{Block};
+ghost use Rattle.prep_cut.specs.declared.plan.Plan.{Plan};
+ghost use Rattle.prep_cut.specs.Marks.{Marked, marked_by, is_written, line_of, proposed_for, behind};
+ghost use Rattle.prep_cut.specs.Tallied.{no_tally, totals_with};
+ghost use Rattle.prep_cut.specs.Marking.{AreTallies, IsAt, IsUnbounded, RefusesBlock, tallied_with};
+
+use crate::datagram::{Datagram, datagram_in};
+use crate::fault::CutFault;
+use crate::plan::{LineNumber, Plan};
+use crate::tally::{Tallies, Totals};
+use audit_pcapng::{BlockKind, ByteOrder};
+use prep_blocks::{Block, PacketHead};
+
+/// Where a section block states the section's length.
+const SECTION_LENGTH: usize = 16;
+
+/// So many bytes it has at least up to the end of that field.
+const SECTION_LENGTH_END: usize = 24;
+
+/// Goes along the blocks of a capture.
+#[derive(Drop)]
+pub struct Marker<'p> {
+    plan: &'p Plan,
+    /// What is proposed for the packets that are still to come.
+    proposals: &'p [Option<LineNumber>],
+    totals: Totals,
+    tallies: Tallies,
+}
+
+impl<'p> Marker<'p> {
+    /// Before the first block.
+    pub fn new(plan: &'p Plan, proposals: &'p [Option<LineNumber>], tallies: Tallies) -> Self
+        ensures { (earlier : List Marked) → AreTallies plan.now earlier tallies →
+            IsAt result plan.now proposals.now earlier [] }
+    {
+        Marker {
+            plan,
+            proposals,
+            totals: Totals::none(),
+            tallies,
+        }
+    }
+
+    /// Takes the next block, and tells whether it is written.
+    pub fn take(&mut self, block: &Block) -> Result<bool, CutFault>
+        ensures ok { (plan : Plan) (proposals : List (Option ℕ)) (earlier : List Marked) (current : List Block) →
+            IsAt self.old plan proposals earlier current → OnOk result (IsAt self.new plan proposals earlier (current ++ block.now ∷ [])) }
+        ensures written { IfOk result (λ written. written ≡ is_written (marked_by self.old.plan.now self.old.proposals.now block.now)) }
+        ensures err { IfErr result (λ fault. RefusesBlock fault block.now) }
+    {
+        if block.kind == BlockKind::Section && !is_unbounded(block) {
+            return Err(CutFault::SectionLength);
+        }
+        let line = self.next_line(block);
+        let datagram = datagram_in(&self.plan.policy, block);
+        Ok(self.count(line, block.packet, datagram))
+    }
+
+    /// The line by which the block is left out, with the next proposal where it has a packet.
+    fn next_line(&mut self, block: &Block) -> Option<LineNumber>
+        ensures line { result ≡ line_of self.old.plan.now (proposed_for block.now.packet self.old.proposals.now) block.now }
+        ensures rest { self.new.proposals.now ≡ behind block.now.packet self.old.proposals.now }
+        ensures plan { self.new.plan ≡ self.old.plan }
+        ensures totals { self.new.totals ≡ self.old.totals }
+        ensures tallies { self.new.tallies ≡ self.old.tallies }
+    {
+        if block.packet.is_none() {
+            return None;
+        }
+        let Some((first, rest)) = self.proposals.split_first() else {
+            return None;
+        };
+        self.proposals = rest;
+        self.plan.line_of(*first, block)
+    }
+
+    /// Counts a block, and tells whether it is written.
+    fn count(
+        &mut self,
+        line: Option<LineNumber>,
+        packet: Option<PacketHead>,
+        datagram: Option<Datagram>,
+    ) -> bool
+        ensures written { result ≡ is_none line }
+        ensures rest { self.new.proposals ≡ self.old.proposals }
+        ensures plan { self.new.plan ≡ self.old.plan }
+        ensures totals { self.new.totals ≡ totals_with self.old.totals (is_none line) packet datagram }
+        ensures len { length self.new.tallies.lines.items ≡ length self.old.tallies.lines.items }
+        ensures tallies { (other : ℕ) → other < length self.old.tallies.lines.items →
+            get_or self.new.tallies.lines.items other no_tally ≡ tallied_with line datagram other (get_or self.old.tallies.lines.items other no_tally) }
+    {
+        self.totals = self.totals.with(line.is_none(), packet, datagram);
+        let Some(line) = line else {
+            return true;
+        };
+        if let Some(datagram) = datagram {
+            self.tallies.add(line as usize, &datagram);
+        }
+        false
+    }
+
+    /// What was counted.
+    pub fn into_parts(self) -> (Totals, Tallies)
+        ensures totals { result.0 ≡ self.entry.totals }
+        ensures tallies { result.1 ≡ self.entry.tallies }
+    {
+        (self.totals, self.tallies)
+    }
+}
+
+/// Whether a section block states no length.
+fn is_unbounded(block: &Block) -> bool
+    ensures yes { result ≡ true → IsUnbounded block.now }
+    ensures no { IsUnbounded block.now → result ≡ true }
+{
+    let bytes = block.bytes.as_slice();
+    bytes.len() >= SECTION_LENGTH_END && block.order.u64_at(bytes, SECTION_LENGTH) == u64::MAX
+}

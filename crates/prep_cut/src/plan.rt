@@ -1,0 +1,53 @@
+//! What is to be set aside.
+
+ghost use Rattle.std.specs.Prelude.{◌≡◌};
+ghost use Rattle.prep_cut.specs.Marks.{line_of, may_leave_at};
+
+use crate::datagram::datagram_in;
+use crate::reason::Reason;
+use crate::stated::Stated;
+use audit_model::{Listed, Policy};
+use prep_blocks::Block;
+
+/// The number of a line of the list, from 0.
+pub type LineNumber = u32;
+
+/// The lines of the list, and what they go by. Which packets are proposed for them is told capture by capture.
+#[derive(Debug, Drop)]
+pub struct Plan {
+    pub policy: Policy,
+    pub stated: Stated,
+    /// Each line's reason, in the order of the list.
+    pub lines: Listed<Reason>,
+}
+
+impl Plan {
+    /// The line by which a block is left out: the one that is proposed for its packet, where that line's reason may set it aside.
+    pub fn line_of(&self, proposed: Option<LineNumber>, block: &Block) -> Option<LineNumber>
+        ensures { result ≡ line_of self.now proposed block.now }
+    {
+        match proposed {
+            None => None,
+            Some(line) => {
+                if self.may_leave(line, block) {
+                    Some(line)
+                } else {
+                    None
+                }
+            }
+        }
+    }
+
+    fn may_leave(&self, line: LineNumber, block: &Block) -> bool
+        ensures { result ≡ may_leave_at self.now line block.now }
+    {
+        let Some(reason) = self.lines.as_slice().get(line as usize) else {
+            return false;
+        };
+        let Some(head) = block.packet else {
+            return false;
+        };
+        self.stated
+            .may_leave(reason, head.stamp, datagram_in(&self.policy, block))
+    }
+}

@@ -1,0 +1,104 @@
+//! Why a packet is set aside.
+
+use audit_model::{Addr, Pair};
+use std::fmt;
+
+/// The client of a relayed address that was told over TCP or IPv6.
+#[derive(Clone, Copy, Debug, PartialEq, Eq)]
+pub enum FarEnd {
+    Tcp(Addr),
+    Ipv6 { ip: [u16; 8], port: u16 },
+}
+
+/// Why packets are set aside, and whose they are: a line of the list.
+#[derive(Clone, Copy, Debug, PartialEq, Eq)]
+pub enum Reason {
+    /// Before the moment that `--since` says.
+    BeforeSince,
+    /// Of a client from before the capture: what needs the allocation that it had.
+    Client(Pair),
+    /// A response whose request may be from before the capture.
+    Answer(Pair),
+    /// Data of a client from before the capture, at a relayed address that nobody was given. A lease of the address begins a tenure.
+    AddressOf {
+        relayed: Addr,
+        tenure: u32,
+        pair: Pair,
+    },
+    /// A relayed address that was given over TCP or IPv6.
+    AddressTold {
+        relayed: Addr,
+        tenure: u32,
+        client: FarEnd,
+    },
+    /// A relayed address that nobody was seen to be given.
+    Address {
+        relayed: Addr,
+        tenure: u32,
+    },
+    /// DTLS at a listen address.
+    Dtls(Pair),
+    /// Data between a client and an address of the service.
+    Inner {
+        pair: Pair,
+        peer: Addr,
+    },
+    /// Datagrams between two addresses of the service.
+    Inside {
+        from: Addr,
+        to: Addr,
+    },
+    /// After the moment that `--until` says.
+    AfterUntil,
+}
+
+/// As `tcp 198.51.100.8:53281`, or `ipv6 [2001:db8:0:0:0:0:0:1]:40000`.
+impl fmt::Display for FarEnd {
+    fn fmt<W: fmt::Write>(&self, f: &mut fmt::Formatter<W>) -> fmt::Result {
+        match self {
+            FarEnd::Tcp(addr) => write!(f, "tcp {addr}"),
+            FarEnd::Ipv6 { ip, port } => {
+                let [a, b, c, d, e, g, h, i] = *ip;
+                write!(
+                    f,
+                    "ipv6 [{a:x}:{b:x}:{c:x}:{d:x}:{e:x}:{g:x}:{h:x}:{i:x}]:{port}"
+                )
+            }
+        }
+    }
+}
+
+/// What a line of the list begins with.
+impl fmt::Display for Reason {
+    fn fmt<W: fmt::Write>(&self, f: &mut fmt::Formatter<W>) -> fmt::Result {
+        match self {
+            Reason::BeforeSince => f.write_str("before-since"),
+            Reason::Client(pair) => write_pair(f, "client", pair),
+            Reason::Answer(pair) => write_pair(f, "answer", pair),
+            Reason::AddressOf { relayed, pair, .. } => {
+                write!(f, "address-of {relayed} ")?;
+                let Pair { client, listen } = *pair;
+                write!(f, "{client} {listen}")
+            }
+            Reason::AddressTold {
+                relayed,
+                client,
+                ..
+            } => write!(f, "address-told {relayed} {client}"),
+            Reason::Address { relayed, .. } => write!(f, "address {relayed}"),
+            Reason::Dtls(pair) => write_pair(f, "dtls", pair),
+            Reason::Inner { pair, peer } => {
+                write_pair(f, "inner", pair)?;
+                write!(f, " {peer}")
+            }
+            Reason::Inside { from, to } => write!(f, "inside {from} {to}"),
+            Reason::AfterUntil => f.write_str("after-until"),
+        }
+    }
+}
+
+/// A word and a client with its listen address.
+fn write_pair<W: fmt::Write>(f: &mut fmt::Formatter<W>, word: &str, pair: &Pair) -> fmt::Result {
+    let Pair { client, listen } = *pair;
+    write!(f, "{word} {client} {listen}")
+}

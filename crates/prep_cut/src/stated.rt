@@ -1,0 +1,113 @@
+//! What the operator states, and which packets each reason may set aside then.
+
+ghost use Rattle.std.specs.Prelude.{◌≡◌};
+ghost use Rattle.prep_cut.specs.Guard.{is_early, is_late, is_of_pair, is_at, is_stated, is_named, may_leave_packet, same};
+
+use crate::datagram::Datagram;
+use crate::reason::Reason;
+use audit_model::{Addr, Pair, Side};
+
+/// What the operator states of the captures. Moments are nanoseconds since 1970.
+#[derive(Clone, Copy, Debug, PartialEq, Eq)]
+pub struct Stated {
+    /// Packets before this moment are left out.
+    pub since: Option<u64>,
+    /// Departures after this moment are left out.
+    pub until: Option<u64>,
+    /// The server started with the captures, or at `since`.
+    pub is_from_start: bool,
+    /// No client comes by TCP, TLS, DTLS or IPv6.
+    pub has_no_tcp: bool,
+    /// Data between addresses of the service stays in.
+    pub keeps_inner: bool,
+    /// The longest lifetime of an allocation from before, in seconds.
+    pub lifetime: u64,
+}
+
+impl Stated {
+    /// Whether the reason may set aside a packet of this stamp, which holds this datagram of the service or none: what the operator
+    /// states has to allow the reason, and the packet has to be of the client or the address that the reason names.
+    pub fn may_leave(&self, reason: &Reason, stamp: u64, datagram: Option<Datagram>) -> bool
+        ensures { result ≡ may_leave_packet self.now reason.now stamp datagram }
+    {
+        match reason {
+            Reason::BeforeSince => self.is_early(stamp),
+            Reason::AfterUntil => self.is_late(stamp),
+            _ => match datagram {
+                None => false,
+                Some(datagram) => self.allows(reason) && is_named(reason, &datagram),
+            },
+        }
+    }
+
+    /// Whether a moment is before `since`.
+    pub fn is_early(&self, stamp: u64) -> bool
+        ensures { result ≡ is_early self.now.since stamp }
+    {
+        match self.since {
+            None => false,
+            Some(since) => stamp < since,
+        }
+    }
+
+    /// Whether a moment is after `until`.
+    pub fn is_late(&self, stamp: u64) -> bool
+        ensures { result ≡ is_late self.now.until stamp }
+    {
+        match self.until {
+            None => false,
+            Some(until) => until < stamp,
+        }
+    }
+
+    /// Whether what the operator states allows the reason.
+    fn allows(&self, reason: &Reason) -> bool
+        ensures { result ≡ is_stated self.now reason.now }
+    {
+        match reason {
+            Reason::BeforeSince | Reason::AfterUntil | Reason::Dtls(_) => true,
+            Reason::Client(_) | Reason::Answer(_) | Reason::AddressOf { .. } => !self.is_from_start,
+            Reason::AddressTold { .. } | Reason::Address { .. } => !self.has_no_tcp,
+            Reason::Inner { .. } | Reason::Inside { .. } => !self.keeps_inner,
+        }
+    }
+}
+
+/// Whether a datagram is of the client or the address that the reason names.
+fn is_named(reason: &Reason, datagram: &Datagram) -> bool
+    ensures { result ≡ is_named reason.now datagram.now }
+{
+    match reason {
+        Reason::BeforeSince | Reason::AfterUntil => true,
+        Reason::Client(pair) | Reason::Answer(pair) | Reason::Inner { pair, .. } => {
+            is_of_pair(datagram, pair)
+        }
+        Reason::AddressOf { relayed, .. }
+        | Reason::AddressTold { relayed, .. }
+        | Reason::Address { relayed, .. } => is_at(datagram, *relayed),
+        Reason::Dtls(pair) => datagram.is_dtls && is_of_pair(datagram, pair),
+        Reason::Inside { from, to } => {
+            datagram.is_inside && datagram.from == *from && datagram.to == *to
+        }
+    }
+}
+
+/// Whether a datagram is between a client and its listen address.
+fn is_of_pair(datagram: &Datagram, pair: &Pair) -> bool
+    ensures { result ≡ is_of_pair datagram.now pair.now }
+{
+    match datagram.side {
+        Side::Arrives => datagram.from == pair.client && datagram.to == pair.listen,
+        Side::Leaves => datagram.from == pair.listen && datagram.to == pair.client,
+    }
+}
+
+/// Whether a datagram arrives at an address or leaves it.
+fn is_at(datagram: &Datagram, relayed: Addr) -> bool
+    ensures { result ≡ is_at datagram.now relayed }
+{
+    match datagram.side {
+        Side::Arrives => datagram.to == relayed,
+        Side::Leaves => datagram.from == relayed,
+    }
+}

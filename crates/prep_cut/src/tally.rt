@@ -1,0 +1,190 @@
+//! How many datagrams are set aside, and how much they carried.
+
+ghost use Rattle.std.specs.Prelude.{◌≡◌, ◌<◌, ℕ, length, get_or, IfOk};
+ghost use Rattle.prep_cut.specs.Tallied.{no_count, no_tally, no_totals, counted, counted_both, tallied, tallied_at, totals_with, is_counted, AreNone};
+
+use crate::datagram::Datagram;
+use audit_model::Side;
+use prep_blocks::PacketHead;
+use std::alloc::{AllocError, Global};
+
+/// Datagrams, and the bytes of their payloads. No number goes over 64 bits.
+#[derive(Clone, Copy, Debug, PartialEq, Eq)]
+pub struct Count {
+    pub datagrams: u64,
+    pub bytes: u64,
+}
+
+impl Count {
+    /// Of no datagram.
+    pub fn none() -> Self
+        ensures { result ≡ no_count }
+    {
+        Count {
+            datagrams: 0,
+            bytes: 0,
+        }
+    }
+
+    /// With those of another count.
+    pub fn plus(self, other: Count) -> Self
+        ensures { result ≡ counted_both self other }
+    {
+        Count {
+            datagrams: self.datagrams.saturating_add(other.datagrams),
+            bytes: self.bytes.saturating_add(other.bytes),
+        }
+    }
+
+    /// With a datagram more, of so many bytes.
+    fn with(self, size: usize) -> Self
+        ensures { result ≡ counted self size }
+    {
+        Count {
+            datagrams: self.datagrams.saturating_add(1),
+            bytes: self.bytes.saturating_add(size as u64),
+        }
+    }
+}
+
+/// What a line of the list says of its datagrams.
+#[derive(Clone, Copy, Debug, PartialEq, Eq)]
+pub struct Tally {
+    pub arrived: Count,
+    pub left: Count,
+    /// The least and the greatest of their moments; of no datagram the greatest u64, and 0.
+    pub first: u64,
+    pub last: u64,
+}
+
+impl Tally {
+    /// Of no datagram.
+    pub fn none() -> Self
+        ensures { result ≡ no_tally }
+    {
+        Tally {
+            arrived: Count::none(),
+            left: Count::none(),
+            first: u64::MAX,
+            last: 0,
+        }
+    }
+
+    /// Whether it is of some datagram.
+    pub fn is_some(&self) -> bool
+        ensures { result ≡ is_counted self.now }
+    {
+        self.arrived.datagrams > 0 || self.left.datagrams > 0
+    }
+
+    /// With a datagram more.
+    pub fn with(self, datagram: &Datagram) -> Self
+        ensures { result ≡ tallied self datagram.now }
+    {
+        let first = self.first.min(datagram.stamp);
+        let last = self.last.max(datagram.stamp);
+        match datagram.side {
+            Side::Arrives => Tally {
+                arrived: self.arrived.with(datagram.size),
+                left: self.left,
+                first,
+                last,
+            },
+            Side::Leaves => Tally {
+                arrived: self.arrived,
+                left: self.left.with(datagram.size),
+                first,
+                last,
+            },
+        }
+    }
+}
+
+/// What is told of a capture that was cut.
+#[derive(Clone, Copy, Debug, PartialEq, Eq)]
+pub struct Totals {
+    /// Packets that are written.
+    pub written: u64,
+    /// Packets that are left out.
+    pub left: u64,
+    /// Datagrams with one end in the service that are written.
+    pub datagrams: u64,
+}
+
+impl Totals {
+    /// Of no block.
+    pub fn none() -> Self
+        ensures { result ≡ no_totals }
+    {
+        Totals {
+            written: 0,
+            left: 0,
+            datagrams: 0,
+        }
+    }
+
+    /// With a block more, which is written or not.
+    pub fn with(
+        self,
+        is_written: bool,
+        packet: Option<PacketHead>,
+        datagram: Option<Datagram>,
+    ) -> Self
+        ensures { result ≡ totals_with self is_written packet datagram }
+    {
+        if packet.is_none() {
+            return self;
+        }
+        if !is_written {
+            return Totals {
+                written: self.written,
+                left: self.left.saturating_add(1),
+                datagrams: self.datagrams,
+            };
+        }
+        let more = match datagram {
+            Some(datagram) if !datagram.is_inside => 1,
+            _ => 0,
+        };
+        Totals {
+            written: self.written.saturating_add(1),
+            left: self.left,
+            datagrams: self.datagrams.saturating_add(more),
+        }
+    }
+}
+
+/// The tallies of the lines of a list.
+#[derive(Debug, Drop)]
+pub struct Tallies {
+    lines: Vec<Tally>,
+}
+
+impl Tallies {
+    /// Of so many lines without a datagram.
+    pub fn new(alloc: Global, lines: usize) -> Result<Self, AllocError>
+        ensures { IfOk result (λ tallies. AreNone tallies.lines.items lines) }
+    {
+        Ok(Tallies {
+            lines: vec![in alloc; Tally::none(); lines]?,
+        })
+    }
+
+    /// Each line's tally, in their order.
+    pub fn as_slice(&self) -> &[Tally]
+        ensures { result.now ≡ self.now.lines.items }
+    {
+        self.lines.as_slice()
+    }
+
+    /// Counts a datagram to a line; to no line where there is none of that number.
+    pub fn add(&mut self, line: usize, datagram: &Datagram)
+        ensures len { length self.new.lines.items ≡ length self.old.lines.items }
+        ensures lines { (other : ℕ) → other < length self.old.lines.items →
+            get_or self.new.lines.items other no_tally ≡ tallied_at line datagram.now other (get_or self.old.lines.items other no_tally) }
+    {
+        if line < self.lines.len() {
+            self.lines[line] = self.lines[line].with(datagram);
+        }
+    }
+}

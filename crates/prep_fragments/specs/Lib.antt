@@ -1,0 +1,4 @@
+pub mod Parts
+pub mod Wholes
+pub mod Opens
+pub mod Reassembling

@@ -1,0 +1,54 @@
+//! Fragments of UDP datagrams over IPv4 (RFC 791).
+
+ghost use Rattle.std.specs.Prelude.{◌≡◌};
+
+use crate::places::{number_of_four, place_of_data};
+use prep_frames::{content_place, number_at};
+
+/// Which datagram a fragment is of.
+#[derive(Clone, Copy, Debug, PartialEq, Eq, PartialOrd, Ord)]
+pub struct Key {
+    /// The interface's number in the file.
+    pub iface: u32,
+    pub from: u32,
+    pub to: u32,
+    /// The identification of the IPv4 header.
+    pub id: u16,
+}
+
+/// A fragment, by places in its frame.
+#[derive(Clone, Copy, Debug, PartialEq, Eq)]
+pub struct Fragment {
+    pub key: Key,
+    /// Where in the datagram's data its own begins.
+    pub offset: usize,
+    /// The flag "more fragments".
+    pub has_more: bool,
+    /// Where in the frame the data begins and ends.
+    pub begin: usize,
+    pub end: usize,
+}
+
+impl Fragment {
+    ghost use Rattle.prep_fragments.specs.Parts.{fragment_of};
+
+    /// What the frame says of its fragment, where it has one.
+    pub fn read(iface: u32, frame: &[u8]) -> Fragment
+        ensures { result ≡ fragment_of iface frame.now }
+    {
+        let at = content_place(frame);
+        let field = number_at(frame, at + 6);
+        Fragment {
+            key: Key {
+                iface,
+                from: number_of_four(frame, at + 12),
+                to: number_of_four(frame, at + 16),
+                id: number_at(frame, at + 4),
+            },
+            offset: (field % 8192) as usize * 8,
+            has_more: field / 8192 % 2 == 1,
+            begin: place_of_data(frame, at),
+            end: at + number_at(frame, at + 2) as usize,
+        }
+    }
+}

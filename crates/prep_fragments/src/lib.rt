@@ -1,0 +1,16 @@
+//! Captures in which the fragments of UDP datagrams over IPv4 are put together (RFC 791).
+#![tactic(auto)]
+
+mod begun;
+mod fault;
+mod fragment;
+mod opens;
+mod places;
+mod reassembler;
+mod taking;
+mod whole;
+
+pub use fault::{FragmentFault, ReassembleFault, Refused};
+pub use fragment::{Fragment, Key};
+pub use reassembler::Reassembler;
+pub use taking::Reassembled;

@@ -1,0 +1,68 @@
+//! Reassembling a capture that comes in pieces.
+
+ghost use Rattle.std.specs.Prelude.{◌++◌, [], ℕ, List, OnOk};
+ghost use Rattle.prep_blocks.specs.declared.block.Block.{Block};
+
+use crate::fault::ReassembleFault;
+use crate::opens::Opens;
+use crate::taking::{Reassembled, take_block};
+use prep_blocks::BlockSplitter;
+use std::alloc::Global;
+
+/// Reassembles one capture that comes in pieces, cut anywhere. It keeps the one block that is not yet whole, and the fragments of datagrams
+/// that are not yet whole. After a fault it is thrown away.
+#[derive(Drop)]
+pub struct Reassembler {
+    splitter: BlockSplitter,
+    opens: Opens,
+    count: Reassembled,
+    alloc: Global,
+}
+
+impl Reassembler {
+    ghost use Rattle.prep_fragments.specs.Reassembling.{IsReassembling, GoesOn, IsDone};
+
+    /// Before the first byte. It takes no memory.
+    pub fn new(alloc: Global) -> Self
+        ensures { IsReassembling result [] [] }
+    {
+        Reassembler {
+            splitter: BlockSplitter::new(alloc),
+            opens: Opens::new(alloc),
+            count: Reassembled {
+                datagrams: 0,
+                fragments: 0,
+            },
+            alloc,
+        }
+    }
+
+    /// Takes the next piece of the capture, and adds what is written of the blocks that are whole now.
+    pub fn feed(&mut self, piece: &[u8], out: &mut Vec<u8>) -> Result<(), ReassembleFault>
+        ensures { (text : List ℕ) (blocks : List Block) → IsReassembling self.old text blocks →
+            OnOk result (GoesOn self.new text blocks piece.now [] out.old.items out.new.items) }
+    {
+        let mut rest = piece;
+        for _ in 0..piece.len() {
+            let Some((block, behind)) = self.splitter.next(rest)? else {
+                return Ok(());
+            };
+            take_block(self.alloc, &mut self.opens, &mut self.count, block, out)?;
+            rest = behind;
+        }
+        Ok(())
+    }
+
+    /// Ends the capture, in which no datagram may lack a fragment, and tells what was put together.
+    pub fn finish(&self) -> Result<Reassembled, ReassembleFault>
+        ensures { (text : List ℕ) (blocks : List Block) → IsReassembling self.now text blocks → OnOk result (IsDone text blocks) }
+    {
+        self.splitter.finish()?;
+        if !self.opens.is_empty() {
+            return Err(ReassembleFault::Missing {
+                datagrams: self.opens.len(),
+            });
+        }
+        Ok(self.count)
+    }
+}

@@ -1,0 +1,87 @@
+//! The words of the command `translate`.
+
+use super::{Request, captures_argument, folder_option, usage};
+use crate::translating::TranslateRequest;
+use clap::{Arg, ArgAction, ArgMatches, Command};
+use prep_translate::Translation;
+use std::alloc::{AllocError, Global};
+
+const ABOUT: &str =
+    "Puts the public address of a one-to-one translation in the place of the private one, in captures";
+
+const EXAMPLE: &str =
+    "Example:\n  turnprep translate --policy policy --external-ip 198.18.0.1/192.0.2.1 -o outer call.pcapng\n\nwrites outer/call.pcapng and outer/translated. The policy has the relay ranges of the public address.";
+
+const NOT_A_PAIR: &str = "turnprep: --external-ip is PUBLIC/PRIVATE, two IPv4 addresses\n";
+
+const TOO_MANY: &str =
+    "turnprep: translate takes 16 captures and 64 words of --external-ip at the most\n";
+
+/// So many captures may be audited together.
+const MAX_CAPTURES: usize = 16;
+
+/// A policy has so many relay ranges at the most.
+const MAX_TRANSLATIONS: usize = 64;
+
+/// The command.
+pub(super) fn translate_command<'a>(alloc: Global) -> Result<Command<'a>, AllocError> {
+    let policy = Arg::new(alloc, "policy")
+        .long("policy")
+        .value_name("FILE")
+        .help("The policy, with the relay ranges of the public addresses")
+        .required(true)
+        .action(ArgAction::Set);
+    let external = Arg::new(alloc, "external-ip")
+        .long("external-ip")
+        .value_name("PUBLIC/PRIVATE")
+        .help("A public address, and the one in the captures that it stands for")
+        .required(true)
+        .action(ArgAction::Append);
+    Command::new(alloc, "translate")
+        .about(ABOUT)
+        .after_help(EXAMPLE)
+        .arg(policy)?
+        .arg(external)?
+        .arg(folder_option(alloc))?
+        .arg(captures_argument(alloc))
+}
+
+/// The translations that the words spell, or nothing where one of them is none.
+fn translations_of(alloc: Global, words: &[&str]) -> Result<Option<Vec<Translation>>, AllocError> {
+    let mut translations = Vec::new(alloc);
+    for word in words {
+        match Translation::read(word.as_bytes()) {
+            Ok(translation) => translations.push(translation)?,
+            Err(_) => return Ok(None),
+        }
+    }
+    Ok(Some(translations))
+}
+
+/// The request that the words are.
+pub(super) fn translate_request<'a>(
+    alloc: Global,
+    matches: &ArgMatches<'a>,
+) -> Result<Option<Request<'a>>, AllocError> {
+    let (Some(policy), Some(folder)) = (matches.get_str("policy"), matches.get_str("out")) else {
+        return Ok(None);
+    };
+    let (Some(words), Some(captures)) = (
+        matches.get_strs("external-ip"),
+        matches.get_strs("captures"),
+    ) else {
+        return Ok(None);
+    };
+    if captures.len() > MAX_CAPTURES || words.len() > MAX_TRANSLATIONS {
+        return usage(alloc, TOO_MANY);
+    }
+    let Some(translations) = translations_of(alloc, words)? else {
+        return usage(alloc, NOT_A_PAIR);
+    };
+    Ok(Some(Request::Translate(TranslateRequest {
+        policy,
+        translations,
+        folder,
+        captures: Vec::from_slice(alloc, captures)?,
+    })))
+}

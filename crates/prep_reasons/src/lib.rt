@@ -1,0 +1,18 @@
+//! What is proposed to be set aside, and by which line of the list. Nothing rests on it: what is written goes by `prep_cut`,
+//! which keeps a packet that a line may not set aside, and counts the others.
+#![tactic(auto)]
+
+mod addresses;
+mod before;
+mod channels;
+mod deciding;
+mod inner;
+mod lines;
+mod pool;
+mod proposals;
+mod responses;
+mod sheet;
+mod tenures;
+
+pub use deciding::decide;
+pub use proposals::Proposed;

@@ -1,0 +1,127 @@
+//! The lines in the order of the list, and what is proposed for each packet.
+
+use crate::lines::order_of;
+use crate::sheet::Sheet;
+use audit_model::Side;
+use prep_cut::{LineNumber, Reason};
+use prep_records::CapturePackets;
+use std::alloc::{AllocError, Global};
+
+/// What is proposed.
+#[derive(Debug, Drop)]
+pub struct Proposed {
+    /// The moment at which the captures begin, in nanoseconds since 1970.
+    pub begin: u64,
+    /// The reasons of the list's lines, in order. A line may be one by which no packet is left out.
+    pub lines: Vec<Reason>,
+    /// Of each capture what is proposed for each of its packets.
+    pub captures: Vec<Vec<Option<LineNumber>>>,
+    /// Departures of clients from before that no state from before allows, and that stay in.
+    pub beyond: u64,
+    /// Clients with their listen addresses from which something that stays in arrived.
+    pub lanes: u64,
+}
+
+/// The number of each line among those in the order of the list.
+#[derive(Drop)]
+struct Ordered {
+    reasons: Vec<Reason>,
+    numbers: Vec<LineNumber>,
+}
+
+/// Orders the lines by what they say, and then by their first datagram.
+fn order_lines(sheet: &Sheet<'_>) -> Result<Ordered, AllocError> {
+    let count = sheet.lines.reasons.len();
+    let mut first = vec![in sheet.alloc; usize::MAX; count]?;
+    for at in 0..sheet.why.len() {
+        if let Some(Some(line)) = sheet.why.get(at).copied() {
+            if let Some(mark) = first.get_mut(line as usize) {
+                *mark = (*mark).min(at);
+            }
+        }
+    }
+    let mut keys = Vec::new(sheet.alloc);
+    for (line, reason) in sheet.lines.reasons.iter().enumerate() {
+        let at = first.get(line).copied().unwrap_or(usize::MAX);
+        keys.push((order_of(reason), at, line))?;
+    }
+    keys.sort()?;
+    let mut reasons = Vec::new(sheet.alloc);
+    let mut numbers = vec![in sheet.alloc; 0u32; count]?;
+    for (number, key) in keys.iter().enumerate() {
+        if let Some(reason) = sheet.lines.reasons.get(key.2) {
+            reasons.push(*reason)?;
+        }
+        if let Some(mark) = numbers.get_mut(key.2) {
+            *mark = u32::try_from(number).unwrap_or(u32::MAX);
+        }
+    }
+    Ok(Ordered { reasons, numbers })
+}
+
+/// What is proposed, behind all decisions.
+pub(crate) fn propose(
+    sheet: &mut Sheet<'_>,
+    packets: &[CapturePackets],
+    beyond: u64,
+) -> Result<Proposed, AllocError> {
+    let early = sheet.lines.number_of(Reason::BeforeSince)?;
+    let late = sheet.lines.number_of(Reason::AfterUntil)?;
+    let ordered = order_lines(sheet)?;
+    let mut captures = Vec::new(sheet.alloc);
+    for capture in packets {
+        let mut proposals: Vec<Option<LineNumber>> =
+            vec![in sheet.alloc; None; capture.count as usize]?;
+        for outside in &capture.outside {
+            let line = if outside.is_early { early } else { late };
+            if let Some(mark) = proposals.get_mut(outside.packet as usize) {
+                *mark = ordered.numbers.get(line as usize).copied();
+            }
+        }
+        captures.push(proposals)?;
+    }
+    for at in 0..sheet.records.len() {
+        let (Some(record), Some(Some(line))) = (sheet.record(at), sheet.why.get(at).copied()) else {
+            continue;
+        };
+        let number = ordered.numbers.get(line as usize).copied();
+        if let Some(proposals) = captures.get_mut(record.capture as usize) {
+            if let Some(mark) = proposals.get_mut(record.packet as usize) {
+                *mark = number;
+            }
+        }
+    }
+    let lanes = lanes_of(sheet.alloc, sheet)?;
+    let Ordered {
+        reasons,
+        numbers: _,
+    } = ordered;
+    Ok(Proposed {
+        begin: sheet.begin,
+        lines: reasons,
+        captures,
+        beyond,
+        lanes,
+    })
+}
+
+/// How many clients have an arrival that stays in.
+fn lanes_of(alloc: Global, sheet: &Sheet<'_>) -> Result<u64, AllocError> {
+    let mut seen = vec![in alloc; false; sheet.pairs.len()]?;
+    let mut lanes = 0u64;
+    for at in 0..sheet.records.len() {
+        let (Some(record), Some(pair)) = (sheet.record(at), sheet.pair_number(at)) else {
+            continue;
+        };
+        if !sheet.is_kept(at) || !matches!(record.side, Side::Arrives) {
+            continue;
+        }
+        if let Some(mark) = seen.get_mut(pair as usize) {
+            if !*mark {
+                lanes = lanes.saturating_add(1);
+            }
+            *mark = true;
+        }
+    }
+    Ok(lanes)
+}

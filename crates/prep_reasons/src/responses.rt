@@ -1,0 +1,188 @@
+//! Responses with their requests, and what they show: leases and channels.
+
+use crate::channels::{Binding, Channels};
+use crate::sheet::{Exchanged, Sheet};
+use crate::tenures::{Tenure, Tenures};
+use audit_model::Side;
+use audit_stun::Class;
+use audit_stun::numbers::method;
+use std::alloc::AllocError;
+use std::collections::BTreeMap;
+
+/// A request by its method and transaction id.
+#[derive(Clone, Copy, PartialEq, Eq, PartialOrd, Ord)]
+struct RequestKey {
+    method: u16,
+    high: u64,
+    low: u32,
+}
+
+/// The lease that a client has.
+#[derive(Clone, Copy)]
+struct Lease {
+    /// Its number among the tenures.
+    tenure: usize,
+    key: RequestKey,
+    /// Its end with the grace, without the skews.
+    until: u64,
+}
+
+/// What the responses show.
+#[derive(Drop)]
+pub(crate) struct Shown {
+    pub(crate) tenures: Tenures,
+    pub(crate) channels: Channels,
+}
+
+/// What was read of the responses so far.
+#[derive(Drop)]
+struct Reading {
+    tenures: Vec<Tenure>,
+    bindings: Vec<Binding>,
+}
+
+fn key_of(exchanged: &Exchanged) -> RequestKey {
+    let [a, b, c, d, e, f, g, h, i, j, k, l] = exchanged.stun.tid;
+    RequestKey {
+        method: exchanged.stun.method,
+        high: u64::from_be_bytes([a, b, c, d, e, f, g, h]),
+        low: u32::from_be_bytes([i, j, k, l]),
+    }
+}
+
+/// Notes each response's request, and tells what the responses show.
+pub(crate) fn read_responses(sheet: &mut Sheet<'_>) -> Result<Shown, AllocError> {
+    let alloc = sheet.alloc;
+    let mut reading = Reading {
+        tenures: Vec::new(alloc),
+        bindings: Vec::new(alloc),
+    };
+    for pair in 0..sheet.pair_count() {
+        read_pair(sheet, pair, &mut reading)?;
+    }
+    let Reading { tenures, bindings } = reading;
+    Ok(Shown {
+        tenures: Tenures::new(alloc, tenures)?,
+        channels: Channels::new(bindings)?,
+    })
+}
+
+fn read_pair(sheet: &mut Sheet<'_>, pair: u32, reading: &mut Reading) -> Result<(), AllocError> {
+    let mut asked: BTreeMap<RequestKey, usize> = BTreeMap::new(sheet.alloc);
+    let mut lease: Option<Lease> = None;
+    let count = sheet.of_pair(pair).len();
+    for place in 0..count {
+        let Some((_, at)) = sheet.of_pair(pair).get(place).copied() else {
+            return Ok(());
+        };
+        let Some(exchanged) = sheet.exchanged(at) else {
+            continue;
+        };
+        let key = key_of(&exchanged);
+        if matches!(exchanged.record.side, Side::Arrives) {
+            if matches!(exchanged.stun.class, Class::Request) {
+                asked.insert(key, at)?;
+            }
+        } else if exchanged.is_answer() {
+            let request = asked.get(&key).copied();
+            if let Some(mark) = sheet.mates.get_mut(at) {
+                *mark = request;
+            }
+            let request = match request {
+                Some(request) => sheet.exchanged(request),
+                None => None,
+            };
+            if let Some(request) = request {
+                lease = read_answer(sheet, pair, (&exchanged, &request), lease, reading)?;
+            }
+        }
+    }
+    Ok(())
+}
+
+/// The lease behind a response with its request.
+fn read_answer(
+    sheet: &Sheet<'_>,
+    pair: u32,
+    pass: (&Exchanged, &Exchanged),
+    lease: Option<Lease>,
+    reading: &mut Reading,
+) -> Result<Option<Lease>, AllocError> {
+    let (answer, request) = pass;
+    if answer.succeeds(method::ALLOCATE) {
+        return allocated(sheet, pair, pass, lease, &mut reading.tenures);
+    }
+    if answer.succeeds(method::REFRESH) {
+        return Ok(refreshed(sheet, answer, lease, &mut reading.tenures));
+    }
+    if answer.succeeds(method::CHANNEL_BIND) {
+        let peer = sheet.peers_of(&request.stun).first().copied();
+        if let (Some(number), Some(peer)) = (request.stun.channel, peer) {
+            reading.bindings.push(Binding {
+                pair,
+                number,
+                stamp: answer.record.stamp,
+                peer,
+            })?;
+        }
+    }
+    Ok(lease)
+}
+
+fn allocated(
+    sheet: &Sheet<'_>,
+    pair: u32,
+    pass: (&Exchanged, &Exchanged),
+    lease: Option<Lease>,
+    tenures: &mut Vec<Tenure>,
+) -> Result<Option<Lease>, AllocError> {
+    let (answer, request) = pass;
+    let Some(relayed) = answer.stun.relayed else {
+        return Ok(lease);
+    };
+    if !sheet.policy.relays(relayed) {
+        return Ok(lease);
+    }
+    let key = key_of(answer);
+    let stamp = answer.record.stamp;
+    if let Some(lease) = lease {
+        if let Some(tenure) = tenures.get_mut(lease.tenure) {
+            if lease.key == key && tenure.relayed == relayed && stamp <= lease.until {
+                return Ok(Some(lease));
+            }
+            tenure.end = tenure.end.min(stamp.saturating_add(sheet.slack));
+        }
+    }
+    let until = answer.lease_end().saturating_add(sheet.policy.grace);
+    let tenure = tenures.len();
+    tenures.push(Tenure {
+        relayed,
+        start: request.record.stamp.saturating_sub(sheet.slack),
+        end: until.saturating_add(sheet.slack),
+        pair,
+    })?;
+    Ok(Some(Lease { tenure, key, until }))
+}
+
+fn refreshed(
+    sheet: &Sheet<'_>,
+    answer: &Exchanged,
+    lease: Option<Lease>,
+    tenures: &mut Vec<Tenure>,
+) -> Option<Lease> {
+    let lease = lease?;
+    if answer.record.stamp > lease.until {
+        return Some(lease);
+    }
+    let goes_on = answer.stun.lifetime.unwrap_or(0) > 0;
+    let grace = if goes_on { sheet.policy.grace } else { 0 };
+    let until = answer.lease_end().saturating_add(grace);
+    if let Some(tenure) = tenures.get_mut(lease.tenure) {
+        tenure.end = until.saturating_add(sheet.slack);
+    }
+    if goes_on {
+        Some(Lease { until, ..lease })
+    } else {
+        None
+    }
+}

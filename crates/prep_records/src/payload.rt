@@ -1,0 +1,100 @@
+//! What a payload between a client and the server is.
+
+use crate::record::{Content, Records, Stun};
+use audit_stun::numbers::attribute::{
+    CHANNEL_NUMBER, DATA, ERROR_CODE, LIFETIME, XOR_PEER_ADDRESS, XOR_RELAYED_ADDRESS,
+};
+use audit_stun::numbers::method;
+use audit_stun::{Class, Message, address, channel_data, error_code, message};
+use std::alloc::AllocError;
+use std::hash::{DefaultHasher, Hasher};
+
+/// A digest of data. Who makes two data of one digest changes only what is proposed.
+pub(crate) fn digest_of(data: &[u8]) -> u64 {
+    let mut hasher = DefaultHasher::new();
+    hasher.write(data);
+    hasher.finish()
+}
+
+/// The content and the digest of a payload, whose request or response is added to those of all.
+pub(crate) fn content_of(
+    payload: &[u8],
+    is_dtls: bool,
+    all: &mut Records,
+) -> Result<(Content, u64), AllocError> {
+    if is_dtls {
+        return Ok((Content::Dtls, 0));
+    }
+    if let Some((number, data, _)) = channel_data(payload) {
+        return Ok((Content::Channel { number }, digest_of(data)));
+    }
+    let Some(message) = message(payload) else {
+        return Ok((Content::Other, 0));
+    };
+    match message.class() {
+        Class::Indication => Ok(of_indication(&message)),
+        _ => Ok((of_message(&message, all)?, 0)),
+    }
+}
+
+fn of_indication(message: &Message<'_>) -> (Content, u64) {
+    let method = message.method();
+    if method != method::SEND && method != method::DATA {
+        return (Content::Other, 0);
+    }
+    let peer = match message.first(XOR_PEER_ADDRESS) {
+        Some(value) => address(value),
+        None => None,
+    };
+    let digest = match message.first(DATA) {
+        Some(data) => digest_of(data),
+        None => digest_of(b""),
+    };
+    (Content::Data { peer }, digest)
+}
+
+fn of_message(message: &Message<'_>, all: &mut Records) -> Result<Content, AllocError> {
+    let peers_from = all.peers.len();
+    for value in message.peers() {
+        if let Some(peer) = address(value) {
+            all.peers.push(peer)?;
+        }
+    }
+    let peers = all.peers.len().saturating_sub(peers_from);
+    let stun = Stun {
+        class: message.class(),
+        method: message.method(),
+        tid: message.tid(),
+        lifetime: lifetime_in(message),
+        relayed: relayed_in(message),
+        code: code_in(message),
+        channel: channel_in(message),
+        peers_from,
+        peers,
+    };
+    let place = u32::try_from(all.stun.len()).unwrap_or(u32::MAX);
+    all.stun.push(stun)?;
+    Ok(Content::Stun { place })
+}
+
+fn lifetime_in(message: &Message<'_>) -> Option<u32> {
+    match message.first(LIFETIME) {
+        Some([a, b, c, d]) => Some(u32::from_be_bytes([*a, *b, *c, *d])),
+        _ => None,
+    }
+}
+
+fn relayed_in(message: &Message<'_>) -> Option<audit_model::Addr> {
+    address(message.first(XOR_RELAYED_ADDRESS)?)
+}
+
+fn code_in(message: &Message<'_>) -> Option<u16> {
+    error_code(message.first(ERROR_CODE)?)
+}
+
+fn channel_in(message: &Message<'_>) -> Option<u16> {
+    match message.first(CHANNEL_NUMBER) {
+        Some([high, low, _, _]) => Some(u16::from_be_bytes([*high, *low])),
+        _ => None,
+    }
+}

@@ -1,0 +1,105 @@
+//! What is kept of captures.
+
+use audit_model::{Addr, Side};
+use audit_stun::Class;
+use prep_cut::FarEnd;
+use std::alloc::Global;
+
+/// A datagram with an end in the service. Its payload is not kept.
+#[derive(Clone, Copy, Debug)]
+pub struct Record {
+    /// Nanoseconds since 1970.
+    pub stamp: u64,
+    /// Equal data has one digest.
+    pub digest: u64,
+    pub from: Addr,
+    pub to: Addr,
+    /// The packet's number among those of its capture, from 0.
+    pub packet: u32,
+    pub capture: u16,
+    /// 64 times the capture's number, plus the interface's number in the capture.
+    pub iface: u16,
+    pub side: Side,
+    pub content: Content,
+}
+
+/// What the payload is.
+#[derive(Clone, Copy, Debug, PartialEq, Eq)]
+pub enum Content {
+    /// Of a datagram with both ends in the service.
+    Inside,
+    /// Between a relayed address and a peer.
+    Relayed,
+    /// Data in a Send or Data indication, for or from a peer.
+    Data { peer: Option<Addr> },
+    /// Data under a channel's number.
+    Channel { number: u16 },
+    /// A request or a response, by its place among them.
+    Stun { place: u32 },
+    Dtls,
+    Other,
+}
+
+/// A request or a response of STUN.
+#[derive(Clone, Copy, Debug)]
+pub struct Stun {
+    pub class: Class,
+    pub method: u16,
+    pub tid: [u8; 12],
+    /// In seconds.
+    pub lifetime: Option<u32>,
+    pub relayed: Option<Addr>,
+    pub code: Option<u16>,
+    pub channel: Option<u16>,
+    /// The peers that it names: where they begin among all, and how many they are.
+    pub peers_from: usize,
+    pub peers: usize,
+}
+
+/// A relayed address in an Allocate success over TCP or IPv6.
+#[derive(Clone, Copy, Debug)]
+pub struct Told {
+    pub stamp: u64,
+    pub relayed: Addr,
+    pub client: FarEnd,
+}
+
+/// A packet before or after the moments that the operator states.
+#[derive(Clone, Copy, Debug)]
+pub struct Outside {
+    pub packet: u32,
+    pub is_early: bool,
+}
+
+/// The packets of a capture.
+#[derive(Debug, Drop)]
+pub struct CapturePackets {
+    pub count: u32,
+    pub outside: Vec<Outside>,
+}
+
+/// What is kept of captures, in the order in which it came.
+#[derive(Debug, Drop)]
+pub struct Records {
+    pub records: Vec<Record>,
+    pub stun: Vec<Stun>,
+    pub peers: Vec<Addr>,
+    pub told: Vec<Told>,
+    pub captures: Vec<CapturePackets>,
+    /// The least moment of a packet.
+    pub first: Option<u64>,
+}
+
+impl Records {
+    /// Of no capture. It takes no memory.
+    pub fn new(alloc: Global) -> Self {
+        Records {
+            records: Vec::new(alloc),
+            stun: Vec::new(alloc),
+            peers: Vec::new(alloc),
+            told: Vec::new(alloc),
+            captures: Vec::new(alloc),
+            first: None,
+        }
+    }
+}

@@ -1,0 +1,5 @@
+pub mod Words
+pub mod Renaming
+pub mod Frames
+pub mod Tallied
+pub mod Translating

@@ -1,0 +1,4 @@
+pub mod Accounts
+pub mod Claims
+pub mod Configured
+pub mod Rolls

@@ -1,0 +1,127 @@
+//! Why no users are written.
+
+ghost use Rattle.std.specs.Prelude.{◌≡◌};
+ghost use Rattle.prep_users.specs.declared.fault.ConfiguredFault.TheVariants.{Memory};
+
+use crate::settings::{Database, NoUsers};
+use crate::shown::Shown;
+use audit_model::Listed;
+use std::alloc::{AllocError, AllocFailed};
+use std::fmt;
+
+/// What is wrong with a line that names a user.
+#[derive(Debug, Drop)]
+pub enum ConfiguredFault {
+    /// It has no name before a colon.
+    NoColon { line: u64 },
+    /// It has a key in place of a password; the name, which is printable.
+    Hashed { line: u64, name: Listed<u8> },
+    /// A credentials text can't have the name, the realm or the password.
+    NotPrintable { line: u64 },
+    /// There was no memory.
+    Memory,
+}
+
+impl From<AllocError> for ConfiguredFault {
+    ghost from_gives = { λ _ e. e ≡ Memory };
+
+    fn from(_error: AllocError) -> ConfiguredFault {
+        ConfiguredFault::Memory
+    }
+}
+
+impl<T: Drop> From<AllocFailed<T>> for ConfiguredFault {
+    ghost from_gives = { λ _ e. e ≡ Memory };
+
+    fn from(_failed: AllocFailed<T>) -> ConfiguredFault {
+        ConfiguredFault::Memory
+    }
+}
+
+/// Why a configuration tells no users.
+#[derive(Debug, Drop)]
+pub enum UsersFault {
+    /// With this setting there are none to be judged by.
+    NoUsers { line: u64, setting: NoUsers },
+    /// No realm.
+    NoRealm,
+    /// The users are in a database.
+    Database { line: u64, setting: Database },
+    /// The secret is in a database.
+    SecretInDatabase { line: u64 },
+    /// The line of a user.
+    Configured(ConfiguredFault),
+    /// No user at all.
+    Nobody,
+}
+
+impl From<ConfiguredFault> for UsersFault {
+    fn from(fault: ConfiguredFault) -> UsersFault {
+        UsersFault::Configured(fault)
+    }
+}
+
+impl From<AllocError> for UsersFault {
+    fn from(_error: AllocError) -> UsersFault {
+        UsersFault::Configured(ConfiguredFault::Memory)
+    }
+}
+
+impl<T: Drop> From<AllocFailed<T>> for UsersFault {
+    fn from(_failed: AllocFailed<T>) -> UsersFault {
+        UsersFault::Configured(ConfiguredFault::Memory)
+    }
+}
+
+/// What standard error tells of it.
+impl fmt::Display for ConfiguredFault {
+    fn fmt<W: fmt::Write>(&self, f: &mut fmt::Formatter<W>) -> fmt::Result {
+        match self {
+            ConfiguredFault::NoColon { line } => {
+                write!(f, "turnserver-conf line {line} user: no colon")
+            }
+            ConfiguredFault::Hashed { line, name } => {
+                let name = Shown(name.as_slice());
+                write!(
+                    f,
+                    "turnserver-conf line {line} user {name}: a hashed key can't be used: write the password"
+                )
+            }
+            ConfiguredFault::NotPrintable { line } => {
+                write!(f, "turnserver-conf line {line} user: not printable ASCII")
+            }
+            ConfiguredFault::Memory => f.write_str("out of memory"),
+        }
+    }
+}
+
+/// What standard error tells of it.
+impl fmt::Display for UsersFault {
+    fn fmt<W: fmt::Write>(&self, f: &mut fmt::Formatter<W>) -> fmt::Result {
+        match self {
+            UsersFault::NoUsers { line, setting } => {
+                let name = setting.name();
+                let why = setting.why();
+                write!(f, "turnserver-conf line {line} {name}: {why}")
+            }
+            UsersFault::NoRealm => f.write_str(
+                "turnserver-conf: no realm: coturn takes the domain name of its host: say it by --realm",
+            ),
+            UsersFault::Database { line, setting } => {
+                let name = setting.name();
+                write!(
+                    f,
+                    "turnserver-conf line {line} {name}: users are in a database, which has keys and no passwords"
+                )
+            }
+            UsersFault::SecretInDatabase { line } => write!(
+                f,
+                "turnserver-conf line {line} use-auth-secret: the secret is in a database: say --secret"
+            ),
+            UsersFault::Configured(fault) => write!(f, "{fault}"),
+            UsersFault::Nobody => f.write_str(
+                "turnserver-conf: no user: coturn without users asks for no credentials (R2)",
+            ),
+        }
+    }
+}

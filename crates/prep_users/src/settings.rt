@@ -1,0 +1,101 @@
+//! The settings that say where users are.
+
+use prep_coturn::Row;
+
+/// A setting with which there are no users to be judged by.
+#[derive(Clone, Copy, Debug, PartialEq, Eq)]
+pub enum NoUsers {
+    NoAuth,
+    Oauth,
+}
+
+impl NoUsers {
+    /// How a configuration writes it.
+    pub fn name(self) -> &'static str {
+        match self {
+            NoUsers::NoAuth => "no-auth",
+            NoUsers::Oauth => "oauth",
+        }
+    }
+
+    /// Why it is refused.
+    pub fn why(self) -> &'static str {
+        match self {
+            NoUsers::NoAuth => "whoever asks is served: a success without a user is R2",
+            NoUsers::Oauth => "keys come by OAuth, which is not judged",
+        }
+    }
+}
+
+/// A setting by which users are in a database.
+#[derive(Clone, Copy, Debug, PartialEq, Eq)]
+pub enum Database {
+    Sqlite,
+    Postgres,
+    Mysql,
+    Mongo,
+    Redis,
+}
+
+const DATABASES: [Database; 5] = [
+    Database::Sqlite,
+    Database::Postgres,
+    Database::Mysql,
+    Database::Mongo,
+    Database::Redis,
+];
+
+impl Database {
+    /// How a configuration writes it.
+    pub fn name(self) -> &'static str {
+        match self {
+            Database::Sqlite => "userdb",
+            Database::Postgres => "psql-userdb",
+            Database::Mysql => "mysql-userdb",
+            Database::Mongo => "mongo-userdb",
+            Database::Redis => "redis-userdb",
+        }
+    }
+
+    /// The setting of a name.
+    pub fn of(name: &[u8]) -> Option<Database> {
+        for database in DATABASES {
+            if database.name().as_bytes() == name {
+                return Some(database);
+            }
+        }
+        None
+    }
+}
+
+/// The first line that has users in a database.
+pub fn first_database(rows: &[Row<'_>]) -> Option<(u64, Database)> {
+    for row in rows {
+        if let Some(database) = Database::of(row.name) {
+            return Some((row.line, database));
+        }
+    }
+    None
+}
+
+/// The line on which a switch was said last, where that switches it on.
+pub fn switched_on(rows: &[Row<'_>], name: &[u8]) -> Option<u64> {
+    let mut on = None;
+    for row in rows {
+        if row.name == name {
+            on = if row.is_on() { Some(row.line) } else { None };
+        }
+    }
+    on
+}
+
+/// The last value of a setting.
+pub fn last_value<'a>(rows: &[Row<'a>], name: &[u8]) -> Option<&'a [u8]> {
+    let mut value = None;
+    for row in rows {
+        if row.name == name {
+            value = Some(row.value);
+        }
+    }
+    value
+}
