@@ -19,6 +19,7 @@ and the caches come to 5, what is quadratic to 16), or an attack takes over 8 ti
   permissions one client that asks for permissions for up to 60,000 peers, and sends to each
   channels    one client that binds up to 16,383 channels, more numbers than RFC 8656 has, and sends by each
   handed      clients that are given one relayed address in turn, each giving it up again
+  outstanding one client whose Refreshes of 0 all wait for their answers at once, and at the end a departure that nothing asked for
   reversed_stamps 64 interfaces of one file, each with its datagrams stamped from the last to the first
 
 Messages and captures are made by bench/make_capture.py, which it imports. No other file imports it.
@@ -237,6 +238,24 @@ def handed(folder, datagrams, size):
     capture.close()
 
 
+def outstanding(folder, datagrams, size):
+    capture = Capture(folder, 1)
+    client = Client(0, capture.sides())
+    client.open(START)
+    named = [(USERNAME, client.name.encode()), (REALM, b"example.org"), (NONCE, b"nonce")]
+    none = (LIFETIME, struct.pack(">I", 0))
+    ids = [client.transaction() for _ in range(datagrams // 2)]
+    # All are asked for in the first half of a second, and answered in the second one.
+    for half, (kind, moment) in enumerate([(0, START + 1_000_000), (SUCCESS, START + 1_500_000)]):
+        for number, id in enumerate(ids):
+            at = moment + number * 500_000 // len(ids)
+            said = message(BINDING_TYPES["refresh"] | kind, id, [none] if half else [none, *named], client.key)
+            ends = (SERVER, client.endpoint) if half else (client.endpoint, SERVER)
+            capture.client.put(at, *ends, said)
+    capture.peer.put(START + 2_000_000, client.relayed, client.peer, bytes(size))
+    capture.close()
+
+
 def reversed_stamps(folder, datagrams, size):
     capture = Capture(folder, 0)
     capture.client.out.seek(0)
@@ -281,7 +300,7 @@ def main():
     # The datagrams at n, and how many bytes of data each has.
     small, large = (int(32_768 * asked.scale), 60), (int(512 * asked.scale), 54_000)
     attacks = {users: small, clients: small, silent: small, copies: small, denied: small, unasked: large, same: small}
-    attacks |= {permissions: small, channels: small, handed: small, reversed_stamps: small}
+    attacks |= {permissions: small, channels: small, handed: small, outstanding: small, reversed_stamps: small}
     failed = 0
     with tempfile.TemporaryDirectory() as scratch:
         scratch = pathlib.Path(scratch)

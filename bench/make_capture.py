@@ -1,13 +1,17 @@
 #!/usr/bin/env python3
 """Makes captures of a TURN server that keeps to RFC 8656: CLIENTS clients that exchange DATAGRAMS datagrams in all.
 
-    python3 bench/make_capture.py FOLDER [--clients 24] [--datagrams 1000000] [--offset-us 0] [--loss 0]
+    python3 bench/make_capture.py FOLDER [--clients 24] [--datagrams 1000000] [--step-us 40] [--offset-us 0] [--loss 0]
+                                         [--breaks renewals|numbers|data] [--broken 1]
 
 It writes FOLDER/client.pcapng and FOLDER/peer.pcapng, one interface each, with FOLDER/policy and FOLDER/creds, and where the clocks agree
 FOLDER/certificate, the certificate of what the server did, for the captures in that order. Each client
 allocates (challenged by a 401 first), asks for a permission or binds a channel, exchanges data with its peer, refreshes, and
 deletes its allocation. The clock of the peer side is OFFSET-US microseconds ahead of the other one's, LOSS of a thousand
-datagrams from a peer reach the server and go no further.
+datagrams from a peer reach the server and go no further. One client after another exchanges two datagrams each STEP-US microseconds.
+
+With --breaks the server keeps to a rule no longer for BROKEN of the clients: it relays on for those that never ask again for a
+permission or a channel (R7 once the captures last 300 seconds), binds channels past 0x4FFF (R10), or changes a byte of the last data of each.
 
 bench/times.py runs it; bench/attacks.py, tests/simulated.py and tests/random_captures.py import its messages and blocks. It shares
 no code with turnaudit or with the plain checker of tests/plain.
@@ -89,6 +93,7 @@ class Client:
         self.channel = 0x4000 + number % 0x1000 if number % 2 else None
         self.count = 0
         self.number = number
+        self.renews = True
         self.events = []
         self.drops = []
 
@@ -134,14 +139,15 @@ class Client:
         lifetime = struct.pack(">I", seconds)
         self.request(moment, "refresh", [(LIFETIME, lifetime)], [(LIFETIME, lifetime)])
 
-    def to_peer(self, moment, data):
+    def to_peer(self, moment, data, relayed=None):
+        """Data to the peer, which is relayed as it is or as other data."""
         client, peer = self.sides
         if self.channel is None:
             sent = message(BINDING_TYPES["send"], self.transaction(), [(PEER, address(self.peer)), (DATA, data)])
         else:
             sent = struct.pack(">HH", self.channel, len(data)) + data + bytes(-len(data) % 4)
         arrives = client.put(moment, self.endpoint, SERVER, sent)
-        leaves = peer.put(moment + 10, self.relayed, self.peer, data)
+        leaves = peer.put(moment + 10, self.relayed, self.peer, data if relayed is None else relayed)
         self.answered(moment, arrives, moment + 10, leaves)
 
     def from_peer(self, moment, data, lost):
@@ -175,8 +181,11 @@ def main():
     words.add_argument("folder", type=pathlib.Path)
     words.add_argument("--clients", type=int, default=24)
     words.add_argument("--datagrams", type=int, default=1_000_000)
+    words.add_argument("--step-us", type=int, default=40)
     words.add_argument("--offset-us", type=int, default=0)
     words.add_argument("--loss", type=int, default=0)
+    words.add_argument("--breaks", choices=["renewals", "numbers", "data"])
+    words.add_argument("--broken", type=int, default=1)
     asked = words.parse_args()
     chance = random.Random(1)
     asked.folder.mkdir(parents=True, exist_ok=True)
@@ -185,6 +194,11 @@ def main():
     (asked.folder / "creds").write_text("".join(users))
     sides = (Side(asked.folder / "client.pcapng", 0, 0), Side(asked.folder / "peer.pcapng", asked.offset_us, 64))
     clients = [Client(number, sides) for number in range(asked.clients)]
+    broken = clients[:asked.broken] if asked.breaks else []
+    for client in broken:
+        client.renews = asked.breaks != "renewals"
+        if asked.breaks == "numbers":
+            client.channel = 0x5000 + client.number % 0x1000
     moment = 1_700_000_000_000_000
     for client in clients:
         client.open(moment)
@@ -194,7 +208,8 @@ def main():
         if moment - renewed > 200_000_000:
             for client in clients:
                 client.refresh(moment, 600)
-                client.renew(moment + 100)
+                if client.renews:
+                    client.renew(moment + 100)
                 moment += 1000
             renewed = moment
         client = clients[number % asked.clients]
@@ -203,7 +218,10 @@ def main():
             client.to_peer(moment, data)
         else:
             client.from_peer(moment, data, chance.randrange(1000) < asked.loss)
-        moment += 40
+        moment += asked.step_us
+    for client in broken if asked.breaks == "data" else []:
+        client.to_peer(moment, b"what the client sent", b"what the server relayed")
+        moment += asked.step_us
     for client in clients:
         client.refresh(moment, 0)
         moment += 1000

@@ -1,7 +1,7 @@
 //! The wishes of one lane, of which one is tried in each round.
 
 use audit_search_state::{Asked, Wish};
-use std::hash::{DefaultHasher, Hasher};
+use std::hash::{DefaultHasher, Hash, Hasher};
 
 /// A wish that got its lane further, the others that were open then, and how far the lane had come.
 #[derive(Drop)]
@@ -53,21 +53,8 @@ impl LaneWishes {
     pub(crate) fn digest(&self) -> u64 {
         let mut hasher = DefaultHasher::new();
         for kept in &self.kept {
-            let (one, other) = match kept.wish {
-                Wish::Before { arrival, departure } => (arrival.0, departure.0),
-                Wish::Answers { arrival, departure } => (departure.0, arrival.0),
-                Wish::AtRequest { answer } => (answer.0, u32::MAX),
-                Wish::OverBefore { answer, departure } => (answer.0, departure.0),
-                Wish::Earlier { answer } => (answer.0, u32::MAX - 1),
-                Wish::HandedOver { answer, departure } => (answer.0, departure.0),
-                Wish::Precedes { maker, next } => (maker.0, next.0),
-                Wish::Within { answer, maker } => (answer.0, maker.0),
-                Wish::NotHere { sighting, lane } => (lane.0, sighting.0),
-            };
-            hasher.write_u32(one);
-            hasher.write_u32(other);
+            kept.wish.hash(&mut hasher);
         }
-        hasher.write_u32(1);
         hasher.finish()
     }
 }

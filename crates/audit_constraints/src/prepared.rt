@@ -3,9 +3,9 @@
 use crate::reading::{FirstKeys, Reading};
 use crate::round::Round;
 use crate::searched::AllSearched;
+use audit_known::{Known, Order, Tenancies};
 use audit_matching::{
-    Edges, Known, Order, RelayedLanes, Tenancies, ask_handovers, handovers, lows, match_up, places,
-    ranked,
+    Edges, RelayedLanes, ask_handovers, handovers, lows, match_up, places, ranked,
 };
 use audit_search_input::{Deadlines, Given, Shared, Viewed, Views};
 use audit_search_state::Asked;

@@ -1,9 +1,8 @@
 //! What is read once, and what the first keys tell.
 
 use audit_keys::Credentials;
-use audit_matching::{
-    Bindings, Edges, Known, Mates, Pools, Tenancies, Times, lows, match_up, places,
-};
+use audit_known::{Bindings, Known, Mates, Pools, Tenancies, Times};
+use audit_matching::{Edges, lows, match_up, places};
 use audit_model::Addr;
 use audit_seen::{Lanes, PoolNumbers, Sights};
 use audit_sightings::Intake;

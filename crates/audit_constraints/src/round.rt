@@ -1,7 +1,8 @@
 //! What one round found.
 
 use crate::searched::Act;
-use audit_matching::{Edges, Order, RelayedLanes};
+use audit_known::Order;
+use audit_matching::{Edges, RelayedLanes};
 use audit_search_state::{Fault, Wish};
 use audit_seen::{LaneNumber, SeenNumber, Slot};
 use std::alloc::{AllocError, Global};

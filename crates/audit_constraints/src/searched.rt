@@ -1,6 +1,6 @@
 //! What was found of each lane, kept as long as all that its search goes by stays.
 
-use audit_matching::Order;
+use audit_known::Order;
 use audit_search_input::Given;
 use audit_search_state::{Fault, Found, Wish};
 use audit_seen::{LaneNumber, SeenNumber, Slot};

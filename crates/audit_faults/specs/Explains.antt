@@ -6,11 +6,12 @@ use Rattle.audit_model.specs.declared.sighting.Sighting.{Sighting}
 use Rattle.audit_model.specs.declared.sighting.Side.TheVariants.{Arrives, Leaves}
 use Rattle.audit_sightings.specs.Intake.{Taken, sighting_at}
 use Rattle.audit_faults.specs.declared.fault.Fault.{Fault}
-use Rattle.audit_faults.specs.declared.fault.Fault.TheVariants.{Unasked, Unallocated, Unpermitted, Unbound, Unauthentic}
+use Rattle.audit_faults.specs.declared.fault.Fault.TheVariants.{Unasked, Unallocated, Unpermitted, Unbound, Unfit, Unauthentic}
 use Rattle.audit_faults.specs.declared.fault.Lease.{Lease}
 use Rattle.audit_faults.specs.declared.fault.Lease.TheVariants.{Allocation, Permission, Channel}
 use Rattle.audit_rules.specs.Keys.{KeyFor}
 use Rattle.audit_faults.specs.Asks.{AnswersAnybody, IsByUser, Responds, SentOn, SentInChannel, Told, ToldInChannel, InReach}
+use Rattle.audit_faults.specs.Fits.{IsFit}
 use Rattle.audit_faults.specs.Grants.{IsCaptured, HasGrant}
 
 -- none of the faults that are told before this one is shown
@@ -19,7 +20,8 @@ NoneBefore Shown Unasked = Unit {0}
 NoneBefore Shown Unallocated = Shown Unasked → ⊥
 NoneBefore Shown Unpermitted = (Shown Unasked → ⊥) × (Shown Unallocated → ⊥)
 NoneBefore Shown Unbound = (Shown Unasked → ⊥) × (Shown Unallocated → ⊥) × (Shown Unpermitted → ⊥)
-NoneBefore Shown Unauthentic = (Shown Unasked → ⊥) × (Shown Unallocated → ⊥) × (Shown Unpermitted → ⊥) × (Shown Unbound → ⊥)
+NoneBefore Shown Unfit = (Shown Unasked → ⊥) × (Shown Unallocated → ⊥) × (Shown Unpermitted → ⊥) × (Shown Unbound → ⊥)
+NoneBefore Shown Unauthentic = (Shown Unasked → ⊥) × (Shown Unallocated → ⊥) × (Shown Unpermitted → ⊥) × (Shown Unbound → ⊥) × (Shown Unfit → ⊥)
 
 -- which leases are asked about: with each fault those of the faults before it too
 abbrev pub IsWanted : Fault → Lease → Type 0 → Type 0
@@ -31,15 +33,17 @@ IsWanted Unpermitted (Allocation relayed) G = G
 IsWanted Unpermitted (Permission ip) G = G
 IsWanted Unpermitted (Channel number peer) G = Unit {0}
 IsWanted Unbound lease G = G
+IsWanted Unfit lease G = G
 IsWanted Unauthentic lease G = G
 
--- and whether a request has to be a user's
+-- and whether a response has to fit its request, and that has to be a user's
 abbrev pub IsProved : KeyFor → Fault → Sighting → Sighting → Type 0
 IsProved key_for Unasked asked given = Unit {0}
 IsProved key_for Unallocated asked given = Unit {0}
 IsProved key_for Unpermitted asked given = Unit {0}
 IsProved key_for Unbound asked given = Unit {0}
-IsProved key_for Unauthentic asked given = AnswersAnybody given.payload ⊎ IsByUser key_for asked.payload
+IsProved key_for Unfit asked given = IsFit asked given
+IsProved key_for Unauthentic asked given = IsFit asked given × (AnswersAnybody given.payload ⊎ IsByUser key_for asked.payload)
 
 module _ (taken : Taken) (fault : Fault) where
   -- the client has the lease, where it is asked about

@@ -59,6 +59,7 @@ fn may_predate(
         Fault::Unasked => false,
         Fault::Unpermitted => false,
         Fault::Unbound => false,
+        Fault::Unfit => false,
         Fault::Unauthentic => false,
     }
 }

@@ -12,6 +12,7 @@ ghost use Rattle.audit_faults.specs.Explains.{Holds, SentOnHeld, SentInChannelHe
 
 use crate::asks::{in_reach, responds, sent_in_channel, sent_on, told, told_in_channel};
 use crate::fault::{Fault, Grant, Lease};
+use crate::fits::is_fit;
 use crate::grants::has_grant;
 use crate::index::Index;
 use crate::values::{is_by_user, message_in};
@@ -170,7 +171,7 @@ fn is_proved(credentials: &Credentials, asked: &[u8], given: &[u8]) -> bool
     is_by_user(credentials, &request)
 }
 
-/// A response to a request, which is a user's where the fault asks about that.
+/// A response to a request, which it fits and which is a user's, where the fault asks about that.
 fn responds_held(
     policy: &Policy,
     credentials: &Credentials,
@@ -188,11 +189,15 @@ fn responds_held(
         Fault::Unallocated => true,
         Fault::Unpermitted => true,
         Fault::Unbound => true,
-        Fault::Unauthentic => is_proved(
-            credentials,
-            asked.payload.as_slice(),
-            given.payload.as_slice(),
-        ),
+        Fault::Unfit => is_fit(asked, given),
+        Fault::Unauthentic => {
+            is_fit(asked, given)
+                && is_proved(
+                    credentials,
+                    asked.payload.as_slice(),
+                    given.payload.as_slice(),
+                )
+        }
     }
 }
 

@@ -114,5 +114,8 @@ pub fn first_fault(
     if is_fault(intake, index, credentials, Fault::Unbound, sight, given) {
         return Some(Fault::Unbound);
     }
+    if is_fault(intake, index, credentials, Fault::Unfit, sight, given) {
+        return Some(Fault::Unfit);
+    }
     Some(Fault::Unauthentic)
 }

@@ -16,4 +16,4 @@ pub use audit_finding::FoundOnce;
 pub use finder::Finder;
 pub use finding::{find, find_parallel};
 pub use walk_and_passes::WalkAndPasses;
-pub use walking::find_once;
+pub use walking::{find_late, find_once};

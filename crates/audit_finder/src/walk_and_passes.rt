@@ -2,7 +2,7 @@
 
 use crate::finder::Finder;
 use crate::finding::{find, find_parallel};
-use crate::walking::find_once;
+use crate::walking::{find_late, find_once};
 use audit_finding::{CertificateFinder, ExtensionFinder, FoundOnce};
 use audit_keys::Credentials;
 use audit_model::{Certificate, Extension};
@@ -24,6 +24,15 @@ impl CertificateFinder for WalkAndPasses {
         credentials: &Credentials,
     ) -> Result<FoundOnce, AllocError> {
         find_once(alloc, intake, credentials)
+    }
+
+    fn find_late(
+        &self,
+        alloc: Global,
+        intake: &Intake,
+        credentials: &Credentials,
+    ) -> Result<Certificate, AllocError> {
+        Ok(find_late(alloc, intake, credentials)?.certificate)
     }
 
     /// With one worker on the caller's thread alone.

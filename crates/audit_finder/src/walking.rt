@@ -45,12 +45,12 @@ fn walked(
     Ok(filled)
 }
 
-/// Finds a certificate as `find` does, with the same lanes, but by one walk over the sightings in which nothing is taken back: it takes less
-/// time, and finds an order for fewer captures.
-pub fn find_once(
+/// What a walk finds that has found nothing yet.
+fn found_by(
     alloc: Global,
     intake: &Intake,
     credentials: &Credentials,
+    search: Search,
 ) -> Result<FoundOnce, AllocError>
     ensures lanes { IfOk result (λ found. map pair_of found.certificate.lanes ≡ clients_of (taken intake.now)) }
     ensures events { IfOk result (λ found. AllNamed (taken intake.now) found.certificate.lanes) }
@@ -67,11 +67,44 @@ pub fn find_once(
         clients: &clients,
     };
     let pairs = clients.lanes();
-    let mut search = Search::new(alloc);
+    let mut search = search;
     let filled = walked(&judge, pairs, &mut search)?;
     let last = search.finish(&judge)?;
     Ok(FoundOnce {
         certificate: certificate_of(alloc, intake, filled, last)?,
         seems_conforming: search.seems_conforming,
     })
+}
+
+/// Finds a certificate as `find` does, with the same lanes, but by one walk over the sightings in which nothing is taken back: it takes less
+/// time, and finds an order for fewer captures.
+pub fn find_once(
+    alloc: Global,
+    intake: &Intake,
+    credentials: &Credentials,
+) -> Result<FoundOnce, AllocError>
+    ensures lanes { IfOk result (λ found. map pair_of found.certificate.lanes ≡ clients_of (taken intake.now)) }
+    ensures events { IfOk result (λ found. AllNamed (taken intake.now) found.certificate.lanes) }
+    ensures once { IfOk result (λ found. LeaveOnce found.certificate.lanes) }
+    ensures order { IfOk result (λ found. All KeysRise found.certificate.lanes) }
+    ensures drops { IfOk result (λ found. AreThere (taken intake.now) found.certificate.drops) }
+    ensures skews { IfOk result (λ found. found.certificate.skews ≡ []) }
+{
+    found_by(alloc, intake, credentials, Search::new(alloc))
+}
+
+/// Finds a certificate as `find_once` does, but acts on requests as their answers leave, so that leases last as long as they may.
+pub fn find_late(
+    alloc: Global,
+    intake: &Intake,
+    credentials: &Credentials,
+) -> Result<FoundOnce, AllocError>
+    ensures lanes { IfOk result (λ found. map pair_of found.certificate.lanes ≡ clients_of (taken intake.now)) }
+    ensures events { IfOk result (λ found. AllNamed (taken intake.now) found.certificate.lanes) }
+    ensures once { IfOk result (λ found. LeaveOnce found.certificate.lanes) }
+    ensures order { IfOk result (λ found. All KeysRise found.certificate.lanes) }
+    ensures drops { IfOk result (λ found. AreThere (taken intake.now) found.certificate.drops) }
+    ensures skews { IfOk result (λ found. found.certificate.skews ≡ []) }
+{
+    found_by(alloc, intake, credentials, Search::late(alloc))
 }

@@ -33,6 +33,14 @@ pub trait CertificateFinder {
         credentials: &Credentials,
     ) -> Result<FoundOnce, AllocError>;
 
+    /// Finds a certificate by one walk in which leases last as long as they may: each request is acted on as its answer leaves.
+    fn find_late(
+        &self,
+        alloc: Global,
+        intake: &Intake,
+        credentials: &Credentials,
+    ) -> Result<Certificate, AllocError>;
+
     /// Finds a certificate with all that can be tried, by so many threads at the most.
     fn find<R: Threads + Sync>(
         &self,

@@ -1,6 +1,6 @@
 //! Which arrivals have to stand before which departures.
 
-use crate::matching::Mates;
+use audit_known::Mates;
 use audit_seen::SeenNumber;
 use std::alloc::{AllocError, Global};
 use std::collections::BTreeSet;

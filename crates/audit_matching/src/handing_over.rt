@@ -1,9 +1,7 @@
 //! Relayed addresses that go from one client to another.
 
-use crate::changes::Changes;
 use crate::edges::Edges;
-use crate::matching::Mates;
-use crate::times::Times;
+use audit_known::{Changes, Handover, Mates, Times};
 use audit_model::Addr;
 use audit_seen::{Gives, LaneNumber, Says, SeenNumber, Sights};
 use std::alloc::{AllocError, Global};
@@ -18,17 +16,6 @@ struct Holding {
     lane: LaneNumber,
     maker: SeenNumber,
     ender: Option<SeenNumber>,
-}
-
-/// Two clients that had one relayed address, one after the other.
-#[derive(Clone, Copy, Debug)]
-pub struct Handover {
-    /// The first one, the answer that tells of its allocation, and the answer that tells of its end.
-    pub from: LaneNumber,
-    pub maker: SeenNumber,
-    pub ender: Option<SeenNumber>,
-    /// The answer that tells of the second one's allocation.
-    pub next: SeenNumber,
 }
 
 /// What handovers are found by.
@@ -92,7 +79,7 @@ fn holdings(alloc: Global, facts: Facts<'_>, times: &Times) -> Result<Vec<Holdin
     let changes = Changes::gather(alloc, facts.sights, times)?;
     let mut found = Vec::new(alloc);
     let mut last = None;
-    for (relayed, when, maker) in &changes.made {
+    for (relayed, when, maker) in changes.made() {
         let Some(seen) = facts.sights.get(*maker) else {
             continue;
         };

@@ -2,27 +2,9 @@
 
 use crate::edges::Edges;
 use crate::merge::Merge;
+use audit_known::Order;
 use audit_seen::{SeenNumber, Sights};
 use std::alloc::{AllocError, Global};
-
-/// One order of all sightings, which keeps that of each interface.
-#[derive(Drop)]
-pub struct Order {
-    order: Vec<SeenNumber>,
-    ranks: Vec<u32>,
-}
-
-impl Order {
-    /// All sightings, in order.
-    pub fn as_slice(&self) -> &[SeenNumber] {
-        self.order.as_slice()
-    }
-
-    /// The place of a sighting in the order.
-    pub fn rank(&self, number: SeenNumber) -> u32 {
-        self.ranks.get(number.index()).copied().unwrap_or(u32::MAX)
-    }
-}
 
 /// The interfaces, as they are merged into one order.
 #[derive(Drop)]
@@ -53,10 +35,7 @@ pub fn ranked(
         at,
         merge: Merge::new(alloc, sights.interfaces())?,
         placed: vec![in alloc; false; count]?,
-        order: Order {
-            order: Vec::with_capacity(alloc, count)?,
-            ranks: vec![in alloc; u32::MAX; count]?,
-        },
+        order: Order::new(alloc, count)?,
     };
     pass.start()?;
     for _ in 0..count.saturating_mul(2).saturating_add(1) {
@@ -98,13 +77,7 @@ impl RankPass<'_> {
         if let Some(placed) = self.placed.get_mut(number.index()) {
             *placed = true;
         }
-        if let (Some(rank), Ok(place)) = (
-            self.order.ranks.get_mut(number.index()),
-            u32::try_from(self.order.order.len()),
-        ) {
-            *rank = place;
-        }
-        self.order.order.push(number)?;
+        self.order.push(number)?;
         self.merge.advance(iface);
         for _ in 0..self.sights.interfaces() {
             let Some(other) = self.merge.woken(number) else {

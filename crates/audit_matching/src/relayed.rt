@@ -1,8 +1,7 @@
 //! The lanes of what leaves from relayed addresses.
 
-use crate::candidates::Known;
 use crate::matching::{COPIES, departures};
-use crate::tenancies::Tenancy;
+use audit_known::{Known, Tenancy};
 use audit_model::Addr;
 use audit_seen::{Gives, LaneNumber, PoolNumber, Says, SeenNumber};
 use std::alloc::{AllocError, Global};

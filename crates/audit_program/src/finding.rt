@@ -1,10 +1,12 @@
 //! A certificate for captures, and the verdict by it.
 
-ghost use Rattle.std.specs.Prelude.{IfOk};
+ghost use Rattle.std.specs.Prelude.{IfOk, IfSome};
 ghost use Rattle.audit_files.specs.Judged.{Judges};
 ghost use Rattle.audit_keys.specs.KeyFor.{key_for};
 ghost use Rattle.audit_sightings.specs.Intake.{taken};
+ghost use Rattle.audit_program.specs.Deciding.{Decides};
 
+use crate::outlook::{Outlook, outlook_by};
 use audit_files::{Files, Workers, verdict_of};
 use audit_finding::CertificateFinder;
 use audit_model::{Certificate, Verdict};
@@ -43,8 +45,8 @@ fn judged<R: Threads + Wait + Sync>(
     })
 }
 
-/// What one walk over the sightings finds.
-fn found_once<R: Threads + Wait + Sync, F: CertificateFinder>(
+/// What one walk finds in which leases last as long as they may.
+fn found_late<R: Threads + Wait + Sync, F: CertificateFinder>(
     rt: &R,
     alloc: Global,
     finder: &F,
@@ -53,8 +55,8 @@ fn found_once<R: Threads + Wait + Sync, F: CertificateFinder>(
 ) -> Result<Found, AllocError>
     ensures { IfOk result (λ found. Judges (taken files.now.intake) (key_for files.now.users) found.certificate found.verdict) }
 {
-    let once = finder.find_once(alloc, &files.intake, &files.users)?;
-    judged(rt, alloc, files, once.certificate, workers)
+    let certificate = finder.find_late(alloc, &files.intake, &files.users)?;
+    judged(rt, alloc, files, certificate, workers)
 }
 
 /// What is found with all that can be tried.
@@ -71,8 +73,41 @@ fn found_at_last<R: Threads + Wait + Sync, F: CertificateFinder>(
     judged(rt, alloc, files, certificate, workers)
 }
 
-/// What one walk over the sightings finds, where the captures conform by that; else what is found with all that can be tried, which takes
-/// longer and finds more.
+/// The walk's certificate with the verdict by it, or that of a late walk, where no other certificate has to be looked for: it conforms, or
+/// what was captured shows a fault of the server, so that none does.
+///
+/// Where the fault is of a departure close behind the one at which the walk's certificate breaks a rule, the lease that is over there
+/// may last longer in another order: then the late walk tells where it is over in every order.
+fn decided<R: Threads + Wait + Sync, F: CertificateFinder>(
+    rt: &R,
+    alloc: Global,
+    finder: &F,
+    files: &Files,
+    certificate: Certificate,
+    workers: Workers,
+) -> Result<Option<Found>, AllocError>
+    ensures judged { IfOk result (λ walk. IfSome walk (λ found. Judges (taken files.now.intake) (key_for files.now.users) found.certificate found.verdict)) }
+    // Where any certificate conforms, this one does.
+    ensures decides { IfOk result (λ walk. IfSome walk (λ found. Decides (taken files.now.intake) (key_for files.now.users) found.certificate)) }
+{
+    let once = judged(rt, alloc, files, certificate, workers)?;
+    match outlook_by(alloc, files, &once.certificate, &once.verdict)? {
+        Outlook::Decided => Ok(Some(once)),
+        Outlook::Open => Ok(None),
+        Outlook::DecidedBehind => {
+            // The late walk may want the memory of the other's certificate.
+            drop(once);
+            let late = found_late(rt, alloc, finder, files, workers)?;
+            if outlook_by(alloc, files, &late.certificate, &late.verdict)? == Outlook::Open {
+                return Ok(None);
+            }
+            Ok(Some(late))
+        }
+    }
+}
+
+/// What a walk over the sightings finds, where that decides; else what is found with all that can be tried, which takes longer and finds
+/// more.
 pub fn found_either_way<R: Threads + Wait + Sync, F: CertificateFinder>(
     rt: &R,
     alloc: Global,
@@ -82,13 +117,11 @@ pub fn found_either_way<R: Threads + Wait + Sync, F: CertificateFinder>(
 ) -> Result<Found, AllocError>
     ensures { IfOk result (λ found. Judges (taken files.now.intake) (key_for files.now.users) found.certificate found.verdict) }
 {
-    let once = found_once(rt, alloc, finder, files, workers)?;
-    if let Verdict::Conforming { .. } = once.verdict {
-        return Ok(once);
+    let once = finder.find_once(alloc, &files.intake, &files.users)?;
+    match decided(rt, alloc, finder, files, once.certificate, workers)? {
+        Some(found) => Ok(found),
+        None => found_at_last(rt, alloc, finder, files, workers),
     }
-    // What comes next may want the memory of the walk's certificate.
-    drop(once);
-    found_at_last(rt, alloc, finder, files, workers)
 }
 
 /// The certificate by which `found_either_way` judges. What one walk finds isn't judged where it seems to conform.
@@ -103,10 +136,8 @@ pub fn certificate_for<R: Threads + Wait + Sync, F: CertificateFinder>(
     if once.seems_conforming {
         return Ok(once.certificate);
     }
-    let once = judged(rt, alloc, files, once.certificate, workers)?;
-    if let Verdict::Conforming { .. } = once.verdict {
-        return Ok(once.certificate);
+    match decided(rt, alloc, finder, files, once.certificate, workers)? {
+        Some(found) => Ok(found.certificate),
+        None => finder.find(rt, alloc, &files.intake, &files.users, workers.count),
     }
-    drop(once);
-    finder.find(rt, alloc, &files.intake, &files.users, workers.count)
 }

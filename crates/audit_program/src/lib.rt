@@ -7,6 +7,7 @@ mod finding;
 mod growing;
 mod live;
 mod newest;
+mod outlook;
 mod running;
 mod writing;
 

@@ -1,6 +1,6 @@
 //! When addresses change hands: by when a lane's allocation has to be over, and when one may begin.
 
-use audit_matching::{Handover, Mates, Order};
+use audit_known::{Handover, Mates, Order};
 use audit_search_state::Asked;
 use audit_seen::{LaneNumber, SeenNumber, Sights, Slot};
 use std::alloc::{AllocError, Global};

@@ -3,7 +3,7 @@
 use crate::deadlines::Deadlines;
 use crate::views::Views;
 use audit_keys::Credentials;
-use audit_matching::{Known, Mates, Order};
+use audit_known::{Known, Mates, Order};
 use audit_model::{Addr, SightId, Sighting};
 use audit_search_state::{Asked, PoolRef};
 use audit_seen::{Gives, LaneNumber, PoolKey, Says, Seen, SeenNumber};

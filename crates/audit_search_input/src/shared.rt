@@ -1,6 +1,6 @@
 //! Sightings of one lane by which another one goes, too.
 
-use audit_matching::{Handover, Known, Mates};
+use audit_known::{Handover, Known, Mates};
 use audit_seen::{LaneNumber, SeenNumber};
 use std::alloc::{AllocError, Global};
 

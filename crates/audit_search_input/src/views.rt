@@ -1,7 +1,7 @@
 //! The arrivals and departures of each lane, in the order of all sightings.
 
 use crate::shared::Shared;
-use audit_matching::{Known, Mates, Order};
+use audit_known::{Known, Mates, Order};
 use audit_search_state::{Asked, PoolRef};
 use audit_seen::{LaneNumber, PoolNumber, Says, Seen, SeenNumber};
 use audit_sightings::Intake;

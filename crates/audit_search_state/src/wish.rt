@@ -3,7 +3,7 @@
 use audit_seen::{LaneNumber, SeenNumber};
 
 /// What a lane asks for.
-#[derive(Clone, Copy, Debug, PartialEq, Eq, PartialOrd, Ord)]
+#[derive(Clone, Copy, Debug, PartialEq, Eq, PartialOrd, Ord, Hash)]
 pub enum Wish {
     /// That an arrival stands before a departure.
     Before {

@@ -105,9 +105,9 @@ impl Search {
         self.keep_back(lane, answer, known.sight, known.says)
     }
 
-    /// Whether an answer is best given as it leaves: it leaves behind another that is kept back; or it deletes an allocation; or it
-    /// makes one, and another client has or is to have its address, or another answer near it speaks against it. That there is no
-    /// allocation is best said at once.
+    /// Whether an answer is best given as it leaves: the walk is late; or it leaves behind another that is kept back; or it deletes an
+    /// allocation; or it makes one, and another client has or is to have its address, or another answer near it speaks against it. That
+    /// there is no allocation is best said at once.
     fn is_kept_back(&self, judge: &Judge<'_>, lane: LaneNumber, answer: AnswerNumber) -> bool {
         let (Some(of), Some(known)) = (self.lanes.get(lane.index()), self.answers.get(answer))
         else {
@@ -116,7 +116,7 @@ impl Search {
         if known.says == Says::NoAllocation {
             return false;
         }
-        if of.has_pending_before(known.sight) {
+        if self.is_late || of.has_pending_before(known.sight) {
             return true;
         }
         match known.says {

@@ -54,6 +54,8 @@ pub struct Search {
     pub(crate) portion: Portion,
     /// Whether the server kept to its rules in all that was placed, as far as the walk can tell.
     pub seems_conforming: bool,
+    /// Whether requests are acted on as their answers leave, and not as they arrive.
+    pub(crate) is_late: bool,
     /// Events are given past this moment.
     pub given_to: Option<u64>,
     pub(crate) alloc: Global,
@@ -81,9 +83,20 @@ impl Search {
             latest: 0,
             portion: Portion::new(alloc),
             seems_conforming: true,
+            is_late: false,
             given_to: None,
             alloc,
         }
+    }
+
+    /// Nothing was found yet. Requests are to be acted on as their answers leave, so that leases last as long as they may. It takes no
+    /// memory.
+    pub fn late(alloc: Global) -> Search
+        ensures { result.given_to ≡ None }
+    {
+        let mut search = Search::new(alloc);
+        search.is_late = true;
+        search
     }
 
     /// Places the sightings that are new, and those that were left, up to the horizon, and gives their events in the order of their keys.

@@ -1,7 +1,7 @@
 -- The report of shown faults, line by line. A decimal number has no leading zero, and moments are nanoseconds.
 use Rattle.std.specs.Prelude.{ℕ, List, [], ◌∷◌, ◌++◌, codes, decimal, count_by, length}
 use Rattle.audit_faults.specs.declared.fault.Fault.{Fault}
-use Rattle.audit_faults.specs.declared.fault.Fault.TheVariants.{Unasked, Unallocated, Unpermitted, Unbound, Unauthentic}
+use Rattle.audit_faults.specs.declared.fault.Fault.TheVariants.{Unasked, Unallocated, Unpermitted, Unbound, Unfit, Unauthentic}
 use Rattle.audit_faults.specs.declared.fault.ShownFault.{ShownFault}
 use Rattle.audit_model.specs.declared.policy.Policy.{Policy}
 use Rattle.audit_report.specs.ReportText.{sighting_line}
@@ -45,7 +45,9 @@ last_counts taken faults =
     ++ (decimal (number_of_fault Unpermitted faults)
     ++ (codes " unbound "
     ++ (decimal (number_of_fault Unbound faults)
-    ++ (codes " unauthentic " ++ (decimal (number_of_fault Unauthentic faults) ++ (codes " of " ++ (decimal (count_of taken.interfaces) ++ codes " datagrams\n")))))))
+    ++ (codes " unfit "
+    ++ (decimal (number_of_fault Unfit faults)
+    ++ (codes " unauthentic " ++ (decimal (number_of_fault Unauthentic faults) ++ (codes " of " ++ (decimal (count_of taken.interfaces) ++ codes " datagrams\n")))))))))
 
 abbrev pub counts_line : Taken → List ShownFault → List ℕ
 counts_line taken faults = first_counts faults ++ last_counts taken faults

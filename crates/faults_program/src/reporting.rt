@@ -132,10 +132,11 @@ fn text_of_last_counts(
 {
     let unpermitted = number(faults, Fault::Unpermitted);
     let unbound = number(faults, Fault::Unbound);
+    let unfit = number(faults, Fault::Unfit);
     let unauthentic = number(faults, Fault::Unauthentic);
     let (_, datagrams) = intake.counts();
     format!(in alloc;
-        " unpermitted {unpermitted} unbound {unbound} unauthentic {unauthentic} of {datagrams} datagrams\n"
+        " unpermitted {unpermitted} unbound {unbound} unfit {unfit} unauthentic {unauthentic} of {datagrams} datagrams\n"
     )
 }
 

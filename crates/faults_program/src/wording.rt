@@ -14,6 +14,7 @@ pub fn title(fault: Fault) -> &'static str
         Fault::Unallocated => "relayed without an allocation",
         Fault::Unpermitted => "relayed without a permission",
         Fault::Unbound => "relayed without a channel",
+        Fault::Unfit => "responded wrongly",
         Fault::Unauthentic => "granted without a user's request",
     }
 }
@@ -33,6 +34,7 @@ pub fn beginning(fault: Fault, predates: bool) -> &'static str
         Fault::Unpermitted => "beginning captured\n",
         Fault::Unbound => "beginning captured\n",
         Fault::Unasked => "",
+        Fault::Unfit => "",
         Fault::Unauthentic => "",
     }
 }
@@ -49,6 +51,7 @@ pub fn reason(fault: Fault) -> &'static str
             "each captured arrival that asked for it came later than 300 seconds and the grace after the last success that granted a permission for the peer's IP\n",
         Fault::Unbound =>
             "each captured arrival that asked for it came later than 600 seconds and the grace after the last success that bound the channel to the peer\n",
+        Fault::Unfit => "what it says fits no captured request that it may answer\n",
         Fault::Unauthentic =>
             "no captured request that it may answer is signed by a user of the credentials\n",
     }
@@ -63,6 +66,7 @@ pub fn is_same(one: Fault, other: Fault) -> bool
         (Fault::Unallocated, Fault::Unallocated) => true,
         (Fault::Unpermitted, Fault::Unpermitted) => true,
         (Fault::Unbound, Fault::Unbound) => true,
+        (Fault::Unfit, Fault::Unfit) => true,
         (Fault::Unauthentic, Fault::Unauthentic) => true,
         _ => false,
     }

@@ -1,12 +1,11 @@
 //! ChannelBind and ChannelData.
 
-use super::datagrams::{Datagram, PEER, Step};
-use super::messages::Payload;
-use super::openings::{
-    ALLOCATED, ALLOCATED_FOR_1200, BIND_4001, BIND_SUCCESS, BOUND_4FFF, BOUND_4000, BOUND_5000,
-};
 use super::rows::{Row, SESSION, broken, conforming, play};
 use std::test::Fail;
+use tests_datagrams::{
+    ALLOCATED, ALLOCATED_FOR_1200, BIND_4001, BIND_SUCCESS, BOUND_4FFF, BOUND_4000, BOUND_5000,
+    Datagram, PEER, Payload, Step,
+};
 use tests_host::Told;
 
 const HI: Payload<'static> = Payload::Channel(0x4000, b"hi", b"");

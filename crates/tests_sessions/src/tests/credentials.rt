@@ -1,14 +1,13 @@
 //! Allocate and Refresh, and who asks for them.
 
-use super::datagrams::{Datagram, RELAYED, Step};
-use super::messages::{BY_USER, Part, Payload, SIGNED};
-use super::openings::{
-    ALLOCATE, ALLOCATED, ALLOCATED_FOR_NO_TIME, GIVES_RELAYED, SEEN_AS_CLIENT, UDP,
-};
 use super::rows::{Row, SESSION, broken, conforming, play, refused};
 use audit_model::Addr;
 use audit_samples::{Class, attribute, method};
 use std::test::Fail;
+use tests_datagrams::{
+    ALLOCATE, ALLOCATED, ALLOCATED_FOR_NO_TIME, BY_USER, Datagram, GIVES_RELAYED, Part, Payload,
+    RELAYED, SEEN_AS_CLIENT, SIGNED, Step, UDP,
+};
 use tests_host::Told;
 
 /// The Allocate and its success.

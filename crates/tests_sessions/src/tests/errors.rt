@@ -1,11 +1,9 @@
 //! Error responses.
 
-use super::datagrams::{Datagram, Step};
-use super::messages::{BY_USER, Part, Payload, SIGNED};
-use super::openings::{ALLOCATED, CHALLENGED};
 use super::rows::{Row, SESSION, broken, conforming, play};
 use audit_samples::{Class, attribute, method};
 use std::test::Fail;
+use tests_datagrams::{ALLOCATED, BY_USER, CHALLENGED, Datagram, Part, Payload, SIGNED, Step};
 use tests_host::Told;
 
 /// An ERROR-CODE: its class and two digits.

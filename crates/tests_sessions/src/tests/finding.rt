@@ -1,9 +1,5 @@
 //! Certificates of sessions that are found, and what they show.
 
-use super::building::Built;
-use super::datagrams::{Datagram, PEER, Step};
-use super::messages::Payload;
-use super::openings::{ALLOCATED, CHALLENGED, PERMITTED};
 use super::relays::{
     CARRIED, GIVEN_TWICE, OTHER_DATA, OVERTAKEN, PAST_THE_CHANNELS, SENT, WITHIN_THE_GRACE,
 };
@@ -13,6 +9,7 @@ use std::process::Abort;
 use std::sync::Wait;
 use std::test::Fail;
 use std::thread::Threads;
+use tests_datagrams::{ALLOCATED, Built, CHALLENGED, Datagram, PEER, PERMITTED, Payload, Step};
 use tests_host::{Answer, Told, text_of};
 
 static AUDIT: [&str; 6] = [

@@ -1,12 +1,13 @@
 //! What two lanes show together.
 
-use super::datagrams::{Datagram, OTHER_CLIENT, PEER, RELAYED, Step};
-use super::messages::{Part, Payload, SIGNED};
-use super::openings::{ALLOCATE, ALLOCATED, PERMITTED};
 use super::rows::{Row, SESSION, broken, conforming, play};
 use audit_model::Addr;
 use audit_samples::{Class, attribute, method};
 use std::test::Fail;
+use tests_datagrams::{
+    ALLOCATE, ALLOCATED, Datagram, OTHER_CLIENT, PEER, PERMITTED, Part, Payload, RELAYED, SIGNED,
+    Step,
+};
 use tests_host::Told;
 
 /// A client with an allocation, and another client that is given a relayed address ten milliseconds later.

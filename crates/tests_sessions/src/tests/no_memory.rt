@@ -1,9 +1,6 @@
 //! What is left of a lane's table where memory is refused. Memory is plenty in a run of the tests: under `rt try --test --fail-alloc N` the Nth
 //! allocation is refused, and then this test must fail by an error and by no assertion.
 
-use super::datagrams::{CLIENT, Datagram, LISTEN, PEER, Step};
-use super::messages::{BY_USER, PASSWORD, Part, Payload, SIGNED, THE_REALM, USER};
-use super::openings::{ALLOCATED, OF_PEER, PERMIT_SUCCESS};
 use super::rows::{Row, SESSION};
 use audit_keys::{Keys, long_term_key, long_term_key_sha256};
 use audit_model::{Addr, At, Key, Policy, Rule, SightId, Tenancy, read_policy};
@@ -12,6 +9,10 @@ use audit_samples::{Class, attribute, method};
 use audit_sightings::Intake;
 use std::alloc::Global;
 use std::test::Fail;
+use tests_datagrams::{
+    ALLOCATED, BY_USER, CLIENT, Datagram, LISTEN, OF_PEER, PASSWORD, PEER, PERMIT_SUCCESS, Part,
+    Payload, SIGNED, Step, THE_REALM, USER,
+};
 use tests_host::POLICY;
 
 const SECOND_PEER: Addr = Addr {

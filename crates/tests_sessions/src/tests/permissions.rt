@@ -1,11 +1,9 @@
 //! CreatePermission, Send and Data.
 
-use super::datagrams::{Datagram, PEER, Step};
-use super::messages::Payload;
-use super::openings::{ALLOCATED, PERMITTED};
 use super::rows::{Row, SESSION, broken, conforming, play};
 use audit_model::Addr;
 use std::test::Fail;
+use tests_datagrams::{ALLOCATED, Datagram, PEER, PERMITTED, Payload, Step};
 use tests_host::Told;
 
 /// A Send with data to a permitted peer, and other data relayed to it.

@@ -1,12 +1,11 @@
 //! Sessions that begin with a challenge. What the server sends to peers and gets of them stands in a capture of its own, with a clock of its own.
 
-use super::datagrams::{Datagram, PEER, Step};
-use super::messages::Payload;
-use super::openings::{
-    ALLOCATED, BOUND_4FFF, BOUND_4000, BOUND_5000, CHALLENGED, PERMIT, PERMIT_SUCCESS, PERMITTED,
-};
 use super::rows::{Row, SESSION, broken, conforming, play};
 use std::test::Fail;
+use tests_datagrams::{
+    ALLOCATED, BOUND_4FFF, BOUND_4000, BOUND_5000, CHALLENGED, Datagram, PEER, PERMIT,
+    PERMIT_SUCCESS, PERMITTED, Payload, Step,
+};
 use tests_host::Told;
 
 const TWO_CAPTURES: Row = Row {

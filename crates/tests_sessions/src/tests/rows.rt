@@ -1,13 +1,12 @@
 //! A row of a table: a session, and what `check` answers to it.
 
-use super::building::Built;
-use super::datagrams::Step;
 use audit_samples::BuildFault;
 use std::alloc::{AllocError, Global};
 use std::process::Abort;
 use std::sync::Wait;
 use std::test::Fail;
 use std::thread::Threads;
+use tests_datagrams::{Built, Step};
 use tests_host::{Answer, Files, PLENTY, POLICY, Told, ask};
 
 /// A session, and what it is answered.

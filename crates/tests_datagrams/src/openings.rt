@@ -1,7 +1,7 @@
 //! How sessions begin: the client is challenged, allocates, and asks for a permission or a channel.
 
-use super::datagrams::{CLIENT, Datagram, PEER, RELAYED, Step};
-use super::messages::{BY_USER, Part, Payload, SIGNED};
+use crate::datagrams::{CLIENT, Datagram, PEER, RELAYED, Step};
+use crate::messages::{BY_USER, Part, Payload, SIGNED};
 use audit_samples::{Class, attribute, method};
 
 /// REQUESTED-TRANSPORT of UDP.

@@ -1,6 +1,6 @@
 //! The datagrams of a session as data, and the steps that they are taken in.
 
-use super::messages::Payload;
+use crate::messages::Payload;
 use audit_model::Addr;
 
 pub const CLIENT: Addr = Addr {

@@ -3,7 +3,7 @@ use Rattle.std.proofs.lemmas.List.{length-map}
 use Rattle.std.specs.List.{IsDistinct}
 use Rattle.audit_clients.specs.Clients.{Pair, same}
 use Rattle.audit_finder.specs.Found.{pair_of}
-use Rattle.audit_finder.proofs.walking.find_once.Goals as goal
+use Rattle.audit_finder.proofs.walking.found_by.Goals as goal
 
 pub certificate_of-requires-clause-apart : goal.certificate_of-requires-clause-apart
 certificate_of-requires-clause-apart c = subst (IsDistinct same) (sym c.in_ok-filled.ensures.pairs) c.lanes-pairs.ensures.apart

@@ -6,22 +6,19 @@ use audit_seen::{Gives, LaneNumber, Seen, SeenNumber, Sights};
 use std::alloc::{AllocError, Global};
 
 /// An answer of a lane, by its time.
-type Told = (LaneNumber, u64, SeenNumber);
+pub type Told = (LaneNumber, u64, SeenNumber);
 
 /// The answers that tell that allocations were made, ended and kept, each kind of them in order.
 #[derive(Drop)]
-pub(crate) struct Changes {
-    pub(crate) made: Vec<(Addr, u64, SeenNumber)>,
+pub struct Changes {
+    made: Vec<(Addr, u64, SeenNumber)>,
     ended: Vec<Told>,
     kept: Vec<Told>,
 }
 
 impl Changes {
-    pub(crate) fn gather(
-        alloc: Global,
-        sights: &Sights,
-        times: &Times,
-    ) -> Result<Changes, AllocError> {
+    /// Those of all answers. It takes n log n.
+    pub fn gather(alloc: Global, sights: &Sights, times: &Times) -> Result<Changes, AllocError> {
         let mut changes = Changes {
             made: Vec::new(alloc),
             ended: Vec::new(alloc),
@@ -52,8 +49,13 @@ impl Changes {
         Ok(())
     }
 
+    /// The answers that tell that an address was given, by the address and their times.
+    pub fn made(&self) -> &[(Addr, u64, SeenNumber)] {
+        self.made.as_slice()
+    }
+
     /// The first answer of a lane behind a moment that tells that its allocation was deleted.
-    pub(crate) fn end_behind(&self, lane: LaneNumber, when: u64) -> Option<SeenNumber> {
+    pub fn end_behind(&self, lane: LaneNumber, when: u64) -> Option<SeenNumber> {
         let place = self
             .ended
             .partition_point(|told| (told.0, told.1) <= (lane, when));
@@ -64,7 +66,7 @@ impl Changes {
     }
 
     /// The answers behind a moment that tell that an allocation was kept, those of the lane first.
-    pub(crate) fn kept_behind(&self, lane: LaneNumber, when: u64) -> &[Told] {
+    pub fn kept_behind(&self, lane: LaneNumber, when: u64) -> &[Told] {
         let place = self
             .kept
             .partition_point(|told| (told.0, told.1) <= (lane, when));

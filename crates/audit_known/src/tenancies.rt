@@ -45,7 +45,7 @@ impl Tenancies {
         let changes = Changes::gather(alloc, sights, times)?;
         let mut by_address: Vec<Tenancy> = Vec::new(alloc);
         let mut last = None;
-        for (relayed, _, number) in &changes.made {
+        for (relayed, _, number) in changes.made() {
             let Some(seen) = sights.get(*number) else {
                 continue;
             };

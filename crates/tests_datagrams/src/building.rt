@@ -1,7 +1,7 @@
 //! The captures of a session, and the certificate that places its datagrams.
 
-use super::datagrams::{CLIENT, Datagram, LISTEN, OTHER_CLIENT, PEER, RELAYED, Step};
-use super::messages::{Payload, channel_bytes, indication_bytes, message_bytes};
+use crate::datagrams::{CLIENT, Datagram, LISTEN, OTHER_CLIENT, PEER, RELAYED, Step};
+use crate::messages::{Payload, channel_bytes, indication_bytes, message_bytes};
 use audit_keys::hmac_sha1;
 use audit_model::{Addr, Side};
 use audit_samples::{BuildFault, Capture, Class, UdpDatagram, method};

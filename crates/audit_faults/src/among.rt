@@ -1,0 +1,136 @@
+//! Whether one of some departures shows a fault, as far as that is soon known.
+
+ghost use Rattle.std.specs.Prelude.{List, Contains, IfOk, IfSome};
+ghost use Rattle.audit_model.specs.declared.certificate.Certificate.{Certificate};
+ghost use Rattle.audit_sightings.specs.Intake.{taken};
+ghost use Rattle.audit_keys.specs.KeyFor.{key_for};
+ghost use Rattle.audit_server.specs.Step.{Step};
+ghost use Rattle.audit_whole.specs.CaptureRun.{rules_for, IsCaptureRun};
+ghost use Rattle.audit_whole.specs.Conforms.{Conforms};
+ghost use Rattle.audit_faults.specs.declared.fault.Fault.{Fault as FaultKind};
+ghost use Rattle.audit_faults.specs.Explains.{IsFault};
+ghost use Rattle.audit_faults.specs.Index.{IsIndex};
+
+use crate::explains::explains;
+use crate::fault::Fault;
+use crate::index::{Index, extents_by_interface, span_in};
+use crate::laws::fault_excludes;
+use crate::placed::{Placed, placed_by_client};
+use crate::telling::first_fault;
+use audit_keys::Credentials;
+use audit_model::{SightId, Sighting};
+use audit_sightings::Intake;
+use std::alloc::{AllocError, Global};
+
+/// What is soon known takes no more steps than so many for each sighting, and so many beside.
+const STEPS_A_SIGHTING: u64 = 16;
+
+const STEPS_BESIDE: u64 = 4_000_000;
+
+/// How often what is in reach of a departure is gone through: once for each fault, and once before.
+const TIMES: u64 = 6;
+
+/// How many leases a departure needs at the most.
+const LEASES: u64 = 3;
+
+/// The most places that one client has. The places of each client stand together.
+fn most_places(placed: &[Placed]) -> u64 {
+    let mut most = 0u64;
+    let mut count = 0u64;
+    let mut last = None;
+    for one in placed {
+        count = if last == Some(one.client) {
+            count.saturating_add(1)
+        } else {
+            1
+        };
+        last = Some(one.client);
+        most = most.max(count);
+    }
+    most
+}
+
+/// How many steps it takes at the most to know whether a departure shows a fault, where each client has so many places at the most.
+fn steps_for(
+    intake: &Intake,
+    index: &Index<'_>,
+    credentials: &Credentials,
+    most: u64,
+    given: &Sighting,
+) -> u64
+    requires { IsIndex (taken intake.now) index.now }
+{
+    let mut in_reach = 0u64;
+    let mut asking = 0u64;
+    'interfaces: for iface in 0..intake.interfaces() {
+        let span = span_in(intake, index, iface, given);
+        let row = intake.interface(iface);
+        'places: for asked in row.get(span.first..span.past).unwrap_or(&[]) {
+            in_reach = in_reach.saturating_add(1);
+            if explains(intake, index, credentials, Fault::Unasked, asked, given) {
+                asking = asking.saturating_add(1);
+            }
+        }
+    }
+    let each = most.saturating_mul(most).saturating_mul(LEASES);
+    in_reach
+        .saturating_add(asking.saturating_mul(each))
+        .saturating_mul(TIMES)
+}
+
+/// The first fault of the sighting, where it shows one and that is soon known.
+fn soon_known(
+    intake: &Intake,
+    index: &Index<'_>,
+    credentials: &Credentials,
+    most: u64,
+    sight: SightId,
+) -> Option<Fault>
+    requires { IsIndex (taken intake.now) index.now }
+    ensures { IfSome result (λ fault. IsFault (taken intake.now) (key_for credentials.now) fault sight) }
+{
+    let given = intake.sighting(sight)?;
+    let (_, sightings) = intake.counts();
+    let most_steps = u64::from(sightings)
+        .saturating_mul(STEPS_A_SIGHTING)
+        .saturating_add(STEPS_BESIDE);
+    if steps_for(intake, index, credentials, most, given) > most_steps {
+        return None;
+    }
+    first_fault(intake, index, credentials, sight)
+}
+
+/// The first of these departures that is known to show a fault. Those are passed over of which it would take long to know: so it takes
+/// n log n in the sightings and linear time for each departure, memory for two numbers a sighting and the places of requests for leases
+/// and their successes, and fails only where there is none.
+pub fn fault_among(
+    alloc: Global,
+    intake: &Intake,
+    credentials: &Credentials,
+    sights: &[SightId],
+) -> Result<Option<SightId>, AllocError>
+    // Nothing that was captured explains it.
+    ensures shown { IfOk result (λ found. IfSome found (λ sight. Contains sights.now sight
+        × ((fault : FaultKind) × IsFault (taken intake.now) (key_for credentials.now) fault sight))) }
+    // So no list of moves is a run of the server that explains the captures,
+    ensures no_run { IfOk result (λ found. IfSome found (λ sight. (steps : List Step) →
+        IsCaptureRun (taken intake.now) (rules_for (taken intake.now) (key_for credentials.now)) steps → ⊥)) }
+    // and no certificate conforms.
+    ensures no_certificate { IfOk result (λ found. IfSome found (λ sight. (certificate : Certificate) →
+        Conforms (taken intake.now) (rules_for (taken intake.now) (key_for credentials.now)) certificate → ⊥)) }
+{
+    fault_excludes();
+    let extents = extents_by_interface(alloc, intake)?;
+    let placed = placed_by_client(alloc, intake)?;
+    let index = Index {
+        extents: extents.as_slice(),
+        placed: Some(placed.as_slice()),
+    };
+    let most = most_places(&placed);
+    'departures: for sight in sights {
+        if soon_known(intake, &index, credentials, most, *sight).is_some() {
+            return Ok(Some(*sight));
+        }
+    }
+    Ok(None)
+}
