@@ -75,7 +75,11 @@ impl Pool {
         let begin = self.begin(wanted);
         let mut at = begin;
         'places: for _ in 0..self.places.len() {
-            let record = self.fitting(at, wanted)?;
+            let Some(record) = self.fitting(at, wanted) else {
+                // All from the first place to this one are used.
+                self.shorten(begin, at);
+                return None;
+            };
             match used.get(record) {
                 Some(true) => at = self.behind(at),
                 Some(false) => {
