@@ -5,7 +5,7 @@
 
 Each line of tests/prepare/cases is a name and the words, in which OUT is a new folder. Of words that are no request
 only the status is compared, since clap says the rest. Then it asks for what no case has: that a file that is there is
-never written over, and that a missing file of a ring is told.
+never written over, that a missing file of a ring is told, and what `cut` tells of its words.
 """
 
 import hashlib
@@ -67,9 +67,31 @@ def check_files(program):
     return faults
 
 
+def check_cut(program):
+    """Files that are there, a policy that is none, and what the list's head tells."""
+    faults = []
+    with tempfile.TemporaryDirectory() as folder:
+        pathlib.Path(folder, "new").mkdir()
+        words = ["--policy", "inputs/policy", "-o", f"{folder}/new", "inputs/midcall-late.pcapng"]
+        done = run(program, ["cut", "--lifetime", "7200", "--keep-inner", *words])
+        if done.returncode != 0 or "\nlifetime 7200\nkeep-inner\nclient " not in done.stdout:
+            faults.append("doesn't tell what is stated")
+        if done.stdout != pathlib.Path(f"{folder}/new/set-aside").read_text():
+            faults.append("tells another list than it writes")
+        if run(program, ["cut", *words]).returncode != 4:
+            faults.append("cuts over a file that is there")
+        done = run(program, ["cut", "--policy", "inputs/plain.conf", *words[2:]])
+        if done.returncode != 2 or not done.stderr.endswith("in policy line 1\n"):
+            faults.append("takes a policy that is none")
+        for wrong in (["--since", "2", "--until", "1"], ["--since", "x"]):
+            if run(program, ["cut", *wrong, *words]).returncode != 5:
+                faults.append(f"takes {wrong}")
+    return faults
+
+
 def main():
     program = pathlib.Path(sys.argv[1]).resolve()
-    faults = check_files(program)
+    faults = check_files(program) + check_cut(program)
     cases = [line.split(" | ") for line in (HERE / "cases").read_text().splitlines()]
     for name, words in cases:
         if told_by(program, words.split()) != expected(name):

@@ -2,3 +2,4 @@ pub mod Pieces
 pub mod Captures
 pub mod Outer
 pub mod Together
+pub mod CutFiles

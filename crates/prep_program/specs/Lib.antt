@@ -4,3 +4,4 @@ pub mod Stops
 pub mod Joins
 pub mod Translations
 pub mod Reassemblies
+pub mod Cuts

@@ -1,11 +1,12 @@
 -- The exit statuses that say why a run ended.
 use Rattle.std.specs.Prelude.{ℕ}
 use Rattle.prep_program.specs.declared.stop.Stop.{Stop}
-use Rattle.prep_program.specs.declared.stop.Stop.TheVariants.{Conf, Capture, Missing, Policy, Renaming, Translate, Reassemble, Users, SameName, Words, Memory, Read, Write, Exists}
+use Rattle.prep_program.specs.declared.stop.Stop.TheVariants.{Conf, Capture, Cut, Missing, Policy, Renaming, Translate, Reassemble, Users, SameName, Words, Memory, Read, Write, Exists}
 
 abbrev pub status_of_stop : Stop → ℕ
 status_of_stop (Conf fault) = 2
 status_of_stop (Capture refused) = 2
+status_of_stop (Cut refused) = 2
 status_of_stop (Missing gap) = 2
 status_of_stop (Policy fault) = 2
 status_of_stop (Renaming fault) = 2

@@ -1,13 +1,16 @@
 //! The command line, as clap reads it. No file but this one and those in `command_line/` knows clap.
 
+mod cut;
 mod reassemble;
 mod translate;
 mod users;
 
+use self::cut::{cut_command, cut_request};
 use self::reassemble::{reassemble_command, reassemble_request};
 use self::translate::{translate_command, translate_request};
 use self::users::{users_command, users_request};
 use crate::reassembling::ReassembleRequest;
+use crate::set_aside::CutRequest;
 use crate::translating::TranslateRequest;
 use crate::users::UsersRequest;
 use audit_model::read_ip;
@@ -31,6 +34,8 @@ pub enum Request<'a> {
         relaying: Vec<u32>,
         is_translated: bool,
     },
+    /// Leave out of captures what can't be judged.
+    Cut(CutRequest<'a>),
     /// Translate captures to files in a folder.
     Translate(TranslateRequest<'a>),
     /// Reassemble captures to files in a folder.
@@ -145,18 +150,35 @@ fn policy_command<'a>(alloc: Global) -> Result<Command<'a>, AllocError> {
         .arg(translated)
 }
 
+/// Adds the commands that make a policy and credentials.
+fn with_policy_and_users<'a>(
+    alloc: Global,
+    command: Command<'a>,
+) -> Result<Command<'a>, AllocError> {
+    command
+        .subcommand(policy_command(alloc)?)?
+        .subcommand(users_command(alloc)?)
+}
+
+/// Adds the commands that make captures of captures.
+fn with_captures<'a>(alloc: Global, command: Command<'a>) -> Result<Command<'a>, AllocError> {
+    command
+        .subcommand(join_command(alloc)?)?
+        .subcommand(reassemble_command(alloc)?)?
+        .subcommand(translate_command(alloc)?)?
+        .subcommand(cut_command(alloc)?)
+}
+
+/// The whole command line.
 fn command<'a>(alloc: Global) -> Result<Command<'a>, AllocError> {
-    Command::new(alloc, "turnprep")
+    let command = Command::new(alloc, "turnprep")
         .version(VERSION)
         .about(ABOUT)
         .after_help(STATUSES)
         .arg_required_else_help(true)
-        .subcommand_required(true)
-        .subcommand(policy_command(alloc)?)?
-        .subcommand(join_command(alloc)?)?
-        .subcommand(translate_command(alloc)?)?
-        .subcommand(users_command(alloc)?)?
-        .subcommand(reassemble_command(alloc)?)
+        .subcommand_required(true);
+    let command = with_policy_and_users(alloc, command)?;
+    with_captures(alloc, command)
 }
 
 /// The request that an error of clap stands for.
@@ -237,6 +259,9 @@ fn request_of<'a>(
     }
     if let Some(policy) = matches.subcommand_matches("policy") {
         return policy_request(alloc, policy);
+    }
+    if let Some(cut) = matches.subcommand_matches("cut") {
+        return cut_request(alloc, cut);
     }
     if let Some(translate) = matches.subcommand_matches("translate") {
         return translate_request(alloc, translate);

@@ -2,6 +2,7 @@
 #![tactic(auto)]
 
 mod command_line;
+mod cutting;
 mod folder;
 mod joining;
 mod maker;
@@ -9,12 +10,14 @@ mod policy;
 mod reassembling;
 mod ring_name;
 mod running;
+mod set_aside;
 mod source;
 mod stop;
 mod text;
 mod translating;
 mod users;
 
+pub use cutting::{AllCut, ToCut, cut_capture, cut_captures};
 pub use joining::join_captures;
 pub use maker::{MakeFault, Maker};
 pub use reassembling::{ReassembleRequest, reassemble_capture};

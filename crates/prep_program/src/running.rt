@@ -6,6 +6,7 @@ use crate::maker::Maker;
 use crate::policy::run_policy;
 use crate::reassembling::run_reassemble;
 use crate::ring_name::gap_in;
+use crate::set_aside::run_cut;
 use crate::source::Source;
 use crate::stop::Stop;
 use crate::translating::run_translate;
@@ -78,6 +79,7 @@ fn run_request<S: Source, M: Maker, O: Sink, E: Sink>(
             };
             run_policy(alloc, file, &asked, source, out, err)
         }
+        Request::Cut(words) => run_cut(alloc, words, source, maker, out),
         Request::Translate(asked) => run_translate(alloc, asked, source, maker, out),
         Request::Reassemble(asked) => run_reassemble(alloc, asked, source, maker, out),
         Request::Users(asked) => run_users(alloc, asked, source, out, err),

@@ -9,6 +9,7 @@ use crate::source::ReadFailed;
 use audit_model::{PolicyFault, PolicyFaultKind, SinkFailed};
 use audit_pcapng::CaptureFault;
 use prep_coturn::ConfFault;
+use prep_cut::{CutFault, CutRefused};
 use prep_fragments::Refused as ReassembleRefused;
 use prep_join::{JoinFault, Refused};
 use prep_translate::{Refused as TranslateRefused, RenamingFault};
@@ -23,6 +24,8 @@ pub enum Stop {
     Conf(ConfFault),
     /// A capture was refused.
     Capture(Refused),
+    /// A capture was refused that is to be cut.
+    Cut(CutRefused),
     /// A file of a ring is missing.
     Missing(Gap),
     /// The policy was refused.
@@ -61,10 +64,19 @@ impl Stop {
             | Stop::Translate(_)
             | Stop::SameName(_)
             | Stop::Users(_)
-            | Stop::Reassemble(_) => 2,
+            | Stop::Reassemble(_)
+            | Stop::Cut(_) => 2,
             Stop::Words(_) => 5,
             Stop::Memory => 3,
             Stop::Read | Stop::Write | Stop::Exists => 4,
+        }
+    }
+
+    /// The fault of a capture that is to be cut, by its number.
+    pub fn of_cut(capture: u32, fault: CutFault) -> Stop {
+        match fault {
+            CutFault::Capture(CaptureFault::Memory) => Stop::Memory,
+            _ => Stop::Cut(CutRefused { capture, fault }),
         }
     }
 
@@ -83,6 +95,7 @@ impl fmt::Display for Stop {
         match self {
             Stop::Conf(fault) => write!(f, "refused {fault}"),
             Stop::Capture(refused) => write!(f, "refused {refused}"),
+            Stop::Cut(refused) => write!(f, "refused {refused}"),
             Stop::Missing(gap) => {
                 let capture = gap.capture;
                 let earlier = capture.saturating_sub(1);

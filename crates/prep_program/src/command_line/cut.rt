@@ -1,0 +1,139 @@
+//! The words of the command `cut`.
+
+use super::{Request, captures_argument, folder_option, usage};
+use crate::set_aside::{CutRequest, USUAL_LIFETIME};
+use audit_text::number;
+use clap::{Arg, ArgAction, ArgMatches, Command};
+use prep_cut::Stated;
+use std::alloc::{AllocError, Global};
+
+const ABOUT: &str = "Leaves out of captures what can't be judged, and lists it";
+
+const EXAMPLE: &str =
+    "Example:\n  turnprep cut --policy policy -o ready call.pcapng\n\nwrites ready/call.pcapng, and ready/set-aside, the list of what was left out, which is told as well.";
+
+/// The longest lifetime of an allocation that is asked for, in seconds.
+const LONGEST: u64 = 1_000_000_000;
+
+const NOT_A_NUMBER: &str = "turnprep: --since, --until and --lifetime are numbers\n";
+
+const BACKWARDS: &str = "turnprep: --since is after --until\n";
+
+const TOO_MANY: &str = "turnprep: cut takes 16 captures at the most\n";
+
+/// So many captures may be audited together.
+const MAX_CAPTURES: usize = 16;
+
+/// An option with one value.
+fn value<'a>(alloc: Global, name: &'a str, shown: &'a str, help: &'a str) -> Arg<'a> {
+    Arg::new(alloc, name)
+        .long(name)
+        .value_name(shown)
+        .help(help)
+        .action(ArgAction::Set)
+}
+
+/// A switch.
+fn switch<'a>(alloc: Global, name: &'a str, help: &'a str) -> Arg<'a> {
+    Arg::new(alloc, name)
+        .long(name)
+        .help(help)
+        .action(ArgAction::SetTrue)
+}
+
+/// Adds the options with numbers.
+fn with_numbers<'a>(alloc: Global, command: Command<'a>) -> Result<Command<'a>, AllocError> {
+    let since = "Leave out what is before, in nanoseconds since 1970";
+    let until = "Leave out what is after, in nanoseconds since 1970";
+    let lifetime =
+        "The longest lifetime of an allocation from before, in seconds: 3600 unless said";
+    command
+        .arg(value(alloc, "since", "MOMENT", since))?
+        .arg(value(alloc, "until", "MOMENT", until))?
+        .arg(value(alloc, "lifetime", "SECONDS", lifetime))
+}
+
+/// Adds the switches.
+fn with_switches<'a>(alloc: Global, command: Command<'a>) -> Result<Command<'a>, AllocError> {
+    let from_start = "The server started with the captures, or at the moment of --since";
+    let no_tcp = "No client comes by TCP, TLS, DTLS or IPv6";
+    let keep_inner = "Data between the server's own addresses stays in";
+    command
+        .arg(switch(alloc, "from-start", from_start))?
+        .arg(switch(alloc, "no-tcp", no_tcp))?
+        .arg(switch(alloc, "keep-inner", keep_inner))
+}
+
+/// The command `cut`.
+pub(super) fn cut_command<'a>(alloc: Global) -> Result<Command<'a>, AllocError> {
+    let policy = value(alloc, "policy", "FILE", "The policy of the audit").required(true);
+    let command = Command::new(alloc, "cut")
+        .about(ABOUT)
+        .after_help(EXAMPLE)
+        .arg(policy)?
+        .arg(folder_option(alloc))?;
+    let command = with_numbers(alloc, command)?;
+    with_switches(alloc, command)?.arg(captures_argument(alloc))
+}
+
+/// The number that an option says, if it says one; nothing where it isn't a number.
+fn number_of(matches: &ArgMatches<'_>, name: &str, most: u64) -> Option<Option<u64>> {
+    let Some(word) = matches.get_str(name) else {
+        return Some(None);
+    };
+    match number(word.as_bytes(), most) {
+        Ok(number) => Some(Some(number)),
+        Err(_) => None,
+    }
+}
+
+/// What the words state, or what is wrong with them.
+fn stated_by(matches: &ArgMatches<'_>) -> Result<Stated, &'static str> {
+    let (Some(since), Some(until), Some(lifetime)) = (
+        number_of(matches, "since", u64::MAX),
+        number_of(matches, "until", u64::MAX),
+        number_of(matches, "lifetime", LONGEST),
+    ) else {
+        return Err(NOT_A_NUMBER);
+    };
+    if let (Some(since), Some(until)) = (since, until) {
+        if since > until {
+            return Err(BACKWARDS);
+        }
+    }
+    Ok(Stated {
+        since,
+        until,
+        is_from_start: matches.get_flag("from-start"),
+        has_no_tcp: matches.get_flag("no-tcp"),
+        keeps_inner: matches.get_flag("keep-inner"),
+        lifetime: lifetime.unwrap_or(USUAL_LIFETIME),
+    })
+}
+
+/// The request that the words of the command `cut` are.
+pub(super) fn cut_request<'a>(
+    alloc: Global,
+    matches: &ArgMatches<'a>,
+) -> Result<Option<Request<'a>>, AllocError> {
+    let (Some(policy), Some(folder), Some(captures)) = (
+        matches.get_str("policy"),
+        matches.get_str("out"),
+        matches.get_strs("captures"),
+    ) else {
+        return Ok(None);
+    };
+    if captures.len() > MAX_CAPTURES {
+        return usage(alloc, TOO_MANY);
+    }
+    let stated = match stated_by(matches) {
+        Ok(stated) => stated,
+        Err(text) => return usage(alloc, text),
+    };
+    Ok(Some(Request::Cut(CutRequest {
+        policy,
+        folder,
+        stated,
+        captures: Vec::from_slice(alloc, captures)?,
+    })))
+}

@@ -1,0 +1,147 @@
+//! Cutting captures that are files.
+
+ghost use Rattle.std.specs.Prelude.{◌≡◌, [], ℕ, List, Option, Some, IfOk};
+ghost use Rattle.prep_blocks.specs.declared.block.Block.{Block};
+ghost use Rattle.prep_cut.specs.Cutting.{IsCut, IsCutting};
+ghost use Rattle.prep_cut.specs.Marks.{Marked};
+ghost use Rattle.prep_cut.specs.declared.plan.Plan.{Plan};
+ghost use Rattle.prep_program.specs.Cuts.{Cuts};
+
+use crate::maker::Maker;
+use crate::source::{PIECE, Source};
+use crate::stop::Stop;
+use audit_model::{Policy, put_all};
+use prep_cut::{Cutter, LineNumber, Plan, Stated, Tallies, Totals, WasCut};
+use prep_records::{Recorder, Records};
+use std::alloc::Global;
+
+/// Writes a capture without what is set aside, from its first byte to its last, to the file that was made last.
+pub fn cut_capture<S: Source, M: Maker>(
+    alloc: Global,
+    source: &mut S,
+    name: &str,
+    cutter: Cutter<'_>,
+    capture: u32,
+    made: &mut M,
+) -> Result<WasCut, Stop>
+    ensures kept { S.holds source.new ≡ S.holds source.old }
+    ensures cuts { (text : List ℕ) (plan : Plan) (proposals : List (Option ℕ)) (earlier : List Marked) → S.holds source.old name.now ≡ Some text →
+        IsCutting cutter.entry plan proposals earlier [] [] →
+        IfOk result (λ cut. Cuts cut plan proposals earlier text (M.taken made.old) (M.taken made.new)) }
+{
+    let mut cutter = cutter;
+    let mut piece = vec![in alloc; 0u8; PIECE]?;
+    let mut out = Vec::new(alloc);
+    let mut at = 0u64;
+    'pieces: for _ in 0..u64::MAX {
+        let read = source.piece(name, at, &mut piece)?;
+        if read == 0 {
+            return end_capture(cutter, capture);
+        }
+        if let Err(fault) = cutter.feed(&piece[..read], &mut out) {
+            return Err(Stop::of_cut(capture, fault));
+        }
+        put_all(made, &out)?;
+        out.clear();
+        let Some(next) = at.checked_add(read as u64) else {
+            return Err(Stop::Read);
+        };
+        at = next;
+    }
+    Err(Stop::Read)
+}
+
+/// Ends a capture.
+fn end_capture(cutter: Cutter<'_>, capture: u32) -> Result<WasCut, Stop>
+    ensures { (plan : Plan) (proposals : List (Option ℕ)) (earlier : List Marked) (text : List ℕ) (current : List Block) →
+        IsCutting cutter.entry plan proposals earlier text current → IfOk result (λ cut. IsCut cut plan proposals earlier text current) }
+{
+    match cutter.finish() {
+        Ok(cut) => Ok(cut),
+        Err(fault) => Err(Stop::of_cut(capture, fault)),
+    }
+}
+
+/// A capture that is to be cut.
+#[derive(Debug, Drop)]
+pub struct ToCut<'a> {
+    pub name: &'a str,
+    /// The file that is made of it.
+    pub file: String,
+    /// What is proposed for each of its packets.
+    pub proposals: Vec<Option<LineNumber>>,
+}
+
+/// Captures that were cut.
+#[derive(Debug, Drop)]
+pub struct AllCut {
+    pub totals: Vec<Totals>,
+    pub tallies: Tallies,
+}
+
+/// Cuts captures one after another, each to a file of its own.
+pub fn cut_captures<S: Source, M: Maker>(
+    alloc: Global,
+    source: &mut S,
+    captures: &[ToCut<'_>],
+    plan: &Plan,
+    made: &mut M,
+) -> Result<AllCut, Stop> {
+    let mut tallies = Tallies::new(alloc, plan.lines.len())?;
+    let mut totals = Vec::new(alloc);
+    let mut number = 0u32;
+    for one in captures {
+        made.make(one.file.as_str())?;
+        let cutter = Cutter::new(alloc, plan, &one.proposals, tallies);
+        let cut = cut_capture(alloc, source, one.name, cutter, number, made)?;
+        tallies = cut.tallies;
+        totals.push(cut.totals)?;
+        number = number.saturating_add(1);
+    }
+    Ok(AllCut { totals, tallies })
+}
+
+/// Reads a capture for what is to be proposed.
+fn record_capture<S: Source>(
+    alloc: Global,
+    source: &mut S,
+    name: &str,
+    recorder: &mut Recorder<'_>,
+    capture: u32,
+) -> Result<(), Stop> {
+    let mut piece = vec![in alloc; 0u8; PIECE]?;
+    let mut at = 0u64;
+    'pieces: for _ in 0..u64::MAX {
+        let read = source.piece(name, at, &mut piece)?;
+        if read == 0 {
+            return recorder
+                .end()
+                .map_err(|fault| Stop::of_cut(capture, fault.into()));
+        }
+        if let Err(fault) = recorder.feed(&piece[..read]) {
+            return Err(Stop::of_cut(capture, fault.into()));
+        }
+        let Some(next) = at.checked_add(read as u64) else {
+            return Err(Stop::Read);
+        };
+        at = next;
+    }
+    Err(Stop::Read)
+}
+
+/// Reads captures for what is to be proposed.
+pub fn record_captures<S: Source>(
+    alloc: Global,
+    source: &mut S,
+    names: &[&str],
+    policy: &Policy,
+    stated: Stated,
+) -> Result<Records, Stop> {
+    let mut recorder = Recorder::new(alloc, policy, stated);
+    let mut capture = 0u32;
+    for name in names {
+        record_capture(alloc, source, name, &mut recorder, capture)?;
+        capture = capture.saturating_add(1);
+    }
+    Ok(recorder.finish())
+}
