@@ -1,6 +1,7 @@
 //! A lane of an input, walked event by event.
 
 ghost use Rattle.std.specs.Prelude.{◌≡◌, ◌<◌, IfErr, IfSome, MatchResult, None, OnOk, Some, length, slice_get};
+ghost use Rattle.audit_rules.specs.Effect.{standing};
 ghost use Rattle.audit_lane.specs.After.{after};
 ghost use Rattle.audit_lane.specs.Faults.{IsRight};
 ghost use Rattle.audit_lane.specs.Judged.{at_start, terms_of};
@@ -11,6 +12,7 @@ use crate::fault::LaneFault;
 use crate::input::LaneInput;
 use crate::state::LaneState;
 use audit_model::{Breach, Tenancy};
+use audit_rules::LaneTable;
 use std::alloc::Global;
 
 /// A lane of an input, as far as it is walked.
@@ -56,6 +58,13 @@ impl<'a> Lane<'a> {
         ensures { MatchResult result (λ _. EndsWith (kept_of self.now.state) None) (λ breach. EndsWith (kept_of self.now.state) (Some breach)) }
     {
         self.state.end()
+    }
+
+    /// What the server has for the client after the events so far. It takes no memory.
+    pub fn table(&self) -> &LaneTable
+        ensures { standing result.now ≡ (kept_of self.now.state).standing }
+    {
+        self.state.table()
     }
 
     /// The tenancies that acts of the lane ended, in order of birth. It takes no memory.

@@ -244,6 +244,13 @@ impl LaneState {
         }
     }
 
+    /// What the server has for the client after the events so far. It takes no memory.
+    pub fn table(&self) -> &LaneTable
+        ensures { standing result.now ≡ (kept_of self.now).standing }
+    {
+        &self.table
+    }
+
     /// How many acts there are whose departure has not left.
     pub fn owed(&self) -> usize
         ensures { AreOwed (kept_of self.now).owed result }

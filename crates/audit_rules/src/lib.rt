@@ -29,4 +29,4 @@ pub use acting::act;
 pub use acts::Act;
 pub use credentials::CredRow;
 pub use fault::ActFault;
-pub use table::LaneTable;
+pub use table::{Allocation, Channel, LaneTable};

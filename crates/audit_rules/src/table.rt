@@ -33,10 +33,12 @@ pub struct Allocation {
 impl Allocation {
     ghost use Rattle.std.specs.Prelude.{◌≡◌, None, IfOk};
     ghost use Rattle.audit_rules.specs.Effect.{tenancy_of};
+    ghost use Rattle.audit_rules.specs.Seen.{seen};
 
     /// The same once more.
     fn copied(&self, alloc: Global) -> Result<Allocation, AllocError>
-        ensures { IfOk result (λ same. tenancy_of None same ≡ tenancy_of None self.now) }
+        ensures tenancy { IfOk result (λ same. tenancy_of None same ≡ tenancy_of None self.now) }
+        ensures seen { IfOk result (λ same. seen same ≡ seen self.now) }
     {
         Ok(Allocation {
             permissions: self.permissions.copied()?,
@@ -63,8 +65,9 @@ pub struct LaneTable {
 }
 
 impl LaneTable {
-    ghost use Rattle.std.specs.Prelude.{◌≡◌, None, IfOk};
+    ghost use Rattle.std.specs.Prelude.{◌≡◌, None, IfOk, option_copied, option_map};
     ghost use Rattle.audit_rules.specs.Effect.{standing};
+    ghost use Rattle.audit_rules.specs.Seen.{seen};
 
     /// A table with no allocation. It takes no memory.
     pub fn new(lane: u32, client: Addr, listen: Addr) -> LaneTable
@@ -80,7 +83,7 @@ impl LaneTable {
 
     /// The same table once more. It takes time and memory in proportion to its permissions and channels.
     pub fn copied(&self, alloc: Global) -> Result<LaneTable, AllocError>
-        ensures { IfOk result (λ same. (standing same).tenancy ≡ (standing self.now).tenancy) }
+        ensures { IfOk result (λ same. standing same ≡ standing self.now) }
     {
         let allocation = match &self.allocation {
             Some(found) => Some(found.copied(alloc)?),
@@ -92,6 +95,15 @@ impl LaneTable {
             listen: self.listen,
             lane: self.lane,
         })
+    }
+
+    /// The client's allocation as the acts so far left it, with its permissions and channels, whether or not they still last. It takes
+    /// no memory.
+    pub fn allocation(&self) -> Option<&Allocation>
+        ensures exact { option_copied result ≡ self.now.allocation }
+        ensures seen { option_map seen (option_copied result) ≡ (standing self.now).allocation }
+    {
+        self.allocation.as_ref()
     }
 
     /// The tenancy of the allocation that is there, from the act that made it. It takes no memory.
