@@ -2,6 +2,7 @@
 #![tactic(auto)]
 
 mod lanes;
+pub mod laws;
 mod verdict;
 
 pub use lanes::job;
