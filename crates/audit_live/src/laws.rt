@@ -10,13 +10,16 @@ ghost use Rattle.audit_model.specs.declared.verdict.Breach.{Breach};
 ghost use Rattle.audit_order.specs.Grown.{Fits};
 ghost use Rattle.audit_prefix.specs.Advance.{OfMoments};
 ghost use Rattle.audit_prefix.specs.Told.{LiveBreach};
-ghost use Rattle.audit_prefix.specs.Walk.{HaveBytes, Memory};
+ghost use Rattle.audit_prefix.specs.Walk.{Memory};
 ghost use Rattle.audit_rules.specs.declared.credentials.CredRow.{CredRow};
 ghost use Rattle.audit_rules.specs.Keys.{KeyFor};
-ghost use Rattle.audit_sightings.specs.Intake.{Taken};
+ghost use Rattle.audit_sightings.specs.Intake.{Taken, taken as taken_of};
 ghost use Rattle.audit_live.specs.declared.front.Front.{Front};
 ghost use Rattle.audit_live.specs.Knows.{Knows, Tells};
 ghost use Rattle.audit_live.specs.Remembered.{GoesOnAsWalk, StopsAsWalk};
+
+use audit_sightings::Intake;
+use audit_sightings::laws::sightings_are_bounded;
 
 /// An event that is right by the row of its user is one that the walk of the lane by all credentials goes on with, and what is kept then is what is remembered then.
 pub fn steps_are_remembered()
@@ -37,8 +40,11 @@ pub fn turns_tell_the_breach_of_the_whole()
         Tells taken key_for last old extension new found → LiveBreach taken key_for new.placing.certificate found }
 {}
 
-/// Where no breach is told of a certificate, none is one by the same definitions: so an advance is refused by G3 exactly where there is one. What was captured is bytes.
-pub fn a_breach_is_told_or_none()
-    ensures { (taken : Taken) (key_for : KeyFor) (certificate : Certificate) (breach : Breach) → HaveBytes taken →
-        LiveBreach taken key_for certificate None → LiveBreach taken key_for certificate (Some breach) → ⊥ }
-{}
+/// Where no breach is told of a certificate over what an intake has, none is one by the same definitions: so an advance is refused by G3
+/// exactly where there is one.
+pub fn a_breach_is_told_or_none(intake: &Intake)
+    ensures { (key_for : KeyFor) (certificate : Certificate) (breach : Breach) →
+        LiveBreach (taken_of intake.now) key_for certificate None → LiveBreach (taken_of intake.now) key_for certificate (Some breach) → ⊥ }
+{
+    sightings_are_bounded(intake);
+}

@@ -14,9 +14,12 @@ count_of interfaces = sum_by length interfaces
 abbrev pub IsNumbered : ℕ → List Sighting → Type 0
 IsNumbered iface interface = (index : ℕ) (sighting : Sighting) → slice_get interface index ≡ Some sighting → sighting.id ≡ record { iface = iface; index = index }
 
--- moments have 64 bits
+abbrev pub AreBytes : List ℕ → Type 0
+AreBytes bytes = (i : ℕ) → slice_index_or bytes i 0 < 256
+
+-- moments have 64 bits, and payloads are bytes
 abbrev pub SightingFits : Sighting → Type 0
-SightingFits sighting = (sighting.hi < 2 ^ 64) × AddrFits sighting.from × AddrFits sighting.to
+SightingFits sighting = (sighting.hi < 2 ^ 64) × AddrFits sighting.from × AddrFits sighting.to × AreBytes sighting.payload
 
 abbrev pub EachFits : List Sighting → Type 0
 EachFits interface = (index : ℕ) (sighting : Sighting) → slice_get interface index ≡ Some sighting → SightingFits sighting

@@ -2,7 +2,7 @@
 
 ghost use Rattle.std.specs.Prelude.{◌≡◌, ◌<◌, ◌≤◌, ◌+◌, max, List, ℕ, [], ◌∷◌, ◌++◌, length, replicate, OnOk, OnErr};
 ghost use Rattle.audit_model.specs.declared.sighting.Sighting.{Sighting};
-ghost use Rattle.audit_sightings.specs.ByInterface.{Adds};
+ghost use Rattle.audit_sightings.specs.ByInterface.{Adds, AreBytes};
 
 use crate::fault::IntakeFaultKind;
 use crate::service_datagram::ServiceDatagram;
@@ -106,6 +106,7 @@ impl ByInterface {
             return Err(IntakeFaultKind::Limit);
         }
         let index = self.interface(iface).len() as u32;
+        bytes(kept.payload);
         let payload = Vec::from_slice(self.alloc, kept.payload)?;
         let (lo, hi) = window(kept.stamp, skew);
         let sighting = Sighting {
@@ -122,6 +123,13 @@ impl ByInterface {
         self.count += 1;
         Ok(())
     }
+}
+
+/// A payload is bytes.
+fn bytes(payload: &[u8])
+    ensures { AreBytes payload.now }
+{
+    let _length = payload.len();
 }
 
 /// Adds a sighting behind those of its interface. Without memory nothing is changed.

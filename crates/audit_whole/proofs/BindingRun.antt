@@ -1,8 +1,8 @@
 -- The two datagrams of the Binding capture are explained by a run.
-use Rattle.std.proofs.Common.{◌≡◌, ◌<◌, ℕ, zero, suc, Bool, true, false, ◌==◌, ◌&&◌, cond, Option, Some, None, refl, sym, ◌∙◌, ap, subst, arith}
+use Rattle.std.proofs.Common.{◌≡◌, ◌<◌, ℕ, zero, suc, Bool, true, false, ◌==◌, ◌&&◌, ltb, cond, List, [], ◌∷◌, Option, Some, None, refl, sym, ◌∙◌, ap, subst, arith}
 use Rattle.std.specs.Prelude.{is_some, IsTrue}
-use Rattle.std.specs.List.{fold}
-use Rattle.std.proofs.lemmas.Bool.{ne_eqb, true≢false}
+use Rattle.std.specs.List.{fold, list_all}
+use Rattle.std.proofs.lemmas.Bool.{ne_eqb, true≢false, ltb-true, and_parts}
 use Rattle.audit_model.specs.declared.sighting.SightId.{SightId}
 use Rattle.audit_model.specs.declared.sighting.Sighting.{Sighting}
 use Rattle.audit_model.specs.Policy.{listens, AreApart}
@@ -27,7 +27,7 @@ use Rattle.audit_server.specs.Run.{IsFree, RunFrom}
 use Rattle.audit_server.specs.State.{State, at_first, after}
 use Rattle.audit_server.specs.Step.{In}
 use Rattle.audit_whole.specs.BindingCapture.{the_server, the_pair, the_policy, request_payload, success_payload, request_name, success_name, the_request, the_success, binding_capture, binding_steps}
-use Rattle.audit_sightings.specs.ByInterface.{SightingFits}
+use Rattle.audit_sightings.specs.ByInterface.{AreBytes, SightingFits}
 use Rattle.audit_sightings.specs.Bounds.{IsBounded}
 use Rattle.audit_whole.specs.CaptureRun.{rules_for, IsCaptureRun}
 use Rattle.audit_whole.proofs.BindingMessages.{request_read, success_read, request_message, success_message, tells_client}
@@ -123,9 +123,14 @@ no_relay addr a b = absurd (true≢false (sym b))
 pub binding_apart : AreApart binding_capture.policy
 binding_apart = no_relay
 
+bytes : (payload : List ℕ) → list_all (λ b. ltb b 256) payload ≡ true → AreBytes payload
+bytes [] all i = omega arith
+bytes (b ∷ payload) all zero = ltb-true b 256 (and_parts (ltb b 256) (list_all (λ byte. ltb byte 256) payload) all).0
+bytes (b ∷ payload) all (suc i) = bytes payload (and_parts (ltb b 256) (list_all (λ byte. ltb byte 256) payload) all).1 i
+
 fits_at : (i j : ℕ) (s : Sighting) → sighting_at binding_capture (record { iface = i; index = j }) ≡ Some s → SightingFits s
-fits_at zero zero s h = subst SightingFits (let k : the_request ≡ s = cc in k) (omega arith, (omega arith, omega arith), (omega arith, omega arith))
-fits_at zero (suc zero) s h = subst SightingFits (let k : the_success ≡ s = cc in k) (omega arith, (omega arith, omega arith), (omega arith, omega arith))
+fits_at zero zero s h = subst SightingFits (let k : the_request ≡ s = cc in k) (omega arith, (omega arith, omega arith), (omega arith, omega arith), bytes request_payload refl)
+fits_at zero (suc zero) s h = subst SightingFits (let k : the_success ≡ s = cc in k) (omega arith, (omega arith, omega arith), (omega arith, omega arith), bytes success_payload refl)
 fits_at zero (suc (suc j)) s h = absurd (let k : None ≡ Some s = h in cc)
 fits_at (suc i) j s h = absurd (let k : None ≡ Some s = h in cc)
 

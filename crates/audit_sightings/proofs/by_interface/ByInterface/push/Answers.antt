@@ -10,5 +10,5 @@ invariant_of-self-2 c =
     let named_by : List Sighting → SightId = λ interface. record { iface = c.args.iface; index = length interface } in
     AreByInterface-push c.self.inside.interfaces.items c.add.new.interfaces.items c.self.inside.count c.args.iface _ c.self.invariant (omega arith) (c.in_ok-add.ensures.few c.self.invariant.few_interfaces c.requires)
     (ap named_by (c.interface.ensures.exact ∙ ap (λ (interfaces : List (List Sighting)). of_interface interfaces c.args.iface) (sym c.self.view_is)))
-    (omega (arith, c.window-lo.type_inv.1), (omega arith, omega arith), (omega arith, omega arith))
+    (omega (arith, c.window-lo.type_inv.1), (omega arith, omega arith), (omega arith, omega arith), rw (c.from.ensures, c.in_ok-payload.ensures.items) c.bytes.ensures)
     c.in_ok-add.ensures.ok
