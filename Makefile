@@ -78,6 +78,8 @@ test:
 	python3 tests/random_captures.py $(PROGRAM) --count 500 --most 0
 	python3 tests/edge_captures.py $(PROGRAM) --count 2000 --most 13
 	python3 tests/prepare.py $(PREPARES)
+	python3 tests/prepared.py $(PREPARES) $(PROGRAM)
+	python3 tests/prepare_fails.py $(PREPARES)
 	python3 tests/fragments.py $(PREPARES) $(PROGRAM)
 	python3 tests/shown_faults.py $(SHOWS) $(PROGRAM)
 

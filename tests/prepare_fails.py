@@ -1,0 +1,92 @@
+#!/usr/bin/env python3
+"""Refuses turnprep each allocation, each opening, each read and each write in turn.
+
+    tests/prepare_fails.py TURNPREP
+
+Of an allocation that is refused comes status 3, of the others status 4, each with one line; what stands on standard output
+is a front of the answer. Reads and writes of a byte at a time change nothing. It needs gcc.
+"""
+
+import os
+import pathlib
+import subprocess
+import sys
+import tempfile
+
+HERE = pathlib.Path(__file__).resolve().parent
+# The commands, each on a small input. OUT is a folder.
+COMMANDS = {
+    "join": "join -o OUT/ring.pcapng inputs/ring1.pcapng inputs/ring2.pcapng",
+    "policy": "policy --turnserver-conf inputs/two.conf",
+    "users": "users --secret north --realm realm inputs/rest-secret.pcapng",
+    "translate": "translate --policy inputs/policy-outer --external-ip 198.18.0.1/192.0.2.1 -o OUT inputs/external-ip.pcapng",
+    "reassemble": "reassemble -o OUT inputs/external-ip.pcapng",
+    "cut": "cut --policy inputs/policy -o OUT inputs/relay2relay-coturn.pcapng",
+}
+# Standard error where nothing failed: how many calls there were.
+COUNTED = ("allocations: ", "calls: ")
+
+
+def built(room, name):
+    """A library that makes calls fail, to be loaded before others."""
+    library = pathlib.Path(room) / f"{name}.so"
+    subprocess.run(["gcc", "-shared", "-fPIC", "-O1", "-o", library, HERE / f"{name}.c", "-ldl"], check=True)
+    return library
+
+
+def run(program, words, room, **environment):
+    """What a command does in a folder of its own: its status, what it tells, and what it wrote."""
+    with tempfile.TemporaryDirectory(dir=room) as folder:
+        # Paths from the root don't count as calls that may fail.
+        out = os.path.relpath(folder, HERE / "prepare")
+        done = subprocess.run(
+            [program, *(word.replace("OUT", out) for word in words.split())],
+            cwd=HERE / "prepare",
+            capture_output=True,
+            env={**os.environ, **{name: str(value) for name, value in environment.items()}},
+        )
+        written = {file.name: file.read_bytes() for file in pathlib.Path(folder).iterdir()}
+    return done, written
+
+
+def told(done):
+    """Standard error without the line that counts calls."""
+    lines = done.stderr.decode().splitlines()
+    return [line for line in lines if not line.startswith(COUNTED)]
+
+
+def fail_each(program, name, words, room, library, status, most=20_000):
+    """Fails each call in turn, until none is left: the faults, and how many there were."""
+    whole, _ = run(program, words, room)
+    faults, number = [], 0
+    while number < most:
+        number += 1
+        done, _ = run(program, words, room, LD_PRELOAD=library, FAIL_AT=number)
+        if done.returncode == whole.returncode and done.stdout == whole.stdout:
+            return faults, number - 1
+        if done.returncode != status or len(told(done)) != 1 or not whole.stdout.startswith(done.stdout):
+            faults.append(f"{name}, {library.stem} {number}: status {done.returncode}, {done.stderr[:200]!r}")
+    return [*faults, f"{name}: more than {most} calls"], number
+
+
+def main():
+    program = pathlib.Path(sys.argv[1]).resolve()
+    faults = []
+    with tempfile.TemporaryDirectory(dir=HERE) as room:
+        memory, files = built(room, "failing_malloc"), built(room, "failing_io")
+        for name, words in COMMANDS.items():
+            found, allocations = fail_each(program, name, words, room, memory, 3)
+            more, calls = fail_each(program, name, words, room, files, 4)
+            whole, short = (run(program, words, room), run(program, words, room, LD_PRELOAD=files, SHORT=1))
+            faults += found + more
+            if (whole[0].stdout, whole[0].returncode, whole[1]) != (short[0].stdout, short[0].returncode, short[1]):
+                faults.append(f"{name}: answers otherwise by a byte at a time")
+            print(f"{name}: {allocations} allocations and {calls} calls failed in turn")
+    for fault in faults:
+        print(fault)
+    print(f"{len(faults)} failed")
+    return 1 if faults else 0
+
+
+if __name__ == "__main__":
+    sys.exit(main())

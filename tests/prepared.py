@@ -1,0 +1,83 @@
+#!/usr/bin/env python3
+"""Asks what an audit says of captures before turnprep, and of what it wrote.
+
+    tests/prepared.py TURNPREP TURNAUDIT
+
+Each line of tests/prepare/judged names a case of tests/prepare/cases, the policy of the audits, and what they say: of the
+captures that the case reads, and of those that it wrote. Where they conform, the list's last line has the same numbers.
+Then each example whose captures conform is cut: they stay byte for byte, and the list names nothing.
+"""
+
+import pathlib
+import subprocess
+import sys
+import tempfile
+
+TOP = pathlib.Path(__file__).resolve().parent.parent
+HERE = TOP / "tests" / "prepare"
+
+
+def said_of(auditor, policy, users, captures):
+    """`conforming ..`, the rule that is broken, or the refusal."""
+    words = [auditor, "audit", "--policy", policy]
+    if users:
+        words += ["--creds", users]
+    done = subprocess.run([*words, *captures], cwd=HERE, capture_output=True, text=True)
+    if done.returncode == 2:
+        return done.stderr.strip().removeprefix("turnaudit: ")
+    verdict, _, rest = done.stdout.partition("\n")[2].partition("\n")
+    return rest.partition("\n")[0].removeprefix("rule ") if verdict == "not shown" else verdict
+
+
+def check_case(preparer, auditor, words, policy, before, after):
+    """What is wrong with a case, if anything is."""
+    inputs = [word for word in words if word.startswith("inputs/") and word.endswith(".pcapng")]
+    said = said_of(auditor, policy, "inputs/creds", inputs)
+    if said != before:
+        return f"says {said!r} before"
+    with tempfile.TemporaryDirectory() as folder:
+        done = subprocess.run([preparer, *(word.replace("OUT", folder) for word in words)], cwd=HERE, capture_output=True, text=True)
+        written = sorted(str(file) for file in pathlib.Path(folder).glob("*.pcapng"))
+        said = said_of(auditor, policy, "inputs/creds", written)
+        if said != after:
+            return f"says {said!r} of what was written"
+        numbers = done.stdout.splitlines()[-1].removeprefix("kept ")
+        if words[0] == "cut" and after.startswith("conforming") and after != f"conforming {numbers}":
+            return f"kept {numbers}"
+    return None
+
+
+def check_example(preparer, example):
+    """What is wrong with cutting captures that conform, if anything is."""
+    captures = sorted(example.glob("*.pcapng"))
+    with tempfile.TemporaryDirectory() as folder:
+        done = subprocess.run([preparer, "cut", "--policy", example / "policy", "-o", folder, *captures], capture_output=True, text=True)
+        if done.returncode != 0:
+            return f"status {done.returncode}"
+        if any((pathlib.Path(folder) / it.name).read_bytes() != it.read_bytes() for it in captures):
+            return "writes other captures"
+        if "\naside in 0 0 out 0 0\n" not in done.stdout:
+            return "sets something aside"
+    return None
+
+
+def main():
+    preparer, auditor = (pathlib.Path(word).resolve() for word in sys.argv[1:])
+    cases = dict(line.split(" | ") for line in (HERE / "cases").read_text().splitlines())
+    rows = [line.split(" | ") for line in (HERE / "judged").read_text().splitlines()]
+    faults = {}
+    for name, policy, before, after in rows:
+        faults[name] = check_case(preparer, auditor, cases[name].split(), f"inputs/{policy}", before, after)
+    for example in sorted((TOP / "examples").iterdir()):
+        expected = example / "expected"
+        if expected.is_file() and "\nconforming " in expected.read_text():
+            faults[example.name] = check_example(preparer, example)
+    wrong = {name: fault for name, fault in faults.items() if fault}
+    for name, fault in wrong.items():
+        print(f"{name}: {fault}")
+    print(f"prepared: {len(faults) - len(wrong)} passed, {len(wrong)} failed")
+    return 1 if wrong else 0
+
+
+if __name__ == "__main__":
+    sys.exit(main())
