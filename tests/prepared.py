@@ -3,8 +3,8 @@
 
     tests/prepared.py TURNPREP TURNAUDIT
 
-Each line of tests/prepare/judged names a case of tests/prepare/cases, the policy of the audits, and what they say: of the
-captures that the case reads, and of those that it wrote. Where they conform, the list's last line has the same numbers.
+Each line of tests/prepare/judged names a case of tests/prepare/cases, the policy of the audits (or that before, and that
+behind), and what they say: of the captures that the case reads, and of those that it wrote. Where they conform, the list's last line has the same numbers.
 Then each example whose captures conform is cut: they stay byte for byte, and the list names nothing.
 """
 
@@ -29,16 +29,16 @@ def said_of(auditor, policy, users, captures):
     return rest.partition("\n")[0].removeprefix("rule ") if verdict == "not shown" else verdict
 
 
-def check_case(preparer, auditor, words, policy, before, after):
+def check_case(preparer, auditor, words, policies, before, after):
     """What is wrong with a case, if anything is."""
     inputs = [word for word in words if word.startswith("inputs/") and word.endswith(".pcapng")]
-    said = said_of(auditor, policy, "inputs/creds", inputs)
+    said = said_of(auditor, f"inputs/{policies[0]}", "inputs/creds", inputs)
     if said != before:
         return f"says {said!r} before"
     with tempfile.TemporaryDirectory() as folder:
         done = subprocess.run([preparer, *(word.replace("OUT", folder) for word in words)], cwd=HERE, capture_output=True, text=True)
         written = sorted(str(file) for file in pathlib.Path(folder).glob("*.pcapng"))
-        said = said_of(auditor, policy, "inputs/creds", written)
+        said = said_of(auditor, f"inputs/{policies[-1]}", "inputs/creds", written)
         if said != after:
             return f"says {said!r} of what was written"
         numbers = done.stdout.splitlines()[-1].removeprefix("kept ")
@@ -66,8 +66,8 @@ def main():
     cases = dict(line.split(" | ") for line in (HERE / "cases").read_text().splitlines())
     rows = [line.split(" | ") for line in (HERE / "judged").read_text().splitlines()]
     faults = {}
-    for name, policy, before, after in rows:
-        faults[name] = check_case(preparer, auditor, cases[name].split(), f"inputs/{policy}", before, after)
+    for name, policies, before, after in rows:
+        faults[name] = check_case(preparer, auditor, cases[name].split(), policies.split(), before, after)
     for example in sorted((TOP / "examples").iterdir()):
         expected = example / "expected"
         if expected.is_file() and "\nconforming " in expected.read_text():
