@@ -162,20 +162,22 @@ def read(log):
     return seen, last
 
 
-def chains(seen, uses):
-    """For each crate its longest chain: the proofs below it, one after the other, then its own proof or tests, then its edits."""
+def chains(seen, uses, seconds):
+    """For each crate its longest chain, by the seconds that a crate's checks took: the proofs below it, one after the other, then its own
+    proof or tests, then its edits."""
     found = {}
 
     def proofs(name):
         if name not in found:
             under = max((proofs(it) for it in uses.get(name, []) if it in seen), default=(0.0, []))
-            found[name] = under[0] + seen[name].wall[PROOF], [*under[1], name]
+            found[name] = under[0] + seconds(seen[name])[PROOF], [*under[1], name]
         return found[name]
 
     for name, crate in seen.items():
         total, names = proofs(name)
-        beyond = max(0.0, crate.wall[TESTS] - crate.wall[PROOF])
-        yield total + beyond + crate.wall[EDIT] + crate.wall[COMPILE], names
+        took = seconds(crate)
+        beyond = max(0.0, took[TESTS] - took[PROOF])
+        yield total + beyond + took[EDIT] + took[COMPILE], names
 
 
 def rows(seen):
@@ -195,9 +197,13 @@ def said(log):
     seen, last = read(log)
     minutes = {kind: sum(it.cpu[kind] for it in seen.values()) / 60 for kind in (PROOF, TESTS, EDIT, COMPILE)}
     parts = ", ".join(f"{kind} {it:.0f}" for kind, it in minutes.items())
-    seconds, names = max(chains(seen, crates.uses()))
+    seconds, names = max(chains(seen, crates.uses(), lambda it: it.wall))
+    of_processor, _ = max(chains(seen, crates.uses(), lambda it: it.cpu))
     yield f"It took {last / 60:.0f} minutes, and {sum(minutes.values()):.0f} processor minutes: {parts}."
-    chain = f"The longest chain takes {seconds / 60:.0f} minutes: the proofs of {', '.join(names)}, then the tests and edits of the last."
+    chain = (
+        f"The longest chain takes {seconds / 60:.0f} minutes by the clock, beside other work: the proofs of {', '.join(names)}, then the tests "
+        f"and edits of the last. By the seconds of the processor, which other work lengthens less, it takes {of_processor / 60:.0f}."
+    )
     yield from textwrap.wrap(chain, 100)
     yield ""
     yield from rows(seen)
