@@ -1,0 +1,31 @@
+//! What holds of captures out of which lines of a list left packets, by the definitions alone. No program calls these.
+
+ghost use Rattle.std.specs.Prelude.{◌≡◌, ℕ, List, Option, map};
+ghost use Rattle.audit_files.specs.Judged.{IsAudited};
+ghost use Rattle.audit_model.specs.declared.certificate.Certificate.{Certificate};
+ghost use Rattle.audit_pcapng.specs.Captures.{IsCapture};
+ghost use Rattle.prep_blocks.specs.declared.block.Block.{Block};
+ghost use Rattle.prep_blocks.specs.Splitting.{IsWhole};
+ghost use Rattle.prep_cut.specs.declared.plan.Plan.{Plan};
+ghost use Rattle.audit_pcapng.specs.declared.packet.Packet.{Packet};
+ghost use Rattle.prep_verdict.specs.Audited.{AreWhole, ExplainsTheRest};
+ghost use Rattle.prep_verdict.specs.Rest.{Capture, packets_in, stays, written};
+
+/// The packets of a capture are those of its blocks.
+pub fn captures_have_these_packets()
+    ensures { (text : List ℕ) (blocks : List Block) → IsWhole text blocks → IsCapture text (packets_in blocks) }
+{}
+
+/// Where what is written of a capture is a capture, its packets are those of the capture that no line leaves out.
+pub fn what_is_written_has_the_rest()
+    ensures { (plan : Plan) (capture : Capture) (packets : List Packet) → IsWhole capture.text capture.blocks →
+        IsCapture (written plan capture) packets → packets ≡ packets_in (stays plan capture) }
+{}
+
+/// Where captures were cut by a plan, and the audit of what was written says `conforming`, which is status 0, one run of the RFC 8656
+/// server explains every datagram of the service in these captures, but those of packets that a line of the list leaves out.
+pub fn the_rest_is_explained()
+    ensures { (plan : Plan) (captures : List Capture) (policy users : List ℕ) (certificate : Certificate) (before after : Option (List ℕ)) →
+        AreWhole captures → IsAudited policy users (map (written plan) captures) certificate before after 0 →
+        ExplainsTheRest plan captures policy users certificate }
+{}
