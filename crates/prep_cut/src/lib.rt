@@ -14,6 +14,6 @@ pub use cutter::{Cutter, WasCut};
 pub use datagram::{Datagram, datagram_in, frame_in};
 pub use fault::{CutFault, CutRefused};
 pub use plan::{LineNumber, Plan};
-pub use reason::{FarEnd, Reason};
+pub use reason::{FarEnd, Reason, ReasonKind};
 pub use stated::Stated;
 pub use tally::{Count, Tallies, Tally, Totals};
