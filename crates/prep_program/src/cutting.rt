@@ -10,10 +10,8 @@ ghost use Rattle.prep_program.specs.Cuts.{Cuts};
 use crate::maker::Maker;
 use crate::source::{PIECE, Source};
 use crate::stop::Stop;
-use crate::taking::take_captures;
-use audit_model::{Policy, put_all};
-use prep_cut::{Cutter, LineNumber, Plan, Stated, Tallies, Totals, WasCut};
-use prep_records::{Recorder, Records};
+use audit_model::put_all;
+use prep_cut::{Cutter, LineNumber, Plan, Tallies, Totals, WasCut};
 use std::alloc::Global;
 
 /// Writes a capture without what is set aside, from its first byte to its last, to the file that was made last.
@@ -100,17 +98,4 @@ pub fn cut_captures<S: Source, M: Maker>(
         number = number.saturating_add(1);
     }
     Ok(AllCut { totals, tallies })
-}
-
-/// Reads captures for what is to be proposed.
-pub fn record_captures<S: Source>(
-    alloc: Global,
-    source: &mut S,
-    names: &[&str],
-    policy: &Policy,
-    stated: Stated,
-) -> Result<Records, Stop> {
-    let mut recorder = Recorder::new(alloc, policy, stated);
-    take_captures(alloc, source, names, &mut recorder)?;
-    Ok(recorder.finish())
 }

@@ -1,13 +1,13 @@
 //! The command `look`.
 
-use crate::cutting::record_captures;
+use crate::recording::record_captures;
 use crate::source::Source;
 use crate::stop::Stop;
-use crate::taking::take_captures;
+use crate::surveying::survey_captures;
 use crate::text::read_text;
 use audit_model::{Policy, Sink, put_all, read_policy};
 use prep_cut::Stated;
-use prep_look::{Guess, Survey, Surveyor, guess, page_of};
+use prep_look::{Guess, Survey, guess, page_of};
 use prep_reasons::sort_out;
 use std::alloc::Global;
 
@@ -39,9 +39,7 @@ pub fn run_look<S: Source, O: Sink>(
         Some(name) => Some(policy_in(alloc, name, source)?),
         None => None,
     };
-    let mut surveyor = Surveyor::new(alloc);
-    take_captures(alloc, source, &request.captures, &mut surveyor)?;
-    let survey = surveyor.finish()?;
+    let survey = survey_captures(alloc, source, &request.captures)?;
     let taken = match given {
         Some(taken) => taken,
         None => guessed(alloc, &survey)?,

@@ -67,6 +67,7 @@ impl<'a> Sheet<'a> {
             mut told,
             captures: _,
             first,
+            allocations: _,
         } = all;
         records.sort_by_key(|record| (record.stamp, record.iface, record.packet))?;
         told.sort_by_key(|told| (told.relayed, told.stamp))?;
