@@ -4,7 +4,7 @@
     tests/looking.py PROGRAM [CLIENTS]
 
 Text of a capture never comes into a page. What is refused is told as elsewhere. Clients, told addresses, transaction ids and data
-that collide take little time: of 20,000 clients, or as many as are said.
+that collide take little time: of 20,000 clients, or as many as are said, 300 at least.
 """
 
 import pathlib

@@ -80,7 +80,7 @@ impl Group {
 }
 
 /// What the records show to be relayed. The cost is their number times its logarithm.
-pub(crate) fn crossings(alloc: Global, sheet: &Sheet<'_>) -> Result<Crossings, AllocError> {
+pub(crate) fn find_crossings(alloc: Global, sheet: &Sheet<'_>) -> Result<Crossings, AllocError> {
     let mut carried = Vec::new(alloc);
     for at in 0..sheet.len() {
         if let Some(record) = sheet.record(at) {

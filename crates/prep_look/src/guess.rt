@@ -73,7 +73,7 @@ struct Range {
 }
 
 /// Guesses that those listen who answer an Allocate, or else a Binding, and that it is relayed from the addresses told.
-pub fn guess(alloc: Global, survey: &Survey) -> Result<Guess, GuessFault> {
+pub fn guess_policy(alloc: Global, survey: &Survey) -> Result<Guess, GuessFault> {
     let listen = listening(alloc, survey)?;
     if listen.is_empty() {
         return Err(GuessFault::NoAnswer);

@@ -15,7 +15,7 @@ mod surveyor;
 mod told;
 mod unjudged;
 
-pub use guess::{Guess, GuessFault, guess};
+pub use guess::{Guess, GuessFault, guess_policy};
 pub use page::page_of;
 pub use survey::Survey;
 pub use surveyor::Surveyor;

@@ -25,7 +25,7 @@ struct Lease {
 }
 
 /// The losses that responses show, if some do.
-pub(crate) fn losses(alloc: Global, sheet: &Sheet<'_>) -> Result<Option<Losses>, AllocError> {
+pub(crate) fn find_losses(alloc: Global, sheet: &Sheet<'_>) -> Result<Option<Losses>, AllocError> {
     let mut leases: Vec<Option<Lease>> = vec![in alloc; None; sheet.pair_count() as usize]?;
     let mut count = 0u64;
     let mut first: Option<u64> = None;

@@ -2,14 +2,14 @@
 
 use crate::advice::Ip;
 use crate::advising::{Findings, advise};
-use crate::crossings::crossings;
+use crate::crossings::find_crossings;
 use crate::interface::Interface;
-use crate::losses::losses;
+use crate::losses::find_losses;
 use crate::passed::Passed;
-use crate::responses::answered;
+use crate::responses::count_answered;
 use crate::survey::{Answers, Survey};
 use crate::told::{ToldAddress, split_ip};
-use crate::unjudged::unjudged;
+use crate::unjudged::count_unjudged;
 use audit_model::{Addr, Policy, Side};
 use prep_reasons::Sheet;
 use prep_records::{Content, Record};
@@ -71,10 +71,10 @@ pub fn page_of(
 ) -> Result<String, AllocError> {
     let mut survey = survey;
     let found = Findings {
-        answered: answered(alloc, sheet)?,
-        crossings: crossings(alloc, sheet)?,
-        losses: losses(alloc, sheet)?,
-        unjudged: unjudged(alloc, sheet)?,
+        answered: count_answered(alloc, sheet)?,
+        crossings: find_crossings(alloc, sheet)?,
+        losses: find_losses(alloc, sheet)?,
+        unjudged: count_unjudged(alloc, sheet)?,
     };
     let mut page = String::from_str(alloc, "turnprep-look 1\n")?;
     write_interfaces(alloc, &mut page, &mut survey.interfaces, sheet)?;

@@ -12,7 +12,7 @@ pub(crate) struct Answered {
 }
 
 /// How many requests were answered, each once.
-pub(crate) fn answered(alloc: Global, sheet: &Sheet<'_>) -> Result<Answered, AllocError> {
+pub(crate) fn count_answered(alloc: Global, sheet: &Sheet<'_>) -> Result<Answered, AllocError> {
     let mut all = Answered {
         count: 0,
         longest: 0,

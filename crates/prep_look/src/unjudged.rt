@@ -24,7 +24,10 @@ struct Sides {
 }
 
 /// What is set aside by kind, in the order of the list.
-pub(crate) fn unjudged(alloc: Global, sheet: &Sheet<'_>) -> Result<Vec<Unjudged>, AllocError> {
+pub(crate) fn count_unjudged(
+    alloc: Global,
+    sheet: &Sheet<'_>,
+) -> Result<Vec<Unjudged>, AllocError> {
     let none = Sides {
         arrived: 0,
         left: 0,

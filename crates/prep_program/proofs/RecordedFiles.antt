@@ -7,12 +7,10 @@ use Rattle.audit_model.specs.declared.policy.Policy.{Policy}
 use Rattle.prep_blocks.specs.declared.block.Block.{Block}
 use Rattle.prep_blocks.specs.Read.{bytes_of}
 use Rattle.prep_blocks.specs.Splitting.{IsWhole}
-use Rattle.prep_cut.specs.declared.allocations.Allocations.{Allocations}
-use Rattle.prep_cut.specs.Allocating.{AreNoted}
 use Rattle.prep_records.specs.declared.recorder.Recorder.{Recorder}
 use Rattle.prep_records.specs.Recording.{IsRecording, GoesOn, Ended}
 use Rattle.prep_program.specs.declared.stop.Stop.{Stop}
-use Rattle.prep_program.specs.Recordings.{RecordedSoFar, Recorded, RecordedAll}
+use Rattle.prep_program.specs.Recordings.{RecordedSoFar, Recorded}
 
 pub nothing_recorded : (recorder : Recorder) (policy : Policy) (earlier : List Block) → IsRecording recorder policy earlier [] [] → RecordedSoFar recorder policy earlier []
 nothing_recorded recorder policy earlier r = record { current = []; recording = r }

@@ -1,5 +1,5 @@
 -- Captures that are recorded, and what is noted of their Allocates.
-use Rattle.std.specs.Prelude.{◌≡◌, ℕ, List, [], map}
+use Rattle.std.specs.Prelude.{◌≡◌, ℕ, List, map}
 use Rattle.std.specs.List.{AllByRecursion, concat}
 use Rattle.audit_model.specs.declared.policy.Policy.{Policy}
 use Rattle.prep_blocks.specs.declared.block.Block.{Block}

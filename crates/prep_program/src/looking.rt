@@ -7,7 +7,7 @@ use crate::surveying::survey_captures;
 use crate::text::read_text;
 use audit_model::{Policy, Sink, put_all, read_policy};
 use prep_cut::Stated;
-use prep_look::{Guess, Survey, guess, page_of};
+use prep_look::{Guess, Survey, guess_policy, page_of};
 use prep_reasons::sort_out;
 use std::alloc::Global;
 
@@ -62,7 +62,7 @@ fn policy_in<S: Source>(alloc: Global, name: &str, source: &mut S) -> Result<Tak
 
 /// A policy out of what the captures show.
 fn guessed(alloc: Global, survey: &Survey) -> Result<Taken, Stop> {
-    let Guess { policy, suggested } = guess(alloc, survey)?;
+    let Guess { policy, suggested } = guess_policy(alloc, survey)?;
     Ok(Taken {
         policy,
         suggested: Vec::from_slice(alloc, suggested.as_bytes())?,

@@ -1,9 +1,8 @@
 -- A recorder's relation, step by step.
-use Rattle.std.proofs.Common.{◌≡◌, ℕ, Bool, true, List, [], ◌∷◌, ◌++◌, Option, Some, None, refl, sym, ap, subst, ◌∙◌, append_assoc}
+use Rattle.std.proofs.Common.{◌≡◌, ℕ, true, List, [], ◌∷◌, ◌++◌, Option, Some, None, refl, sym, ap, subst, ◌∙◌, append_assoc}
 use Rattle.std.proofs.lemmas.List.{append-nil}
 use Rattle.audit_model.specs.declared.policy.Policy.{Policy}
 use Rattle.prep_blocks.specs.declared.block.Block.{Block}
-use Rattle.prep_blocks.specs.declared.splitter.BlockSplitter.{BlockSplitter}
 use Rattle.prep_blocks.specs.Splitting.{StandsFor, Gave, IsWhole}
 use Rattle.prep_cut.specs.declared.allocations.Allocations.{Allocations}
 use Rattle.prep_cut.specs.declared.datagram.Datagram.{Datagram}
