@@ -91,10 +91,7 @@ impl fmt::Display for Advice {
                 "{frames} frames are longer than an Ethernet frame and {channel_data} ChannelData have more behind their data: offloads merged them (ethtool -K IF gro off gso off tso off)"
             ),
             Advice::Translate(alias) => write_translate(f, alias),
-            Advice::SetAside { kind, lines } => {
-                let what = what_is_set_aside(*kind);
-                write!(f, "{lines} {what}: cut")
-            }
+            Advice::SetAside { kind, lines } => { write_set_aside(f, *kind, *lines) }
             Advice::Clocks {
                 arrival,
                 departure,
@@ -137,6 +134,15 @@ fn write_translate<W: fmt::Write>(f: &mut fmt::Formatter<W>, alias: &Alias) -> f
         f,
         "translate --external-ip {public}/{private}, policy relay {public}"
     )
+}
+
+fn write_set_aside<W: fmt::Write>(
+    f: &mut fmt::Formatter<W>,
+    kind: ReasonKind,
+    lines: u64,
+) -> fmt::Result {
+    let what = what_is_set_aside(kind);
+    write!(f, "{lines} {what}: cut")
 }
 
 fn what_is_set_aside(kind: ReasonKind) -> &'static str {

@@ -84,8 +84,11 @@ impl Interface {
 
     /// Counts a frame that is passed over.
     pub(crate) fn pass(&mut self, passed: Passed) -> Result<(), AllocError> {
-        let count = self.passed.entry(passed)?.or_insert(0);
-        *count = count.saturating_add(1);
+        let count = match self.passed.get(&passed) {
+            Some(count) => *count,
+            None => 0,
+        };
+        self.passed.insert(passed, count.saturating_add(1))?;
         Ok(())
     }
 }

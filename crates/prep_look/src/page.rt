@@ -41,14 +41,13 @@ impl Sides {
     /// With a datagram more.
     fn with(self, record: &Record) -> Self {
         let mut sides = self;
-        let count = match (record.content, record.side) {
-            (Content::Inside, _) => &mut sides.inside,
-            (Content::Relayed, Side::Arrives) => &mut sides.relay_in,
-            (Content::Relayed, Side::Leaves) => &mut sides.relay_out,
-            (_, Side::Arrives) => &mut sides.client_in,
-            (_, Side::Leaves) => &mut sides.client_out,
-        };
-        *count = count.saturating_add(1);
+        match (record.content, record.side) {
+            (Content::Inside, _) => sides.inside = one_more(sides.inside),
+            (Content::Relayed, Side::Arrives) => sides.relay_in = one_more(sides.relay_in),
+            (Content::Relayed, Side::Leaves) => sides.relay_out = one_more(sides.relay_out),
+            (_, Side::Arrives) => sides.client_in = one_more(sides.client_in),
+            (_, Side::Leaves) => sides.client_out = one_more(sides.client_out),
+        }
         sides
     }
 
@@ -59,6 +58,10 @@ impl Sides {
             .saturating_add(self.relay_out)
             .saturating_add(self.inside)
     }
+}
+
+fn one_more(count: u64) -> u64 {
+    count.saturating_add(1)
 }
 
 /// The page up to the suggested policy, whose heading is its last line. It holds numbers, addresses and words of its own, nothing as the
@@ -81,7 +84,8 @@ pub fn page_of(
     write_answers(&mut page, &survey.answers, policy)?;
     write_told(&mut page, &survey.told, policy)?;
     write_findings(&mut page, &found)?;
-    for advice in &advise(alloc, &survey, policy, &found)? {
+    let advices = advise(alloc, &survey, policy, &found)?;
+    for advice in &advices {
         write!(page, "advice {advice}\n")?;
     }
     page.push_str("suggested-policy\n")?;
@@ -98,10 +102,12 @@ fn write_interfaces(
     let mut sides: BTreeMap<u32, Sides> = BTreeMap::new(alloc);
     for at in 0..sheet.len() {
         if let Some(record) = sheet.record(at) {
-            let count = sides
-                .entry(u32::from(record.iface))?
-                .or_insert(Sides::none());
-            *count = count.with(&record);
+            let number = u32::from(record.iface);
+            let earlier = match sides.get(&number) {
+                Some(earlier) => *earlier,
+                None => Sides::none(),
+            };
+            sides.insert(number, earlier.with(&record))?;
         }
     }
     for place in 0..interfaces.len() {

@@ -82,7 +82,7 @@ pub(crate) fn passed_as(frame: &[u8]) -> Passed {
 fn header_length(frame: &[u8], at: usize) -> usize
     ensures { result ≤ 60 }
 {
-    usize::from(byte_at(frame, at) & 15) * 4
+    (byte_at(frame, at) & 15) as usize * 4
 }
 
 fn passed_ipv4(frame: &[u8], at: usize) -> Passed

@@ -13,7 +13,7 @@ use audit_stun::{Class, address, channel_data, message};
 use prep_blocks::{Block, BlockSplitter, PacketHead};
 use prep_frames::{frame_of, seen_of};
 use std::alloc::{AllocError, Global};
-use std::collections::BTreeSet;
+use std::collections::{BTreeMap, BTreeSet};
 
 /// Where a statistics block names its interface.
 const STATISTICS_INTERFACE: usize = 8;
@@ -165,16 +165,8 @@ impl Surveyor {
                 self.wire.insert(to)?;
                 self.take_payload(from, to, payload)
             }
-            Seen::Fragment { from, to } => {
-                let count = self.all.fragments.entry((from, to))?.or_insert(0);
-                *count = count.saturating_add(1);
-                Ok(())
-            }
-            Seen::Cut { ips: Some(ips) } => {
-                let count = self.all.cuts.entry(ips)?.or_insert(0);
-                *count = count.saturating_add(1);
-                Ok(())
-            }
+            Seen::Fragment { from, to } => { count_ends(&mut self.all.fragments, (from, to)) }
+            Seen::Cut { ips: Some(ips) } => { count_ends(&mut self.all.cuts, ips) }
             Seen::Cut { ips: None } => {
                 self.all.unnamed_cuts = self.all.unnamed_cuts.saturating_add(1);
                 Ok(())
@@ -207,8 +199,11 @@ impl Surveyor {
     fn take_payload(&mut self, from: Addr, to: Addr, payload: &[u8]) -> Result<(), AllocError> {
         if let Some((_, _, behind)) = channel_data(payload) {
             if behind > MOST_PADDING {
-                let count = self.all.merged.entry((from, to))?.or_insert(0);
-                *count = count.saturating_add(1);
+                let count = match self.all.merged.get(&(from, to)) {
+                    Some(count) => *count,
+                    None => 0,
+                };
+                self.all.merged.insert((from, to), count.saturating_add(1))?;
             }
             return Ok(());
         }
@@ -248,4 +243,11 @@ impl Surveyor {
         self.all.answers.insert(from, answers)?;
         Ok(())
     }
+}
+
+/// Counts a frame between two addresses.
+fn count_ends(counts: &mut BTreeMap<(u32, u32), u64>, ips: (u32, u32)) -> Result<(), AllocError> {
+    let count = counts.entry(ips)?.or_insert(0);
+    *count = count.saturating_add(1);
+    Ok(())
 }

@@ -1,7 +1,7 @@
 //! What `cut` would set aside.
 
 use audit_model::Side;
-use prep_cut::ReasonKind;
+use prep_cut::{Reason, ReasonKind};
 use prep_reasons::Sheet;
 use std::alloc::{AllocError, Global};
 use std::collections::BTreeMap;
@@ -44,8 +44,22 @@ pub(crate) fn count_unjudged(
             }
         }
     }
+    let by_kind = sum_kinds(alloc, sheet.reasons(), &by_line)?;
+    let mut all = Vec::new(alloc);
+    for one in by_kind.values() {
+        all.push(*one)?;
+    }
+    Ok(all)
+}
+
+/// The lines of each kind together. One by which nothing is set aside is none.
+fn sum_kinds(
+    alloc: Global,
+    reasons: &[Reason],
+    by_line: &[Sides],
+) -> Result<BTreeMap<ReasonKind, Unjudged>, AllocError> {
     let mut by_kind: BTreeMap<ReasonKind, Unjudged> = BTreeMap::new(alloc);
-    for (reason, sides) in sheet.reasons().iter().zip(by_line.iter()) {
+    for (reason, sides) in reasons.iter().zip(by_line.iter()) {
         if sides.arrived > 0 || sides.left > 0 {
             let kind = reason.kind();
             let all = match by_kind.get(&kind) {
@@ -60,11 +74,7 @@ pub(crate) fn count_unjudged(
             by_kind.insert(kind, all)?;
         }
     }
-    let mut all = Vec::new(alloc);
-    for one in by_kind.values() {
-        all.push(*one)?;
-    }
-    Ok(all)
+    Ok(by_kind)
 }
 
 impl Unjudged {
