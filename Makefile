@@ -55,7 +55,7 @@ edits:
 # others, and runs the tests and the program. Then, with the program that this built: judges the captures in examples, asks that the number
 # of workers changes no answer, tries the examples of docs/REFUSALS.md, compares with the plain checker, gives it hostile input and captures
 # that grow, refuses it memory, installs it, audits a fleet by two engines, and has it find certificates for captures of a simulated server.
-# At last it runs turnprep on its cases, and asks turnaudit_faults for what is known of captures.
+# At last it runs turnprep on its cases and on captures of strangers, and asks turnaudit_faults for what is known of captures.
 test:
 	python3 tests/documents.py
 	tools/reading_copy.py --check
@@ -80,6 +80,7 @@ test:
 	python3 tests/prepare.py $(PREPARES)
 	python3 tests/prepared.py $(PREPARES) $(PROGRAM)
 	python3 tests/prepare_fails.py $(PREPARES)
+	python3 tests/looking.py $(PREPARES)
 	python3 tests/fragments.py $(PREPARES) $(PROGRAM)
 	python3 tests/shown_faults.py $(SHOWS) $(PROGRAM)
 

@@ -1,2 +1,4 @@
 pub mod Marked
 mod Going
+mod Staying
+mod Noting

@@ -1,5 +1,5 @@
 -- The datagram of the service in a packet's block, by the definition of what a frame holds.
-use Rattle.std.specs.Prelude.{ℕ, Bool, true, false, ◌&&◌, ◌||◌, List, [], ◌∷◌, length, take, drop, Option, Some, None, nat_lt, nat_le}
+use Rattle.std.specs.Prelude.{ℕ, Bool, true, false, not, ◌&&◌, ◌||◌, List, [], ◌∷◌, length, take, drop, Option, Some, None, nat_lt, nat_le}
 use Rattle.audit_model.specs.declared.address.Addr.{Addr}
 use Rattle.audit_model.specs.declared.policy.Policy.{Policy}
 use Rattle.audit_model.specs.declared.sighting.Side.TheVariants.{Arrives, Leaves}
@@ -9,6 +9,8 @@ use Rattle.audit_model.specs.Policy.{listens, relays}
 use Rattle.prep_blocks.specs.declared.block.Block.{Block}
 use Rattle.prep_blocks.specs.declared.block.PacketHead.{PacketHead}
 use Rattle.prep_cut.specs.declared.datagram.Datagram.{Datagram}
+use Rattle.prep_cut.specs.declared.transaction.Transaction.{Transaction}
+use Rattle.prep_cut.specs.Identifying.{id_of, transaction_of}
 
 -- an end of the service
 abbrev pub is_endpoint : Policy → Addr → Bool
@@ -23,14 +25,43 @@ abbrev pub is_secured : List ℕ → Bool
 is_secured [] = false
 is_secured (first ∷ rest) = nat_le 20 first && nat_lt first 64
 
+-- an Allocate success (type 259) that leaves a listen address to a client
+abbrev pub granted_by : Policy → Bool → Addr → Addr → List ℕ → Option Transaction
+granted_by policy arrives from to payload = transaction_of (listens policy from && not arrives) to from (id_of 259 payload)
+
+-- an Allocate request (type 3) that arrives at a listen address from a client
+abbrev pub asked_by : Policy → Addr → Addr → List ℕ → Option Transaction
+asked_by policy from to payload = transaction_of (listens policy to) from to (id_of 3 payload)
+
 -- by whether a datagram is from an end of the service, and whether it is to one
-abbrev pub of_ends : Bool → Bool → ℕ → Addr → Addr → List ℕ → Option Datagram
-of_ends true arrives stamp from to payload = Some (record { stamp = stamp; from = from; to = to; side = Leaves; is_inside = arrives; is_dtls = is_secured payload; size = length payload })
-of_ends false true stamp from to payload = Some (record { stamp = stamp; from = from; to = to; side = Arrives; is_inside = false; is_dtls = is_secured payload; size = length payload })
-of_ends false false stamp from to payload = None
+abbrev pub by_ends : Policy → Bool → Bool → ℕ → Addr → Addr → List ℕ → Option Datagram
+by_ends policy true arrives stamp from to payload = Some (record {
+  stamp = stamp;
+  from = from;
+  to = to;
+  side = Leaves;
+  is_inside = arrives;
+  is_dtls = is_secured payload;
+  size = length payload;
+  allocate = granted_by policy arrives from to payload;
+})
+by_ends policy false true stamp from to payload = Some (record {
+  stamp = stamp;
+  from = from;
+  to = to;
+  side = Arrives;
+  is_inside = false;
+  is_dtls = is_secured payload;
+  size = length payload;
+  allocate = asked_by policy from to payload;
+})
+by_ends policy false false stamp from to payload = None
+
+abbrev pub of_ends : Policy → ℕ → Addr → Addr → List ℕ → Option Datagram
+of_ends policy stamp from to payload = by_ends policy (is_endpoint policy from) (is_endpoint policy to) stamp from to payload
 
 abbrev pub of_seen : Policy → ℕ → Held → Option Datagram
-of_seen policy stamp (frame.Udp from to payload) = of_ends (is_endpoint policy from) (is_endpoint policy to) stamp from to payload
+of_seen policy stamp (frame.Udp from to payload) = of_ends policy stamp from to payload
 of_seen policy stamp frame.Other = None
 of_seen policy stamp (frame.Fragment from to) = None
 of_seen policy stamp (frame.Cut ips) = None

@@ -8,6 +8,8 @@ use Rattle.prep_cut.specs.declared.datagram.Datagram.{Datagram}
 use Rattle.prep_cut.specs.declared.reason.Reason.{Reason}
 use Rattle.prep_cut.specs.declared.reason.Reason.TheVariants as reasons
 use Rattle.prep_cut.specs.declared.stated.Stated.{Stated}
+use Rattle.prep_cut.specs.declared.allocations.Allocations.{Allocations}
+use Rattle.prep_cut.specs.Allocating.{is_shown}
 
 abbrev pub same : Addr → Addr → Bool
 same a b = (a.ip == b.ip) && (a.port == b.port)
@@ -64,19 +66,20 @@ is_named (reasons.Inner pair peer) datagram = is_of_pair datagram pair
 is_named (reasons.Inside from to) datagram = datagram.is_inside && (same datagram.from from && same datagram.to to)
 is_named reasons.AfterUntil datagram = true
 
-abbrev pub may_leave_datagram : Stated → Reason → Option Datagram → Bool
-may_leave_datagram stated reason None = false
-may_leave_datagram stated reason (Some datagram) = is_stated stated reason && is_named reason datagram
+abbrev pub may_leave_datagram : Stated → Allocations → Reason → Option Datagram → Bool
+may_leave_datagram stated allocations reason None = false
+may_leave_datagram stated allocations reason (Some datagram) = is_stated stated reason && (is_named reason datagram && not (is_shown allocations datagram))
 
--- the reason may set aside a packet of this stamp, which holds this datagram or none
-abbrev pub may_leave_packet : Stated → Reason → ℕ → Option Datagram → Bool
-may_leave_packet stated reasons.BeforeSince stamp datagram = is_early stated.since stamp
-may_leave_packet stated reasons.AfterUntil stamp datagram = is_late stated.until stamp
-may_leave_packet stated (reasons.Client pair) stamp datagram = may_leave_datagram stated (reasons.Client pair) datagram
-may_leave_packet stated (reasons.Answer pair) stamp datagram = may_leave_datagram stated (reasons.Answer pair) datagram
-may_leave_packet stated (reasons.AddressOf relayed tenure pair) stamp datagram = may_leave_datagram stated (reasons.AddressOf relayed tenure pair) datagram
-may_leave_packet stated (reasons.AddressTold relayed tenure client) stamp datagram = may_leave_datagram stated (reasons.AddressTold relayed tenure client) datagram
-may_leave_packet stated (reasons.Address relayed tenure) stamp datagram = may_leave_datagram stated (reasons.Address relayed tenure) datagram
-may_leave_packet stated (reasons.Dtls pair) stamp datagram = may_leave_datagram stated (reasons.Dtls pair) datagram
-may_leave_packet stated (reasons.Inner pair peer) stamp datagram = may_leave_datagram stated (reasons.Inner pair peer) datagram
-may_leave_packet stated (reasons.Inside from to) stamp datagram = may_leave_datagram stated (reasons.Inside from to) datagram
+-- The reason may set aside a packet of this stamp, which holds this datagram or none. Of the Allocates that the captures show with their
+-- successes it may not, but outside the moments that are stated.
+abbrev pub may_leave_packet : Stated → Allocations → Reason → ℕ → Option Datagram → Bool
+may_leave_packet stated allocations reasons.BeforeSince stamp datagram = is_early stated.since stamp
+may_leave_packet stated allocations reasons.AfterUntil stamp datagram = is_late stated.until stamp
+may_leave_packet stated allocations (reasons.Client pair) stamp datagram = may_leave_datagram stated allocations (reasons.Client pair) datagram
+may_leave_packet stated allocations (reasons.Answer pair) stamp datagram = may_leave_datagram stated allocations (reasons.Answer pair) datagram
+may_leave_packet stated allocations (reasons.AddressOf relayed tenure pair) stamp datagram = may_leave_datagram stated allocations (reasons.AddressOf relayed tenure pair) datagram
+may_leave_packet stated allocations (reasons.AddressTold relayed tenure client) stamp datagram = may_leave_datagram stated allocations (reasons.AddressTold relayed tenure client) datagram
+may_leave_packet stated allocations (reasons.Address relayed tenure) stamp datagram = may_leave_datagram stated allocations (reasons.Address relayed tenure) datagram
+may_leave_packet stated allocations (reasons.Dtls pair) stamp datagram = may_leave_datagram stated allocations (reasons.Dtls pair) datagram
+may_leave_packet stated allocations (reasons.Inner pair peer) stamp datagram = may_leave_datagram stated allocations (reasons.Inner pair peer) datagram
+may_leave_packet stated allocations (reasons.Inside from to) stamp datagram = may_leave_datagram stated allocations (reasons.Inside from to) datagram

@@ -1,6 +1,9 @@
+pub mod Identifying
 pub mod Datagrams
+pub mod Allocating
 pub mod Guard
 pub mod Marks
+pub mod Kept
 pub mod Tallied
 pub mod Marking
 pub mod Cutting

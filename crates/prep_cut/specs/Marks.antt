@@ -14,7 +14,7 @@ use Rattle.prep_cut.specs.Guard.{may_leave_packet}
 abbrev pub may_leave_head : Plan → Option Reason → Block → Option PacketHead → Bool
 may_leave_head plan None block packet = false
 may_leave_head plan (Some reason) block None = false
-may_leave_head plan (Some reason) block (Some head) = may_leave_packet plan.stated reason head.stamp (datagram_of_block plan.policy block)
+may_leave_head plan (Some reason) block (Some head) = may_leave_packet plan.stated plan.allocations reason head.stamp (datagram_of_block plan.policy block)
 
 -- the line's reason may set aside the block's packet
 abbrev pub may_leave_at : Plan → ℕ → Block → Bool

@@ -2,8 +2,9 @@
 
 ghost use Rattle.std.specs.Prelude.{◌≡◌};
 ghost use Rattle.audit_packets.specs.View.{view};
-ghost use Rattle.prep_cut.specs.Datagrams.{frame_of, is_endpoint, datagram_of_block, of_seen, of_ends, is_secured};
+ghost use Rattle.prep_cut.specs.Datagrams.{frame_of, datagram_of_block, of_seen, of_ends, is_secured};
 
+use crate::transaction::{Transaction, id_in};
 use audit_model::{Addr, Policy, Side};
 use audit_packets::{Seen, slice_datagram};
 use audit_pcapng::PacketSlice;
@@ -24,7 +25,14 @@ pub struct Datagram {
     pub is_dtls: bool,
     /// How many bytes its payload has.
     pub size: usize,
+    /// Of an Allocate request that arrives at a listen address from a client, and of a success that leaves one.
+    pub allocate: Option<Transaction>,
 }
+
+/// The types of an Allocate request and of its success (RFC 8489, section 5; RFC 8656, section 17).
+const ALLOCATE_REQUEST: u16 = 0x0003;
+
+const ALLOCATE_SUCCESS: u16 = 0x0103;
 
 /// Where a packet's bytes begin in its block.
 const FRAME: usize = 28;
@@ -72,13 +80,25 @@ fn in_seen(policy: &Policy, stamp: u64, seen: Seen<'_>) -> Option<Datagram>
 }
 
 fn in_ends(policy: &Policy, stamp: u64, from: Addr, to: Addr, payload: &[u8]) -> Option<Datagram>
-    ensures { result ≡ of_ends (is_endpoint policy.now from) (is_endpoint policy.now to) stamp from to payload.now }
+    ensures { result ≡ of_ends policy.now stamp from to payload.now }
 {
     let leaves = policy.listens(from) || policy.relays(from);
     let arrives = policy.listens(to) || policy.relays(to);
-    let side = match (leaves, arrives) {
-        (true, _) => Side::Leaves,
-        (false, true) => Side::Arrives,
+    let (side, allocate) = match (leaves, arrives) {
+        (true, _) => {
+            let id = id_in(ALLOCATE_SUCCESS, payload);
+            (
+                Side::Leaves,
+                Transaction::of(policy.listens(from) && !arrives, to, from, id),
+            )
+        }
+        (false, true) => {
+            let id = id_in(ALLOCATE_REQUEST, payload);
+            (
+                Side::Arrives,
+                Transaction::of(policy.listens(to), from, to, id),
+            )
+        }
         (false, false) => return None,
     };
     Some(Datagram {
@@ -89,6 +109,7 @@ fn in_ends(policy: &Policy, stamp: u64, from: Addr, to: Addr, payload: &[u8]) ->
         is_inside: leaves && arrives,
         is_dtls: is_dtls(payload),
         size: payload.len(),
+        allocate,
     })
 }
 

@@ -1,19 +1,25 @@
 //! Captures without the packets that are set aside, and what is told of these.
 #![tactic(auto)]
 
+mod allocations;
 mod cutter;
 mod datagram;
 mod fault;
+mod laws;
 mod marker;
 mod plan;
 mod reason;
 mod stated;
 mod tally;
+mod transaction;
 
+pub use allocations::Allocations;
 pub use cutter::{Cutter, WasCut};
 pub use datagram::{Datagram, datagram_in, frame_in};
 pub use fault::{CutFault, CutRefused};
+pub use laws::shown_allocates_stay;
 pub use plan::{LineNumber, Plan};
-pub use reason::{FarEnd, Reason};
+pub use reason::{FarEnd, Reason, ReasonKind};
 pub use stated::Stated;
 pub use tally::{Count, Tallies, Tally, Totals};
+pub use transaction::Transaction;

@@ -3,6 +3,7 @@
 ghost use Rattle.std.specs.Prelude.{◌≡◌};
 ghost use Rattle.prep_cut.specs.Marks.{line_of, may_leave_at};
 
+use crate::allocations::Allocations;
 use crate::datagram::datagram_in;
 use crate::reason::Reason;
 use crate::stated::Stated;
@@ -17,6 +18,8 @@ pub type LineNumber = u32;
 pub struct Plan {
     pub policy: Policy,
     pub stated: Stated,
+    /// What Allocates the captures show.
+    pub allocations: Allocations,
     /// Each line's reason, in the order of the list.
     pub lines: Listed<Reason>,
 }
@@ -47,7 +50,8 @@ impl Plan {
         let Some(head) = block.packet else {
             return false;
         };
+        let datagram = datagram_in(&self.policy, block);
         self.stated
-            .may_leave(reason, head.stamp, datagram_in(&self.policy, block))
+            .may_leave(&self.allocations, reason, head.stamp, datagram)
     }
 }

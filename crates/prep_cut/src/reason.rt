@@ -52,6 +52,57 @@ pub enum Reason {
     AfterUntil,
 }
 
+/// What a line says, whomever it names. They stand in the order of the list.
+#[derive(Clone, Copy, Debug, PartialEq, Eq, PartialOrd, Ord)]
+pub enum ReasonKind {
+    BeforeSince,
+    Client,
+    Answer,
+    AddressOf,
+    AddressTold,
+    Address,
+    Dtls,
+    Inner,
+    Inside,
+    AfterUntil,
+}
+
+impl Reason {
+    /// What it says, whomever it names.
+    pub fn kind(&self) -> ReasonKind {
+        match self {
+            Reason::BeforeSince => ReasonKind::BeforeSince,
+            Reason::Client(_) => ReasonKind::Client,
+            Reason::Answer(_) => ReasonKind::Answer,
+            Reason::AddressOf { .. } => ReasonKind::AddressOf,
+            Reason::AddressTold { .. } => ReasonKind::AddressTold,
+            Reason::Address { .. } => ReasonKind::Address,
+            Reason::Dtls(_) => ReasonKind::Dtls,
+            Reason::Inner { .. } => ReasonKind::Inner,
+            Reason::Inside { .. } => ReasonKind::Inside,
+            Reason::AfterUntil => ReasonKind::AfterUntil,
+        }
+    }
+}
+
+/// The word that such a line begins with.
+impl fmt::Display for ReasonKind {
+    fn fmt<W: fmt::Write>(&self, f: &mut fmt::Formatter<W>) -> fmt::Result {
+        f.write_str(match self {
+            ReasonKind::BeforeSince => "before-since",
+            ReasonKind::Client => "client",
+            ReasonKind::Answer => "answer",
+            ReasonKind::AddressOf => "address-of",
+            ReasonKind::AddressTold => "address-told",
+            ReasonKind::Address => "address",
+            ReasonKind::Dtls => "dtls",
+            ReasonKind::Inner => "inner",
+            ReasonKind::Inside => "inside",
+            ReasonKind::AfterUntil => "after-until",
+        })
+    }
+}
+
 /// As `tcp 198.51.100.8:53281`, or `ipv6 [2001:db8:0:0:0:0:0:1]:40000`.
 impl fmt::Display for FarEnd {
     fn fmt<W: fmt::Write>(&self, f: &mut fmt::Formatter<W>) -> fmt::Result {
@@ -71,34 +122,34 @@ impl fmt::Display for FarEnd {
 /// What a line of the list begins with.
 impl fmt::Display for Reason {
     fn fmt<W: fmt::Write>(&self, f: &mut fmt::Formatter<W>) -> fmt::Result {
+        let kind = self.kind();
+        write!(f, "{kind}")?;
         match self {
-            Reason::BeforeSince => f.write_str("before-since"),
-            Reason::Client(pair) => write_pair(f, "client", pair),
-            Reason::Answer(pair) => write_pair(f, "answer", pair),
+            Reason::BeforeSince | Reason::AfterUntil => Ok(()),
+            Reason::Client(pair) | Reason::Answer(pair) | Reason::Dtls(pair) => {
+                write_pair(f, pair)
+            }
             Reason::AddressOf { relayed, pair, .. } => {
-                write!(f, "address-of {relayed} ")?;
-                let Pair { client, listen } = *pair;
-                write!(f, "{client} {listen}")
+                write!(f, " {relayed}")?;
+                write_pair(f, pair)
             }
             Reason::AddressTold {
                 relayed,
                 client,
                 ..
-            } => write!(f, "address-told {relayed} {client}"),
-            Reason::Address { relayed, .. } => write!(f, "address {relayed}"),
-            Reason::Dtls(pair) => write_pair(f, "dtls", pair),
+            } => write!(f, " {relayed} {client}"),
+            Reason::Address { relayed, .. } => write!(f, " {relayed}"),
             Reason::Inner { pair, peer } => {
-                write_pair(f, "inner", pair)?;
+                write_pair(f, pair)?;
                 write!(f, " {peer}")
             }
-            Reason::Inside { from, to } => write!(f, "inside {from} {to}"),
-            Reason::AfterUntil => f.write_str("after-until"),
+            Reason::Inside { from, to } => write!(f, " {from} {to}"),
         }
     }
 }
 
-/// A word and a client with its listen address.
-fn write_pair<W: fmt::Write>(f: &mut fmt::Formatter<W>, word: &str, pair: &Pair) -> fmt::Result {
+/// A client with its listen address.
+fn write_pair<W: fmt::Write>(f: &mut fmt::Formatter<W>, pair: &Pair) -> fmt::Result {
     let Pair { client, listen } = *pair;
-    write!(f, "{word} {client} {listen}")
+    write!(f, " {client} {listen}")
 }

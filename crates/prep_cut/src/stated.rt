@@ -3,6 +3,7 @@
 ghost use Rattle.std.specs.Prelude.{◌≡◌};
 ghost use Rattle.prep_cut.specs.Guard.{is_early, is_late, is_of_pair, is_at, is_stated, is_named, may_leave_packet, same};
 
+use crate::allocations::Allocations;
 use crate::datagram::Datagram;
 use crate::reason::Reason;
 use audit_model::{Addr, Pair, Side};
@@ -26,16 +27,27 @@ pub struct Stated {
 
 impl Stated {
     /// Whether the reason may set aside a packet of this stamp, which holds this datagram of the service or none: what the operator
-    /// states has to allow the reason, and the packet has to be of the client or the address that the reason names.
-    pub fn may_leave(&self, reason: &Reason, stamp: u64, datagram: Option<Datagram>) -> bool
-        ensures { result ≡ may_leave_packet self.now reason.now stamp datagram }
+    /// states has to allow the reason, and the packet has to be of the client or the address that the reason names. An Allocate success
+    /// whose request is among the allocations, and an Allocate request whose success is, is set aside only by its moment.
+    pub fn may_leave(
+        &self,
+        allocations: &Allocations,
+        reason: &Reason,
+        stamp: u64,
+        datagram: Option<Datagram>,
+    ) -> bool
+        ensures { result ≡ may_leave_packet self.now allocations.now reason.now stamp datagram }
     {
         match reason {
             Reason::BeforeSince => self.is_early(stamp),
             Reason::AfterUntil => self.is_late(stamp),
             _ => match datagram {
                 None => false,
-                Some(datagram) => self.allows(reason) && is_named(reason, &datagram),
+                Some(datagram) => {
+                    self.allows(reason)
+                        && is_named(reason, &datagram)
+                        && !allocations.shows(&datagram)
+                }
             },
         }
     }

@@ -3,3 +3,4 @@ pub mod Captures
 pub mod Outer
 pub mod Together
 pub mod CutFiles
+pub mod RecordedFiles

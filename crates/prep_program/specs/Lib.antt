@@ -5,3 +5,4 @@ pub mod Joins
 pub mod Translations
 pub mod Reassemblies
 pub mod Cuts
+pub mod Recordings

@@ -1,14 +1,17 @@
 //! The command line, as clap reads it. No file but this one and those in `command_line/` knows clap.
 
 mod cut;
+mod look;
 mod reassemble;
 mod translate;
 mod users;
 
 use self::cut::{cut_command, cut_request};
+use self::look::{look_command, look_request};
 use self::reassemble::{reassemble_command, reassemble_request};
 use self::translate::{translate_command, translate_request};
 use self::users::{users_command, users_request};
+use crate::looking::LookRequest;
 use crate::reassembling::ReassembleRequest;
 use crate::set_aside::CutRequest;
 use crate::translating::TranslateRequest;
@@ -34,6 +37,8 @@ pub enum Request<'a> {
         relaying: Vec<u32>,
         is_translated: bool,
     },
+    /// Tell what captures hold.
+    Look(LookRequest<'a>),
     /// Leave out of captures what can't be judged.
     Cut(CutRequest<'a>),
     /// Translate captures to files in a folder.
@@ -160,12 +165,13 @@ fn with_policy_and_users<'a>(
         .subcommand(users_command(alloc)?)
 }
 
-/// Adds the commands that make captures of captures.
+/// Adds the commands that read captures and make others of them.
 fn with_captures<'a>(alloc: Global, command: Command<'a>) -> Result<Command<'a>, AllocError> {
     command
         .subcommand(join_command(alloc)?)?
         .subcommand(reassemble_command(alloc)?)?
         .subcommand(translate_command(alloc)?)?
+        .subcommand(look_command(alloc)?)?
         .subcommand(cut_command(alloc)?)
 }
 
@@ -259,6 +265,9 @@ fn request_of<'a>(
     }
     if let Some(policy) = matches.subcommand_matches("policy") {
         return policy_request(alloc, policy);
+    }
+    if let Some(look) = matches.subcommand_matches("look") {
+        return look_request(alloc, look);
     }
     if let Some(cut) = matches.subcommand_matches("cut") {
         return cut_request(alloc, cut);

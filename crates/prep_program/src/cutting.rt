@@ -10,9 +10,8 @@ ghost use Rattle.prep_program.specs.Cuts.{Cuts};
 use crate::maker::Maker;
 use crate::source::{PIECE, Source};
 use crate::stop::Stop;
-use audit_model::{Policy, put_all};
-use prep_cut::{Cutter, LineNumber, Plan, Stated, Tallies, Totals, WasCut};
-use prep_records::{Recorder, Records};
+use audit_model::put_all;
+use prep_cut::{Cutter, LineNumber, Plan, Tallies, Totals, WasCut};
 use std::alloc::Global;
 
 /// Writes a capture without what is set aside, from its first byte to its last, to the file that was made last.
@@ -99,49 +98,4 @@ pub fn cut_captures<S: Source, M: Maker>(
         number = number.saturating_add(1);
     }
     Ok(AllCut { totals, tallies })
-}
-
-/// Reads a capture for what is to be proposed.
-fn record_capture<S: Source>(
-    alloc: Global,
-    source: &mut S,
-    name: &str,
-    recorder: &mut Recorder<'_>,
-    capture: u32,
-) -> Result<(), Stop> {
-    let mut piece = vec![in alloc; 0u8; PIECE]?;
-    let mut at = 0u64;
-    'pieces: for _ in 0..u64::MAX {
-        let read = source.piece(name, at, &mut piece)?;
-        if read == 0 {
-            return recorder
-                .end()
-                .map_err(|fault| Stop::of_cut(capture, fault.into()));
-        }
-        if let Err(fault) = recorder.feed(&piece[..read]) {
-            return Err(Stop::of_cut(capture, fault.into()));
-        }
-        let Some(next) = at.checked_add(read as u64) else {
-            return Err(Stop::Read);
-        };
-        at = next;
-    }
-    Err(Stop::Read)
-}
-
-/// Reads captures for what is to be proposed.
-pub fn record_captures<S: Source>(
-    alloc: Global,
-    source: &mut S,
-    names: &[&str],
-    policy: &Policy,
-    stated: Stated,
-) -> Result<Records, Stop> {
-    let mut recorder = Recorder::new(alloc, policy, stated);
-    let mut capture = 0u32;
-    for name in names {
-        record_capture(alloc, source, name, &mut recorder, capture)?;
-        capture = capture.saturating_add(1);
-    }
-    Ok(recorder.finish())
 }

@@ -2,6 +2,7 @@
 
 use crate::command_line::{Request, read as read_words};
 use crate::joining::join_captures;
+use crate::looking::run_look;
 use crate::maker::Maker;
 use crate::policy::run_policy;
 use crate::reassembling::run_reassemble;
@@ -79,6 +80,7 @@ fn run_request<S: Source, M: Maker, O: Sink, E: Sink>(
             };
             run_policy(alloc, file, &asked, source, out, err)
         }
+        Request::Look(asked) => run_look(alloc, asked, source, out),
         Request::Cut(words) => run_cut(alloc, words, source, maker, out),
         Request::Translate(asked) => run_translate(alloc, asked, source, maker, out),
         Request::Reassemble(asked) => run_reassemble(alloc, asked, source, maker, out),

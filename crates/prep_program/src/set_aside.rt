@@ -1,16 +1,18 @@
 //! The command `cut`.
 
-use crate::cutting::{AllCut, ToCut, cut_captures, record_captures};
+use crate::cutting::{AllCut, ToCut, cut_captures};
 use crate::folder::{check_parts, last_part, path_in};
 use crate::maker::Maker;
+use crate::recording::record_captures;
 use crate::source::Source;
 use crate::stop::Stop;
 use crate::text::read_text;
 use audit_model::{Listed, Sink, put_all, read_policy};
-use prep_cut::{Count, LineNumber, Plan, Reason, Stated, Tally, Totals};
+use prep_cut::{Allocations, Count, LineNumber, Plan, Reason, Stated, Tally, Totals};
 use prep_reasons::{Proposed, decide};
 use std::alloc::{AllocError, Global};
 use std::fmt::Write;
+use std::mem;
 
 /// What the command `cut` is asked.
 #[derive(Drop)]
@@ -75,7 +77,8 @@ fn plan_of<S: Source>(
     let stated = request.stated;
     let text = read_text(alloc, source, request.policy)?;
     let policy = read_policy(alloc, &text)?;
-    let records = record_captures(alloc, source, &request.captures, &policy, stated)?;
+    let mut records = record_captures(alloc, source, &request.captures, &policy, stated)?;
+    let allocations = mem::replace(&mut records.allocations, Allocations::new(alloc));
     let Proposed {
         begin,
         lines,
@@ -87,6 +90,7 @@ fn plan_of<S: Source>(
         plan: Plan {
             policy,
             stated,
+            allocations,
             lines: Listed::from(lines),
         },
         told: Told {

@@ -12,6 +12,7 @@ use prep_coturn::ConfFault;
 use prep_cut::{CutFault, CutRefused};
 use prep_fragments::Refused as ReassembleRefused;
 use prep_join::{JoinFault, Refused};
+use prep_look::GuessFault;
 use prep_translate::{Refused as TranslateRefused, RenamingFault};
 use prep_users::{ConfiguredFault, UsersFault};
 use std::alloc::{AllocError, AllocFailed};
@@ -40,6 +41,8 @@ pub enum Stop {
     Users(UsersFault),
     /// The capture of this number has the name of an earlier one.
     SameName(u32),
+    /// No policy is guessed.
+    Guess(GuessFault),
     /// The words are no request.
     Words(&'static str),
     /// There was no memory.
@@ -65,6 +68,7 @@ impl Stop {
             | Stop::SameName(_)
             | Stop::Users(_)
             | Stop::Reassemble(_)
+            | Stop::Guess(_)
             | Stop::Cut(_) => 2,
             Stop::Words(_) => 5,
             Stop::Memory => 3,
@@ -115,6 +119,7 @@ impl fmt::Display for Stop {
             Stop::Translate(refused) => write!(f, "refused {refused}"),
             Stop::Reassemble(refused) => write!(f, "refused {refused}"),
             Stop::Users(fault) => write!(f, "refused {fault}"),
+            Stop::Guess(fault) => write!(f, "refused {fault}"),
             Stop::SameName(capture) => write!(
                 f,
                 "refused the name of capture {capture}: an earlier one has it"
@@ -185,6 +190,15 @@ impl From<RenamingFault> for Stop {
             RenamingFault::Memory => Stop::Memory,
             RenamingFault::Twice(_) => Stop::Words("--external-ip names an address twice"),
             fault => Stop::Renaming(fault),
+        }
+    }
+}
+
+impl From<GuessFault> for Stop {
+    fn from(fault: GuessFault) -> Stop {
+        match fault {
+            GuessFault::Memory => Stop::Memory,
+            fault => Stop::Guess(fault),
         }
     }
 }

@@ -211,12 +211,9 @@ impl Generous {
     }
 }
 
-/// Sets aside what is left of clients from before, with what asked for it, and answers that may be to what came before. It tells
-/// how many departures of such clients no state from before allows.
-pub(crate) fn leave_clients(
-    sheet: &mut Sheet<'_>,
-    times: &[TimeBefore],
-) -> Result<u64, AllocError> {
+/// Sets aside what is left of clients from before, with what asked for it, and answers that may be to what came before. It counts
+/// the departures of such clients that no state from before allows.
+pub(crate) fn leave_clients(sheet: &mut Sheet<'_>, times: &[TimeBefore]) -> Result<(), AllocError> {
     let mut needs = vec![in sheet.alloc; false; sheet.pairs.len()]?;
     for at in 0..sheet.records.len() {
         if let Some(pair) = needing(sheet, at) {
@@ -233,7 +230,6 @@ pub(crate) fn leave_clients(
             leave_explained(sheet, at, pair)?;
         }
     }
-    let mut beyond = 0u64;
     for at in 0..sheet.records.len() {
         let (Some(pair), Some(record)) = (sheet.pair_number(at), sheet.record(at)) else {
             continue;
@@ -246,10 +242,10 @@ pub(crate) fn leave_clients(
         }
         let is_beyond = matches!(sheet.old.get(at), Some(Some(false)));
         if is_beyond && sheet.is_kept(at) && matches!(needs.get(pair as usize), Some(true)) {
-            beyond = beyond.saturating_add(1);
+            sheet.beyond = sheet.beyond.saturating_add(1);
         }
     }
-    Ok(beyond)
+    Ok(())
 }
 
 /// The client of a record that stays in and needs an allocation from before.

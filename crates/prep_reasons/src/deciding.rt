@@ -22,6 +22,18 @@ pub fn decide(
 ) -> Result<Proposed, AllocError> {
     let mut records = records;
     let packets = mem::replace(&mut records.captures, Vec::new(alloc));
+    let mut sheet = sort_out(alloc, policy, stated, records)?;
+    propose(&mut sheet, &packets)
+}
+
+/// The records of captures in the order of their moments, with what is set aside and what answers what. The cost is their number times
+/// its logarithm.
+pub fn sort_out<'a>(
+    alloc: Global,
+    policy: &'a Policy,
+    stated: Stated,
+    records: Records,
+) -> Result<Sheet<'a>, AllocError> {
     let mut sheet = Sheet::new(alloc, policy, stated, records)?;
     let shown = read_responses(&mut sheet)?;
     let mut times: Vec<TimeBefore> = Vec::new(alloc);
@@ -43,6 +55,6 @@ pub fn decide(
     }
     leave_dtls(&mut sheet)?;
     leave_addresses(&mut sheet, &shown.tenures, &mut by_pair)?;
-    let beyond = leave_clients(&mut sheet, &times)?;
-    propose(&mut sheet, &packets, beyond)
+    leave_clients(&mut sheet, &times)?;
+    Ok(sheet)
 }

@@ -14,5 +14,6 @@ mod responses;
 mod sheet;
 mod tenures;
 
-pub use deciding::decide;
+pub use deciding::{decide, sort_out};
 pub use proposals::Proposed;
+pub use sheet::{Exchanged, Sheet};

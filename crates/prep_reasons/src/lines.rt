@@ -1,14 +1,14 @@
 //! The lines of the list, each once.
 
 use audit_model::Addr;
-use prep_cut::{FarEnd, LineNumber, Reason};
+use prep_cut::{FarEnd, LineNumber, Reason, ReasonKind};
 use std::alloc::{AllocError, Global};
 use std::collections::BTreeMap;
 
-/// A reason as a key, by its place in the list and what it names.
+/// A reason as a key, by what it says and what it names.
 #[derive(Clone, Copy, PartialEq, Eq, PartialOrd, Ord)]
 struct ReasonKey {
-    order: u8,
+    kind: ReasonKind,
     tenure: u32,
     first: Addr,
     second: Addr,
@@ -16,22 +16,6 @@ struct ReasonKey {
 }
 
 const NO_ADDRESS: Addr = Addr { ip: 0, port: 0 };
-
-/// The place of a reason's lines in the list.
-pub(crate) fn order_of(reason: &Reason) -> u8 {
-    match reason {
-        Reason::BeforeSince => 0,
-        Reason::Client(_) => 1,
-        Reason::Answer(_) => 2,
-        Reason::AddressOf { .. } => 3,
-        Reason::AddressTold { .. } => 4,
-        Reason::Address { .. } => 5,
-        Reason::Dtls(_) => 6,
-        Reason::Inner { .. } => 7,
-        Reason::Inside { .. } => 8,
-        Reason::AfterUntil => 9,
-    }
-}
 
 /// The client of a relayed address as two addresses, of which IPv6 leaves out a part.
 fn parts_of(client: FarEnd) -> (Addr, Addr) {
@@ -76,7 +60,7 @@ fn key_of(reason: &Reason) -> ReasonKey {
         Reason::Inside { from, to } => (0, *from, *to, NO_ADDRESS),
     };
     ReasonKey {
-        order: order_of(reason),
+        kind: reason.kind(),
         tenure,
         first,
         second,

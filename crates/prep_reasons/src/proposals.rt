@@ -1,6 +1,5 @@
 //! The lines in the order of the list, and what is proposed for each packet.
 
-use crate::lines::order_of;
 use crate::sheet::Sheet;
 use audit_model::Side;
 use prep_cut::{LineNumber, Reason};
@@ -43,7 +42,7 @@ fn order_lines(sheet: &Sheet<'_>) -> Result<Ordered, AllocError> {
     let mut keys = Vec::new(sheet.alloc);
     for (line, reason) in sheet.lines.reasons.iter().enumerate() {
         let at = first.get(line).copied().unwrap_or(usize::MAX);
-        keys.push((order_of(reason), at, line))?;
+        keys.push((reason.kind(), at, line))?;
     }
     keys.sort()?;
     let mut reasons = Vec::new(sheet.alloc);
@@ -63,7 +62,6 @@ fn order_lines(sheet: &Sheet<'_>) -> Result<Ordered, AllocError> {
 pub(crate) fn propose(
     sheet: &mut Sheet<'_>,
     packets: &[CapturePackets],
-    beyond: u64,
 ) -> Result<Proposed, AllocError> {
     let early = sheet.lines.number_of(Reason::BeforeSince)?;
     let late = sheet.lines.number_of(Reason::AfterUntil)?;
@@ -100,7 +98,7 @@ pub(crate) fn propose(
         begin: sheet.begin,
         lines: reasons,
         captures,
-        beyond,
+        beyond: sheet.beyond,
         lanes,
     })
 }

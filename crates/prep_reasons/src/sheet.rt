@@ -11,9 +11,9 @@ use std::collections::BTreeMap;
 /// Nanoseconds of a second.
 pub(crate) const SECOND: u64 = 1_000_000_000;
 
-/// What is known of the captures.
+/// What is known of the captures: their records by number, from 0, in the order of their moments.
 #[derive(Drop)]
-pub(crate) struct Sheet<'a> {
+pub struct Sheet<'a> {
     pub(crate) alloc: Global,
     pub(crate) policy: &'a Policy,
     pub(crate) stated: Stated,
@@ -41,13 +41,15 @@ pub(crate) struct Sheet<'a> {
     pub(crate) used: Vec<bool>,
     /// The records of each client within the moments that are stated, client by client.
     pub(crate) by_pair: Vec<(u32, usize)>,
+    /// Departures of clients from before that no state from before allows, and that stay in.
+    pub(crate) beyond: u64,
 }
 
 /// A response or a request of a record.
 #[derive(Clone, Copy)]
-pub(crate) struct Exchanged {
-    pub(crate) record: Record,
-    pub(crate) stun: Stun,
+pub struct Exchanged {
+    pub record: Record,
+    pub stun: Stun,
 }
 
 impl<'a> Sheet<'a> {
@@ -65,6 +67,7 @@ impl<'a> Sheet<'a> {
             mut told,
             captures: _,
             first,
+            allocations: _,
         } = all;
         records.sort_by_key(|record| (record.stamp, record.iface, record.packet))?;
         told.sort_by_key(|told| (told.relayed, told.stamp))?;
@@ -92,6 +95,7 @@ impl<'a> Sheet<'a> {
             old: vec![in alloc; None; count]?,
             used: vec![in alloc; false; count]?,
             by_pair: Vec::new(alloc),
+            beyond: 0,
         };
         sheet.leave_outside()?;
         sheet.number_pairs()?;
@@ -164,8 +168,35 @@ impl<'a> Sheet<'a> {
         }
     }
 
-    pub(crate) fn record(&self, at: usize) -> Option<Record> {
+    /// How many records there are.
+    pub fn len(&self) -> usize {
+        self.records.len()
+    }
+
+    /// A record by its number.
+    pub fn record(&self, at: usize) -> Option<Record> {
         self.records.get(at).copied()
+    }
+
+    /// The lines by which records are set aside, in no order.
+    pub fn reasons(&self) -> &[Reason] {
+        self.lines.reasons.as_slice()
+    }
+
+    /// The line by which a record is set aside.
+    pub fn line_of(&self, at: usize) -> Option<LineNumber> {
+        match self.why.get(at) {
+            Some(line) => *line,
+            None => None,
+        }
+    }
+
+    /// The number of the request that a response answers.
+    pub fn request_of(&self, at: usize) -> Option<usize> {
+        match self.mates.get(at) {
+            Some(request) => *request,
+            None => None,
+        }
     }
 
     pub(crate) fn is_kept(&self, at: usize) -> bool {
@@ -173,7 +204,7 @@ impl<'a> Sheet<'a> {
     }
 
     /// The number of a record's client, where it has one.
-    pub(crate) fn pair_number(&self, at: usize) -> Option<u32> {
+    pub fn pair_number(&self, at: usize) -> Option<u32> {
         match self.pair_of.get(at) {
             Some(number) => *number,
             None => None,
@@ -185,7 +216,7 @@ impl<'a> Sheet<'a> {
     }
 
     /// A record's request or response, where it is one.
-    pub(crate) fn exchanged(&self, at: usize) -> Option<Exchanged> {
+    pub fn exchanged(&self, at: usize) -> Option<Exchanged> {
         let record = self.record(at)?;
         match record.content {
             Content::Stun { place } => {
@@ -197,10 +228,9 @@ impl<'a> Sheet<'a> {
     }
 
     /// A response that left, and the request that it answers.
-    pub(crate) fn answered(&self, at: usize) -> Option<(Exchanged, Exchanged)> {
+    pub fn answered(&self, at: usize) -> Option<(Exchanged, Exchanged)> {
         let answer = self.exchanged(at)?;
-        let mate = (*self.mates.get(at)?)?;
-        let asked = self.exchanged(mate)?;
+        let asked = self.exchanged(self.request_of(at)?)?;
         Some((answer, asked))
     }
 
@@ -218,7 +248,7 @@ impl<'a> Sheet<'a> {
     }
 
     /// How many clients there are.
-    pub(crate) fn pair_count(&self) -> u32 {
+    pub fn pair_count(&self) -> u32 {
         u32::try_from(self.pairs.len()).unwrap_or(u32::MAX)
     }
 
@@ -237,23 +267,23 @@ impl<'a> Sheet<'a> {
 
 impl Exchanged {
     /// Whether it is a response that the server sent.
-    pub(crate) fn is_answer(&self) -> bool {
+    pub fn is_answer(&self) -> bool {
         matches!(self.record.side, Side::Leaves)
             && matches!(self.stun.class, Class::Success | Class::Error)
     }
 
     /// Whether it is a success of this method.
-    pub(crate) fn succeeds(&self, method: u16) -> bool {
+    pub fn succeeds(&self, method: u16) -> bool {
         matches!(self.stun.class, Class::Success) && self.stun.method == method
     }
 
     /// Whether it is an error of this code.
-    pub(crate) fn fails(&self, code: u16) -> bool {
+    pub fn fails(&self, code: u16) -> bool {
         matches!(self.stun.class, Class::Error) && self.stun.code == Some(code)
     }
 
     /// The moment at which a lease of its lifetime ends, without the grace.
-    pub(crate) fn lease_end(&self) -> u64 {
+    pub fn lease_end(&self) -> u64 {
         let lifetime = u64::from(self.stun.lifetime.unwrap_or(0));
         self.record
             .stamp

@@ -1,10 +1,12 @@
-//! A record of each datagram of the service, for what is to be set aside. Nothing rests on it: what it holds is only proposed.
+//! A record of each datagram of the service, for what is to be set aside. Nothing rests on it but on the Allocates: what else it holds is only proposed.
 #![tactic(auto)]
 
 mod elsewhere;
+mod keeper;
 mod payload;
 mod record;
 mod recorder;
 
+pub use keeper::slack_of;
 pub use record::{CapturePackets, Content, Outside, Record, Records, Stun, Told};
-pub use recorder::{Recorder, slack_of};
+pub use recorder::Recorder;

@@ -2,7 +2,7 @@
 
 use audit_model::{Addr, Side};
 use audit_stun::Class;
-use prep_cut::FarEnd;
+use prep_cut::{Allocations, FarEnd};
 use std::alloc::Global;
 
 /// A datagram with an end in the service. Its payload is not kept.
@@ -88,6 +88,8 @@ pub struct Records {
     pub captures: Vec<CapturePackets>,
     /// The least moment of a packet.
     pub first: Option<u64>,
+    /// What Allocates they show.
+    pub allocations: Allocations,
 }
 
 impl Records {
@@ -100,6 +102,7 @@ impl Records {
             told: Vec::new(alloc),
             captures: Vec::new(alloc),
             first: None,
+            allocations: Allocations::new(alloc),
         }
     }
 }

@@ -1,171 +1,77 @@
 //! Recording captures that come in pieces.
 
-use crate::elsewhere::note_told;
-use crate::payload::{content_of, digest_of};
-use crate::record::{CapturePackets, Content, Outside, Record, Records};
-use audit_model::{Addr, Policy, Side};
-use audit_packets::{Seen, slice_datagram};
-use audit_pcapng::{CaptureFault, PacketSlice};
-use prep_blocks::{Block, BlockSplitter, PacketHead};
-use prep_cut::{Stated, frame_in};
-use std::alloc::{AllocError, Global};
+ghost use Rattle.std.specs.Prelude.{◌≡◌, [], ℕ, List, OnOk};
+ghost use Rattle.audit_model.specs.declared.policy.Policy.{Policy as AnyPolicy};
+ghost use Rattle.prep_blocks.specs.declared.block.Block.{Block};
+ghost use Rattle.prep_cut.specs.Allocating.{AreNoted};
+ghost use Rattle.prep_records.specs.Recording.{IsRecording, GoesOn, Ended};
 
-/// Twice the greatest skew of a policy, in nanoseconds.
-pub fn slack_of(policy: &Policy) -> u64 {
-    let mut most = policy.skew;
-    for own in policy.skews.as_slice() {
-        most = most.max(own.skew);
-    }
-    most.saturating_mul(2)
-}
+use crate::keeper::Keeper;
+use crate::record::Records;
+use audit_model::Policy;
+use audit_pcapng::CaptureFault;
+use prep_blocks::BlockSplitter;
+use prep_cut::{Allocations, Stated};
+use std::alloc::Global;
 
-/// Records captures, each of which comes in pieces, cut anywhere. After a fault it is thrown away.
+/// Records captures, each of which comes in pieces, cut anywhere. After a fault it is thrown away. What it holds besides the allocations
+/// is only proposed.
 #[derive(Drop)]
 pub struct Recorder<'p> {
     policy: &'p Policy,
-    stated: Stated,
-    slack: u64,
     splitter: BlockSplitter,
-    all: Records,
-    capture: u16,
-    /// Of the capture that comes.
-    packets: CapturePackets,
+    allocations: Allocations,
+    keeper: Keeper<'p>,
     alloc: Global,
-}
-
-/// A UDP datagram in a packet.
-struct Found<'a> {
-    head: PacketHead,
-    from: Addr,
-    to: Addr,
-    payload: &'a [u8],
 }
 
 impl<'p> Recorder<'p> {
     /// A recorder of no capture. It takes no memory.
-    pub fn new(alloc: Global, policy: &'p Policy, stated: Stated) -> Self {
+    pub fn new(alloc: Global, policy: &'p Policy, stated: Stated) -> Self
+        ensures { IsRecording result policy.now [] [] [] }
+    {
         Recorder {
             policy,
-            stated,
-            slack: slack_of(policy),
             splitter: BlockSplitter::new(alloc),
-            all: Records::new(alloc),
-            capture: 0,
-            packets: CapturePackets {
-                count: 0,
-                outside: Vec::new(alloc),
-            },
+            allocations: Allocations::new(alloc),
+            keeper: Keeper::new(alloc, policy, stated),
             alloc,
         }
     }
 
     /// Takes the next piece of the capture that comes.
-    pub fn feed(&mut self, piece: &[u8]) -> Result<(), CaptureFault> {
+    pub fn feed(&mut self, piece: &[u8]) -> Result<(), CaptureFault>
+        ensures { (policy : AnyPolicy) (earlier : List Block) (text : List ℕ) (current : List Block) →
+            IsRecording self.old policy earlier text current → OnOk result (GoesOn self.new policy earlier text current piece.now []) }
+    {
         let mut rest = piece;
         for _ in 0..piece.len() {
             let Some((block, behind)) = self.splitter.next(rest)? else {
                 return Ok(());
             };
-            if let Some(head) = block.packet {
-                self.take(&block, head)?;
-            }
+            self.allocations.note(self.policy, &block)?;
+            self.keeper.take(&block)?;
             rest = behind;
         }
         Ok(())
     }
 
     /// Ends the capture that came. The next one begins.
-    pub fn end(&mut self) -> Result<(), CaptureFault> {
+    pub fn end(&mut self) -> Result<(), CaptureFault>
+        ensures { (policy : AnyPolicy) (earlier : List Block) (text : List ℕ) (current : List Block) →
+            IsRecording self.old policy earlier text current → OnOk result (Ended self.new policy earlier text current) }
+    {
         self.splitter.finish()?;
-        let next = CapturePackets {
-            count: 0,
-            outside: Vec::new(self.alloc),
-        };
-        let done = std::mem::replace(&mut self.packets, next);
-        self.all.captures.push(done)?;
+        self.keeper.end()?;
         self.splitter = BlockSplitter::new(self.alloc);
-        self.capture = self.capture.saturating_add(1);
         Ok(())
     }
 
     /// What was kept of the captures that ended.
-    pub fn finish(self) -> Records {
-        self.all
-    }
-
-    fn take(&mut self, block: &Block, head: PacketHead) -> Result<(), AllocError> {
-        self.note_moment(head.stamp)?;
-        let frame = frame_in(block, head);
-        let packet = PacketSlice {
-            stamp: head.stamp,
-            bytes: frame,
-            iface: head.iface,
-            captured: head.captured,
-            original: head.original,
-        };
-        match slice_datagram(packet) {
-            Seen::Udp { from, to, payload } => self.take_datagram(Found {
-                head,
-                from,
-                to,
-                payload,
-            })?,
-            Seen::Other => note_told(self.policy, head.stamp, frame, &mut self.all.told)?,
-            Seen::Fragment { .. } | Seen::Cut { .. } => {}
-        }
-        self.packets.count = self.packets.count.saturating_add(1);
-        Ok(())
-    }
-
-    /// Notes a packet's moment, and whether it is outside what the operator states.
-    fn note_moment(&mut self, stamp: u64) -> Result<(), AllocError> {
-        self.all.first = match self.all.first {
-            Some(first) => Some(first.min(stamp)),
-            None => Some(stamp),
-        };
-        let is_early = self.stated.is_early(stamp);
-        if is_early || self.stated.is_late(stamp.saturating_sub(self.slack)) {
-            let packet = self.packets.count;
-            self.packets.outside.push(Outside { packet, is_early })?;
-        }
-        Ok(())
-    }
-
-    fn take_datagram(&mut self, found: Found<'_>) -> Result<(), AllocError> {
-        let Found {
-            head,
-            from,
-            to,
-            payload,
-        } = found;
-        let leaves = self.policy.listens(from) || self.policy.relays(from);
-        let arrives = self.policy.listens(to) || self.policy.relays(to);
-        if !leaves && !arrives {
-            return Ok(());
-        }
-        let own = if leaves { from } else { to };
-        let (content, digest) = if leaves && arrives {
-            (Content::Inside, 0)
-        } else if self.policy.listens(own) {
-            let is_dtls = matches!(payload, [20..=63, ..]);
-            content_of(payload, is_dtls, &mut self.all)?
-        } else {
-            (Content::Relayed, digest_of(payload))
-        };
-        let iface = u32::from(self.capture)
-            .saturating_mul(64)
-            .saturating_add(head.iface);
-        self.all.records.push(Record {
-            stamp: head.stamp,
-            digest,
-            from,
-            to,
-            packet: self.packets.count,
-            capture: self.capture,
-            iface: u16::try_from(iface).unwrap_or(u16::MAX),
-            side: if leaves { Side::Leaves } else { Side::Arrives },
-            content,
-        })?;
-        Ok(())
+    pub fn finish(self) -> Records
+        ensures { (policy : AnyPolicy) (earlier : List Block) → IsRecording self.entry policy earlier [] [] →
+            AreNoted policy result.allocations earlier }
+    {
+        self.keeper.finish(self.allocations)
     }
 }

@@ -13,7 +13,7 @@ const EXAMPLE: &str =
     "Example:\n  turnprep cut --policy policy -o ready call.pcapng\n\nwrites ready/call.pcapng, and ready/set-aside, the list of what was left out, which is told as well.";
 
 /// The longest lifetime of an allocation that is asked for, in seconds.
-const LONGEST: u64 = 1_000_000_000;
+pub(super) const LONGEST: u64 = 1_000_000_000;
 
 const NOT_A_NUMBER: &str = "turnprep: --since, --until and --lifetime are numbers\n";
 
@@ -22,10 +22,10 @@ const BACKWARDS: &str = "turnprep: --since is after --until\n";
 const TOO_MANY: &str = "turnprep: cut takes 16 captures at the most\n";
 
 /// So many captures may be audited together.
-const MAX_CAPTURES: usize = 16;
+pub(super) const MAX_CAPTURES: usize = 16;
 
 /// An option with one value.
-fn value<'a>(alloc: Global, name: &'a str, shown: &'a str, help: &'a str) -> Arg<'a> {
+pub(super) fn value<'a>(alloc: Global, name: &'a str, shown: &'a str, help: &'a str) -> Arg<'a> {
     Arg::new(alloc, name)
         .long(name)
         .value_name(shown)
@@ -77,7 +77,7 @@ pub(super) fn cut_command<'a>(alloc: Global) -> Result<Command<'a>, AllocError> 
 }
 
 /// The number that an option says, if it says one; nothing where it isn't a number.
-fn number_of(matches: &ArgMatches<'_>, name: &str, most: u64) -> Option<Option<u64>> {
+pub(super) fn number_of(matches: &ArgMatches<'_>, name: &str, most: u64) -> Option<Option<u64>> {
     let Some(word) = matches.get_str(name) else {
         return Some(None);
     };

@@ -1,0 +1,50 @@
+-- Which Allocate requests and successes captures show.
+use Rattle.std.specs.Prelude.{◌≡◌, ⊤, Bool, true, false, List, [], ◌∷◌, Option, Some, None}
+use Rattle.std.specs.declared.cmp.Ordering.{Ordering}
+use Rattle.std.specs.BTreeSet.{contains}
+use Rattle.std.specs.Cmp.Lexicographic.{slice_cmp}
+use Rattle.std.specs.Ordering.{nat_cmp, ordering_then}
+use Rattle.audit_model.specs.declared.sighting.Side.{Side}
+use Rattle.audit_model.specs.declared.sighting.Side.TheVariants.{Arrives, Leaves}
+use Rattle.audit_model.specs.declared.policy.Policy.{Policy}
+use Rattle.audit_model.specs.LanePairs.{addr_cmp}
+use Rattle.prep_blocks.specs.declared.block.Block.{Block}
+use Rattle.prep_cut.specs.declared.transaction.Transaction.{Transaction}
+use Rattle.prep_cut.specs.declared.allocations.Allocations.{Allocations}
+use Rattle.prep_cut.specs.declared.datagram.Datagram.{Datagram}
+use Rattle.prep_cut.specs.Datagrams.{datagram_of_block}
+
+-- the order of transactions
+abbrev pub transaction_cmp : Transaction → Transaction → Ordering
+transaction_cmp a b = ordering_then (addr_cmp a.client b.client) (ordering_then (addr_cmp a.listen b.listen) (slice_cmp nat_cmp a.tid b.tid))
+
+abbrev pub is_noted_on : Side → Allocations → Option Transaction → Bool
+is_noted_on side allocations None = true
+is_noted_on Arrives allocations (Some transaction) = contains transaction_cmp allocations.asked transaction
+is_noted_on Leaves allocations (Some transaction) = contains transaction_cmp allocations.granted transaction
+
+-- what the datagram asks or grants is noted
+abbrev pub is_noted : Allocations → Datagram → Bool
+is_noted allocations datagram = is_noted_on datagram.side allocations datagram.allocate
+
+abbrev pub is_noted_if : Allocations → Option Datagram → Bool
+is_noted_if allocations None = true
+is_noted_if allocations (Some datagram) = is_noted allocations datagram
+
+-- what the datagram of the block asks or grants, where it holds one of the service
+abbrev pub is_noted_in : Policy → Allocations → Block → Bool
+is_noted_in policy allocations block = is_noted_if allocations (datagram_of_block policy block)
+
+-- the same of each of these blocks
+abbrev pub AreNoted : Policy → Allocations → List Block → Type 0
+AreNoted policy allocations [] = ⊤
+AreNoted policy allocations (first ∷ others) = (is_noted_in policy allocations first ≡ true) × AreNoted policy allocations others
+
+abbrev pub is_shown_on : Side → Allocations → Option Transaction → Bool
+is_shown_on side allocations None = false
+is_shown_on Arrives allocations (Some transaction) = contains transaction_cmp allocations.granted transaction
+is_shown_on Leaves allocations (Some transaction) = contains transaction_cmp allocations.asked transaction
+
+-- an Allocate success whose request is noted, or an Allocate request whose success is
+abbrev pub is_shown : Allocations → Datagram → Bool
+is_shown allocations datagram = is_shown_on datagram.side allocations datagram.allocate

@@ -1,0 +1,25 @@
+//! What is kept of allocations. It does nothing when it runs.
+
+ghost use Rattle.std.specs.Prelude.{◌≡◌, ℕ, Option, Some, true};
+ghost use Rattle.audit_model.specs.declared.sighting.Side.TheVariants.{Arrives, Leaves};
+ghost use Rattle.prep_blocks.specs.declared.block.Block.{Block};
+ghost use Rattle.prep_cut.specs.declared.datagram.Datagram.{Datagram};
+ghost use Rattle.prep_cut.specs.declared.plan.Plan.{Plan};
+ghost use Rattle.prep_cut.specs.declared.transaction.Transaction.{Transaction};
+ghost use Rattle.prep_cut.specs.Datagrams.{datagram_of_block};
+ghost use Rattle.prep_cut.specs.Allocating.{is_noted};
+ghost use Rattle.prep_cut.specs.Marks.{line_of};
+ghost use Rattle.prep_cut.specs.Kept.{IsOfMoment};
+
+/// Of an Allocate request and a success of its transaction, both of which are noted in the plan's allocations, none is left out by any line
+/// but those of the moments that are stated, whatever is proposed for them.
+pub fn shown_allocates_stay()
+    ensures success { (plan : Plan) (proposed : Option ℕ) (request success : Block) (asked granted : Datagram) (transaction : Transaction)
+        → datagram_of_block plan.policy request ≡ Some asked → asked.side ≡ Arrives → asked.allocate ≡ Some transaction
+        → datagram_of_block plan.policy success ≡ Some granted → granted.side ≡ Leaves → granted.allocate ≡ Some transaction
+        → is_noted plan.allocations asked ≡ true → IsOfMoment plan (line_of plan proposed success) }
+    ensures request { (plan : Plan) (proposed : Option ℕ) (request success : Block) (asked granted : Datagram) (transaction : Transaction)
+        → datagram_of_block plan.policy request ≡ Some asked → asked.side ≡ Arrives → asked.allocate ≡ Some transaction
+        → datagram_of_block plan.policy success ≡ Some granted → granted.side ≡ Leaves → granted.allocate ≡ Some transaction
+        → is_noted plan.allocations granted ≡ true → IsOfMoment plan (line_of plan proposed request) }
+{}

@@ -1,0 +1,94 @@
+//! What is counted of an interface.
+
+ghost use Rattle.std.specs.Prelude.{◌≡◌, ◌+◌, ◌<◌, ◌^◌, None};
+
+use crate::passed::Passed;
+use std::alloc::{AllocError, Global};
+use std::collections::BTreeMap;
+
+/// The stamps of an interface's frames, in nanoseconds since 1970.
+#[derive(Clone, Copy, Debug, PartialEq, Eq)]
+pub(crate) struct Stamps {
+    pub(crate) frames: u64,
+    /// The least and the greatest: 0 of no frame.
+    pub(crate) first: u64,
+    pub(crate) last: u64,
+    /// How many are less than an earlier one, and the most by which one is.
+    pub(crate) back: u64,
+    pub(crate) most: u64,
+}
+
+impl Stamps {
+    /// Of no frame.
+    pub(crate) fn none() -> Self
+        ensures { result.frames ≡ 0 }
+    {
+        Stamps {
+            frames: 0,
+            first: 0,
+            last: 0,
+            back: 0,
+            most: 0,
+        }
+    }
+
+    /// With a frame more.
+    pub(crate) fn with(self, stamp: u64) -> Self
+        ensures { self.frames + 1 < 2 ^ 64 → result.frames ≡ self.frames + 1 }
+    {
+        let frames = self.frames.saturating_add(1);
+        if self.frames == 0 {
+            return Stamps {
+                frames,
+                first: stamp,
+                last: stamp,
+                ..self
+            };
+        }
+        let back = u64::from(stamp < self.last);
+        Stamps {
+            frames,
+            first: self.first.min(stamp),
+            last: self.last.max(stamp),
+            back: self.back.saturating_add(back),
+            most: self.most.max(self.last.saturating_sub(stamp)),
+        }
+    }
+}
+
+/// What is counted of an interface.
+#[derive(Debug, Drop)]
+pub(crate) struct Interface {
+    /// As in a `SightId`: 64 times the capture's number, plus the interface's number in the capture.
+    pub(crate) number: u32,
+    pub(crate) stamps: Stamps,
+    /// UDP over IPv4, of the service or not.
+    pub(crate) datagrams: u64,
+    /// Statistics blocks.
+    pub(crate) statistics: u64,
+    /// Frames that hold no such datagram.
+    pub(crate) passed: BTreeMap<Passed, u64>,
+}
+
+impl Interface {
+    /// Without a frame. It takes no memory.
+    pub(crate) fn new(alloc: Global, number: u32) -> Self {
+        Interface {
+            number,
+            stamps: Stamps::none(),
+            datagrams: 0,
+            statistics: 0,
+            passed: BTreeMap::new(alloc),
+        }
+    }
+
+    /// Counts a frame that is passed over.
+    pub(crate) fn pass(&mut self, passed: Passed) -> Result<(), AllocError> {
+        let count = match self.passed.get(&passed) {
+            Some(count) => *count,
+            None => 0,
+        };
+        self.passed.insert(passed, count.saturating_add(1))?;
+        Ok(())
+    }
+}

@@ -1,0 +1,21 @@
+//! The page that is read before an audit: what captures hold, and what is advised. Nothing rests on what it says.
+#![tactic(auto)]
+
+mod advice;
+mod advising;
+mod crossings;
+mod guess;
+mod interface;
+mod losses;
+mod page;
+mod passed;
+mod responses;
+mod survey;
+mod surveyor;
+mod told;
+mod unjudged;
+
+pub use guess::{Guess, GuessFault, guess_policy};
+pub use page::page_of;
+pub use survey::Survey;
+pub use surveyor::Surveyor;

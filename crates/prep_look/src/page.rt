@@ -1,0 +1,267 @@
+//! The page.
+
+use crate::advice::Ip;
+use crate::advising::{Findings, advise};
+use crate::crossings::find_crossings;
+use crate::interface::Interface;
+use crate::losses::find_losses;
+use crate::passed::Passed;
+use crate::responses::count_answered;
+use crate::survey::{Answers, Survey};
+use crate::told::{ToldAddress, split_ip};
+use crate::unjudged::count_unjudged;
+use audit_model::{Addr, Policy, Side};
+use prep_reasons::Sheet;
+use prep_records::{Content, Record};
+use std::alloc::{AllocError, Global};
+use std::collections::BTreeMap;
+use std::fmt::Write;
+
+/// Datagrams of the service at an interface, by side.
+#[derive(Clone, Copy)]
+struct Sides {
+    client_in: u64,
+    client_out: u64,
+    relay_in: u64,
+    relay_out: u64,
+    inside: u64,
+}
+
+impl Sides {
+    fn none() -> Self {
+        Sides {
+            client_in: 0,
+            client_out: 0,
+            relay_in: 0,
+            relay_out: 0,
+            inside: 0,
+        }
+    }
+
+    /// With a datagram more.
+    fn with(self, record: &Record) -> Self {
+        let mut sides = self;
+        match (record.content, record.side) {
+            (Content::Inside, _) => sides.inside = one_more(sides.inside),
+            (Content::Relayed, Side::Arrives) => sides.relay_in = one_more(sides.relay_in),
+            (Content::Relayed, Side::Leaves) => sides.relay_out = one_more(sides.relay_out),
+            (_, Side::Arrives) => sides.client_in = one_more(sides.client_in),
+            (_, Side::Leaves) => sides.client_out = one_more(sides.client_out),
+        }
+        sides
+    }
+
+    fn total(&self) -> u64 {
+        self.client_in
+            .saturating_add(self.client_out)
+            .saturating_add(self.relay_in)
+            .saturating_add(self.relay_out)
+            .saturating_add(self.inside)
+    }
+}
+
+fn one_more(count: u64) -> u64 {
+    count.saturating_add(1)
+}
+
+/// The page up to the suggested policy, whose heading is its last line. It holds numbers, addresses and words of its own, nothing as the
+/// captures spell it. The cost is the number of records times its logarithm.
+pub fn page_of(
+    alloc: Global,
+    survey: Survey,
+    policy: &Policy,
+    sheet: &Sheet<'_>,
+) -> Result<String, AllocError> {
+    let mut survey = survey;
+    let found = Findings {
+        answered: count_answered(alloc, sheet)?,
+        crossings: find_crossings(alloc, sheet)?,
+        losses: find_losses(alloc, sheet)?,
+        unjudged: count_unjudged(alloc, sheet)?,
+    };
+    let mut page = String::from_str(alloc, "turnprep-look 1\n")?;
+    write_interfaces(alloc, &mut page, &mut survey.interfaces, sheet)?;
+    write_answers(&mut page, &survey.answers, policy)?;
+    write_told(&mut page, &survey.told, policy)?;
+    write_findings(&mut page, &found)?;
+    let advices = advise(alloc, &survey, policy, &found)?;
+    for advice in &advices {
+        write!(page, "advice {advice}\n")?;
+    }
+    page.push_str("suggested-policy\n")?;
+    Ok(page)
+}
+
+/// Three lines for each interface.
+fn write_interfaces(
+    alloc: Global,
+    page: &mut String,
+    interfaces: &mut Vec<Interface>,
+    sheet: &Sheet<'_>,
+) -> Result<(), AllocError> {
+    let mut sides: BTreeMap<u32, Sides> = BTreeMap::new(alloc);
+    for at in 0..sheet.len() {
+        if let Some(record) = sheet.record(at) {
+            let number = u32::from(record.iface);
+            let earlier = match sides.get(&number) {
+                Some(earlier) => *earlier,
+                None => Sides::none(),
+            };
+            sides.insert(number, earlier.with(&record))?;
+        }
+    }
+    for place in 0..interfaces.len() {
+        let Some(one) = interfaces.get_mut(place) else {
+            return Ok(());
+        };
+        let sides = match sides.get(&one.number) {
+            Some(sides) => *sides,
+            None => Sides::none(),
+        };
+        let elsewhere = one.datagrams.saturating_sub(sides.total());
+        if elsewhere > 0 {
+            one.passed.insert(Passed::Elsewhere, elsewhere)?;
+        }
+        write_interface(page, one)?;
+        write_sides(page, one.number, &sides)?;
+        write_passed(page, one)?;
+    }
+    Ok(())
+}
+
+/// Captures that drop packets are refused, so that an interface has none.
+fn write_interface(page: &mut String, one: &Interface) -> Result<(), AllocError> {
+    let number = one.number;
+    let frames = one.stamps.frames;
+    let first = one.stamps.first;
+    let last = one.stamps.last;
+    let back = one.stamps.back;
+    let most = one.stamps.most;
+    let statistics = one.statistics;
+    write!(
+        page,
+        "interface {number} frames {frames} from {first} to {last} "
+    )?;
+    write!(
+        page,
+        "back {back} most {most} statistics {statistics} drops 0\n"
+    )
+}
+
+fn write_sides(page: &mut String, number: u32, sides: &Sides) -> Result<(), AllocError> {
+    let client_in = sides.client_in;
+    let client_out = sides.client_out;
+    let relay_in = sides.relay_in;
+    let relay_out = sides.relay_out;
+    let inside = sides.inside;
+    write!(
+        page,
+        "service {number} client-in {client_in} client-out {client_out} "
+    )?;
+    write!(
+        page,
+        "relay-in {relay_in} relay-out {relay_out} inside {inside}\n"
+    )
+}
+
+fn write_passed(page: &mut String, one: &Interface) -> Result<(), AllocError> {
+    if one.passed.is_empty() {
+        return Ok(());
+    }
+    let number = one.number;
+    write!(page, "passed {number}")?;
+    for (passed, count) in one.passed.iter() {
+        let count = *count;
+        write!(page, " {passed} {count}")?;
+    }
+    page.push_str("\n")
+}
+
+/// Who answers, and who of the policy doesn't. Of those that answer a Binding alone it tells those at an address of the service where it
+/// doesn't relay: the others are peers.
+fn write_answers(
+    page: &mut String,
+    answers: &BTreeMap<Addr, Answers>,
+    policy: &Policy,
+) -> Result<(), AllocError> {
+    for (addr, answers) in answers.iter() {
+        let listens = policy.listens(*addr);
+        let is_own = policy.service_ip(addr.ip) && !policy.relays(*addr);
+        if listens || is_own || answers.allocate > 0 {
+            let count = answers.binding.saturating_add(answers.allocate);
+            write!(page, "answers {addr} {count}")?;
+            page.push_str(if listens { "\n" } else { " not-in-policy\n" })?;
+        }
+    }
+    for addr in policy.listen.as_slice() {
+        if !answers.contains_key(addr) {
+            write!(page, "silent {addr}\n")?;
+        }
+    }
+    Ok(())
+}
+
+/// A line for each address that was told, whatever its ports.
+fn write_told(page: &mut String, told: &[ToldAddress], policy: &Policy) -> Result<(), AllocError> {
+    let mut rest = told;
+    for _ in 0..told.len() {
+        let Some((first, _)) = rest.split_first() else {
+            return Ok(());
+        };
+        let (of_ip, behind) = split_ip(rest, first.relayed.ip);
+        write_told_ip(page, first.relayed, of_ip, policy)?;
+        rest = behind;
+    }
+    Ok(())
+}
+
+/// The line of an address whose ports are in order, of which this is the first.
+fn write_told_ip(
+    page: &mut String,
+    first: Addr,
+    told: &[ToldAddress],
+    policy: &Policy,
+) -> Result<(), AllocError> {
+    let mut last = first.port;
+    let mut on_wire = 0u64;
+    let mut in_policy = 0u64;
+    for one in told {
+        last = one.relayed.port;
+        on_wire = on_wire.saturating_add(u64::from(one.is_on_wire));
+        in_policy = in_policy.saturating_add(u64::from(policy.relays(one.relayed)));
+    }
+    let ip = Ip(first.ip);
+    let port = first.port;
+    let ports = told.len();
+    write!(
+        page,
+        "told {ip} ports {ports} from {port} to {last} on-wire {on_wire} in-policy {in_policy}\n"
+    )
+}
+
+/// Delays, and what `cut` would set aside.
+fn write_findings(page: &mut String, found: &Findings) -> Result<(), AllocError> {
+    let answered = found.answered.count;
+    if answered > 0 {
+        let longest = found.answered.longest / 1_000;
+        write!(page, "answered {answered} longest-us {longest}\n")?;
+    }
+    for (interfaces, crossing) in found.crossings.between.iter() {
+        let (arrival, departure) = *interfaces;
+        let pairs = crossing.count;
+        let least = crossing.least.div_euclid(1_000);
+        let longest = crossing.longest.div_euclid(1_000);
+        write!(
+            page,
+            "relayed {arrival} {departure} pairs {pairs} least-us {least} longest-us {longest}\n"
+        )?;
+    }
+    for one in &found.unjudged {
+        let kind = one.kind;
+        let arrived = one.arrived;
+        let left = one.left;
+        let lines = one.lines;
+        write!(page, "unjudged {kind} {lines} in {arrived} out {left}\n")?;
+    }
+    Ok(())
+}

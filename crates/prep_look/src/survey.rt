@@ -1,0 +1,119 @@
+//! What captures hold, whatever the policy.
+
+use crate::interface::Interface;
+use crate::told::{Alias, ToldAddress};
+use audit_model::{Addr, Policy};
+use std::alloc::Global;
+use std::collections::BTreeMap;
+
+/// The successes that an address sent.
+#[derive(Clone, Copy, Debug)]
+pub(crate) struct Answers {
+    pub(crate) binding: u64,
+    pub(crate) allocate: u64,
+}
+
+/// ICMP errors that say that a port is closed, with their least and greatest stamps.
+#[derive(Clone, Copy, Debug)]
+pub(crate) struct Closed {
+    pub(crate) count: u64,
+    pub(crate) first: u64,
+    pub(crate) last: u64,
+}
+
+impl Closed {
+    /// With those of another address.
+    pub(crate) fn plus(self, other: Closed) -> Self {
+        Closed {
+            count: self.count.saturating_add(other.count),
+            first: self.first.min(other.first),
+            last: self.last.max(other.last),
+        }
+    }
+}
+
+/// Whole captures, without their payloads.
+#[derive(Drop)]
+pub struct Survey {
+    /// In the order of their numbers.
+    pub(crate) interfaces: Vec<Interface>,
+    pub(crate) answers: BTreeMap<Addr, Answers>,
+    /// By address.
+    pub(crate) told: Vec<ToldAddress>,
+    /// Of each address that was told and isn't on the wire at most one.
+    pub(crate) aliases: Vec<Alias>,
+    /// By source and destination.
+    pub(crate) fragments: BTreeMap<(u32, u32), u64>,
+    pub(crate) cuts: BTreeMap<(u32, u32), u64>,
+    /// Those that are cut before their addresses.
+    pub(crate) unnamed_cuts: u64,
+    /// UDP in frames that are longer than Ethernet's.
+    pub(crate) long: u64,
+    /// ChannelData with more behind it than padding, by source and destination.
+    pub(crate) merged: BTreeMap<(Addr, Addr), u64>,
+    pub(crate) closed: BTreeMap<Addr, Closed>,
+}
+
+impl Survey {
+    /// Of no capture. It takes no memory.
+    pub(crate) fn new(alloc: Global) -> Self {
+        Survey {
+            interfaces: Vec::new(alloc),
+            answers: BTreeMap::new(alloc),
+            told: Vec::new(alloc),
+            aliases: Vec::new(alloc),
+            fragments: BTreeMap::new(alloc),
+            cuts: BTreeMap::new(alloc),
+            unnamed_cuts: 0,
+            long: 0,
+            merged: BTreeMap::new(alloc),
+            closed: BTreeMap::new(alloc),
+        }
+    }
+
+    /// Fragments with an address of the service.
+    pub(crate) fn fragments_of(&self, policy: &Policy) -> u64 {
+        count_of_service(&self.fragments, policy)
+    }
+
+    /// Datagrams of which too little was captured, and which have an address of the service or tell none.
+    pub(crate) fn cuts_of(&self, policy: &Policy) -> u64 {
+        count_of_service(&self.cuts, policy).saturating_add(self.unnamed_cuts)
+    }
+
+    /// ChannelData between clients and the service with more behind it than padding.
+    pub(crate) fn merged_of(&self, policy: &Policy) -> u64 {
+        let mut total = 0u64;
+        for (ends, count) in self.merged.iter() {
+            if policy.listens(ends.0) || policy.listens(ends.1) {
+                total = total.saturating_add(*count);
+            }
+        }
+        total
+    }
+
+    /// ICMP errors that say that a listen address is closed.
+    pub(crate) fn closed_of(&self, policy: &Policy) -> Option<Closed> {
+        let mut all: Option<Closed> = None;
+        for (addr, closed) in self.closed.iter() {
+            if policy.listens(*addr) {
+                all = Some(match all {
+                    Some(other) => other.plus(*closed),
+                    None => *closed,
+                });
+            }
+        }
+        all
+    }
+}
+
+/// How many have an address of the service.
+fn count_of_service(counts: &BTreeMap<(u32, u32), u64>, policy: &Policy) -> u64 {
+    let mut total = 0u64;
+    for (ips, count) in counts.iter() {
+        if policy.service_ip(ips.0) || policy.service_ip(ips.1) {
+            total = total.saturating_add(*count);
+        }
+    }
+    total
+}

@@ -1,0 +1,253 @@
+//! Surveying captures that come in pieces.
+
+use crate::interface::Interface;
+use crate::passed::{Passed, closed_in, passed_as};
+use crate::survey::{Answers, Closed, Survey};
+use crate::told::{aliases_of, told_on_wire};
+use audit_model::Addr;
+use audit_packets::Seen;
+use audit_pcapng::{BlockKind, CaptureFault};
+use audit_stun::numbers::attribute::XOR_RELAYED_ADDRESS;
+use audit_stun::numbers::method;
+use audit_stun::{Class, address, channel_data, message};
+use prep_blocks::{Block, BlockSplitter, PacketHead};
+use prep_frames::{frame_of, seen_of};
+use std::alloc::{AllocError, Global};
+use std::collections::{BTreeMap, BTreeSet};
+
+/// Where a statistics block names its interface.
+const STATISTICS_INTERFACE: usize = 8;
+
+/// A frame of Ethernet with two VLAN tags and 1,500 bytes of content has at most so many bytes, its checksum among them.
+const LONGEST_FRAME: u32 = 1_526;
+
+/// ChannelData has at most so many bytes of padding (RFC 8656, section 12.5).
+const MOST_PADDING: usize = 3;
+
+/// Surveys captures, each of which comes in pieces, cut anywhere. It keeps each address once, and no payload. After a fault it is thrown
+/// away.
+#[derive(Drop)]
+pub struct Surveyor {
+    splitter: BlockSplitter,
+    all: Survey,
+    told: BTreeSet<Addr>,
+    /// The ends of datagrams.
+    wire: BTreeSet<Addr>,
+    capture: u32,
+    /// How many interfaces there were before the capture that comes, and before its section.
+    before_capture: usize,
+    before_section: usize,
+    alloc: Global,
+}
+
+impl Surveyor {
+    /// A surveyor of no capture. It takes no memory.
+    pub fn new(alloc: Global) -> Self {
+        Surveyor {
+            splitter: BlockSplitter::new(alloc),
+            all: Survey::new(alloc),
+            told: BTreeSet::new(alloc),
+            wire: BTreeSet::new(alloc),
+            capture: 0,
+            before_capture: 0,
+            before_section: 0,
+            alloc,
+        }
+    }
+
+    /// Takes the next piece of the capture that comes.
+    pub fn feed(&mut self, piece: &[u8]) -> Result<(), CaptureFault> {
+        let mut rest = piece;
+        for _ in 0..piece.len() {
+            let Some((block, behind)) = self.splitter.next(rest)? else {
+                return Ok(());
+            };
+            self.take(&block)?;
+            rest = behind;
+        }
+        Ok(())
+    }
+
+    /// Ends the capture that came. The next one begins.
+    pub fn end(&mut self) -> Result<(), CaptureFault> {
+        self.splitter.finish()?;
+        self.splitter = BlockSplitter::new(self.alloc);
+        self.capture = self.capture.saturating_add(1);
+        self.before_capture = self.all.interfaces.len();
+        self.before_section = self.before_capture;
+        Ok(())
+    }
+
+    /// What the captures hold that ended.
+    pub fn finish(self) -> Result<Survey, AllocError> {
+        let Surveyor {
+            mut all,
+            told,
+            wire,
+            alloc,
+            ..
+        } = self;
+        all.told = told_on_wire(alloc, &told, &wire)?;
+        all.aliases = aliases_of(alloc, all.told.as_slice(), &all.answers, &wire)?;
+        Ok(all)
+    }
+
+    fn take(&mut self, block: &Block) -> Result<(), AllocError> {
+        match block.kind {
+            BlockKind::Section => self.before_section = self.all.interfaces.len(),
+            BlockKind::Interface => self.describe()?,
+            BlockKind::Statistics => self.count_statistics(block),
+            _ => {}
+        }
+        match block.packet {
+            Some(head) => self.take_packet(block, head),
+            None => Ok(()),
+        }
+    }
+
+    /// An interface more.
+    fn describe(&mut self) -> Result<(), AllocError> {
+        let in_capture = self
+            .all
+            .interfaces
+            .len()
+            .saturating_sub(self.before_capture);
+        let number = self
+            .capture
+            .saturating_mul(64)
+            .saturating_add(u32::try_from(in_capture).unwrap_or(u32::MAX));
+        self.all
+            .interfaces
+            .push(Interface::new(self.alloc, number))?;
+        Ok(())
+    }
+
+    fn count_statistics(&mut self, block: &Block) {
+        let bytes = block.bytes.as_slice();
+        if bytes.len() < STATISTICS_INTERFACE + 4 {
+            return;
+        }
+        let id = block.order.u32_at(bytes, STATISTICS_INTERFACE) as usize;
+        let place = self.before_section.saturating_add(id);
+        if let Some(interface) = self.all.interfaces.get_mut(place) {
+            interface.statistics = interface.statistics.saturating_add(1);
+        }
+    }
+
+    fn take_packet(&mut self, block: &Block, head: PacketHead) -> Result<(), AllocError> {
+        let place = self.before_capture.saturating_add(head.iface as usize);
+        let frame = frame_of(block, head);
+        let seen = seen_of(frame, head);
+        if let Some(interface) = self.all.interfaces.get_mut(place) {
+            interface.stamps = interface.stamps.with(head.stamp);
+            match seen {
+                Seen::Udp { .. } => interface.datagrams = interface.datagrams.saturating_add(1),
+                Seen::Fragment { .. } => interface.pass(Passed::Fragment)?,
+                Seen::Cut { .. } => interface.pass(Passed::Cut)?,
+                Seen::Other => interface.pass(passed_as(frame))?,
+            }
+        }
+        self.take_seen(frame, head, seen)
+    }
+
+    fn take_seen(
+        &mut self,
+        frame: &[u8],
+        head: PacketHead,
+        seen: Seen<'_>,
+    ) -> Result<(), AllocError> {
+        match seen {
+            Seen::Udp { from, to, payload } => {
+                if head.captured > LONGEST_FRAME {
+                    self.all.long = self.all.long.saturating_add(1);
+                }
+                self.wire.insert(from)?;
+                self.wire.insert(to)?;
+                self.take_payload(from, to, payload)
+            }
+            Seen::Fragment { from, to } => { count_ends(&mut self.all.fragments, (from, to)) }
+            Seen::Cut { ips: Some(ips) } => { count_ends(&mut self.all.cuts, ips) }
+            Seen::Cut { ips: None } => {
+                self.all.unnamed_cuts = self.all.unnamed_cuts.saturating_add(1);
+                Ok(())
+            }
+            Seen::Other => self.take_other(frame, head.stamp),
+        }
+    }
+
+    /// Notes what says that a port is closed.
+    fn take_other(&mut self, frame: &[u8], stamp: u64) -> Result<(), AllocError> {
+        if passed_as(frame) != Passed::Icmp {
+            return Ok(());
+        }
+        let Some(addr) = closed_in(frame) else {
+            return Ok(());
+        };
+        let one = Closed {
+            count: 1,
+            first: stamp,
+            last: stamp,
+        };
+        let all = match self.all.closed.get(&addr) {
+            Some(earlier) => earlier.plus(one),
+            None => one,
+        };
+        self.all.closed.insert(addr, all)?;
+        Ok(())
+    }
+
+    fn take_payload(&mut self, from: Addr, to: Addr, payload: &[u8]) -> Result<(), AllocError> {
+        if let Some((_, _, behind)) = channel_data(payload) {
+            if behind > MOST_PADDING {
+                let count = match self.all.merged.get(&(from, to)) {
+                    Some(count) => *count,
+                    None => 0,
+                };
+                self.all.merged.insert((from, to), count.saturating_add(1))?;
+            }
+            return Ok(());
+        }
+        let Some(message) = message(payload) else {
+            return Ok(());
+        };
+        if !matches!(message.class(), Class::Success) {
+            return Ok(());
+        }
+        match message.method() {
+            method::BINDING => self.count_answer(from, 1, 0),
+            method::ALLOCATE => {
+                if let Some(value) = message.first(XOR_RELAYED_ADDRESS) {
+                    if let Some(relayed) = address(value) {
+                        self.told.insert(relayed)?;
+                    }
+                }
+                self.count_answer(from, 0, 1)
+            }
+            _ => Ok(()),
+        }
+    }
+
+    /// Counts successes to Binding and to Allocate.
+    fn count_answer(&mut self, from: Addr, binding: u64, allocate: u64) -> Result<(), AllocError> {
+        let earlier = match self.all.answers.get(&from) {
+            Some(answers) => *answers,
+            None => Answers {
+                binding: 0,
+                allocate: 0,
+            },
+        };
+        let answers = Answers {
+            binding: earlier.binding.saturating_add(binding),
+            allocate: earlier.allocate.saturating_add(allocate),
+        };
+        self.all.answers.insert(from, answers)?;
+        Ok(())
+    }
+}
+
+/// Counts a frame between two addresses.
+fn count_ends(counts: &mut BTreeMap<(u32, u32), u64>, ips: (u32, u32)) -> Result<(), AllocError> {
+    let count = counts.entry(ips)?.or_insert(0);
+    *count = count.saturating_add(1);
+    Ok(())
+}

@@ -1,0 +1,137 @@
+//! The relayed addresses that Allocate successes tell.
+
+use crate::survey::Answers;
+use audit_model::Addr;
+use std::alloc::{AllocError, Global};
+use std::collections::{BTreeMap, BTreeSet};
+
+/// A relayed address that was told over UDP and IPv4.
+#[derive(Clone, Copy, Debug)]
+pub(crate) struct ToldAddress {
+    pub(crate) relayed: Addr,
+    /// Whether a datagram leaves it or arrives there.
+    pub(crate) is_on_wire: bool,
+}
+
+/// An address that was told and isn't on the wire, and one that answers and has ports that were told of the other.
+#[derive(Clone, Copy, Debug)]
+pub(crate) struct Alias {
+    pub(crate) public: u32,
+    pub(crate) private: u32,
+    /// How many ports.
+    pub(crate) ports: u64,
+    /// How many ports were told.
+    pub(crate) of: u64,
+}
+
+impl Alias {
+    /// Whether it is worth telling: where half of what was told, or more than two, is there.
+    pub(crate) fn is_likely(&self) -> bool {
+        self.ports > 2 || self.ports.saturating_mul(2) >= self.of
+    }
+}
+
+/// So many addresses that answer are asked whether they use ports that were told of another, so that the cost is bounded.
+const MOST_ASKED: usize = 8;
+
+/// The addresses that were told, in their order.
+pub(crate) fn told_on_wire(
+    alloc: Global,
+    told: &BTreeSet<Addr>,
+    wire: &BTreeSet<Addr>,
+) -> Result<Vec<ToldAddress>, AllocError> {
+    let mut all = Vec::new(alloc);
+    for relayed in told.iter() {
+        all.push(ToldAddress {
+            relayed: *relayed,
+            is_on_wire: wire.contains(relayed),
+        })?;
+    }
+    Ok(all)
+}
+
+/// For each address that was told and isn't on the wire, the one that answers and has most of its ports there.
+pub(crate) fn aliases_of(
+    alloc: Global,
+    told: &[ToldAddress],
+    answers: &BTreeMap<Addr, Answers>,
+    wire: &BTreeSet<Addr>,
+) -> Result<Vec<Alias>, AllocError> {
+    let asked = ips_of(alloc, answers)?;
+    let on_wire = ips_on_wire(alloc, wire)?;
+    let mut aliases = Vec::new(alloc);
+    let mut rest = told;
+    for _ in 0..told.len() {
+        let Some((first, _)) = rest.split_first() else {
+            return Ok(aliases);
+        };
+        let (of_ip, behind) = split_ip(rest, first.relayed.ip);
+        if on_wire.binary_search(&first.relayed.ip).is_err() {
+            if let Some(alias) = alias_of(of_ip, &asked, wire) {
+                aliases.push(alias)?;
+            }
+        }
+        rest = behind;
+    }
+    Ok(aliases)
+}
+
+/// The first addresses that answer, without their ports, each once.
+fn ips_of(alloc: Global, answers: &BTreeMap<Addr, Answers>) -> Result<Vec<u32>, AllocError> {
+    let mut ips = Vec::new(alloc);
+    for addr in answers.keys() {
+        if ips.len() < MOST_ASKED && ips.last().copied() != Some(addr.ip) {
+            ips.push(addr.ip)?;
+        }
+    }
+    Ok(ips)
+}
+
+/// The addresses on the wire, without their ports, each once and in their order.
+fn ips_on_wire(alloc: Global, wire: &BTreeSet<Addr>) -> Result<Vec<u32>, AllocError> {
+    let mut ips = Vec::new(alloc);
+    for addr in wire.iter() {
+        if ips.last().copied() != Some(addr.ip) {
+            ips.push(addr.ip)?;
+        }
+    }
+    Ok(ips)
+}
+
+/// Those of one address, which come first, and the others.
+pub(crate) fn split_ip(told: &[ToldAddress], ip: u32) -> (&[ToldAddress], &[ToldAddress]) {
+    let count = told.partition_point(|one| one.relayed.ip <= ip);
+    told.split_at(count.min(told.len()))
+}
+
+/// The one of those asked that has most of the ports.
+fn alias_of(told: &[ToldAddress], asked: &[u32], wire: &BTreeSet<Addr>) -> Option<Alias> {
+    let mut best: Option<Alias> = None;
+    for private in asked {
+        let mut ports = 0u64;
+        let mut public = 0;
+        for one in told {
+            public = one.relayed.ip;
+            let here = Addr {
+                ip: *private,
+                port: one.relayed.port,
+            };
+            if wire.contains(&here) {
+                ports = ports.saturating_add(1);
+            }
+        }
+        let most = match best {
+            Some(alias) => alias.ports,
+            None => 0,
+        };
+        if ports > most {
+            best = Some(Alias {
+                public,
+                private: *private,
+                ports,
+                of: told.len() as u64,
+            });
+        }
+    }
+    best
+}

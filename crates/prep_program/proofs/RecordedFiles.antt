@@ -1,0 +1,55 @@
+-- The pieces of a capture that is recorded, and captures one after another.
+use Rattle.std.proofs.Common.{◌≡◌, ℕ, List, [], ◌∷◌, ◌++◌, map, Result, Ok, Err, OnOk, refl, sym, ap, subst, ◌∙◌}
+use Rattle.std.specs.List.{AllByRecursion, concat}
+use Rattle.std.proofs.lemmas.List.{append-nil, map-append}
+use Rattle.std.proofs.lemmas.List.Folds.{concat-append}
+use Rattle.audit_model.specs.declared.policy.Policy.{Policy}
+use Rattle.prep_blocks.specs.declared.block.Block.{Block}
+use Rattle.prep_blocks.specs.Read.{bytes_of}
+use Rattle.prep_blocks.specs.Splitting.{IsWhole}
+use Rattle.prep_records.specs.declared.recorder.Recorder.{Recorder}
+use Rattle.prep_records.specs.Recording.{IsRecording, GoesOn, Ended}
+use Rattle.prep_program.specs.declared.stop.Stop.{Stop}
+use Rattle.prep_program.specs.Recordings.{RecordedSoFar, Recorded}
+
+pub nothing_recorded : (recorder : Recorder) (policy : Policy) (earlier : List Block) → IsRecording recorder policy earlier [] [] → RecordedSoFar recorder policy earlier []
+nothing_recorded recorder policy earlier r = record { current = []; recording = r }
+
+-- a piece more
+pub recorded_more : (old new : Recorder) (policy : Policy) (earlier : List Block) (text piece : List ℕ) → (s : RecordedSoFar old policy earlier text)
+    → GoesOn new policy earlier text s.current piece [] → RecordedSoFar new policy earlier (text ++ piece)
+recorded_more old new policy earlier text piece s on =
+    let all : text ++ on.taken ≡ text ++ piece = ap (λ (t : List ℕ). text ++ t) (sym (append-nil on.taken) ∙ sym on.cut) in
+    record { current = s.current ++ on.more; recording = subst (λ (t : List ℕ). IsRecording new policy earlier t (s.current ++ on.more)) all on.recording }
+
+-- the end of a capture
+pub recorded_whole : (old new : Recorder) (policy : Policy) (earlier : List Block) (text whole : List ℕ) (r : Result (Unit {0}) Stop) → text ≡ whole
+    → (s : RecordedSoFar old policy earlier text) → OnOk r (Ended new policy earlier text s.current) → OnOk r (Recorded new policy earlier whole)
+recorded_whole old new policy earlier text whole (Ok done) e s is = record { current = s.current; ended = subst (λ (t : List ℕ). Ended new policy earlier t s.current) e is }
+recorded_whole old new policy earlier text whole (Err stop) e s is = tt
+
+-- the captures that are done
+pub record AreRecorded (recorder : Recorder) (policy : Policy) (texts : List (List ℕ)) : Type 0 where
+  pub done : List (List Block)
+  pub recording : IsRecording recorder policy (concat done) [] []
+  pub spelled : map bytes_of done ≡ texts
+  pub wholes : AllByRecursion (λ blocks. IsWhole (bytes_of blocks) blocks) done
+
+pub none_recorded : (recorder : Recorder) (policy : Policy) → IsRecording recorder policy [] [] [] → AreRecorded recorder policy []
+none_recorded recorder policy r = record { done = []; recording = r; spelled = refl; wholes = tt }
+
+all_then : (P : List Block → Type 0) (xs : List (List Block)) (x : List Block) → AllByRecursion P xs → P x → AllByRecursion P (xs ++ x ∷ [])
+all_then P [] x all one = (one, tt)
+all_then P (y ∷ xs) x all one = (all.0, all_then P xs x all.1 one)
+
+-- a capture more
+pub one_recorded : (old new : Recorder) (policy : Policy) (texts : List (List ℕ)) (text : List ℕ) → (d : AreRecorded old policy texts) → Recorded new policy (concat d.done) text
+    → AreRecorded new policy (texts ++ text ∷ [])
+one_recorded old new policy texts text d r =
+    let longer : concat (d.done ++ r.current ∷ []) ≡ concat d.done ++ r.current = concat-append d.done (r.current ∷ []) ∙ ap (λ (t : List Block). concat d.done ++ t) (append-nil r.current) in
+    record {
+      done = d.done ++ r.current ∷ [];
+      recording = subst (λ (bs : List Block). IsRecording new policy bs [] []) (sym longer) r.ended.next;
+      spelled = map-append bytes_of d.done (r.current ∷ []) ∙ ap (λ (t : List (List ℕ)). t ++ bytes_of r.current ∷ []) d.spelled ∙ ap (λ (t : List ℕ). texts ++ t ∷ []) (sym r.ended.whole.spelled);
+      wholes = all_then (λ blocks. IsWhole (bytes_of blocks) blocks) d.done r.current d.wholes (subst (λ (t : List ℕ). IsWhole t r.current) r.ended.whole.spelled r.ended.whole);
+    }

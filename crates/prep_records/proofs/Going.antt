@@ -1,0 +1,84 @@
+-- A recorder's relation, step by step.
+use Rattle.std.proofs.Common.{◌≡◌, ℕ, true, List, [], ◌∷◌, ◌++◌, Option, Some, None, refl, sym, ap, subst, ◌∙◌, append_assoc}
+use Rattle.std.proofs.lemmas.List.{append-nil}
+use Rattle.audit_model.specs.declared.policy.Policy.{Policy}
+use Rattle.prep_blocks.specs.declared.block.Block.{Block}
+use Rattle.prep_blocks.specs.Splitting.{StandsFor, Gave, IsWhole}
+use Rattle.prep_cut.specs.declared.allocations.Allocations.{Allocations}
+use Rattle.prep_cut.specs.declared.datagram.Datagram.{Datagram}
+use Rattle.prep_cut.specs.Datagrams.{datagram_of_block}
+use Rattle.prep_cut.specs.Allocating.{is_noted, is_noted_if, is_noted_in, AreNoted}
+use Rattle.prep_records.specs.declared.recorder.Recorder.{Recorder}
+use Rattle.prep_records.specs.Recording.{IsRecording, GoesOn, Ended}
+
+-- what was noted stays noted
+abbrev pub Keeps : Allocations → Allocations → Type 0
+Keeps old new = (other : Datagram) → is_noted old other ≡ true → is_noted new other ≡ true
+
+kept_if : (old new : Allocations) → Keeps old new → (found : Option Datagram) → is_noted_if old found ≡ true → is_noted_if new found ≡ true
+kept_if old new keeps None noted = refl
+kept_if old new keeps (Some datagram) noted = keeps datagram noted
+
+kept_all : (policy : Policy) (old new : Allocations) → Keeps old new → (blocks : List Block) → AreNoted policy old blocks → AreNoted policy new blocks
+kept_all policy old new keeps [] noted = tt
+kept_all policy old new keeps (first ∷ others) noted = (kept_if old new keeps (datagram_of_block policy first) noted.0, kept_all policy old new keeps others noted.1)
+
+one_more : (policy : Policy) (all : Allocations) (blocks : List Block) (b : Block) → AreNoted policy all blocks → is_noted_in policy all b ≡ true → AreNoted policy all (blocks ++ b ∷ [])
+one_more policy all [] b noted one = (one, tt)
+one_more policy all (first ∷ others) b noted one = (noted.0, one_more policy all others b noted.1 one)
+
+pub nothing_yet : (recorder : Recorder) (policy : Policy) (earlier : List Block) (text : List ℕ) (current : List Block) (piece : List ℕ)
+    → IsRecording recorder policy earlier text current → GoesOn recorder policy earlier text current piece piece
+nothing_yet recorder policy earlier text current piece r = record { taken = []; more = []; cut = refl; recording = rw (append-nil text, append-nil current) r }
+
+-- one block more
+pub step : (old new : Recorder) (policy : Policy) (earlier : List Block) (text : List ℕ) (current : List Block) (piece rest behind : List ℕ) (b : Block)
+    → (g : GoesOn old policy earlier text current piece rest) → Gave new.splitter (text ++ g.taken) (current ++ g.more) rest b behind
+    → new.policy.now ≡ old.policy.now → is_noted_in old.policy.now new.allocations b ≡ true → Keeps old.allocations new.allocations
+    → GoesOn new policy earlier text current piece behind
+step old new policy earlier text current piece rest behind b g gave same noted keeps =
+    let text_so = append_assoc text g.taken gave.taken in
+    let blocks_so = append_assoc current g.more (b ∷ []) in
+    let one : is_noted_in policy new.allocations b ≡ true = ap (λ (p : Policy). is_noted_in p new.allocations b) (sym g.recording.policy_is) ∙ noted in
+    let all = one_more policy new.allocations (earlier ++ (current ++ g.more)) b
+    (kept_all policy old.allocations new.allocations keeps (earlier ++ (current ++ g.more)) g.recording.noted) one in
+    let noted_so : AreNoted policy new.allocations (earlier ++ ((current ++ g.more) ++ b ∷ [])) =
+    subst (λ (bs : List Block). AreNoted policy new.allocations bs) (append_assoc earlier (current ++ g.more) (b ∷ [])) all in
+    record {
+      taken = g.taken ++ gave.taken;
+      more = g.more ++ b ∷ [];
+      cut = g.cut ∙ ap (λ (t : List ℕ). g.taken ++ t) gave.cut ∙ sym (append_assoc g.taken gave.taken behind);
+      recording = subst (λ (t : List ℕ). IsRecording new policy earlier t (current ++ (g.more ++ b ∷ []))) text_so
+          (subst (λ (bs : List Block). IsRecording new policy earlier ((text ++ g.taken) ++ gave.taken) bs) blocks_so
+          (record { policy_is = same ∙ g.recording.policy_is; splits = gave.stands; noted = noted_so }));
+    }
+
+-- the rest of the piece is no whole block
+pub all_taken : (old new : Recorder) (policy : Policy) (earlier : List Block) (text : List ℕ) (current : List Block) (piece rest : List ℕ)
+    → (g : GoesOn old policy earlier text current piece rest) → StandsFor new.splitter ((text ++ g.taken) ++ rest) (current ++ g.more)
+    → new.policy.now ≡ old.policy.now → new.allocations ≡ old.allocations → GoesOn new policy earlier text current piece []
+all_taken old new policy earlier text current piece rest g stands same noted = record {
+  taken = g.taken ++ rest;
+  more = g.more;
+  cut = g.cut ∙ sym (append-nil (g.taken ++ rest));
+  recording = subst (λ (t : List ℕ). IsRecording new policy earlier t (current ++ g.more)) (append_assoc text g.taken rest)
+      (record { policy_is = same ∙ g.recording.policy_is; splits = stands; noted = rw noted g.recording.noted });
+}
+
+pub at_end : (recorder : Recorder) (policy : Policy) (earlier : List Block) (text : List ℕ) (current : List Block) (piece rest : List ℕ)
+    → rest ≡ [] → GoesOn recorder policy earlier text current piece rest → GoesOn recorder policy earlier text current piece []
+at_end recorder policy earlier text current piece rest none g = subst (λ (r : List ℕ). GoesOn recorder policy earlier text current piece r) none g
+
+-- a capture's end
+pub ended : (old new : Recorder) (policy : Policy) (earlier : List Block) (text : List ℕ) (current : List Block) → IsRecording old policy earlier text current
+    → IsWhole text current → StandsFor new.splitter [] [] → new.policy.now ≡ old.policy.now → new.allocations ≡ old.allocations → Ended new policy earlier text current
+ended old new policy earlier text current r whole stands same noted = record {
+  whole = whole;
+  next = record { policy_is = same ∙ r.policy_is; splits = stands; noted = rw (noted, append-nil (earlier ++ current)) r.noted };
+}
+
+pub first : (recorder : Recorder) (policy : Policy) → recorder.policy.now ≡ policy → StandsFor recorder.splitter [] [] → IsRecording recorder policy [] [] []
+first recorder policy same stands = record { policy_is = same; splits = stands; noted = tt }
+
+pub finished : (recorder : Recorder) (policy : Policy) (earlier : List Block) → IsRecording recorder policy earlier [] [] → AreNoted policy recorder.allocations earlier
+finished recorder policy earlier r = subst (λ (bs : List Block). AreNoted policy recorder.allocations bs) (append-nil earlier) r.noted

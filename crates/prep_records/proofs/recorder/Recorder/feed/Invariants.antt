@@ -1,0 +1,9 @@
+use Rattle.std.proofs.Common.{ℕ, ◌+◌, ◌≤◌, List, length}
+use Rattle.audit_model.specs.declared.policy.Policy.{Policy}
+use Rattle.prep_blocks.specs.declared.block.Block.{Block}
+use Rattle.prep_records.specs.Recording.{IsRecording, GoesOn}
+use Rattle.prep_records.proofs.recorder.Recorder.feed.Given as goal
+
+abbrev pub invariant-loop : goal.invariant-loop
+invariant-loop l = (policy : Policy) (earlier : List Block) (text : List ℕ) (current : List Block) → IsRecording l.fn.self policy earlier text current →
+    GoesOn l.self policy earlier text current l.piece l.rest × (length l.rest + l.counter ≤ length l.piece)

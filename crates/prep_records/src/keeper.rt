@@ -1,0 +1,166 @@
+//! What is kept of each packet.
+
+ghost use Rattle.std.specs.Prelude.{◌≡◌};
+
+use crate::elsewhere::note_told;
+use crate::payload::{content_of, digest_of};
+use crate::record::{CapturePackets, Content, Outside, Record, Records};
+use audit_model::{Addr, Policy, Side};
+use audit_packets::{Seen, slice_datagram};
+use audit_pcapng::PacketSlice;
+use prep_blocks::{Block, PacketHead};
+use prep_cut::{Allocations, Stated, frame_in};
+use std::alloc::{AllocError, Global};
+
+/// Twice the greatest skew of a policy, in nanoseconds.
+pub fn slack_of(policy: &Policy) -> u64 {
+    let mut most = policy.skew;
+    for own in policy.skews.as_slice() {
+        most = most.max(own.skew);
+    }
+    most.saturating_mul(2)
+}
+
+/// Keeps records of packets, capture by capture.
+#[derive(Drop)]
+pub(crate) struct Keeper<'p> {
+    policy: &'p Policy,
+    stated: Stated,
+    slack: u64,
+    all: Records,
+    capture: u16,
+    /// Of the capture that comes.
+    packets: CapturePackets,
+    alloc: Global,
+}
+
+/// A UDP datagram in a packet.
+struct Found<'a> {
+    head: PacketHead,
+    from: Addr,
+    to: Addr,
+    payload: &'a [u8],
+}
+
+impl<'p> Keeper<'p> {
+    /// Of no packet. It takes no memory.
+    pub(crate) fn new(alloc: Global, policy: &'p Policy, stated: Stated) -> Self {
+        Keeper {
+            policy,
+            stated,
+            slack: slack_of(policy),
+            all: Records::new(alloc),
+            capture: 0,
+            packets: CapturePackets {
+                count: 0,
+                outside: Vec::new(alloc),
+            },
+            alloc,
+        }
+    }
+
+    /// Ends the capture that came. The next one begins.
+    pub(crate) fn end(&mut self) -> Result<(), AllocError> {
+        let next = CapturePackets {
+            count: 0,
+            outside: Vec::new(self.alloc),
+        };
+        let done = std::mem::replace(&mut self.packets, next);
+        self.all.captures.push(done)?;
+        self.capture = self.capture.saturating_add(1);
+        Ok(())
+    }
+
+    /// What was kept, with these allocations.
+    pub(crate) fn finish(self, allocations: Allocations) -> Records
+        ensures { result.allocations ≡ allocations }
+    {
+        let Keeper { mut all, .. } = self;
+        all.allocations = allocations;
+        all
+    }
+
+    /// Takes the next block. One without a packet changes nothing.
+    pub(crate) fn take(&mut self, block: &Block) -> Result<(), AllocError> {
+        match block.packet {
+            Some(head) => self.take_packet(block, head),
+            None => Ok(()),
+        }
+    }
+
+    fn take_packet(&mut self, block: &Block, head: PacketHead) -> Result<(), AllocError> {
+        self.note_moment(head.stamp)?;
+        let frame = frame_in(block, head);
+        let packet = PacketSlice {
+            stamp: head.stamp,
+            bytes: frame,
+            iface: head.iface,
+            captured: head.captured,
+            original: head.original,
+        };
+        match slice_datagram(packet) {
+            Seen::Udp { from, to, payload } => self.take_datagram(Found {
+                head,
+                from,
+                to,
+                payload,
+            })?,
+            Seen::Other => note_told(self.policy, head.stamp, frame, &mut self.all.told)?,
+            Seen::Fragment { .. } | Seen::Cut { .. } => {}
+        }
+        self.packets.count = self.packets.count.saturating_add(1);
+        Ok(())
+    }
+
+    /// Notes a packet's moment, and whether it is outside what the operator states.
+    fn note_moment(&mut self, stamp: u64) -> Result<(), AllocError> {
+        self.all.first = match self.all.first {
+            Some(first) => Some(first.min(stamp)),
+            None => Some(stamp),
+        };
+        let is_early = self.stated.is_early(stamp);
+        if is_early || self.stated.is_late(stamp.saturating_sub(self.slack)) {
+            let packet = self.packets.count;
+            self.packets.outside.push(Outside { packet, is_early })?;
+        }
+        Ok(())
+    }
+
+    fn take_datagram(&mut self, found: Found<'_>) -> Result<(), AllocError> {
+        let Found {
+            head,
+            from,
+            to,
+            payload,
+        } = found;
+        let leaves = self.policy.listens(from) || self.policy.relays(from);
+        let arrives = self.policy.listens(to) || self.policy.relays(to);
+        if !leaves && !arrives {
+            return Ok(());
+        }
+        let own = if leaves { from } else { to };
+        let (content, digest) = if leaves && arrives {
+            (Content::Inside, 0)
+        } else if self.policy.listens(own) {
+            let is_dtls = matches!(payload, [20..=63, ..]);
+            content_of(payload, is_dtls, &mut self.all)?
+        } else {
+            (Content::Relayed, digest_of(payload))
+        };
+        let iface = u32::from(self.capture)
+            .saturating_mul(64)
+            .saturating_add(head.iface);
+        self.all.records.push(Record {
+            stamp: head.stamp,
+            digest,
+            from,
+            to,
+            packet: self.packets.count,
+            capture: self.capture,
+            iface: u16::try_from(iface).unwrap_or(u16::MAX),
+            side: if leaves { Side::Leaves } else { Side::Arrives },
+            content,
+        })?;
+        Ok(())
+    }
+}
