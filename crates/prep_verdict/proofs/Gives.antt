@@ -7,7 +7,6 @@ use Rattle.std.proofs.lemmas.Option.{none-some, same_Some}
 use Rattle.audit_pcapng.specs.declared.block_kind.BlockKind.{BlockKind}
 use Rattle.audit_pcapng.specs.declared.block_kind.BlockKind.TheVariants as kinds
 use Rattle.audit_pcapng.specs.declared.byte_order.ByteOrder.{ByteOrder}
-use Rattle.audit_pcapng.specs.declared.clock.Interface.{Interface}
 use Rattle.audit_pcapng.specs.declared.heading.Heading.{Heading}
 use Rattle.audit_pcapng.specs.declared.packet.Packet.{Packet}
 use Rattle.audit_pcapng.specs.declared.scope.Scope.{Scope}

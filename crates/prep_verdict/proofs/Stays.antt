@@ -1,14 +1,14 @@
 -- The packets of blocks, and of those that stay.
-use Rattle.std.proofs.Common.{◌≡◌, ◌≢◌, ℕ, Bool, true, false, List, [], ◌∷◌, ◌++◌, map, filter, take, drop, length, Option, Some, None, Ok, refl, sym, ap, subst, ◌∙◌}
-use Rattle.std.specs.Prelude.{option_map, is_none}
+use Rattle.std.proofs.Common.{◌≡◌, ◌≢◌, ℕ, List, [], ◌∷◌, ◌++◌, map, Option, Some, None, refl, sym, ap, subst, ◌∙◌}
+use Rattle.std.specs.Prelude.{option_map}
 use Rattle.std.specs.Option.{option_to_list}
-use Rattle.std.specs.List.{concat, filter_map, AllByRecursion}
+use Rattle.std.specs.List.{AllByRecursion}
 use Rattle.std.proofs.lemmas.List.{append-nil}
 use Rattle.std.proofs.lemmas.Option.{none-some}
 use Rattle.audit_pcapng.specs.declared.packet.Packet.{Packet}
 use Rattle.audit_pcapng.specs.declared.scope.Scope.{Scope}
 use Rattle.audit_pcapng.specs.Sections.{no_blocks}
-use Rattle.audit_pcapng.specs.Captures.{IsBlock, Blocks, Front, Reads, IsCapture}
+use Rattle.audit_pcapng.specs.Captures.{IsBlock, Blocks, Reads, IsCapture}
 use Rattle.audit_pcapng.proofs.OneReading.{one_list}
 use Rattle.audit_pcapng.proofs.Texts.{cut_by_end}
 use Rattle.prep_blocks.specs.declared.block.Block.{Block}
@@ -16,7 +16,7 @@ use Rattle.prep_blocks.specs.declared.block.PacketHead.{PacketHead}
 use Rattle.prep_blocks.specs.Read.{IsRead, AreRead, bytes_of, head_of}
 use Rattle.prep_blocks.specs.Splitting.{IsWhole}
 use Rattle.prep_cut.specs.declared.plan.Plan.{Plan}
-use Rattle.prep_cut.specs.Marks.{Marked, marked, behind, line_of, proposed_for, is_written}
+use Rattle.prep_cut.specs.Marks.{Marked, marked, behind, line_of, proposed_for}
 use Rattle.prep_verdict.specs.Rest.{packet_by, packet_in, packets_in, rest_of, Capture, stays, written}
 use Rattle.prep_verdict.proofs.Gives.{block_has}
 
@@ -53,7 +53,7 @@ reads blocks scope read = record {
 pub whole_has : (text : List ℕ) (blocks : List Block) → IsWhole text blocks → IsCapture text (packets_in blocks)
 whole_has text blocks whole =
     subst (λ (bytes : List ℕ). IsCapture bytes (packets_in blocks)) (sym whole.spelled)
-        ((subst (λ (bytes : List ℕ). bytes ≢ []) whole.spelled whole.is.0), whole.scope, (reads blocks whole.scope whole.read).front)
+    ((subst (λ (bytes : List ℕ). bytes ≢ []) whole.spelled whole.is.0), whole.scope, (reads blocks whole.scope whole.read).front)
 
 -- ---- blocks of which some packets are left out
 

@@ -1,5 +1,5 @@
 -- The packets of a capture, and those that stay where lines of a list leave others out.
-use Rattle.std.specs.Prelude.{ℕ, List, [], map, filter, Option, option_map}
+use Rattle.std.specs.Prelude.{ℕ, List, map, filter, Option, option_map}
 use Rattle.std.specs.List.{filter_map}
 use Rattle.audit_pcapng.specs.declared.packet.Packet.{Packet}
 use Rattle.prep_blocks.specs.declared.block.Block.{Block}
