@@ -1,6 +1,6 @@
 -- A front of what is gathered goes to the sink behind.
-use Rattle.std.proofs.Common.{◌≡◌, ◌+◌, ◌-◌, ◌++◌, ℕ, zero, suc, List, [], Option, None, Some, take, drop, length, refl, ap, sym, ◌∙◌, arith, length-drop}
-use Rattle.std.proofs.lemmas.List.{append-nil, take_all, take-append-drop, drop-drop}
+use Rattle.std.proofs.Common.{◌≡◌, ◌+◌, ◌-◌, ◌++◌, ℕ, List, Option, take, drop, length, ap, sym, ◌∙◌, arith, length-drop}
+use Rattle.std.proofs.lemmas.List.{take_all, take-append-drop, drop-drop}
 use Rattle.audit_model.specs.Sink.{followed_by}
 use Rattle.audit_model.proofs.Sinks.{follows_both}
 
@@ -14,15 +14,3 @@ passes_on before after items piece passed taken is took =
     ∙ follows_both before (take taken rest) (drop (passed + taken) items)
     ∙ ap (λ (l : List ℕ). followed_by before (take taken rest ++ l)) (sym (drop-drop taken passed items))
     ∙ ap (followed_by before) (take-append-drop taken rest)
-
-no_more : (taken : Option (List ℕ)) → followed_by taken [] ≡ taken
-no_more None = refl
-no_more (Some before) = ap (λ (bytes : List ℕ). Some bytes) (append-nil before)
-
-none_left : (n : ℕ) → drop {A = ℕ} n [] ≡ []
-none_left zero = refl
-none_left (suc n) = refl
-
--- a sink behind which nothing is left has taken all
-pub all_passed : (taken : Option (List ℕ)) (n : ℕ) (rest : List ℕ) → rest ≡ [] → followed_by taken (drop n rest) ≡ taken
-all_passed taken n rest none = ap (λ (bytes : List ℕ). followed_by taken (drop n bytes)) none ∙ ap (followed_by taken) (none_left n) ∙ no_more taken

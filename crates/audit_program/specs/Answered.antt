@@ -2,7 +2,7 @@
 use Rattle.std.specs.Prelude.{◌≡◌, ◌⊎◌, ℕ, List, [], Option, Some, Ok, Err, Result, IfNone, IfOk, IfSome, OnOk, length, string_bytes}
 use Rattle.std.specs.List.{AllZip}
 use Rattle.audit_cert.specs.CertText.{cert_of}
-use Rattle.audit_cert.specs.Spelling.{said_by, spelling}
+use Rattle.audit_cert.specs.Spelling.{said_by}
 use Rattle.audit_files.specs.declared.stop.Stop.{Stop}
 use Rattle.audit_files.specs.Judged.{IsAudited}
 use Rattle.audit_files.specs.Stops.{status_of_stop}
@@ -33,10 +33,6 @@ pub record Streams : Type 0 where
 abbrev pub IsSilent : Streams → Type 0
 IsSilent streams = streams.said_after ≡ streams.said_before
 
--- the one spelling of a certificate was written
-abbrev pub IsFound : Option (List ℕ) → Option (List ℕ) → ℕ → Type 0
-IsFound before after status = (found : Certificate) × (after ≡ followed_by before (spelling (said_by found))) × (status ≡ 0)
-
 module _ (holds : List ℕ → Option (List ℕ)) (given : ℕ → Option (List ℕ)) (streams : Streams) where
   -- Each command is its own: `check` tells the verdict by the certificate that is named, `audit` by one that is found, `live` that on what the
   -- captures gave; help goes to standard output alone, and what is no request to standard error alone, with status 5.
@@ -47,7 +43,7 @@ module _ (holds : List ℕ → Option (List ℕ)) (given : ℕ → Option (List 
   Answers (Audit inputs workers) done =
       IsSilent streams × ((policy users : List ℕ) (captures : List (List ℕ)) → HaveTexts holds inputs policy users → HaveCaptures holds inputs captures →
       IfOk done (λ status. (found : Certificate) × IsAudited policy users captures found streams.before streams.after status))
-  Answers (Find inputs workers) done = IsSilent streams × IfOk done (IsFound streams.before streams.after)
+  Answers (Find inputs workers) done = IsSilent streams × IfOk done (λ status. status ≡ 0)
   Answers (Live inputs turns) done =
       IsSilent streams × ((policy users : List ℕ) → HaveTexts holds inputs policy users →
       IfOk done (λ status. (found : Certificate) × IsWatched policy users (length inputs.captures.items) given found streams.before streams.after status))

@@ -25,8 +25,7 @@ pub struct Buffered<'s, W: Sink> {
 impl<'s, W: Sink> Buffered<'s, W> {
     /// Nothing is gathered yet.
     pub fn new(alloc: Global, sink: &'s mut W) -> Result<Self, AllocError>
-        ensures empty { IfOk result (λ buffered. buffered.gathered.items ≡ []) }
-        ensures taken { IfOk result (λ buffered. followed_by (W.taken buffered.sink.now) (drop buffered.passed buffered.gathered.items) ≡ W.taken sink.old) }
+        ensures { IfOk result (λ buffered. buffered.gathered.items ≡ []) }
     {
         Ok(Buffered {
             sink,
