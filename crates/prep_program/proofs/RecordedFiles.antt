@@ -1,8 +1,7 @@
 -- The pieces of a capture that is recorded, and captures one after another.
-use Rattle.std.proofs.Common.{◌≡◌, ℕ, List, [], ◌∷◌, ◌++◌, map, Result, Ok, Err, OnOk, refl, sym, ap, subst, ◌∙◌}
-use Rattle.std.specs.List.{AllByRecursion, concat}
+use Rattle.std.proofs.Common.{◌≡◌, ℕ, List, [], ◌∷◌, ◌++◌, map, Result, Ok, Err, OnOk, refl, sym, ap, subst, ◌∙◌, append_assoc}
+use Rattle.std.specs.List.{AllByRecursion}
 use Rattle.std.proofs.lemmas.List.{append-nil, map-append}
-use Rattle.std.proofs.lemmas.List.Folds.{concat-append}
 use Rattle.audit_model.specs.declared.policy.Policy.{Policy}
 use Rattle.prep_blocks.specs.declared.block.Block.{Block}
 use Rattle.prep_blocks.specs.Read.{bytes_of}
@@ -10,7 +9,7 @@ use Rattle.prep_blocks.specs.Splitting.{IsWhole}
 use Rattle.prep_records.specs.declared.recorder.Recorder.{Recorder}
 use Rattle.prep_records.specs.Recording.{IsRecording, GoesOn, Ended}
 use Rattle.prep_program.specs.declared.stop.Stop.{Stop}
-use Rattle.prep_program.specs.Recordings.{RecordedSoFar, Recorded}
+use Rattle.prep_program.specs.Recordings.{RecordedSoFar, Recorded, blocks_of}
 
 pub nothing_recorded : (recorder : Recorder) (policy : Policy) (earlier : List Block) → IsRecording recorder policy earlier [] [] → RecordedSoFar recorder policy earlier []
 nothing_recorded recorder policy earlier r = record { current = []; recording = r }
@@ -31,7 +30,7 @@ recorded_whole old new policy earlier text whole (Err stop) e s is = tt
 -- the captures that are done
 pub record AreRecorded (recorder : Recorder) (policy : Policy) (texts : List (List ℕ)) : Type 0 where
   pub done : List (List Block)
-  pub recording : IsRecording recorder policy (concat done) [] []
+  pub recording : IsRecording recorder policy (blocks_of done) [] []
   pub spelled : map bytes_of done ≡ texts
   pub wholes : AllByRecursion (λ blocks. IsWhole (bytes_of blocks) blocks) done
 
@@ -42,11 +41,15 @@ all_then : (P : List Block → Type 0) (xs : List (List Block)) (x : List Block)
 all_then P [] x all one = (one, tt)
 all_then P (y ∷ xs) x all one = (all.0, all_then P xs x all.1 one)
 
+one_longer : (xs : List (List Block)) (x : List Block) → blocks_of (xs ++ x ∷ []) ≡ blocks_of xs ++ x
+one_longer [] x = append-nil x
+one_longer (y ∷ ys) x = ap (λ (t : List Block). y ++ t) (one_longer ys x) ∙ sym (append_assoc y (blocks_of ys) x)
+
 -- a capture more
-pub one_recorded : (old new : Recorder) (policy : Policy) (texts : List (List ℕ)) (text : List ℕ) → (d : AreRecorded old policy texts) → Recorded new policy (concat d.done) text
+pub one_recorded : (old new : Recorder) (policy : Policy) (texts : List (List ℕ)) (text : List ℕ) → (d : AreRecorded old policy texts) → Recorded new policy (blocks_of d.done) text
     → AreRecorded new policy (texts ++ text ∷ [])
 one_recorded old new policy texts text d r =
-    let longer : concat (d.done ++ r.current ∷ []) ≡ concat d.done ++ r.current = concat-append d.done (r.current ∷ []) ∙ ap (λ (t : List Block). concat d.done ++ t) (append-nil r.current) in
+    let longer = one_longer d.done r.current in
     record {
       done = d.done ++ r.current ∷ [];
       recording = subst (λ (bs : List Block). IsRecording new policy bs [] []) (sym longer) r.ended.next;

@@ -1,6 +1,6 @@
 -- Captures that are recorded, and what is noted of their Allocates.
-use Rattle.std.specs.Prelude.{◌≡◌, ℕ, List, map}
-use Rattle.std.specs.List.{AllByRecursion, concat}
+use Rattle.std.specs.Prelude.{◌≡◌, ℕ, List, [], ◌∷◌, ◌++◌, map}
+use Rattle.std.specs.List.{AllByRecursion}
 use Rattle.audit_model.specs.declared.policy.Policy.{Policy}
 use Rattle.prep_blocks.specs.declared.block.Block.{Block}
 use Rattle.prep_blocks.specs.Read.{bytes_of}
@@ -20,9 +20,14 @@ pub record Recorded (recorder : Recorder) (policy : Policy) (earlier : List Bloc
   pub current : List Block
   pub ended : Ended recorder policy earlier text current
 
+-- the blocks of captures, in order
+abbrev pub blocks_of : List (List Block) → List Block
+blocks_of [] = []
+blocks_of (first ∷ others) = first ++ blocks_of others
+
 -- the texts are whole captures, and what their blocks ask and grant is noted
 pub record RecordedAll (texts : List (List ℕ)) (policy : Policy) (allocations : Allocations) : Type 0 where
   pub captures : List (List Block)
   pub spelled : map bytes_of captures ≡ texts
   pub wholes : AllByRecursion (λ blocks. IsWhole (bytes_of blocks) blocks) captures
-  pub noted : AreNoted policy allocations (concat captures)
+  pub noted : AreNoted policy allocations (blocks_of captures)
