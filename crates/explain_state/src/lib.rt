@@ -1,0 +1,12 @@
+//! What a lane's server had for its client before an event, and by which acts.
+#![tactic(auto)]
+
+mod history;
+mod lane_at;
+mod lease_row;
+mod row;
+
+pub use history::{Ended, GrantAct};
+pub use lane_at::{LaneAt, lane_before};
+pub use lease_row::{LeaseKind, LeaseRow};
+pub use row::{LaneRow, Traffic, lane_row};

@@ -1,0 +1,246 @@
+//! What was got beside what was due, of acts whose datagrams say something wrong.
+
+use crate::line::Story;
+use crate::scene::{Scene, Way};
+use audit_model::{Addr, Rule};
+use audit_rules::CredRow;
+use audit_stun::numbers::attribute::{
+    EVEN_PORT, LIFETIME, MESSAGE_INTEGRITY, MESSAGE_INTEGRITY_SHA256, NONCE, REALM,
+    REQUESTED_ADDRESS_FAMILY, REQUESTED_TRANSPORT, USERNAME, XOR_MAPPED_ADDRESS,
+    XOR_RELAYED_ADDRESS,
+};
+use audit_stun::{Message, address};
+use explain_text::{AttributeBytes, FirstBytes, MethodWord, Quoted};
+use std::alloc::{AllocError, Global};
+
+/// What is told of a request that no user signed.
+fn of_credentials(alloc: Global, scene: &Scene<'_>) -> Result<String, AllocError> {
+    let Some(asked) = scene.asked() else {
+        return String::from_str(alloc, "  it is no STUN message");
+    };
+    let (Some(user), Some(realm)) = (asked.first(USERNAME), asked.first(REALM)) else {
+        return String::from_str(
+            alloc,
+            "  the request isn't signed: it names no user and realm",
+        );
+    };
+    let user = Quoted { bytes: user };
+    let realm = Quoted { bytes: realm };
+    let known = CredRow::of(scene.case.users, scene.arrives.payload.as_slice()).is_some();
+    let why = if !known {
+        "who isn't among the users that were given"
+    } else if asked.first(NONCE).is_none() {
+        "and has no NONCE"
+    } else {
+        "who is among the users that were given, but the integrity isn't that of the password there"
+    };
+    format!(in alloc; "  the request names user \"{user}\" of realm \"{realm}\", {why}")
+}
+
+/// What is told of an answer that is none.
+fn of_answer(alloc: Global, scene: &Scene<'_>) -> Result<String, AllocError> {
+    let (Some(asked), Some(told)) = (scene.asked(), scene.told()) else {
+        return String::from_str(alloc, "  not both of them are STUN messages");
+    };
+    let method = MethodWord {
+        method: asked.method(),
+    };
+    let other = MethodWord {
+        method: told.method(),
+    };
+    let ids = if asked.tid() == told.tid() {
+        "one transaction id"
+    } else {
+        "two transaction ids"
+    };
+    format!(in alloc; "  asked {method}, told {other}, with {ids}")
+}
+
+/// The peer that is due: the one that the client's channel is bound to, or that the message on the client's side names.
+fn due_peer(scene: &Scene<'_>) -> Option<Addr> {
+    if scene.way() != Way::Response {
+        if let Some(number) = scene.channel() {
+            let channels = &scene.lane.table().allocation()?.channels;
+            return Some(channels.get(number)?.peer);
+        }
+    }
+    scene.named_peer()
+}
+
+/// What is told of a peer.
+fn of_peer(alloc: Global, scene: &Scene<'_>) -> Result<String, AllocError> {
+    let Some(named) = due_peer(scene) else {
+        return String::from_str(alloc, "  no peer is named that can be read");
+    };
+    match scene.way() {
+        Way::Up => {
+            let to = scene.leaves.to;
+            format!(in alloc; "  due to {named}, the datagram left to {to}")
+        }
+        Way::Down => {
+            let from = scene.arrives.from;
+            format!(in alloc; "  the datagram came from {from}, the client was told of {named}")
+        }
+        Way::Response => format!(in alloc; "  the request names {named}"),
+    }
+}
+
+/// What is told of data.
+fn of_data(alloc: Global, scene: &Scene<'_>) -> Result<String, AllocError> {
+    let clients = FirstBytes {
+        bytes: scene.clients_data().unwrap_or(&[]),
+    };
+    match scene.way() {
+        Way::Down => {
+            let came = FirstBytes {
+                bytes: scene.arrives.payload.as_slice(),
+            };
+            format!(in alloc; "  came {came}, left {clients}")
+        }
+        Way::Up | Way::Response => {
+            let left = FirstBytes {
+                bytes: scene.leaves.payload.as_slice(),
+            };
+            format!(in alloc; "  came {clients}, left {left}")
+        }
+    }
+}
+
+/// What is told of the relayed address of a success to an Allocate.
+fn of_told_address(
+    alloc: Global,
+    scene: &Scene<'_>,
+    told: &Message<'_>,
+) -> Result<String, AllocError> {
+    let Some(relayed) = told.first(XOR_RELAYED_ADDRESS) else {
+        return String::from_str(alloc, "  no XOR-RELAYED-ADDRESS is told");
+    };
+    let Some(relayed) = address(relayed) else {
+        return String::from_str(alloc, "  the XOR-RELAYED-ADDRESS isn't IPv4");
+    };
+    if !scene.case.intake.policy().relays(relayed) {
+        return format!(in alloc; "  told {relayed}, which is in no relay range of the policy");
+    }
+    let asks_even = match scene.asked() {
+        Some(asked) => asked.first(EVEN_PORT).is_some(),
+        None => false,
+    };
+    if asks_even && relayed.port % 2 == 1 {
+        return format!(in alloc; "  told {relayed}, where EVEN-PORT asked for an even port");
+    }
+    format!(in alloc; "  told {relayed}")
+}
+
+/// What is told of a relayed address.
+fn of_relayed(alloc: Global, scene: &Scene<'_>) -> Result<String, AllocError> {
+    match scene.way() {
+        Way::Up => {
+            let from = scene.leaves.from;
+            format!(in alloc; "  the datagram left from {from}")
+        }
+        Way::Down => {
+            let to = scene.arrives.to;
+            format!(in alloc; "  the datagram came to {to}")
+        }
+        Way::Response => match scene.told() {
+            Some(told) => of_told_address(alloc, scene, &told),
+            None => String::from_str(alloc, "  what left is no STUN message"),
+        },
+    }
+}
+
+/// What is told of an attribute of the request and the same of the answer.
+fn of_both(alloc: Global, scene: &Scene<'_>, name: &str, kind: u16) -> Result<String, AllocError> {
+    let (Some(asked), Some(told)) = (scene.asked(), scene.told()) else {
+        return String::from_str(alloc, "  not both of them are STUN messages");
+    };
+    let asked = AttributeBytes {
+        value: asked.first(kind),
+    };
+    let told = AttributeBytes {
+        value: told.first(kind),
+    };
+    format!(in alloc; "  asked {name} {asked}, told {told}")
+}
+
+/// What is told of the transport that is asked for.
+fn of_transport(alloc: Global, scene: &Scene<'_>) -> Result<String, AllocError> {
+    let Some(asked) = scene.asked() else {
+        return String::from_str(alloc, "  it is no STUN message");
+    };
+    let transport = AttributeBytes {
+        value: asked.first(REQUESTED_TRANSPORT),
+    };
+    let family = AttributeBytes {
+        value: asked.first(REQUESTED_ADDRESS_FAMILY),
+    };
+    format!(in alloc;
+        "  asked REQUESTED-TRANSPORT {transport} (UDP is 0x11000000), REQUESTED-ADDRESS-FAMILY {family} (IPv4 is 0x01000000)"
+    )
+}
+
+/// What is told of a mapped address.
+fn of_mapped(alloc: Global, scene: &Scene<'_>) -> Result<String, AllocError> {
+    let client = scene.lane.input().client();
+    let told = match scene.told() {
+        Some(told) => told.first(XOR_MAPPED_ADDRESS),
+        None => None,
+    };
+    let Some(mapped) = told else {
+        return String::from_str(alloc, "  no XOR-MAPPED-ADDRESS is told");
+    };
+    match address(mapped) {
+        Some(mapped) => format!(in alloc; "  told {mapped}, the client is {client}"),
+        None => format!(in alloc; "  told an address that isn't IPv4, the client is {client}"),
+    }
+}
+
+/// What is told of a success's integrity.
+fn of_integrity(alloc: Global, scene: &Scene<'_>) -> Result<String, AllocError> {
+    let Some(told) = scene.told() else {
+        return String::from_str(alloc, "  it is no STUN message");
+    };
+    let sha1 = AttributeBytes {
+        value: told.first(MESSAGE_INTEGRITY),
+    };
+    let sha256 = AttributeBytes {
+        value: told.first(MESSAGE_INTEGRITY_SHA256),
+    };
+    format!(in alloc; "  MESSAGE-INTEGRITY {sha1}, MESSAGE-INTEGRITY-SHA256 {sha256}")
+}
+
+/// What is told of a channel's number.
+fn of_number(alloc: Global, scene: &Scene<'_>) -> Result<String, AllocError> {
+    match scene.channel() {
+        Some(number) => format!(in alloc; "  asked for channel 0x{number:04X}"),
+        None => String::from_str(alloc, "  no channel is named that can be read"),
+    }
+}
+
+/// What is told of a departure that can't be read.
+fn of_bytes(alloc: Global, scene: &Scene<'_>) -> Result<String, AllocError> {
+    let left = FirstBytes {
+        bytes: scene.leaves.payload.as_slice(),
+    };
+    format!(in alloc; "  left {left}")
+}
+
+/// Tells what was got, where a datagram says something wrong.
+pub fn tell_got(scene: &Scene<'_>, rule: Rule, story: &mut Story) -> Result<(), AllocError> {
+    let alloc = story.alloc();
+    let words = match rule {
+        Rule::NotAnAnswer => of_answer(alloc, scene)?,
+        Rule::NotAuthentic => of_credentials(alloc, scene)?,
+        Rule::ChannelNumber => of_number(alloc, scene)?,
+        Rule::PeerDiffers => of_peer(alloc, scene)?,
+        Rule::DataDiffers => of_data(alloc, scene)?,
+        Rule::RelayedAddress => of_relayed(alloc, scene)?,
+        Rule::Lifetime => of_both(alloc, scene, "LIFETIME", LIFETIME)?,
+        Rule::TransportOrFamily => of_transport(alloc, scene)?,
+        Rule::MappedAddress => of_mapped(alloc, scene)?,
+        Rule::ResponseIntegrity => of_integrity(alloc, scene)?,
+        Rule::Malformed => of_bytes(alloc, scene)?,
+        _ => return Ok(()),
+    };
+    story.say(words)
+}

@@ -1,0 +1,135 @@
+//! A line for each client.
+
+use crate::case::Lanes;
+use crate::place::Teller;
+use audit_lane::{Finding, Outcome};
+use audit_model::{Breach, Rule};
+use audit_report::rule_text;
+use explain_frames::Frames;
+use explain_state::{LaneRow, Traffic, lane_before, lane_row};
+use explain_text::Quoted;
+use std::alloc::{AllocError, Global};
+
+/// Asks for the frame of each lane's first breach.
+pub fn ask_breaches(lanes: &Lanes<'_>, frames: &mut Frames) -> Result<(), AllocError> {
+    for finding in &lanes.findings {
+        if let Outcome::Broken(breach) = finding.outcome() {
+            frames.ask(breach.sight)?;
+        }
+    }
+    Ok(())
+}
+
+/// How many allocations a lane has, up to its first breach.
+fn allocations(alloc: Global, finding: &Finding<'_>) -> Result<usize, AllocError> {
+    match finding.outcome() {
+        Outcome::Passed(tenancies) => Ok(tenancies.len()),
+        Outcome::Broken(breach) => {
+            let Some(lane) = lane_before(alloc, finding.input(), breach.at.place)? else {
+                return Ok(0);
+            };
+            let running = if lane.running().is_some() { 1 } else { 0 };
+            Ok(lane.tenancies().len().saturating_add(running))
+        }
+    }
+}
+
+/// What a lane comes to.
+fn outcome(
+    alloc: Global,
+    teller: &Teller<'_>,
+    breach: Option<Breach>,
+) -> Result<String, AllocError> {
+    let Some(breach) = breach else {
+        return String::from_str(alloc, "passes");
+    };
+    let rule = rule_text(breach.rule);
+    let event = breach.at.place;
+    let place = teller.place(alloc, breach.sight)?;
+    format!(in alloc; "{rule}, event {event}, {place}")
+}
+
+/// The name of a lane's user.
+fn user_of(alloc: Global, row: &LaneRow<'_>) -> Result<String, AllocError> {
+    match row.user {
+        Some(name) => {
+            let name = Quoted { bytes: name };
+            format!(in alloc; "\"{name}\"")
+        }
+        None => String::from_str(alloc, "-"),
+    }
+}
+
+/// The client and the listen address of a lane.
+fn ends_of(alloc: Global, row: &LaneRow<'_>) -> Result<String, AllocError> {
+    let client = row.client;
+    let listen = row.listen;
+    format!(in alloc; "{client} at {listen}")
+}
+
+/// Datagrams and bytes.
+fn traffic(alloc: Global, way: &str, traffic: Traffic) -> Result<String, AllocError> {
+    let datagrams = traffic.datagrams;
+    let bytes = traffic.bytes;
+    format!(in alloc; "{way} {datagrams} datagrams {bytes} bytes")
+}
+
+/// The line of a lane.
+pub fn lane_line(
+    alloc: Global,
+    teller: &Teller<'_>,
+    finding: &Finding<'_>,
+) -> Result<String, AllocError> {
+    let row = lane_row(finding);
+    let number = row.number;
+    let ends = ends_of(alloc, &row)?;
+    let user = user_of(alloc, &row)?;
+    let count = allocations(alloc, finding)?;
+    let up = traffic(alloc, "up", row.up)?;
+    let down = traffic(alloc, "down", row.down)?;
+    let outcome = outcome(alloc, teller, row.breach)?;
+    format!(in alloc;
+        "lane {number:<5} {ends:<46} {user:<12} allocations {count:<3} {up:<34} {down:<34} {outcome}\n"
+    )
+}
+
+/// Whether a lane breaks a rule.
+pub fn is_broken(finding: &Finding<'_>) -> bool {
+    match finding.outcome() {
+        Outcome::Passed(_) => false,
+        Outcome::Broken(_) => true,
+    }
+}
+
+/// The lines behind those of the lanes.
+pub fn sums(
+    alloc: Global,
+    teller: &Teller<'_>,
+    lanes: &Lanes<'_>,
+    breach: Option<Breach>,
+) -> Result<String, AllocError> {
+    let count = lanes.findings.len();
+    let broken = lanes
+        .findings
+        .iter()
+        .filter(|finding| is_broken(finding))
+        .count();
+    let dropped = teller.case.certificate.drops.len();
+    let mut text = format!(in alloc;
+        "{count} clients, {broken} of them break a rule; {dropped} datagrams stand in no lane, since the server never answered them\n"
+    )?;
+    if let Some(breach) = breach {
+        if breach.rule == Rule::AddressHeld {
+            let lane = breach.at.lane;
+            text.push_str(format!(in alloc;
+                "lane {lane} was given an address that another client held (R22)\n"
+            )?.as_str())?;
+        }
+    }
+    if broken > 0 {
+        text.push_str(
+            "Each lane is judged alone, and to its first breach: later ones may follow from it.\n",
+        )?;
+    }
+    Ok(text)
+}

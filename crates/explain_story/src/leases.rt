@@ -1,0 +1,163 @@
+//! What a client had before an act.
+
+use crate::line::{Line, Story};
+use crate::scene::Scene;
+use audit_model::Rule;
+use audit_stun::message;
+use audit_stun::numbers::attribute::LIFETIME;
+use explain_state::{GrantAct, LeaseKind, LeaseRow};
+use explain_text::Exactly;
+use std::alloc::AllocError;
+
+/// How many of the allocations that are there no more are told: the last ones.
+const MOST_ENDED: usize = 4;
+
+/// How long a permission lasts (RFC 8656, section 9), in nanoseconds.
+const PERMISSION: u64 = 300_000_000_000;
+
+/// How long a channel lasts (RFC 8656, section 12), in nanoseconds.
+const CHANNEL: u64 = 600_000_000_000;
+
+/// Nanoseconds of a second.
+const SECOND: u64 = 1_000_000_000;
+
+/// Whether the leases of the client matter to a rule.
+pub fn asks_leases(rule: Rule) -> bool {
+    matches!(
+        rule,
+        Rule::OtherUser
+            | Rule::NoAllocation
+            | Rule::AllocationOver
+            | Rule::NoPermission
+            | Rule::PermissionOver
+            | Rule::NoChannel
+            | Rule::ChannelOver
+            | Rule::ChannelConflict
+            | Rule::PeerDiffers
+            | Rule::RelayedAddress
+            | Rule::ErrorCondition
+            | Rule::AllocationPresent
+    )
+}
+
+/// The permission for the peer that an act is about.
+pub fn permission_of(scene: &Scene<'_>) -> Option<LeaseRow> {
+    scene.lane.permission(scene.peer()?.ip)
+}
+
+/// The channel that an act is about.
+pub fn channel_of(scene: &Scene<'_>) -> Option<LeaseRow> {
+    scene.lane.channel(scene.channel()?)
+}
+
+/// Tells the allocations that are there no more.
+fn tell_ended(scene: &Scene<'_>, story: &mut Story) -> Result<(), AllocError> {
+    let ended = scene.lane.ended();
+    let passed_over = ended.len().saturating_sub(MOST_ENDED);
+    if passed_over > 0 {
+        let alloc = story.alloc();
+        story.say(format!(in alloc; "  {passed_over} earlier allocations")?)?;
+    }
+    for one in ended.get(passed_over..).unwrap_or(&[]) {
+        story.add(Line::Ended(*one))?;
+    }
+    Ok(())
+}
+
+/// Tells the channel of the peer that an act is about, where that has another number.
+fn tell_peers_channel(scene: &Scene<'_>, story: &mut Story) -> Result<(), AllocError> {
+    let Some(peer) = scene.peer() else {
+        return Ok(());
+    };
+    let Some(row) = scene.lane.channel_of(story.alloc(), peer)? else {
+        return Ok(());
+    };
+    if let LeaseKind::Channel { number, .. } = row.kind {
+        if Some(number) == scene.channel() {
+            return Ok(());
+        }
+    }
+    story.add(Line::Lease(row))
+}
+
+/// Tells what the client had before an act.
+pub fn tell_leases(scene: &Scene<'_>, rule: Rule, story: &mut Story) -> Result<(), AllocError> {
+    let allocation = scene.lane.allocation();
+    if allocation.is_none() || matches!(rule, Rule::ErrorCondition | Rule::AllocationPresent) {
+        tell_ended(scene, story)?;
+    }
+    let is_asked = rule != Rule::RelayedAddress;
+    if is_asked && allocation.is_none() && scene.lane.ended().is_empty() {
+        story.put("  it had no allocation before in these captures")?;
+    }
+    story.lease(allocation)?;
+    story.lease(channel_of(scene))?;
+    if rule == Rule::ChannelConflict {
+        tell_peers_channel(scene, story)?;
+    }
+    story.lease(permission_of(scene))
+}
+
+/// How long the lease lasts that an act granted, in nanoseconds.
+fn length_of(scene: &Scene<'_>, row: &LeaseRow) -> Option<u64> {
+    match row.kind {
+        LeaseKind::Permission { .. } => Some(PERMISSION),
+        LeaseKind::Channel { .. } => Some(CHANNEL),
+        LeaseKind::Allocation { .. } => lifetime_told(scene, &row.last),
+    }
+}
+
+/// The lifetime that an act told, in nanoseconds.
+fn lifetime_told(scene: &Scene<'_>, act: &GrantAct) -> Option<u64> {
+    let success = scene.case.intake.sighting(act.leaves)?;
+    let told = message(success.payload.as_slice())?;
+    let [a, b, c, d] = told.first(LIFETIME)? else {
+        return None;
+    };
+    let seconds = u64::from(u32::from_be_bytes([*a, *b, *c, *d]));
+    Some(seconds.saturating_mul(SECOND))
+}
+
+/// By how much a lease is over at least, as its last act and the arrival are stamped: the act came no later than its success may have left.
+fn over_by_at_least(scene: &Scene<'_>, row: &LeaseRow) -> Option<u64> {
+    let success = scene.case.intake.sighting(row.last.leaves)?;
+    let length = length_of(scene, row)?;
+    let grace = scene.case.intake.policy().grace;
+    let last = success.hi.checked_add(length)?.checked_add(grace)?;
+    if scene.arrives.lo <= last {
+        return None;
+    }
+    Some(scene.arrives.lo - last)
+}
+
+/// The lease that is over where a rule is broken.
+fn over_by(scene: &Scene<'_>, rule: Rule) -> Option<LeaseRow> {
+    match rule {
+        Rule::AllocationOver => scene.lane.allocation(),
+        Rule::PermissionOver => permission_of(scene),
+        Rule::ChannelOver => channel_of(scene),
+        _ => None,
+    }
+}
+
+/// Tells whether other moments could make up for a lease that is over.
+pub fn tell_margin(scene: &Scene<'_>, rule: Rule, story: &mut Story) -> Result<(), AllocError> {
+    let Some(row) = over_by(scene, rule) else {
+        return Ok(());
+    };
+    let alloc = story.alloc();
+    let renewed = if row.renewals == 0 {
+        "never renewed"
+    } else {
+        "not renewed since"
+    };
+    match over_by_at_least(scene, &row) {
+        Some(nanoseconds) => {
+            let over = Exactly { nanoseconds };
+            story.say(format!(in alloc;
+                "  {renewed}; by no choice of moments within the skew is it less than {over}"
+            )?)
+        }
+        None => story.say(format!(in alloc; "  {renewed}")?),
+    }
+}

@@ -1,0 +1,189 @@
+//! What is told where an event stands wrong in its lane: S9 to S13.
+
+use crate::case::Case;
+use crate::line::{Line, Story};
+use audit_lane::{LaneEvent, LaneInput};
+use audit_model::{SightId, Sighting};
+use audit_stun::numbers::attribute::XOR_RELAYED_ADDRESS;
+use audit_stun::numbers::method::ALLOCATE;
+use audit_stun::{Class, address, message};
+use explain_text::Seconds;
+use std::alloc::AllocError;
+
+/// How many nanoseconds a millisecond has.
+const MILLISECOND: u64 = 1_000_000;
+
+/// Whether two datagrams are the same but for where they were seen.
+fn is_double(one: &Sighting, other: &Sighting) -> bool {
+    one.id.iface != other.id.iface
+        && one.from == other.from
+        && one.to == other.to
+        && one.payload.as_slice() == other.payload.as_slice()
+}
+
+/// The act before a place that answered the same arrival, or gave the same departure.
+fn earlier_act<'a>(
+    input: &LaneInput<'a>,
+    place: u32,
+    arrives: SightId,
+    leaves: SightId,
+) -> Option<(&'a Sighting, &'a Sighting)> {
+    for event in input.events().get(..place as usize)? {
+        if let LaneEvent::Act {
+            arrives: came,
+            leaves: went,
+            ..
+        } = event
+        {
+            if came.id == arrives || went.id == leaves {
+                return Some((*came, *went));
+            }
+        }
+    }
+    None
+}
+
+/// Tells what was answered twice (S10).
+pub fn tell_twice(
+    input: &LaneInput<'_>,
+    place: u32,
+    arrives: &Sighting,
+    leaves: &Sighting,
+    story: &mut Story,
+) -> Result<(), AllocError> {
+    let Some((came, went)) = earlier_act(input, place, arrives.id, leaves.id) else {
+        return Ok(());
+    };
+    story.put("answered before:")?;
+    story.show(came.id)?;
+    story.show(went.id)?;
+    if is_double(went, leaves) {
+        let alloc = story.alloc();
+        let one = went.id.iface;
+        let other = leaves.id.iface;
+        story.say(format!(in alloc;
+            "both departures are one datagram, seen on interfaces {one} and {other}: one interface is captured twice"
+        )?)?;
+    }
+    Ok(())
+}
+
+/// When an arrival came in, in nanoseconds since 1970.
+fn came_at(input: &LaneInput<'_>, sight: SightId) -> Option<u64> {
+    for event in input.events() {
+        if let LaneEvent::In { sighting, key, .. } = event {
+            if sighting.id == sight {
+                return Some(key.moment);
+            }
+        }
+    }
+    None
+}
+
+/// The arrival whose act gave a departure.
+fn arrival_of(input: &LaneInput<'_>, leaves: SightId) -> Option<SightId> {
+    for event in input.events() {
+        if let LaneEvent::Act {
+            arrives,
+            leaves: went,
+            ..
+        } = event
+        {
+            if went.id == leaves {
+                return Some(arrives.id);
+            }
+        }
+    }
+    None
+}
+
+/// Tells how long an arrival was held (S12).
+pub fn tell_held(
+    case: Case<'_>,
+    input: &LaneInput<'_>,
+    arrives: SightId,
+    moment: u64,
+    story: &mut Story,
+) -> Result<(), AllocError> {
+    let Some(came) = came_at(input, arrives) else {
+        return Ok(());
+    };
+    let alloc = story.alloc();
+    let held = Seconds {
+        nanoseconds: moment.saturating_sub(came),
+    };
+    let allowed = case.intake.policy().hold / MILLISECOND;
+    story.say(format!(in alloc; "  held for {held}; hold-ms is {allowed}")?)
+}
+
+/// Tells how long the arrival of a departure was held (S12).
+pub fn tell_held_out(
+    case: Case<'_>,
+    input: &LaneInput<'_>,
+    leaves: SightId,
+    moment: u64,
+    story: &mut Story,
+) -> Result<(), AllocError> {
+    let Some(arrives) = arrival_of(input, leaves) else {
+        return Ok(());
+    };
+    story.show(arrives)?;
+    tell_held(case, input, arrives, moment, story)
+}
+
+/// Whether a datagram is an Allocate success that tells this relayed address.
+fn tells_address(sighting: &Sighting, departure: &Sighting) -> bool {
+    let Some(told) = message(sighting.payload.as_slice()) else {
+        return false;
+    };
+    if told.class() != Class::Success || told.method() != ALLOCATE {
+        return false;
+    }
+    match told.first(XOR_RELAYED_ADDRESS) {
+        Some(value) => address(value) == Some(departure.from),
+        None => false,
+    }
+}
+
+/// The Allocate success of an interface that told the address from which a departure left.
+fn telling_on(case: Case<'_>, iface: u32, departure: &Sighting) -> Option<SightId> {
+    for sighting in case.intake.interface(iface) {
+        if tells_address(sighting, departure) {
+            return Some(sighting.id);
+        }
+    }
+    None
+}
+
+/// An Allocate success that told the address from which a departure left.
+fn telling(case: Case<'_>, departure: &Sighting) -> Option<SightId> {
+    for iface in 0..case.intake.interfaces() {
+        if let Some(sight) = telling_on(case, iface, departure) {
+            return Some(sight);
+        }
+    }
+    None
+}
+
+/// Tells whom the address of a departure that nothing asked for was told to (S1, S11).
+pub fn tell_whose(
+    case: Case<'_>,
+    departure: &Sighting,
+    story: &mut Story,
+) -> Result<(), AllocError> {
+    let alloc = story.alloc();
+    let from = departure.from;
+    if case.intake.policy().listens(from) {
+        return Ok(());
+    }
+    match telling(case, departure) {
+        Some(sight) => story.add(Line::UpTo {
+            words: format!(in alloc; "  {from} was told to a client in ")?,
+            sight,
+            behind: String::new(alloc),
+        }),
+        None => story.say(format!(in alloc;
+            "  no client was told {from} over UDP in these captures"
+        )?),
+    }
+}

@@ -1,0 +1,128 @@
+//! What is told of the rest: how many more such faults a lane has, and what the other clients come to.
+
+use crate::case::{Case, Lanes};
+use crate::line::{Line, Story};
+use audit_faults::{Fault, ShownFault, shown_faults};
+use audit_lane::{LaneEvent, LaneInput, Outcome};
+use audit_model::SightId;
+use std::alloc::{AllocError, Global};
+use std::collections::BTreeMap;
+
+/// The faults that hold in every order, by the departures that show them.
+#[derive(Drop)]
+pub struct Shown {
+    by_sight: BTreeMap<SightId, Fault>,
+}
+
+/// Whether two faults are the same.
+fn is_same(one: Fault, other: Fault) -> bool {
+    one == other
+}
+
+impl Shown {
+    /// All that the captures show. It takes n log n in the sightings.
+    pub fn of(alloc: Global, case: Case<'_>) -> Result<Shown, AllocError> {
+        let mut by_sight = BTreeMap::new(alloc);
+        for shown in &shown_faults(alloc, case.intake, case.users)? {
+            let ShownFault { sight, fault, .. } = *shown;
+            by_sight.insert(sight, fault)?;
+        }
+        Ok(Shown { by_sight })
+    }
+
+    /// The fault that a departure shows.
+    pub fn fault(&self, sight: SightId) -> Option<Fault> {
+        self.by_sight.get(&sight).copied()
+    }
+
+    /// How many departures show this fault.
+    pub fn count(&self, fault: Fault) -> usize {
+        let mut count = 0usize;
+        for (_, other) in &self.by_sight {
+            if is_same(*other, fault) {
+                count = count.saturating_add(1);
+            }
+        }
+        count
+    }
+}
+
+/// Departures of a lane behind a place that show a fault.
+#[derive(Clone, Copy)]
+struct Later {
+    count: u64,
+    last: Option<SightId>,
+}
+
+/// The departures that acts behind a place gave and that show a fault.
+fn behind(input: &LaneInput<'_>, place: u32, shown: &Shown, fault: Fault) -> Later {
+    let mut count = 0u64;
+    let mut last = None;
+    let start = (place as usize).saturating_add(1);
+    for event in input.events().get(start..).unwrap_or(&[]) {
+        if let LaneEvent::Act { leaves, .. } = event {
+            if shown.fault(leaves.id) == Some(fault) {
+                count = count.saturating_add(1);
+                last = Some(leaves.id);
+            }
+        }
+    }
+    Later { count, last }
+}
+
+/// How many lanes but this one break a rule.
+fn broken_others(lanes: &Lanes<'_>, lane: u32) -> u64 {
+    let mut count = 0u64;
+    for finding in &lanes.findings {
+        if finding.input().number() != lane {
+            if let Outcome::Broken(_) = finding.outcome() {
+                count = count.saturating_add(1);
+            }
+        }
+    }
+    count
+}
+
+/// What the other clients come to.
+fn others(alloc: Global, lanes: &Lanes<'_>, lane: u32) -> Result<String, AllocError> {
+    if lanes.findings.len() <= 1 {
+        return String::from_str(alloc, "there is no other client");
+    }
+    let broken = broken_others(lanes, lane);
+    if broken == 0 {
+        return String::from_str(alloc, "the other clients pass");
+    }
+    if broken == 1 {
+        return String::from_str(
+            alloc,
+            "another client breaks a rule too (turnexplain lanes --broken)",
+        );
+    }
+    format!(in alloc; "{broken} other clients break a rule too (turnexplain lanes --broken)")
+}
+
+/// Tells how many more departures of the lane show the same fault, and what the other clients come to.
+pub fn tell_rest(
+    lanes: &Lanes<'_>,
+    input: &LaneInput<'_>,
+    place: u32,
+    departure: SightId,
+    shown: &Shown,
+    story: &mut Story,
+) -> Result<(), AllocError> {
+    let alloc = story.alloc();
+    let others = others(alloc, lanes, input.number())?;
+    let Some(fault) = shown.fault(departure) else {
+        return story.say(others);
+    };
+    let rest = behind(input, place, shown, fault);
+    let Some(sight) = rest.last else {
+        return story.say(others);
+    };
+    let count = rest.count;
+    story.add(Line::UpTo {
+        words: format!(in alloc; "{count} more datagrams of this lane show the same, to ")?,
+        sight,
+        behind: format!(in alloc; "; {others}")?,
+    })
+}

@@ -1,0 +1,119 @@
+//! Frames and moments, as they are told.
+
+use crate::case::Case;
+use audit_model::{SightId, Sighting};
+use explain_frames::{Frame, Frames};
+use explain_text::{Datagram, Quoted, Since, SinceShort};
+use std::alloc::{AllocError, Global};
+use std::fmt;
+
+/// How many interface numbers each capture has.
+const INTERFACES: u32 = 64;
+
+/// What lines are told by: the captures, and the frames that were looked up in them.
+#[derive(Clone, Copy)]
+pub struct Teller<'a> {
+    pub case: Case<'a>,
+    pub frames: &'a Frames,
+}
+
+/// The number of a frame; a question mark where it isn't known.
+#[derive(Clone, Copy)]
+pub struct FrameNumber {
+    pub frame: Option<Frame>,
+}
+
+impl fmt::Display for FrameNumber {
+    fn fmt<W: fmt::Write>(&self, f: &mut fmt::Formatter<W>) -> fmt::Result {
+        match self.frame {
+            Some(frame) => {
+                let number = frame.number;
+                write!(f, "{number}")
+            }
+            None => f.write_str("?"),
+        }
+    }
+}
+
+impl<'a> Teller<'a> {
+    /// When the first frame of all captures was seen, in nanoseconds since 1970.
+    pub fn first(&self) -> u64 {
+        self.frames.first().unwrap_or(0)
+    }
+
+    /// The number of a sighting's frame.
+    pub fn number(&self, sight: SightId) -> FrameNumber {
+        FrameNumber {
+            frame: self.frames.frame(sight),
+        }
+    }
+
+    /// The name of a sighting's capture.
+    pub fn capture(&self, sight: SightId) -> Quoted<'a> {
+        match self.case.captures.get((sight.iface / INTERFACES) as usize) {
+            Some(name) => Quoted {
+                bytes: name.as_bytes(),
+            },
+            None => Quoted { bytes: b"?" },
+        }
+    }
+
+    /// A moment beside the first frame.
+    pub fn since(&self, moment: u64) -> Since {
+        Since {
+            first: self.first(),
+            moment,
+        }
+    }
+
+    /// A moment beside the first frame, in fewer digits.
+    pub fn short(&self, moment: u64) -> SinceShort {
+        SinceShort {
+            first: self.first(),
+            moment,
+        }
+    }
+
+    /// Whether a datagram is between a client and a listen address.
+    pub fn is_clients(&self, sighting: &Sighting) -> bool {
+        let policy = self.case.intake.policy();
+        policy.listens(sighting.from) || policy.listens(sighting.to)
+    }
+
+    /// The ends of a datagram.
+    fn ends(&self, alloc: Global, sighting: &Sighting) -> Result<String, AllocError> {
+        let from = sighting.from;
+        let to = sighting.to;
+        format!(in alloc; "{from} > {to}")
+    }
+
+    /// The line of a datagram.
+    pub fn datagram_line(&self, alloc: Global, sight: SightId) -> Result<String, AllocError> {
+        let iface = sight.iface;
+        let index = sight.index;
+        let Some(sighting) = self.case.intake.sighting(sight) else {
+            return format!(in alloc; "  no datagram is named [{iface}.{index}]\n");
+        };
+        let place = self.place(alloc, sight)?;
+        let ends = self.ends(alloc, sighting)?;
+        let what = self.what(alloc, sighting)?;
+        let time = self.since(sighting.stamp);
+        format!(in alloc; "  {place}  {time}  {ends:<38}  {what:<28}  [{iface}.{index}]\n")
+    }
+
+    /// What a datagram is.
+    pub fn what(&self, alloc: Global, sighting: &Sighting) -> Result<String, AllocError> {
+        let datagram = Datagram {
+            payload: sighting.payload.as_slice(),
+            is_clients: self.is_clients(sighting),
+        };
+        format!(in alloc; "{datagram}")
+    }
+
+    /// The capture and the frame of a sighting.
+    pub fn place(&self, alloc: Global, sight: SightId) -> Result<String, AllocError> {
+        let capture = self.capture(sight);
+        let number = self.number(sight);
+        format!(in alloc; "{capture} frame {number}")
+    }
+}

@@ -1,0 +1,113 @@
+//! What is told where a datagram has no right place in the order: S1 to S8.
+
+use crate::case::Case;
+use crate::line::Story;
+use crate::order::tell_whose;
+use audit_model::{Breach, Rule, Side, SightId, Sighting};
+use explain_text::Seconds;
+use std::alloc::AllocError;
+
+/// Nanoseconds of a microsecond.
+const MICROSECOND: u64 = 1_000;
+
+/// Tells by how much a moment is off its stamp (S4).
+fn tell_window(
+    case: Case<'_>,
+    breach: &Breach,
+    sighting: &Sighting,
+    story: &mut Story,
+) -> Result<(), AllocError> {
+    let alloc = story.alloc();
+    let off = breach.at.key.moment.abs_diff(sighting.stamp) / MICROSECOND;
+    let skew = case.intake.policy().skew_for(breach.sight.iface) / MICROSECOND;
+    let way = if breach.at.key.moment < sighting.stamp {
+        "before"
+    } else {
+        "behind"
+    };
+    story.say(format!(in alloc;
+        "  its moment is {off} microseconds {way} its stamp; the skew of this interface is {skew}"
+    )?)?;
+    if let Some(narrower) = case.certificate.skew_of(breach.sight.iface) {
+        story.say(format!(in alloc; "  and in the certificate {narrower}")?)?;
+    }
+    Ok(())
+}
+
+/// The sighting before one on its interface.
+fn before(sight: SightId) -> Option<SightId> {
+    Some(SightId {
+        iface: sight.iface,
+        index: sight.index.checked_sub(1)?,
+    })
+}
+
+/// Tells the stamps of a datagram and of the one before it on its interface.
+fn tell_neighbour(
+    case: Case<'_>,
+    sighting: &Sighting,
+    story: &mut Story,
+) -> Result<(), AllocError> {
+    let alloc = story.alloc();
+    let Some(neighbour) = before(sighting.id) else {
+        return Ok(());
+    };
+    let Some(earlier) = case.intake.sighting(neighbour) else {
+        return Ok(());
+    };
+    story.put("before it on its interface:")?;
+    story.show(neighbour)?;
+    if sighting.stamp < earlier.stamp {
+        let back = Seconds {
+            nanoseconds: earlier.stamp - sighting.stamp,
+        };
+        story.say(format!(in alloc;
+            "  its stamp is {back} behind: the clock was set back, or the capture was reordered"
+        )?)?;
+    }
+    Ok(())
+}
+
+/// Tells of a datagram that has no place (S1).
+fn tell_unplaced(case: Case<'_>, sighting: &Sighting, story: &mut Story) -> Result<(), AllocError> {
+    match sighting.side {
+        Side::Arrives => story.put(
+            "  it arrives at the server, and the certificate neither places nor drops it",
+        ),
+        Side::Leaves => {
+            if sighting.id.index == 0 {
+                story.put(
+                    "  it is the first datagram of its interface: the capture may have begun late",
+                )?;
+            }
+            tell_whose(case, sighting, story)
+        }
+    }
+}
+
+/// Tells a breach of placement.
+pub fn tell_placement(
+    case: Case<'_>,
+    breach: &Breach,
+    story: &mut Story,
+) -> Result<(), AllocError> {
+    let Some(sighting) = case.intake.sighting(breach.sight) else {
+        return story.put("  the captures have no such datagram");
+    };
+    match breach.rule {
+        Rule::Unplaced => tell_unplaced(case, sighting, story),
+        Rule::OutOfWindow => {
+            tell_window(case, breach, sighting, story)?;
+            tell_neighbour(case, sighting, story)
+        }
+        Rule::InterfaceOrder => tell_neighbour(case, sighting, story),
+        _ => {
+            let alloc = story.alloc();
+            let lane = breach.at.lane;
+            let place = breach.at.place;
+            story.say(format!(in alloc;
+                "  in the certificate: lane {lane}, event {place}, both from 0"
+            )?)
+        }
+    }
+}

@@ -1,0 +1,210 @@
+//! What a verdict means.
+
+use crate::case::{Case, Lanes, lanes_of};
+use crate::expected::{expected_of_act, expected_of_rule};
+use crate::got::tell_got;
+use crate::held_twice::tell_clash;
+use crate::leases::{asks_leases, tell_leases, tell_margin};
+use crate::line::Story;
+use crate::order::{tell_held, tell_held_out, tell_twice, tell_whose};
+use crate::others::{Shown, tell_rest};
+use crate::placement::tell_placement;
+use crate::scene::Scene;
+use audit_faults::Fault;
+use audit_lane::{LaneEvent, LaneInput};
+use audit_model::{Breach, Rule, SightId, Sighting};
+use explain_state::{LaneAt, lane_before};
+use explain_text::{Quoted, anchor, cause, meaning};
+use std::alloc::{AllocError, Global};
+
+/// Tells the client of a lane.
+pub fn tell_client(lane: &LaneAt<'_>, story: &mut Story) -> Result<(), AllocError> {
+    let alloc = story.alloc();
+    let number = lane.input().number();
+    let client = lane.input().client();
+    let listen = lane.input().listen();
+    let ends = format!(in alloc; "client {client} at {listen}")?;
+    let words = match lane.user() {
+        Some((user, realm)) => {
+            let user = Quoted { bytes: user };
+            let realm = Quoted { bytes: realm };
+            format!(in alloc; "{ends:<50} lane {number}, user \"{user}\", realm \"{realm}\"")?
+        }
+        None => format!(in alloc; "{ends:<50} lane {number}, no user was named")?,
+    };
+    story.say(words)?;
+    story.put("")
+}
+
+/// Tells an act that breaks a rule.
+fn tell_act(
+    scene: &Scene<'_>,
+    place: u32,
+    rule: Rule,
+    story: &mut Story,
+) -> Result<(), AllocError> {
+    story.show(scene.arrives.id)?;
+    story.show(scene.leaves.id)?;
+    story.put("")?;
+    story.say(expected_of_act(story.alloc(), scene, rule)?)?;
+    tell_got(scene, rule, story)?;
+    if asks_leases(rule) {
+        tell_leases(scene, rule, story)?;
+        tell_margin(scene, rule, story)?;
+    }
+    let input = scene.lane.input();
+    match rule {
+        Rule::ActedTwice => tell_twice(input, place, scene.arrives, scene.leaves, story),
+        Rule::HeldTooLong => tell_held(scene.case, input, scene.arrives.id, scene.moment, story),
+        _ => Ok(()),
+    }
+}
+
+/// Tells a departure that may not leave.
+fn tell_out(
+    case: Case<'_>,
+    input: &LaneInput<'_>,
+    sighting: &Sighting,
+    breach: &Breach,
+    story: &mut Story,
+) -> Result<(), AllocError> {
+    story.show(sighting.id)?;
+    story.put("")?;
+    story.say(expected_of_rule(story.alloc(), breach.rule)?)?;
+    match breach.rule {
+        Rule::LeftWithoutAct => {
+            story.put(
+                "  it stands in this lane for want of another, and need not be of this client",
+            )?;
+            tell_whose(case, sighting, story)
+        }
+        Rule::HeldTooLong => tell_held_out(case, input, sighting.id, breach.at.key.moment, story),
+        _ => Ok(()),
+    }
+}
+
+/// The departure of an event; of an arrival none.
+fn departure_of(event: &LaneEvent<'_>) -> Option<SightId> {
+    match event {
+        LaneEvent::In { .. } => None,
+        LaneEvent::Act { leaves, .. } => Some(leaves.id),
+        LaneEvent::Out { sighting, .. } => Some(sighting.id),
+    }
+}
+
+/// Tells the event of a lane that breaks a rule.
+fn tell_event(
+    case: Case<'_>,
+    lane: &LaneAt<'_>,
+    event: &LaneEvent<'_>,
+    breach: &Breach,
+    story: &mut Story,
+) -> Result<(), AllocError> {
+    match event {
+        LaneEvent::In { sighting, .. } => story.show(sighting.id),
+        LaneEvent::Act {
+            arrives,
+            leaves,
+            key,
+        } => {
+            let scene = Scene {
+                case,
+                lane,
+                arrives,
+                leaves,
+                moment: key.moment,
+            };
+            tell_act(&scene, breach.at.place, breach.rule, story)
+        }
+        LaneEvent::Out { sighting, .. } => tell_out(case, lane.input(), sighting, breach, story),
+    }
+}
+
+/// Tells a breach of a lane, and gives the departure that shows it.
+fn tell_lane(
+    case: Case<'_>,
+    lanes: &Lanes<'_>,
+    breach: &Breach,
+    shown: &Shown,
+    story: &mut Story,
+) -> Result<Option<SightId>, AllocError> {
+    if breach.at.lane >= lanes.job.len() {
+        return Ok(None);
+    }
+    let input = &**lanes.job.input(breach.at.lane);
+    let Some(lane) = lane_before(story.alloc(), input, breach.at.place)? else {
+        return Ok(None);
+    };
+    tell_client(&lane, story)?;
+    let Some(event) = input.events().get(breach.at.place as usize) else {
+        return Ok(None);
+    };
+    tell_event(case, &lane, event, breach, story)?;
+    if breach.phase == 3 {
+        tell_clash(lanes, breach, story)?;
+    }
+    story.put("")?;
+    let departure = departure_of(event);
+    if let Some(sight) = departure {
+        tell_rest(lanes, input, breach.at.place, sight, shown, story)?;
+    }
+    Ok(departure)
+}
+
+/// Tells a breach of placement, and gives the departure that shows it.
+fn tell_place(
+    case: Case<'_>,
+    breach: &Breach,
+    story: &mut Story,
+) -> Result<Option<SightId>, AllocError> {
+    story.put("")?;
+    story.show(breach.sight)?;
+    story.put("")?;
+    story.say(expected_of_rule(story.alloc(), breach.rule)?)?;
+    tell_placement(case, breach, story)?;
+    story.put("")?;
+    Ok(Some(breach.sight))
+}
+
+/// What is shown in every order.
+#[derive(Clone, Copy)]
+pub struct InEveryOrder {
+    pub fault: Fault,
+    /// How many departures show it.
+    pub count: usize,
+}
+
+/// What a breach means, but for its head and its last lines, and the fault of its departure that holds in every order.
+pub fn story_of(
+    alloc: Global,
+    case: Case<'_>,
+    breach: &Breach,
+) -> Result<(Story, Option<InEveryOrder>), AllocError> {
+    let mut story = Story::new(alloc, breach.at.key.moment);
+    let shown = Shown::of(alloc, case)?;
+    let departure = match lanes_of(alloc, case)? {
+        Some(lanes) => tell_lane(case, &lanes, breach, &shown, &mut story)?,
+        None => tell_place(case, breach, &mut story)?,
+    };
+    tell_rule(breach.rule, &mut story)?;
+    Ok((story, in_every_order(&shown, departure)))
+}
+
+/// Tells what a rule asks, and what its breaches usually come from.
+fn tell_rule(rule: Rule, story: &mut Story) -> Result<(), AllocError> {
+    let alloc = story.alloc();
+    let meaning = meaning(rule);
+    let cause = cause(rule);
+    let anchor = anchor(rule);
+    story.say(format!(in alloc; "rule: {meaning}")?)?;
+    story.say(format!(in alloc; "usual cause: {cause}; {anchor}")?)
+}
+
+/// The fault of a departure, and how many show it.
+fn in_every_order(shown: &Shown, departure: Option<SightId>) -> Option<InEveryOrder> {
+    let fault = shown.fault(departure?)?;
+    Some(InEveryOrder {
+        fault,
+        count: shown.count(fault),
+    })
+}

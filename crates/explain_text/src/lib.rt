@@ -1,0 +1,16 @@
+//! Words for what a verdict means. What comes out of captures is told without a byte that a terminal acts on.
+#![tactic(auto)]
+
+mod address;
+mod moment;
+mod payload;
+mod quoted;
+mod rule;
+mod stun_words;
+
+pub use address::Ip;
+pub use moment::{Exactly, Seconds, Since, SinceShort, Utc};
+pub use payload::{Datagram, FirstBytes};
+pub use quoted::Quoted;
+pub use rule::{anchor, cause, code, expected, meaning};
+pub use stun_words::{AttributeBytes, CodeWord, MethodWord, code_says};

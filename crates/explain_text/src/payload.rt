@@ -1,0 +1,90 @@
+//! What a datagram is, in a few words.
+
+use crate::quoted::Quoted;
+use crate::stun_words::MethodWord;
+use audit_stun::numbers::attribute::ERROR_CODE;
+use audit_stun::{Class, Message, channel_data, error_code, message};
+use std::fmt;
+
+/// The payload of a datagram, as `ChannelData 0x4000, 17 bytes` or `Allocate 437 "Allocation Mismatch"`. On the way to and from
+/// peers it is any UDP.
+#[derive(Clone, Copy, Debug)]
+pub struct Datagram<'a> {
+    pub payload: &'a [u8],
+    /// Whether one of its ends is a listen address.
+    pub is_clients: bool,
+}
+
+/// Tells an error response.
+fn tell_error<W: fmt::Write>(f: &mut fmt::Formatter<W>, answer: &Message<'_>) -> fmt::Result {
+    let method = MethodWord {
+        method: answer.method(),
+    };
+    let value = answer.first(ERROR_CODE).unwrap_or(&[]);
+    let Some(code) = error_code(value) else {
+        return write!(f, "{method} error without a code");
+    };
+    let phrase = Quoted {
+        bytes: value.get(4..).unwrap_or(&[]),
+    };
+    write!(f, "{method} {code} \"{phrase}\"")
+}
+
+/// Tells a message.
+fn tell_message<W: fmt::Write>(f: &mut fmt::Formatter<W>, told: &Message<'_>) -> fmt::Result {
+    let method = MethodWord {
+        method: told.method(),
+    };
+    match told.class() {
+        Class::Request => write!(f, "{method}"),
+        Class::Indication => write!(f, "{method} indication"),
+        Class::Success => write!(f, "{method} success"),
+        Class::Error => tell_error(f, told),
+    }
+}
+
+impl fmt::Display for Datagram<'_> {
+    fn fmt<W: fmt::Write>(&self, f: &mut fmt::Formatter<W>) -> fmt::Result {
+        let size = self.payload.len();
+        if !self.is_clients {
+            return write!(f, "UDP, {size} bytes");
+        }
+        if let Some((number, bytes, _)) = channel_data(self.payload) {
+            let size = bytes.len();
+            return write!(f, "ChannelData 0x{number:04X}, {size} bytes");
+        }
+        match message(self.payload) {
+            Some(told) => tell_message(f, &told),
+            None => write!(f, "no STUN, {size} bytes"),
+        }
+    }
+}
+
+/// Data in hex and how many bytes it has; the first 16 of more.
+#[derive(Clone, Copy, Debug)]
+pub struct FirstBytes<'a> {
+    pub bytes: &'a [u8],
+}
+
+/// So many bytes are told at the most.
+const MOST: usize = 16;
+
+impl fmt::Display for FirstBytes<'_> {
+    fn fmt<W: fmt::Write>(&self, f: &mut fmt::Formatter<W>) -> fmt::Result {
+        let size = self.bytes.len();
+        write!(f, "{size} bytes")?;
+        let told = self.bytes.get(..MOST).unwrap_or(self.bytes);
+        if told.is_empty() {
+            return Ok(());
+        }
+        f.write_str(" ")?;
+        for byte in told {
+            let byte = *byte;
+            write!(f, "{byte:02x}")?;
+        }
+        if told.len() < size {
+            return f.write_str("..");
+        }
+        Ok(())
+    }
+}

@@ -1,0 +1,73 @@
+//! Bytes of captures, files and words, told so that no terminal acts on them.
+
+use std::fmt;
+
+/// So many bytes are told at the most.
+const MOST: usize = 200;
+
+/// Bytes as text, without the marks around it. A control character, a mark that turns or hides text, a quote, a backslash and
+/// a byte that is no UTF-8 are told as `\xHH`, byte by byte. Of more than 200 bytes the first 200 are told, and `..`.
+#[derive(Clone, Copy, Debug)]
+pub struct Quoted<'a> {
+    pub bytes: &'a [u8],
+}
+
+/// Whether a character is told as it is.
+fn is_plain(c: char) -> bool {
+    let code = c as u32;
+    if c.is_control() || c == '"' || c == '\\' {
+        return false;
+    }
+    // Marks of direction and width, joiners, line and paragraph ends, tags and specials.
+    !(code == 0xAD
+        || code == 0x61C
+        || code == 0x180E
+        || (0x2000 <= code && code <= 0x200F)
+        || (0x2028 <= code && code <= 0x202F)
+        || (0x205F <= code && code <= 0x206F)
+        || code == 0x3000
+        || code == 0xFEFF
+        || (0xFFF0 <= code && code <= 0xFFFF)
+        || 0xE0000 <= code)
+}
+
+/// Tells bytes one by one.
+fn tell_bytes<W: fmt::Write>(f: &mut fmt::Formatter<W>, bytes: &[u8]) -> fmt::Result {
+    for byte in bytes {
+        let byte = *byte;
+        write!(f, "\\x{byte:02X}")?;
+    }
+    Ok(())
+}
+
+/// Tells a character.
+fn tell_char<W: fmt::Write>(f: &mut fmt::Formatter<W>, c: char) -> fmt::Result {
+    if is_plain(c) {
+        return write!(f, "{c}");
+    }
+    let mut room = [0u8; 4];
+    let text = c.encode_utf8(&mut room);
+    tell_bytes(f, text.as_bytes())
+}
+
+/// Tells a text.
+fn tell_text<W: fmt::Write>(f: &mut fmt::Formatter<W>, text: &str) -> fmt::Result {
+    for c in text.chars() {
+        tell_char(f, c)?;
+    }
+    Ok(())
+}
+
+impl fmt::Display for Quoted<'_> {
+    fn fmt<W: fmt::Write>(&self, f: &mut fmt::Formatter<W>) -> fmt::Result {
+        let told = self.bytes.get(..MOST).unwrap_or(self.bytes);
+        for chunk in told.utf8_chunks() {
+            tell_text(f, chunk.valid())?;
+            tell_bytes(f, chunk.invalid())?;
+        }
+        if told.len() < self.bytes.len() {
+            return f.write_str("..");
+        }
+        Ok(())
+    }
+}
