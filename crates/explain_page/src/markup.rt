@@ -1,0 +1,26 @@
+//! Text inside of markup.
+
+use std::fmt;
+
+/// A text that can't become markup: the five characters that HTML knows are told by their names. What it is of has no control
+/// characters, since it went through `explain_text::Quoted`, or it is a text of the program.
+#[derive(Clone, Copy, Debug)]
+pub struct Plain<'a> {
+    pub text: &'a str,
+}
+
+impl fmt::Display for Plain<'_> {
+    fn fmt<W: fmt::Write>(&self, f: &mut fmt::Formatter<W>) -> fmt::Result {
+        for c in self.text.chars() {
+            match c {
+                '&' => f.write_str("&amp;")?,
+                '<' => f.write_str("&lt;")?,
+                '>' => f.write_str("&gt;")?,
+                '"' => f.write_str("&quot;")?,
+                '\'' => f.write_str("&#39;")?,
+                other => write!(f, "{other}")?,
+            }
+        }
+        Ok(())
+    }
+}

@@ -1,0 +1,84 @@
+//! The page.
+
+use crate::commands::commands;
+use crate::facts::Facts;
+use crate::markup::Plain;
+use crate::style::{HEAD, STYLE};
+use crate::tables::{captures, clients, files, users};
+use crate::words::{CONFORMING, NOT_SAID, NOT_SHOWN, REPEATS};
+use std::alloc::{AllocError, Global};
+
+/// A section.
+fn section(alloc: Global, title: &str, body: &str) -> Result<String, AllocError> {
+    format!(in alloc; "<h2>{title}</h2>\n{body}")
+}
+
+/// What stands at the top: the verdict, and what it says.
+fn verdict(alloc: Global, facts: &Facts<'_>) -> Result<String, AllocError> {
+    let head = Plain { text: facts.head };
+    let says = if facts.is_conforming {
+        CONFORMING
+    } else {
+        NOT_SHOWN
+    };
+    format!(in alloc; "{HEAD}<title>turnaudit: {head}</title>\n{STYLE}</head>\n<body>\n<h1>Audit of a TURN server by RFC 8656</h1>\n<p class=\"word\">{head}</p>\n{says}{NOT_SAID}")
+}
+
+/// The account of a breach, with the picture.
+fn account(alloc: Global, facts: &Facts<'_>) -> Result<String, AllocError> {
+    let story = Plain { text: facts.story };
+    let mut text = format!(in alloc; "<pre>{story}</pre>\n")?;
+    if let Some(picture) = &facts.picture {
+        text.push_str(picture.drawn(alloc)?.as_str())?;
+    }
+    Ok(text)
+}
+
+/// The program that gave the verdict.
+fn program(alloc: Global, facts: &Facts<'_>) -> Result<String, AllocError> {
+    let release = Plain {
+        text: facts.release,
+    };
+    let headline = Plain {
+        text: facts.headline,
+    };
+    match facts.program {
+        Some(digests) => {
+            let size = digests.size;
+            format!(in alloc; "<p>turnexplain {release}</p>\n<p>The program: {size} bytes, SHA-256 <code>{digests}</code></p>\n<p>What is proved, docs/headline.txt: SHA-256 <code>{headline}</code></p>\n")
+        }
+        None => {
+            format!(in alloc; "<p>turnexplain {release}</p>\n<p>The program's file can't be read.</p>\n<p>What is proved, docs/headline.txt: SHA-256 <code>{headline}</code></p>\n")
+        }
+    }
+}
+
+/// The policy's text.
+fn policy(alloc: Global, facts: &Facts<'_>) -> Result<String, AllocError> {
+    let policy = Plain { text: facts.policy };
+    format!(in alloc; "<pre>{policy}</pre>\n")
+}
+
+/// The page that tells these facts: one HTML file, which asks for nothing from elsewhere. The same facts give the same page.
+pub fn page_of(alloc: Global, facts: &Facts<'_>) -> Result<String, AllocError> {
+    let mut page = verdict(alloc, facts)?;
+    let account = account(alloc, facts)?;
+    page.push_str(section(alloc, "The account", account.as_str())?.as_str())?;
+    let rows = clients(alloc, facts)?;
+    page.push_str(section(alloc, "Clients", rows.as_str())?.as_str())?;
+    let rows = files(alloc, facts)?;
+    page.push_str(section(alloc, "What was read", rows.as_str())?.as_str())?;
+    let rows = captures(alloc, facts)?;
+    page.push_str(section(alloc, "Captures", rows.as_str())?.as_str())?;
+    let text = policy(alloc, facts)?;
+    page.push_str(section(alloc, "Policy", text.as_str())?.as_str())?;
+    let rows = users(alloc, facts)?;
+    page.push_str(section(alloc, "Users", rows.as_str())?.as_str())?;
+    let text = program(alloc, facts)?;
+    page.push_str(section(alloc, "Program", text.as_str())?.as_str())?;
+    let text = commands(alloc, facts)?;
+    page.push_str(section(alloc, "How to repeat it", text.as_str())?.as_str())?;
+    page.push_str(REPEATS)?;
+    page.push_str("</body>\n</html>\n")?;
+    Ok(page)
+}

@@ -1,0 +1,130 @@
+//! The page's tables.
+
+use crate::facts::{CaptureRow, ClientRow, Facts, FileRow, Role, UserRow};
+use crate::markup::Plain;
+use explain_text::Utc;
+use std::alloc::{AllocError, Global};
+
+/// The name of what a file is.
+fn role_text(role: Role) -> &'static str {
+    match role {
+        Role::Policy => "policy",
+        Role::Users => "users",
+        Role::Certificate => "certificate",
+        Role::Capture => "capture",
+    }
+}
+
+/// The row of a file.
+fn file_row(alloc: Global, row: &FileRow<'_>) -> Result<String, AllocError> {
+    let role = role_text(row.role);
+    let name = Plain { text: row.name };
+    match row.digests {
+        Some(digests) => {
+            let size = digests.size;
+            format!(in alloc; "<tr><td>{role}</td><td>{name}</td><td>{size}</td><td><code>{digests}</code></td></tr>\n")
+        }
+        None => {
+            format!(in alloc; "<tr><td>{role}</td><td>{name}</td><td colspan=\"2\">can't be read twice</td></tr>\n")
+        }
+    }
+}
+
+/// The files that were read.
+pub fn files(alloc: Global, facts: &Facts<'_>) -> Result<String, AllocError> {
+    let mut text = String::from_str(
+        alloc,
+        "<table>\n<tr><th>what</th><th>name</th><th>bytes</th><th>SHA-256</th></tr>\n",
+    )?;
+    for row in facts.files {
+        text.push_str(file_row(alloc, row)?.as_str())?;
+    }
+    text.push_str("</table>\n")?;
+    Ok(text)
+}
+
+/// A moment, by the calendar and in nanoseconds since 1970.
+fn moment(alloc: Global, moment: Option<u64>) -> Result<String, AllocError> {
+    match moment {
+        Some(moment) => {
+            let utc = Utc { moment };
+            format!(in alloc; "{utc} ({moment})")
+        }
+        None => String::from_str(alloc, "none"),
+    }
+}
+
+/// What the statistics blocks of a capture say.
+fn statistics(alloc: Global, count: u64) -> Result<String, AllocError> {
+    if count == 0 {
+        return String::from_str(alloc, "none were written");
+    }
+    format!(in alloc; "{count}, no drops")
+}
+
+/// The row of the capture of a number.
+fn capture_row(alloc: Global, number: usize, row: &CaptureRow) -> Result<String, AllocError> {
+    let interfaces = row.interfaces;
+    let packets = row.packets;
+    let first = moment(alloc, row.first)?;
+    let last = moment(alloc, row.last)?;
+    let statistics = statistics(alloc, row.statistics)?;
+    format!(in alloc; "<tr><td>{number}</td><td>{interfaces}</td><td>{packets}</td><td>{first}</td><td>{last}</td><td>{statistics}</td></tr>\n")
+}
+
+/// What the captures have.
+pub fn captures(alloc: Global, facts: &Facts<'_>) -> Result<String, AllocError> {
+    let mut text = String::from_str(
+        alloc,
+        "<table>\n<tr><th>capture</th><th>interfaces</th><th>packets</th><th>first</th><th>last</th><th>statistics</th></tr>\n",
+    )?;
+    for (number, row) in facts.captures.iter().enumerate() {
+        text.push_str(capture_row(alloc, number, row)?.as_str())?;
+    }
+    text.push_str("</table>\n")?;
+    Ok(text)
+}
+
+/// The row of a user.
+fn user_row(alloc: Global, row: &UserRow<'_>) -> Result<String, AllocError> {
+    let name = Plain { text: row.name };
+    let realm = Plain { text: row.realm };
+    format!(in alloc; "<tr><td>{name}</td><td>{realm}</td></tr>\n")
+}
+
+/// The users, without their passwords.
+pub fn users(alloc: Global, facts: &Facts<'_>) -> Result<String, AllocError> {
+    if facts.users.is_empty() {
+        return String::from_str(alloc, "<p>There are none.</p>\n");
+    }
+    let mut text = String::from_str(alloc, "<table>\n<tr><th>user</th><th>realm</th></tr>\n")?;
+    for row in facts.users {
+        text.push_str(user_row(alloc, row)?.as_str())?;
+    }
+    text.push_str("</table>\n")?;
+    Ok(text)
+}
+
+/// The line of a client.
+fn client_line(alloc: Global, row: &ClientRow<'_>) -> Result<String, AllocError> {
+    let line = Plain { text: row.line };
+    if row.is_broken {
+        return format!(in alloc; "<span class=\"broken\">{line}</span>");
+    }
+    format!(in alloc; "{line}")
+}
+
+/// The clients, the first of them where there are many, and the sums of all.
+pub fn clients(alloc: Global, facts: &Facts<'_>) -> Result<String, AllocError> {
+    let mut text = String::from_str(alloc, "<pre>")?;
+    for row in facts.clients {
+        text.push_str(client_line(alloc, row)?.as_str())?;
+    }
+    let left = (facts.all_clients as usize).saturating_sub(facts.clients.len());
+    if left > 0 {
+        text.push_str(format!(in alloc; ".. and {left} more\n")?.as_str())?;
+    }
+    let sums = Plain { text: facts.sums };
+    text.push_str(format!(in alloc; "{sums}</pre>\n")?.as_str())?;
+    Ok(text)
+}
