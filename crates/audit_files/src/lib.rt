@@ -13,6 +13,6 @@ pub use judging::{
     Files, check_files, judge, read_files, read_policy, read_users, tell, verdict_of,
 };
 pub use source::{ReadFailed, Source};
-pub use stop::Stop;
+pub use stop::{Place, Stop};
 pub use text::{TextReading, read_text};
 pub use workers::Workers;

@@ -12,6 +12,7 @@ mod running;
 mod writing;
 
 pub use command_line::Turns;
+pub use finding::{Found, certificate_for, found_either_way};
 pub use growing::Growing;
 pub use live::run_live;
 pub use running::{audit_captures, run};
