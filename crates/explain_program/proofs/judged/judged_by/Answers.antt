@@ -1,0 +1,22 @@
+use Rattle.std.proofs.Common.{◌≡◌, ◌∙◌, ℕ, List, Option, Some, Ok, IfSome, ap, sym, subst}
+use Rattle.std.specs.List.{AllZip}
+use Rattle.audit_model.specs.PolicyText.{policy_of}
+use Rattle.audit_model.specs.declared.policy.Policy.{Policy}
+use Rattle.audit_sightings.specs.Intake.{Taken}
+use Rattle.explain_program.proofs.judged.judged_by.Goals as goal
+
+pub returns-clause-read : goal.returns-clause-read
+returns-clause-read g c = λ policy_text users_text texts policy users none captures.
+    let Holds : Type 0 = List ℕ → Option (List ℕ) in
+    let first = c.read_policy.ensures.kept in
+    let second = c.read_users.ensures.kept ∙ first in
+    let third = c.read_text.ensures.kept ∙ second in
+    let of_policy = c.in_ok-policy.ensures.says policy_text policy in
+    let of_users = c.in_ok-users.ensures.says users_text (subst (λ (h : Holds). IfSome c.args.users (λ name. h name.now ≡ Some users_text)) (sym first) users) none in
+    let intake = c.in_ok-intake.intake in
+    let same : intake.policy ≡ c.in_ok-policy.policy = c.in_ok-intake.ensures.policy ∙ ap (λ (t : Taken). t.policy) c.new-intake.ensures.empty in
+    record {
+      policy' = subst (λ (p : Policy). policy_of policy_text ≡ Ok p) (sym same) of_policy;
+      users' = of_users;
+      captures' = c.in_ok-intake.ensures.taken texts c.new-intake.ensures.stands (subst (λ (h : Holds). AllZip (λ name text. h name.now ≡ Some text) c.args.captures.now texts) (sym third) captures);
+    }

@@ -1,0 +1,32 @@
+-- What the command verdict comes to, from the bytes of its files to the first words of its answer.
+use Rattle.std.specs.Prelude.{◌≡◌, ◌++◌, ℕ, List, Option, codes, decimal}
+use Rattle.audit_model.specs.declared.certificate.Certificate.{Certificate}
+use Rattle.audit_model.specs.declared.verdict.Verdict.{Verdict}
+use Rattle.audit_model.specs.declared.verdict.Verdict.TheVariants.{Conforming, NotShown}
+use Rattle.audit_model.specs.Sink.{followed_by}
+use Rattle.audit_files.specs.Judged.{AreRead, Judges, status_of}
+use Rattle.audit_keys.specs.KeyFor.{key_for}
+use Rattle.audit_report.specs.RuleText.{text_of_rule}
+use Rattle.audit_rules.specs.Keys.{KeyFor}
+use Rattle.audit_sightings.specs.Intake.{Taken, taken}
+use Rattle.explain_program.specs.declared.judged.Judged.{Judged}
+
+-- the verdict in a few words, with which the answer begins
+abbrev pub head_text : Verdict → List ℕ
+head_text (Conforming datagrams lanes) = codes "conforming  " ++ (decimal datagrams ++ (codes " datagrams, " ++ (decimal lanes ++ codes " lanes")))
+head_text (NotShown breach) = codes "not shown  " ++ text_of_rule breach.rule
+
+-- the verdict is that of the certificate on what was read
+abbrev pub IsByItsCertificate : Judged → Type 0
+IsByItsCertificate judged = Judges (taken judged.files.intake) (key_for judged.files.users) judged.certificate judged.verdict
+
+-- The verdict by the certificate on what these files' bytes say was told: the answer begins with it, and the status repeats it.
+pub record IsExplained (policy users : List ℕ) (captures : List (List ℕ)) (certificate : Certificate) (before after : Option (List ℕ)) (status : ℕ) : Type 0 where
+  pub taken : Taken
+  pub key_for : KeyFor
+  pub read : AreRead policy users captures taken key_for
+  pub verdict : Verdict
+  pub judges : Judges taken key_for certificate verdict
+  pub rest : List ℕ
+  pub written : after ≡ followed_by before (head_text verdict ++ rest)
+  pub told : status ≡ status_of verdict

@@ -1,0 +1,96 @@
+//! Every command: the verdict, and what is asked of it.
+
+ghost use Rattle.std.specs.Prelude.{◌≡◌, [], ℕ, IfNone, IfOk, IfSome, List, Some};
+ghost use Rattle.std.specs.List.{AllZip};
+ghost use Rattle.audit_files.specs.Judged.{status_of};
+ghost use Rattle.audit_model.specs.declared.certificate.Certificate.{Certificate as Found};
+ghost use Rattle.explain_program.specs.Explained.{IsExplained};
+
+use crate::client::rest_of_client;
+use crate::command_line::Asked;
+use crate::head::{head, put_answer};
+use crate::judged::{Judged, judge_files};
+use crate::lanes::rest_of_lanes;
+use crate::verdict::rest_of_verdict;
+use audit_files::{Source, Stop, Workers};
+use audit_finding::CertificateFinder;
+use audit_model::{Sink, Verdict};
+use explain_story::Case;
+use std::alloc::Global;
+use std::sync::Wait;
+use std::thread::Threads;
+
+/// What a run was judged on.
+fn case_of<'a>(judged: &'a Judged, captures: &'a [&'a str]) -> Case<'a> {
+    Case {
+        intake: &judged.files.intake,
+        users: &judged.files.users,
+        certificate: &judged.certificate,
+        captures,
+    }
+}
+
+/// What is told behind the head.
+fn rest_of<S: Source>(
+    alloc: Global,
+    source: &mut S,
+    case: Case<'_>,
+    verdict: &Verdict,
+    asked: Asked,
+) -> Result<String, Stop> {
+    let length = head(alloc, verdict)?.len();
+    match asked {
+        Asked::Verdict => rest_of_verdict(alloc, source, case, verdict, length),
+        Asked::Lanes { broken } => rest_of_lanes(alloc, source, case, verdict, broken, length),
+        Asked::Client { lane, around } => {
+            rest_of_client(alloc, source, case, lane, around, length)
+        }
+    }
+}
+
+/// The exit status of a verdict.
+pub fn status(verdict: &Verdict) -> u8
+    ensures { result ≡ status_of verdict.now }
+{
+    match verdict {
+        Verdict::Conforming { .. } => 0,
+        Verdict::NotShown(_) => 1,
+    }
+}
+
+/// Judges captures, and tells what is asked of the verdict: the answer begins with the verdict. It gives 0 where they conform, and 1 where that isn't shown.
+pub fn explain<R: Threads + Wait + Sync, F: CertificateFinder, S: Source, O: Sink>(
+    rt: &R,
+    alloc: Global,
+    finder: &F,
+    source: &mut S,
+    policy: &str,
+    users: Option<&str>,
+    certificate: Option<&str>,
+    captures: &[&str],
+    workers: Workers,
+    asked: Asked,
+    out: &mut O,
+) -> Result<u8, Stop>
+    ensures { (policy_text users_text : List ℕ) (texts : List (List ℕ)) →
+        S.holds source.old policy.now ≡ Some policy_text →
+        IfSome users.entry (λ name. S.holds source.old name.now ≡ Some users_text) → IfNone users.entry (users_text ≡ []) →
+        AllZip (λ name text. S.holds source.old name.now ≡ Some text) captures.now texts →
+        IfOk result (λ status. (by : Found) × IsExplained policy_text users_text texts by (O.taken out.old) (O.taken out.new) status) }
+{
+    let judged = judge_files(
+        rt,
+        alloc,
+        finder,
+        source,
+        policy,
+        users,
+        certificate,
+        captures,
+        workers,
+    )?;
+    let case = case_of(&judged, captures);
+    let rest = rest_of(alloc, source, case, &judged.verdict, asked)?;
+    put_answer(alloc, &judged.verdict, rest.as_str(), out)?;
+    Ok(status(&judged.verdict))
+}

@@ -1,0 +1,51 @@
+//! Looking up frames, by a second pass over the captures.
+
+use audit_files::{Source, Stop};
+use audit_model::Policy;
+use explain_frames::{FrameCounter, Frames};
+use std::alloc::Global;
+
+/// How many bytes are asked for at once.
+const PIECE: usize = 65_536;
+
+/// Goes over a capture. Where it can't be read again, as a pipe, the frames stay unknown.
+fn look_in<S: Source>(
+    alloc: Global,
+    source: &mut S,
+    name: &str,
+    counter: &mut FrameCounter<'_>,
+    frames: &mut Frames,
+) -> Result<(), Stop> {
+    let mut piece = vec![in alloc; 0u8; PIECE]?;
+    let mut at = 0u64;
+    'pieces: for _ in 0..u64::MAX {
+        let Ok(read) = source.piece(name, at, &mut piece) else {
+            return Ok(());
+        };
+        if read == 0 || counter.feed(&piece[..read], frames).is_err() {
+            return Ok(());
+        }
+        let Some(next) = at.checked_add(read as u64) else {
+            return Ok(());
+        };
+        at = next;
+    }
+    Ok(())
+}
+
+/// Looks up the frames that are asked for, going over each capture once.
+pub fn look_up<S: Source>(
+    alloc: Global,
+    source: &mut S,
+    policy: &Policy,
+    captures: &[&str],
+    frames: &mut Frames,
+) -> Result<(), Stop> {
+    let mut file = 0u32;
+    for name in captures {
+        let mut counter = FrameCounter::new(alloc, policy, file)?;
+        look_in(alloc, source, name, &mut counter, frames)?;
+        file = file.saturating_add(1);
+    }
+    Ok(())
+}

@@ -1,0 +1,72 @@
+//! The command `lanes`.
+
+use crate::frames::look_up;
+use crate::last_lines::behind_head;
+use audit_files::{Source, Stop};
+use audit_model::{Breach, Verdict};
+use explain_frames::Frames;
+use explain_story::{Case, Lanes, Teller, ask_breaches, is_broken, lane_line, lanes_of, sums};
+use std::alloc::{AllocError, Global};
+
+const NO_LANES: &str =
+    "No lane is judged, since the certificate's placement breaks a rule: turnexplain verdict tells it.\n";
+
+/// The first breach of a verdict.
+fn breach_of(verdict: &Verdict) -> Option<Breach> {
+    match verdict {
+        Verdict::Conforming { .. } => None,
+        Verdict::NotShown(breach) => Some(*breach),
+    }
+}
+
+/// The lines of the lanes, of all or of those alone that break a rule.
+fn lines(
+    alloc: Global,
+    teller: &Teller<'_>,
+    lanes: &Lanes<'_>,
+    only_broken: bool,
+) -> Result<String, AllocError> {
+    let mut text = String::new(alloc);
+    for finding in &lanes.findings {
+        if !only_broken || is_broken(finding) {
+            text.push_str(lane_line(alloc, teller, finding)?.as_str())?;
+        }
+    }
+    Ok(text)
+}
+
+/// What is told behind a head of so many bytes.
+pub fn rest_of_lanes<S: Source>(
+    alloc: Global,
+    source: &mut S,
+    case: Case<'_>,
+    verdict: &Verdict,
+    only_broken: bool,
+    length: usize,
+) -> Result<String, Stop> {
+    let judged = lanes_of(alloc, case)?;
+    let mut frames = Frames::new(alloc);
+    if let Some(lanes) = &judged {
+        ask_breaches(lanes, &mut frames)?;
+    }
+    look_up(
+        alloc,
+        source,
+        case.intake.policy(),
+        case.captures,
+        &mut frames,
+    )?;
+    let teller = Teller {
+        case,
+        frames: &frames,
+    };
+    let mut rest = behind_head(alloc, &teller, length)?;
+    match &judged {
+        None => rest.push_str(NO_LANES)?,
+        Some(lanes) => {
+            rest.push_str(lines(alloc, &teller, lanes, only_broken)?.as_str())?;
+            rest.push_str(sums(alloc, &teller, lanes, breach_of(verdict))?.as_str())?;
+        }
+    }
+    Ok(rest)
+}

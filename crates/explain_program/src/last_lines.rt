@@ -1,0 +1,137 @@
+//! What stands behind the head, and the last lines of a story.
+
+use audit_faults::Fault;
+use audit_model::Verdict;
+use explain_story::{InEveryOrder, Story, Teller};
+use explain_text::{Quoted, Utc};
+use std::alloc::{AllocError, Global};
+
+/// Where the facts of the captures begin behind the head.
+const COLUMN: usize = 50;
+
+/// How many frames a filter names at the most.
+const MOST_FRAMES: usize = 24;
+
+/// How many interfaces have a datagram of the service.
+fn interfaces(teller: &Teller<'_>) -> u32 {
+    let mut count = 0u32;
+    for iface in 0..teller.case.intake.interfaces() {
+        if !teller.case.intake.interface(iface).is_empty() {
+            count = count.saturating_add(1);
+        }
+    }
+    count
+}
+
+/// What stands behind a head of so many bytes on its line: how many interfaces there are, and when the captures begin.
+pub fn behind_head(
+    alloc: Global,
+    teller: &Teller<'_>,
+    length: usize,
+) -> Result<String, AllocError> {
+    let mut text = String::from_str(alloc, " ")?;
+    for _ in length..COLUMN {
+        text.push_str(" ")?;
+    }
+    let interfaces = interfaces(teller);
+    let first = Utc {
+        moment: teller.first(),
+    };
+    let noun = if interfaces == 1 {
+        "interface"
+    } else {
+        "interfaces"
+    };
+    text.push_str(format!(in alloc; "{interfaces} {noun}, first frame {first}\n")?.as_str())?;
+    Ok(text)
+}
+
+/// Whether a shell takes a name as it is.
+fn is_plain_name(name: &str) -> bool {
+    name.as_bytes().iter().all(|byte| {
+        byte.is_ascii_alphanumeric() || matches!(*byte, b'.' | b'/' | b'_' | b'-' | b'+' | b',')
+    })
+}
+
+/// A name for a shell.
+fn shell_name(alloc: Global, name: &str) -> Result<String, AllocError> {
+    let quoted = Quoted {
+        bytes: name.as_bytes(),
+    };
+    if is_plain_name(name) {
+        return format!(in alloc; "{quoted}");
+    }
+    format!(in alloc; "'{quoted}'")
+}
+
+/// The numbers of frames, each once, with commas between.
+fn joined(alloc: Global, numbers: &[u64]) -> Result<String, AllocError> {
+    let mut text = String::new(alloc);
+    let mut last = 0u64;
+    for number in numbers.get(..MOST_FRAMES).unwrap_or(numbers) {
+        if *number != last {
+            if last != 0 {
+                text.push_str(",")?;
+            }
+            last = *number;
+            text.push_str(format!(in alloc; "{last}")?.as_str())?;
+        }
+    }
+    Ok(text)
+}
+
+/// How to look at the frames of a capture; nothing where none of its frames is told.
+fn look_line(
+    alloc: Global,
+    teller: &Teller<'_>,
+    file: u32,
+    name: &str,
+) -> Result<String, AllocError> {
+    let numbers = teller.frames.numbers(alloc, file)?;
+    if numbers.is_empty() {
+        return Ok(String::new(alloc));
+    }
+    let name = shell_name(alloc, name)?;
+    let frames = joined(alloc, numbers.as_slice())?;
+    format!(in alloc; "look: tshark -r {name} -Y 'frame.number in {{{frames}}}'\n")
+}
+
+/// How to look at the frames of all captures.
+pub fn look_lines(alloc: Global, teller: &Teller<'_>) -> Result<String, AllocError> {
+    let mut text = String::new(alloc);
+    let mut file = 0u32;
+    for name in teller.case.captures {
+        text.push_str(look_line(alloc, teller, file, name)?.as_str())?;
+        file = file.saturating_add(1);
+    }
+    Ok(text)
+}
+
+/// The fault's name.
+fn fault_name(fault: Fault) -> &'static str {
+    match fault {
+        Fault::Unasked => "Unasked",
+        Fault::Unallocated => "Unallocated",
+        Fault::Unpermitted => "Unpermitted",
+        Fault::Unbound => "Unbound",
+        Fault::Unfit => "Unfit",
+        Fault::Unauthentic => "Unauthentic",
+    }
+}
+
+/// Whether another order may explain what breaks a rule.
+pub fn last_line(alloc: Global, shown: Option<InEveryOrder>) -> Result<String, AllocError> {
+    match shown {
+        Some(shown) => {
+            let name = fault_name(shown.fault);
+            let count = shown.count;
+            format!(in alloc;
+                "Shown: no order of what was captured explains this datagram ({name}; {count} such in all).\n"
+            )
+        }
+        None => String::from_str(
+            alloc,
+            "Not shown is no proof of a fault: another order may explain it.\n",
+        ),
+    }
+}

@@ -1,0 +1,26 @@
+//! The program turnexplain as a function: words in, files by a host, the answer and what is said of a refusal by two sinks, and the exit
+//! status.
+#![tactic(auto)]
+
+mod client;
+mod command_line;
+mod conforming;
+mod explaining;
+mod frames;
+mod head;
+mod host;
+mod judged;
+mod lanes;
+mod last_lines;
+mod line_of_text;
+mod mistakes;
+mod reasons;
+mod refusal;
+mod running;
+mod shape;
+mod verdict;
+
+pub use command_line::Asked;
+pub use explaining::explain;
+pub use host::{Explaining, Trouble};
+pub use running::run;

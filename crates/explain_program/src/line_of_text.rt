@@ -1,0 +1,86 @@
+//! A line of a file, and its first bytes, read again after a refusal.
+
+use audit_files::Source;
+use std::alloc::{AllocError, Global};
+
+/// How many bytes are asked for at once.
+const PIECE: usize = 65_536;
+
+/// So many bytes of a line are kept.
+const MOST: usize = 300;
+
+/// So many first bytes of the file are kept.
+const FRONT: usize = 24;
+
+/// A line of a text.
+#[derive(Drop)]
+pub struct LineOfText {
+    /// The first bytes of the file.
+    pub front: Vec<u8>,
+    /// The line without its LF, or its first 300 bytes.
+    pub line: Vec<u8>,
+    /// Whether an LF ends it.
+    pub is_ended: bool,
+    /// The line's number, from 1.
+    wanted: u64,
+    /// The number of the line that is read.
+    at: u64,
+}
+
+impl LineOfText {
+    /// Of no bytes.
+    fn new(alloc: Global, wanted: u64) -> LineOfText {
+        LineOfText {
+            front: Vec::new(alloc),
+            line: Vec::new(alloc),
+            is_ended: false,
+            wanted,
+            at: 1,
+        }
+    }
+
+    /// Takes a byte.
+    fn take(&mut self, byte: u8) -> Result<(), AllocError> {
+        if self.front.len() < FRONT {
+            self.front.push(byte)?;
+        }
+        if self.at == self.wanted && byte != b'\n' && self.line.len() < MOST {
+            self.line.push(byte)?;
+        }
+        if byte == b'\n' {
+            self.is_ended = self.is_ended || self.at == self.wanted;
+            self.at = self.at.saturating_add(1);
+        }
+        Ok(())
+    }
+
+    /// Takes a piece, and tells whether the line is whole.
+    fn feed(&mut self, piece: &[u8]) -> Result<bool, AllocError> {
+        for byte in piece {
+            self.take(*byte)?;
+        }
+        Ok(self.at > self.wanted)
+    }
+}
+
+/// The line of that number of a file, from 1; what there is of it where the file can't be read so far.
+pub fn line_of_text<S: Source>(
+    alloc: Global,
+    source: &mut S,
+    name: &str,
+    wanted: u64,
+) -> Result<LineOfText, AllocError> {
+    let mut found = LineOfText::new(alloc, wanted);
+    let mut piece = vec![in alloc; 0u8; PIECE]?;
+    let mut at = 0u64;
+    'pieces: for _ in 0..u64::MAX {
+        let Ok(read) = source.piece(name, at, &mut piece) else {
+            return Ok(found);
+        };
+        if read == 0 || found.feed(&piece[..read])? {
+            return Ok(found);
+        }
+        at = at.saturating_add(read as u64);
+    }
+    Ok(found)
+}

@@ -1,0 +1,113 @@
+//! The whole program as a function.
+
+use crate::command_line::{Inputs, Request, read as read_words};
+use crate::explaining::explain;
+use crate::host::Explaining;
+use crate::refusal::refusal;
+use audit_files::Stop;
+use audit_finding::CertificateFinder;
+use audit_model::{Sink, put_all};
+use std::alloc::Global;
+use std::convert::AsStr;
+use std::sync::Wait;
+use std::thread::Threads;
+
+/// Does what is asked for, and gives the exit status.
+fn run_request<R: Threads + Wait + Sync, F: CertificateFinder, S: Explaining, O: Sink, E: Sink>(
+    rt: &R,
+    alloc: Global,
+    finder: &F,
+    request: &Request<'_>,
+    source: &mut S,
+    out: &mut O,
+    err: &mut E,
+) -> Result<u8, Stop> {
+    match request {
+        Request::Explain { inputs, asked } => explain(
+            rt,
+            alloc,
+            finder,
+            source,
+            inputs.policy,
+            inputs.credentials,
+            inputs.certificate,
+            &inputs.captures,
+            inputs.workers,
+            *asked,
+            out,
+        ),
+        Request::Help(text) => {
+            put_all(out, text.as_bytes())?;
+            Ok(0)
+        }
+        Request::Usage(text) => {
+            put_all(err, text.as_bytes())?;
+            Ok(5)
+        }
+    }
+}
+
+/// The files that a request names.
+fn inputs_of<'r, 'a>(request: &'r Request<'a>) -> Option<&'r Inputs<'a>> {
+    match request {
+        Request::Explain { inputs, .. } => Some(inputs),
+        Request::Help(_) | Request::Usage(_) => None,
+    }
+}
+
+/// Puts a line. Nothing more can be done where that fails.
+fn put_line<W: Sink>(alloc: Global, sink: &mut W, words: &str) {
+    match format!(in alloc; "turnexplain: {words}\n") {
+        Ok(line) => {
+            let _ = put_all(sink, line.as_bytes());
+        }
+        Err(_) => {
+            let _ = put_all(sink, b"turnexplain: out of memory\n");
+        }
+    }
+}
+
+/// Puts the line that says why the run ended.
+fn put_refusal<S: Explaining, W: Sink>(
+    alloc: Global,
+    source: &mut S,
+    request: &Request<'_>,
+    stop: &Stop,
+    err: &mut W,
+) {
+    let Some(inputs) = inputs_of(request) else {
+        put_line(alloc, err, "the answer can't be written");
+        return;
+    };
+    match refusal(alloc, source, inputs, stop) {
+        Ok(words) => put_line(alloc, err, words.as_str()),
+        Err(_) => put_line(alloc, err, "out of memory"),
+    }
+}
+
+/// Runs the program on its words, the first of which is its name, and gives its exit status: 0 conforming, help or the release; 1 not
+/// shown; 2 input refused; 3 out of memory; 4 a file that can't be read or an answer that can't be written; 5 words that are no request.
+/// What ended it before its answer is one line on `err`.
+pub fn run<
+    R: Threads + Wait + Sync,
+    F: CertificateFinder,
+    N: AsStr,
+    S: Explaining,
+    O: Sink,
+    E: Sink,
+>(rt: &R, alloc: Global, finder: &F, words: &[N], source: &mut S, out: &mut O, err: &mut E) -> u8 {
+    let request = match read_words(alloc, words) {
+        Ok(request) => request,
+        Err(_) => {
+            put_line(alloc, err, "out of memory");
+            return Stop::Memory.status();
+        }
+    };
+    match run_request(rt, alloc, finder, &request, source, out, err) {
+        Ok(status) => status,
+        Err(stop) => {
+            put_refusal(alloc, source, &request, &stop, err);
+            stop.status()
+        }
+    }
+}
