@@ -6,6 +6,8 @@ PROVED = crates/turnaudit/out/turnaudit
 # The programs beside it, which make captures ready and print what no order explains.
 PREPARES = crates/turnprep/out/turnprep
 SHOWS = crates/turnaudit_faults/out/turnaudit_faults
+# The program that tells what a verdict means.
+EXPLAINS = crates/turnexplain/out/turnexplain
 # The program that is installed, packed and tested. Another one is taken as it is: `make install PROGRAM=/where/it/is`.
 PROGRAM = $(PROVED)
 SOURCES = crates.txt $(shell find crates \( -path '*/src/*.rt' -o -path '*/specs/*.antt' -o -path '*/proofs/*.antt' \) -not -path '*/out/*')
@@ -17,7 +19,7 @@ DESTDIR =
 # Where `make deb` puts the package.
 OUT = out
 
-.PHONY: deb demo edits format fuzz install test turnaudit turnaudit_faults turnprep
+.PHONY: deb demo edits format fuzz install test turnaudit turnaudit_faults turnexplain turnprep
 
 # Prints the verdict on the captures of a call over coturn, by a build that isn't proved.
 demo:
@@ -30,8 +32,9 @@ $(PROVED): $(SOURCES)
 	@tools/build.py
 	@touch $@
 
-# Proves and builds the programs beside it: what makes captures ready, and what prints the datagrams that no order explains.
-turnprep turnaudit_faults:
+# Proves and builds the programs beside it: what makes captures ready, what prints the datagrams that no order explains, and what tells
+# what a verdict means.
+turnprep turnaudit_faults turnexplain:
 	@tools/build.py $@
 
 # Puts the program, man pages, completions and documents below PREFIX.
@@ -55,7 +58,8 @@ edits:
 # others, and runs the tests and the program. Then, with the program that this built: judges the captures in examples, asks that the number
 # of workers changes no answer, tries the examples of docs/REFUSALS.md, compares with the plain checker, gives it hostile input and captures
 # that grow, refuses it memory, installs it, audits a fleet by two engines, and has it find certificates for captures of a simulated server.
-# At last it runs turnprep on its cases and on captures of strangers, and asks turnaudit_faults for what is known of captures.
+# At last it runs turnprep on its cases and on captures of strangers, asks turnaudit_faults for what is known of captures, and turnexplain
+# for what its golden files have.
 test:
 	python3 tests/documents.py
 	tools/reading_copy.py --check
@@ -83,6 +87,7 @@ test:
 	python3 tests/looking.py $(PREPARES)
 	python3 tests/fragments.py $(PREPARES) $(PROGRAM)
 	python3 tests/shown_faults.py $(SHOWS) $(PROGRAM)
+	python3 tests/explain.py $(EXPLAINS)
 
 # Gives the program damaged captures, policies, credentials and certificates, and looks at how it answers.
 fuzz: $(PROGRAM)

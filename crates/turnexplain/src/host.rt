@@ -1,0 +1,105 @@
+//! The files and the streams of the machine.
+
+ghost use Rattle.std.specs.Prelude.{◌≡◌, None};
+
+use audit_files::{ReadFailed, Source};
+use audit_model::{Sink, SinkFailed};
+use explain_program::{Explaining, Trouble};
+use std::fs::File;
+use std::io::{Read, Write};
+use std::rt::Files;
+use std::{fs, io};
+
+/// The files of the machine, read one at a time from front to back.
+#[derive(Drop)]
+pub struct HostFiles<'r, R: Files<File = File>> {
+    rt: &'r R,
+    opened: Option<File>,
+}
+
+impl<'r, R: Files<File = File>> HostFiles<'r, R> {
+    /// No file is open.
+    pub fn new(rt: &'r R) -> Self
+        ensures { result.opened ≡ None }
+    {
+        HostFiles { rt, opened: None }
+    }
+}
+
+impl<R: Files<File = File>> Source for HostFiles<'_, R> {
+    ghost use Rattle.std.specs.Prelude.{None};
+
+    ghost holds = { λ _ _. None };
+
+    fn piece(&mut self, name: &str, at: u64, into: &mut [u8]) -> Result<usize, ReadFailed> {
+        if at == 0 {
+            match fs::open(self.rt, name) {
+                Ok(file) => self.opened = Some(file),
+                Err(_) => return Err(ReadFailed),
+            }
+        }
+        let Some(file) = &mut self.opened else {
+            return Err(ReadFailed);
+        };
+        match file.read(into) {
+            Ok(read) => Ok(read),
+            Err(_) => Err(ReadFailed),
+        }
+    }
+}
+
+/// Why a file couldn't be opened or read.
+fn trouble_of(error: &io::Error) -> Trouble {
+    match error.kind() {
+        io::ErrorKind::NotFound => Trouble::Missing,
+        io::ErrorKind::PermissionDenied => Trouble::Denied,
+        _ => Trouble::Other,
+    }
+}
+
+impl<R: Files<File = File>> Explaining for HostFiles<'_, R> {
+    fn trouble(&mut self, name: &str) -> Option<Trouble> {
+        let mut file = match fs::open(self.rt, name) {
+            Ok(file) => file,
+            Err(error) => return Some(trouble_of(&error)),
+        };
+        let mut byte = [0u8; 1];
+        match file.read(&mut byte) {
+            Ok(_) => None,
+            Err(error) => Some(trouble_of(&error)),
+        }
+    }
+}
+
+/// A stream of the machine. It claims nothing of what reaches it.
+#[derive(Drop)]
+pub struct HostStream<W: Write> {
+    stream: W,
+}
+
+impl<W: Write> HostStream<W> {
+    /// The stream, of which nothing was written.
+    pub fn new(stream: W) -> Self
+        ensures { result.stream ≡ stream }
+    {
+        HostStream { stream }
+    }
+}
+
+impl<W: Write> Sink for HostStream<W> {
+    ghost use Rattle.std.specs.Prelude.{None};
+
+    ghost taken = { λ _. None };
+
+    ghost failures = { λ _. None };
+
+    fn put(&mut self, piece: &[u8]) -> Result<usize, SinkFailed> {
+        let Ok(taken) = self.stream.write(piece) else {
+            return Err(SinkFailed);
+        };
+        match self.stream.flush() {
+            Ok(()) => Ok(taken),
+            Err(_) => Err(SinkFailed),
+        }
+    }
+}

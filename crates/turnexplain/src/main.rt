@@ -1,0 +1,53 @@
+//! turnexplain tells what a verdict of turnaudit means.
+#![tactic(auto)]
+
+mod host;
+
+use audit_finder::WalkAndPasses;
+use audit_model::{Sink, put_all};
+use explain_program::run;
+use host::{HostFiles, HostStream};
+use std::process::ExitCode;
+use std::rt::Env;
+use std::{env, io};
+
+/// The words that the program was started with, its name among them.
+fn words_of<R: Env + AllocGlobal>(rt: &R) -> io::Result<Vec<String>> {
+    let mut words = Vec::new(rt.alloc());
+    for word in env::args(rt)? {
+        words.push(word)?;
+    }
+    Ok(words)
+}
+
+/// Says that the words could not be read, and gives the exit status.
+fn refuse_words<W: Sink>(err: &mut W, error: &io::Error) -> u8 {
+    if error.kind() == io::ErrorKind::OutOfMemory {
+        let _ = put_all(err, b"turnexplain: out of memory\n");
+        return 3;
+    }
+    let _ = put_all(err, b"turnexplain: a word is not UTF-8\n");
+    5
+}
+
+fn main(rt: HostRuntime) -> ExitCode {
+    let alloc = rt.alloc();
+    let mut out = HostStream::new(rt.stdout());
+    let mut err = HostStream::new(rt.stderr());
+    let status = match words_of(&rt) {
+        Ok(words) => {
+            let mut files = HostFiles::new(&rt);
+            run(
+                &rt,
+                alloc,
+                &WalkAndPasses,
+                &words,
+                &mut files,
+                &mut out,
+                &mut err,
+            )
+        }
+        Err(error) => refuse_words(&mut err, &error),
+    };
+    ExitCode::from(status)
+}

@@ -1,0 +1,131 @@
+"""Captures of rules that the stored ones don't show, written byte by byte for tests/explain.py."""
+
+import hashlib
+import hmac
+import struct
+
+SERVER, CLIENT, OTHER, PEER = ("192.0.2.1", 3478), ("198.51.100.7", 40000), ("198.51.100.8", 40000), ("203.0.113.9", 7000)
+RELAYED, RELAYED2 = ("192.0.2.1", 50000), ("192.0.2.1", 50001)
+COOKIE = 0x2112A442
+USER, REALM, PASSWORD, NONCE = b"user", b"realm", b"pass", b"nonce"
+POLICY = "turnaudit-policy 1\nlisten 192.0.2.1:3478\nrelay 192.0.2.1:49152-65535\n"
+USERS = "user\trealm\tpass\n"
+# What would turn a terminal's colours, hide a line, or be markup.
+NASTY = b"\x1b[31mred\x07\"<script>\xff\xc3\xbc\xe2\x80\xae"
+
+
+def ip(text):
+    return bytes(int(part) for part in text.split("."))
+
+
+def attribute(kind, value):
+    return struct.pack(">HH", kind, len(value)) + value + bytes(-len(value) % 4)
+
+
+def address(kind, end):
+    host = struct.unpack(">I", ip(end[0]))[0] ^ COOKIE
+    return attribute(kind, struct.pack(">BBHI", 0, 1, end[1] ^ (COOKIE >> 16), host))
+
+
+def message(kind, tid, *attributes, key=None):
+    body = b"".join(attributes)
+    if key:
+        head = struct.pack(">HHI", kind, len(body) + 24, COOKIE) + tid.rjust(12, b"\0")
+        body += attribute(8, hmac.new(key, head + body, hashlib.sha1).digest())
+    return struct.pack(">HHI", kind, len(body), COOKIE) + tid.rjust(12, b"\0") + body
+
+
+KEY = hashlib.md5(b":".join((USER, REALM, PASSWORD))).digest()
+SIGNER = (attribute(6, USER), attribute(0x14, REALM), attribute(0x15, NONCE))
+
+
+def request(kind, tid, *attributes):
+    return message(kind, tid, *attributes, *SIGNER, key=KEY)
+
+
+def allocate(tid):
+    return request(0x003, tid, attribute(0x19, b"\x11\0\0\0"))
+
+
+def allocated(tid, relayed=RELAYED, mapped=CLIENT):
+    return message(0x103, tid, address(0x16, relayed), attribute(0x0D, struct.pack(">I", 600)), address(0x20, mapped), key=KEY)
+
+
+def error(kind, tid, code, phrase):
+    return message(kind | 0x110, tid, attribute(9, bytes((0, 0, code // 100, code % 100)) + phrase))
+
+
+def frame(source, target, payload):
+    udp = struct.pack(">HHHH", source[1], target[1], 8 + len(payload), 0) + payload
+    head = struct.pack(">BBHHHBBH", 0x45, 0, 20 + len(udp), 0, 0, 64, 17, 0) + ip(source[0]) + ip(target[0])
+    return bytes(12) + b"\x08\0" + head + udp
+
+
+def block(kind, body):
+    body += bytes(-len(body) % 4)
+    return struct.pack("<II", kind, 12 + len(body)) + body + struct.pack("<I", 12 + len(body))
+
+
+def capture(*datagrams):
+    """A pcapng of one interface: each datagram is a time in microseconds, its ends and its payload. A frame of ARP comes first."""
+    text = block(0x0A0D0D0A, struct.pack("<IHHq", 0x1A2B3C4D, 1, 0, -1)) + block(1, struct.pack("<HHI", 1, 0, 0))
+    start = 1_795_000_000_000_000
+    frames = [(0, bytes(12) + b"\x08\x06" + bytes(28))] + [(at, frame(source, target, payload)) for at, source, target, payload in datagrams]
+    for at, data in frames:
+        stamp = start + at
+        text += block(6, struct.pack("<IIIII", 0, stamp >> 32, stamp & 0xFFFFFFFF, len(data), len(data)) + data)
+    return text
+
+
+def exchange(at, asked, answered, client=CLIENT):
+    return (at, client, SERVER, asked), (at + 400, SERVER, client, answered)
+
+
+def permitted(tid=b"perm"):
+    return request(0x008, tid, address(0x12, PEER)), message(0x108, tid, key=KEY)
+
+
+def bound(tid=b"bind", number=0x4000, peer=PEER):
+    asked = request(0x009, tid, attribute(0x0C, struct.pack(">HH", number, 0)), address(0x12, peer))
+    return asked, message(0x109, tid, key=KEY)
+
+
+def channel(number, data):
+    return struct.pack(">HH", number, len(data)) + data
+
+
+def refreshed(tid, seconds):
+    lifetime = attribute(0x0D, struct.pack(">I", seconds))
+    return request(0x004, tid, lifetime), message(0x104, tid, lifetime, key=KEY)
+
+
+BEGUN = exchange(1_000, allocate(b"alloc"), allocated(b"alloc"))
+FROM_PEER = (PEER, RELAYED, b"hello")
+SECOND = 1_000_000
+
+CASES = {
+    "r1-other-transaction": capture(*exchange(1_000, message(0x001, b"one"), message(0x101, b"two", address(0x20, CLIENT)))),
+    "r2-wrong-password": capture(*exchange(1_000, message(0x003, b"a", attribute(0x19, b"\x11\0\0\0"), *SIGNER, key=b"wrong"), allocated(b"a"))),
+    "r2-nasty-name": capture(*exchange(1_000, message(0x003, b"a", attribute(6, NASTY), attribute(0x14, NASTY), attribute(0x15, NONCE), key=KEY), allocated(b"a"))),
+    "r4-after-refresh-0": capture(*BEGUN, *exchange(2_000, *permitted()), *exchange(3_000, *refreshed(b"gone", 0)), (4_000, *FROM_PEER), (4_400, SERVER, CLIENT, message(0x017, b"data", address(0x12, PEER), attribute(0x13, b"hello")))),
+    "r5-allocation-over": capture(*BEGUN, *exchange(602 * SECOND, *permitted())),
+    "r6-no-permission": capture(*BEGUN, (4_000, *FROM_PEER), (4_400, SERVER, CLIENT, message(0x017, b"data", address(0x12, PEER), attribute(0x13, b"hello")))),
+    "r8-channel-not-bound": capture(*BEGUN, *exchange(2_000, *permitted()), (4_000, CLIENT, SERVER, channel(0x4001, b"hello")), (4_400, RELAYED, PEER, b"hello")),
+    "r9-channel-over": capture(*BEGUN, *exchange(2_000, *bound()), *exchange(500 * SECOND, *refreshed(b"more", 600)), (700 * SECOND, CLIENT, SERVER, channel(0x4000, b"hello")), (700 * SECOND + 400, RELAYED, PEER, b"hello")),
+    "r10-channel-number": capture(*BEGUN, *exchange(2_000, *bound(number=0x5000))),
+    "r11-channel-conflict": capture(*BEGUN, *exchange(2_000, *bound()), *exchange(3_000, *bound(b"again", 0x4001))),
+    "r12-peer-differs": capture(*BEGUN, *exchange(2_000, *bound()), (4_000, CLIENT, SERVER, channel(0x4000, b"hello")), (4_400, RELAYED, ("203.0.113.9", 7001), b"hello")),
+    "r13-data-differs": capture(*BEGUN, *exchange(2_000, *bound()), (4_000, CLIENT, SERVER, channel(0x4000, b"hello")), (4_400, RELAYED, PEER, b"HELLO")),
+    "r14-out-of-range": capture(*exchange(1_000, allocate(b"a"), allocated(b"a", ("10.0.0.1", 50000)))),
+    "r15-lifetime": capture(*BEGUN, *exchange(2_000, refreshed(b"gone", 0)[0], refreshed(b"gone", 600)[1])),
+    "r16-tcp": capture(*exchange(1_000, request(0x003, b"a", attribute(0x19, b"\x06\0\0\0")), allocated(b"a"))),
+    "r17-mapped": capture(*exchange(1_000, message(0x001, b"one"), message(0x101, b"one", address(0x20, OTHER)))),
+    "r18-unsigned": capture(*BEGUN, *exchange(2_000, permitted()[0], message(0x108, b"perm"))),
+    "r19-437-without-allocation": capture(*BEGUN, *exchange(2_000, *refreshed(b"gone", 0)), *exchange(3_000, allocate(b"b"), error(0x003, b"b", 437, b"Mismatched " + NASTY))),
+    "r20-allocation-present": capture(*BEGUN, *exchange(2_000, *refreshed(b"gone", 0)), *exchange(3_000, allocate(b"b"), allocated(b"b")), *exchange(4_000, allocate(b"c"), allocated(b"c", RELAYED2))),
+    "r21-no-mapped-address": capture(*exchange(1_000, message(0x001, b"one"), message(0x101, b"one"))),
+    "r22-address-held": capture(*BEGUN, *exchange(3_000, allocate(b"b"), allocated(b"b", RELAYED, OTHER), OTHER)),
+    "s1-nobody-asked": capture((1_000, RELAYED, PEER, b"hello")),
+    "s11-left-without-act": capture(*BEGUN, (4_000, RELAYED2, PEER, b"hello")),
+    "s12-held-too-long": capture(*exchange(1_000, message(0x001, b"one"), message(0x101, b"one", address(0x20, CLIENT)))[:1], (5 * SECOND, SERVER, CLIENT, message(0x101, b"one", address(0x20, CLIENT)))),
+}
