@@ -88,6 +88,7 @@ test:
 	python3 tests/fragments.py $(PREPARES) $(PROGRAM)
 	python3 tests/shown_faults.py $(SHOWS) $(PROGRAM)
 	python3 tests/explain.py $(EXPLAINS)
+	python3 tests/explain_page.py $(EXPLAINS)
 
 # Gives the program damaged captures, policies, credentials and certificates, and looks at how it answers.
 fuzz: $(PROGRAM)

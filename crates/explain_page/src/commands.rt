@@ -74,10 +74,9 @@ pub fn commands(alloc: Global, facts: &Facts<'_>) -> Result<String, AllocError> 
     if found.is_none() {
         text.push_str(format!(in alloc; "turnaudit find{words} > {certificate}\n")?.as_str())?;
     }
-    text.push_str(
-        format!(in alloc; "turnaudit check --cert {certificate}{words}\nturnaudit audit{words}\n")?
-            .as_str(),
-    )?;
+    text.push_str(format!(in alloc;
+        "turnaudit check --cert {certificate}{words}\nturnaudit audit{words}\n"
+    )?.as_str())?;
     let told = Plain {
         text: text.as_str(),
     };

@@ -21,7 +21,9 @@ fn verdict(alloc: Global, facts: &Facts<'_>) -> Result<String, AllocError> {
     } else {
         NOT_SHOWN
     };
-    format!(in alloc; "{HEAD}<title>turnaudit: {head}</title>\n{STYLE}</head>\n<body>\n<h1>Audit of a TURN server by RFC 8656</h1>\n<p class=\"word\">{head}</p>\n{says}{NOT_SAID}")
+    format!(in alloc;
+        "{HEAD}<title>turnaudit: {head}</title>\n{STYLE}</head>\n<body>\n<h1>Audit of a TURN server by RFC 8656</h1>\n<p class=\"word\">{head}</p>\n{says}{NOT_SAID}"
+    )
 }
 
 /// The account of a breach, with the picture.
@@ -45,10 +47,14 @@ fn program(alloc: Global, facts: &Facts<'_>) -> Result<String, AllocError> {
     match facts.program {
         Some(digests) => {
             let size = digests.size;
-            format!(in alloc; "<p>turnexplain {release}</p>\n<p>The program: {size} bytes, SHA-256 <code>{digests}</code></p>\n<p>What is proved, docs/headline.txt: SHA-256 <code>{headline}</code></p>\n")
+            format!(in alloc;
+                "<p>turnexplain {release}</p>\n<p>The program: {size} bytes, SHA-256 <code>{digests}</code></p>\n<p>What is proved, docs/headline.txt: SHA-256 <code>{headline}</code></p>\n"
+            )
         }
         None => {
-            format!(in alloc; "<p>turnexplain {release}</p>\n<p>The program's file can't be read.</p>\n<p>What is proved, docs/headline.txt: SHA-256 <code>{headline}</code></p>\n")
+            format!(in alloc;
+                "<p>turnexplain {release}</p>\n<p>The program's file can't be read.</p>\n<p>What is proved, docs/headline.txt: SHA-256 <code>{headline}</code></p>\n"
+            )
         }
     }
 }

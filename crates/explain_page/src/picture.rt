@@ -5,7 +5,9 @@ use std::alloc::{AllocError, Global};
 
 /// Where the times begin, behind the names; how wide they are; and how high a row is, in the picture's units.
 const LEFT: u64 = 260;
+
 const WIDTH: u64 = 720;
+
 const ROW: u64 = 20;
 
 /// A lease. Moments are nanoseconds since 1970.
@@ -55,16 +57,22 @@ impl Picture<'_> {
         let lasts = self.place(bar.until).saturating_sub(from).max(1);
         let with_grace = self.place(bar.last).saturating_sub(from).max(1);
         let base = top.saturating_add(14);
-        format!(in alloc; "<text x=\"0\" y=\"{base}\">{name}</text>\n<rect x=\"{from}\" y=\"{top}\" width=\"{with_grace}\" height=\"16\" fill=\"#cfd8dc\"/>\n<rect x=\"{from}\" y=\"{top}\" width=\"{lasts}\" height=\"16\" fill=\"#607d8b\"/>\n")
+        format!(in alloc;
+            "<text x=\"0\" y=\"{base}\">{name}</text>\n<rect x=\"{from}\" y=\"{top}\" width=\"{with_grace}\" height=\"16\" fill=\"#cfd8dc\"/>\n<rect x=\"{from}\" y=\"{top}\" width=\"{lasts}\" height=\"16\" fill=\"#607d8b\"/>\n"
+        )
     }
 
     /// A datagram.
     fn mark(&self, alloc: Global, mark: &Mark, top: u64) -> Result<String, AllocError> {
         let at = self.place(mark.moment);
         if mark.is_breach {
-            return format!(in alloc; "<rect x=\"{at}\" y=\"0\" width=\"2\" height=\"{top}\" fill=\"#c62828\"/>\n");
+            return format!(in alloc;
+                "<rect x=\"{at}\" y=\"0\" width=\"2\" height=\"{top}\" fill=\"#c62828\"/>\n"
+            );
         }
-        format!(in alloc; "<rect x=\"{at}\" y=\"{top}\" width=\"1\" height=\"12\" fill=\"#111\"/>\n")
+        format!(in alloc;
+            "<rect x=\"{at}\" y=\"{top}\" width=\"1\" height=\"12\" fill=\"#111\"/>\n"
+        )
     }
 
     /// The picture as SVG.
@@ -81,6 +89,8 @@ impl Picture<'_> {
         let base = top.saturating_add(12);
         let height = top.saturating_add(24);
         let width = LEFT + WIDTH;
-        format!(in alloc; "<svg viewBox=\"0 0 {width} {height}\" font-size=\"13\" font-family=\"sans-serif\" role=\"img\" aria-label=\"What the client had over time\">\n{rows}<text x=\"0\" y=\"{base}\">its datagrams</text>\n</svg>\n")
+        format!(in alloc;
+            "<svg viewBox=\"0 0 {width} {height}\" font-size=\"13\" font-family=\"sans-serif\" role=\"img\" aria-label=\"What the client had over time\">\n{rows}<text x=\"0\" y=\"{base}\">its datagrams</text>\n</svg>\n"
+        )
     }
 }

@@ -22,10 +22,14 @@ fn file_row(alloc: Global, row: &FileRow<'_>) -> Result<String, AllocError> {
     match row.digests {
         Some(digests) => {
             let size = digests.size;
-            format!(in alloc; "<tr><td>{role}</td><td>{name}</td><td>{size}</td><td><code>{digests}</code></td></tr>\n")
+            format!(in alloc;
+                "<tr><td>{role}</td><td>{name}</td><td>{size}</td><td><code>{digests}</code></td></tr>\n"
+            )
         }
         None => {
-            format!(in alloc; "<tr><td>{role}</td><td>{name}</td><td colspan=\"2\">can't be read twice</td></tr>\n")
+            format!(in alloc;
+                "<tr><td>{role}</td><td>{name}</td><td colspan=\"2\">can't be read twice</td></tr>\n"
+            )
         }
     }
 }
@@ -69,7 +73,9 @@ fn capture_row(alloc: Global, number: usize, row: &CaptureRow) -> Result<String,
     let first = moment(alloc, row.first)?;
     let last = moment(alloc, row.last)?;
     let statistics = statistics(alloc, row.statistics)?;
-    format!(in alloc; "<tr><td>{number}</td><td>{interfaces}</td><td>{packets}</td><td>{first}</td><td>{last}</td><td>{statistics}</td></tr>\n")
+    format!(in alloc;
+        "<tr><td>{number}</td><td>{interfaces}</td><td>{packets}</td><td>{first}</td><td>{last}</td><td>{statistics}</td></tr>\n"
+    )
 }
 
 /// What the captures have.

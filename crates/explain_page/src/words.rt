@@ -1,13 +1,17 @@
 //! What the page says in its own words.
 
 /// What `conforming` says.
-pub const CONFORMING: &str = "<p>Some one order of all captured datagrams of the service, each at a moment in its stamp window, keeps every interface's own order and is a run of the RFC 8656 server from an empty table. So every relayed datagram had a live allocation, and a live permission or channel. This is proved of the program (docs/HEADLINE.md).</p>\n";
+pub const CONFORMING: &str =
+    "<p>Some one order of all captured datagrams of the service, each at a moment in its stamp window, keeps every interface's own order and is a run of the RFC 8656 server from an empty table. So every relayed datagram had a live allocation, and a live permission or channel. This is proved of the program (docs/HEADLINE.md).</p>\n";
 
 /// What `not shown` says.
-pub const NOT_SHOWN: &str = "<p>The order of the captured datagrams that was tried, a certificate, is no run of the RFC 8656 server. Another order may be one, unless the account below ends with <i>Shown</i>: then no order of what was captured explains the datagram.</p>\n";
+pub const NOT_SHOWN: &str =
+    "<p>The order of the captured datagrams that was tried, a certificate, is no run of the RFC 8656 server. Another order may be one, unless the account below ends with <i>Shown</i>: then no order of what was captured explains the datagram.</p>\n";
 
 /// What neither says.
-pub const NOT_SAID: &str = "<p>It doesn't say: that the captures hold all that the server sent and received; anything about datagrams at addresses that the policy doesn't name, about clients by TCP, TLS, DTLS or IPv6, about nonces, quotas, reserved ports and checksums, or about extensions (mobility, ICMP attributes, OAuth, USERHASH); nor that the policy and the users are those of the server. Trusted are the toolchain with its library, clang, the C library, and that the operating system gives the bytes that a file holds.</p>\n";
+pub const NOT_SAID: &str =
+    "<p>It doesn't say: that the captures hold all that the server sent and received; anything about datagrams at addresses that the policy doesn't name, about clients by TCP, TLS, DTLS or IPv6, about nonces, quotas, reserved ports and checksums, or about extensions (mobility, ICMP attributes, OAuth, USERHASH); nor that the policy and the users are those of the server. Trusted are the toolchain with its library, clang, the C library, and that the operating system gives the bytes that a file holds.</p>\n";
 
 /// How a second person repeats it.
-pub const REPEATS: &str = "<p>The digests above tell whether the files are the same. <code>check</code> judges by the certificate, whoever wrote it; <code>find</code> writes the one by which this verdict is told, or another. A checker that shares no code with this program is <code>tests/plain</code> of the sources.</p>\n";
+pub const REPEATS: &str =
+    "<p>The digests above tell whether the files are the same. <code>check</code> judges by the certificate, whoever wrote it; <code>find</code> writes the one by which this verdict is told, or another. A checker that shares no code with this program is <code>tests/plain</code> of the sources.</p>\n";

@@ -11,6 +11,8 @@ use std::convert::AsStr;
 pub enum Request<'a> {
     /// Judge captures, and tell of the verdict what is asked.
     Explain { inputs: Inputs<'a>, asked: Asked },
+    /// Judge captures, and write the page that is filed to a new file.
+    Evidence { inputs: Inputs<'a>, file: &'a str },
     /// Tell how to use the program, or its release, on standard output.
     Help(String),
     /// The words are no request; what clap says of it, for standard error.
@@ -41,7 +43,7 @@ pub struct Inputs<'a> {
 }
 
 /// The release, and the line of `rt version` that names what it is proved with.
-const VERSION: &str = "0.1.0, proved with rattle-kit-13b logic dac8208d650f15bf";
+pub const VERSION: &str = "0.1.0, proved with rattle-kit-13b logic dac8208d650f15bf";
 
 const ABOUT: &str =
     "Tells what a verdict of turnaudit means: the frames, what was due, what the server had, and the rule";
@@ -66,6 +68,12 @@ const ABOUT_CLIENT: &str =
 
 const EXAMPLE_CLIENT: &str =
     "Example:\n  turnexplain client --policy policy --creds users --lane 1 client.pcapng peer.pcapng";
+
+const ABOUT_EVIDENCE: &str =
+    "Writes one page to be filed: the verdict, what it was given on, the clients, and how it is repeated";
+
+const EXAMPLE_EVIDENCE: &str =
+    "Example:\n  turnexplain evidence --policy policy --creds users -o audit.html client.pcapng peer.pcapng";
 
 /// An option with the name of a file.
 fn file_option<'a>(alloc: Global, name: &'a str, value: &'a str, help: &'a str) -> Arg<'a> {
@@ -165,6 +173,17 @@ fn client_command<'a>(alloc: Global) -> Result<Command<'a>, AllocError> {
         .arg(around)
 }
 
+/// The command `evidence`.
+fn evidence_command<'a>(alloc: Global) -> Result<Command<'a>, AllocError> {
+    let file = Arg::new(alloc, "output")
+        .short('o')
+        .long("output")
+        .value_name("FILE")
+        .help("The page, an HTML file; one that is there is never written over")
+        .action(ArgAction::Set);
+    command_of(alloc, "evidence", ABOUT_EVIDENCE, EXAMPLE_EVIDENCE)?.arg(file.required(true))
+}
+
 fn command<'a>(alloc: Global) -> Result<Command<'a>, AllocError> {
     Command::new(alloc, "turnexplain")
         .version(VERSION)
@@ -174,7 +193,8 @@ fn command<'a>(alloc: Global) -> Result<Command<'a>, AllocError> {
         .subcommand_required(true)
         .subcommand(command_of(alloc, "verdict", ABOUT_VERDICT, EXAMPLE_VERDICT)?)?
         .subcommand(lanes_command(alloc)?)?
-        .subcommand(client_command(alloc)?)
+        .subcommand(client_command(alloc)?)?
+        .subcommand(evidence_command(alloc)?)
 }
 
 /// The request that an error of clap stands for.
@@ -238,6 +258,17 @@ fn asked_of<'a>(
     Ok(Some(Request::Explain { inputs, asked }))
 }
 
+/// The request that the words of the command `evidence` are.
+fn evidence_of<'a>(
+    alloc: Global,
+    matches: &ArgMatches<'a>,
+) -> Result<Option<Request<'a>>, AllocError> {
+    let (Some(inputs), Some(file)) = (inputs_of(alloc, matches)?, matches.get_str("output")) else {
+        return Ok(None);
+    };
+    Ok(Some(Request::Evidence { inputs, file }))
+}
+
 /// The request that the words are.
 fn request_of<'a>(
     alloc: Global,
@@ -252,6 +283,9 @@ fn request_of<'a>(
     }
     if let Some(client) = matches.subcommand_matches("client") {
         return asked_of(alloc, client, client_of(client));
+    }
+    if let Some(evidence) = matches.subcommand_matches("evidence") {
+        return evidence_of(alloc, evidence);
     }
     Ok(None)
 }

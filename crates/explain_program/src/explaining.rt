@@ -21,7 +21,7 @@ use std::sync::Wait;
 use std::thread::Threads;
 
 /// What a run was judged on.
-fn case_of<'a>(judged: &'a Judged, captures: &'a [&'a str]) -> Case<'a> {
+pub fn case_of<'a>(judged: &'a Judged, captures: &'a [&'a str]) -> Case<'a> {
     Case {
         intake: &judged.files.intake,
         users: &judged.files.users,

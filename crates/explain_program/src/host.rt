@@ -1,6 +1,7 @@
 //! What the program asks of its host beside the bytes of files.
 
 use audit_files::Source;
+use audit_model::{Sink, SinkFailed};
 
 /// Why a file can't be read.
 #[derive(Clone, Copy)]
@@ -14,4 +15,10 @@ pub enum Trouble {
 pub trait Explaining: Source {
     /// Why a file can't be read; none where its first byte, or its end, can be.
     fn trouble(&mut self, name: &str) -> Option<Trouble>;
+}
+
+/// Where the page is written: a new file.
+pub trait PageFile: Sink {
+    /// Makes an empty file, into which is put what follows. A file that is there is never written over.
+    fn make(&mut self, name: &str) -> Result<(), SinkFailed>;
 }

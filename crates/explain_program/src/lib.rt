@@ -5,6 +5,7 @@
 mod client;
 mod command_line;
 mod conforming;
+mod evidence;
 mod explaining;
 mod frames;
 mod head;
@@ -14,6 +15,9 @@ mod lanes;
 mod last_lines;
 mod line_of_text;
 mod mistakes;
+mod named;
+mod picture;
+mod reading;
 mod reasons;
 mod refusal;
 mod running;
@@ -22,5 +26,5 @@ mod verdict;
 
 pub use command_line::Asked;
 pub use explaining::explain;
-pub use host::{Explaining, Trouble};
+pub use host::{Explaining, PageFile, Trouble};
 pub use running::run;

@@ -1,8 +1,9 @@
 //! The whole program as a function.
 
 use crate::command_line::{Inputs, Request, read as read_words};
+use crate::evidence::evidence;
 use crate::explaining::explain;
-use crate::host::Explaining;
+use crate::host::{Explaining, PageFile};
 use crate::refusal::refusal;
 use audit_files::Stop;
 use audit_finding::CertificateFinder;
@@ -13,12 +14,20 @@ use std::sync::Wait;
 use std::thread::Threads;
 
 /// Does what is asked for, and gives the exit status.
-fn run_request<R: Threads + Wait + Sync, F: CertificateFinder, S: Explaining, O: Sink, E: Sink>(
+fn run_request<
+    R: Threads + Wait + Sync,
+    F: CertificateFinder,
+    S: Explaining,
+    P: PageFile,
+    O: Sink,
+    E: Sink,
+>(
     rt: &R,
     alloc: Global,
     finder: &F,
     request: &Request<'_>,
     source: &mut S,
+    pages: &mut P,
     out: &mut O,
     err: &mut E,
 ) -> Result<u8, Stop> {
@@ -36,6 +45,9 @@ fn run_request<R: Threads + Wait + Sync, F: CertificateFinder, S: Explaining, O:
             *asked,
             out,
         ),
+        Request::Evidence { inputs, file } => {
+            evidence(rt, alloc, finder, source, inputs, file, pages, out)
+        }
         Request::Help(text) => {
             put_all(out, text.as_bytes())?;
             Ok(0)
@@ -50,7 +62,7 @@ fn run_request<R: Threads + Wait + Sync, F: CertificateFinder, S: Explaining, O:
 /// The files that a request names.
 fn inputs_of<'r, 'a>(request: &'r Request<'a>) -> Option<&'r Inputs<'a>> {
     match request {
-        Request::Explain { inputs, .. } => Some(inputs),
+        Request::Explain { inputs, .. } | Request::Evidence { inputs, .. } => Some(inputs),
         Request::Help(_) | Request::Usage(_) => None,
     }
 }
@@ -93,9 +105,19 @@ pub fn run<
     F: CertificateFinder,
     N: AsStr,
     S: Explaining,
+    P: PageFile,
     O: Sink,
     E: Sink,
->(rt: &R, alloc: Global, finder: &F, words: &[N], source: &mut S, out: &mut O, err: &mut E) -> u8 {
+>(
+    rt: &R,
+    alloc: Global,
+    finder: &F,
+    words: &[N],
+    source: &mut S,
+    pages: &mut P,
+    out: &mut O,
+    err: &mut E,
+) -> u8 {
     let request = match read_words(alloc, words) {
         Ok(request) => request,
         Err(_) => {
@@ -103,7 +125,7 @@ pub fn run<
             return Stop::Memory.status();
         }
     };
-    match run_request(rt, alloc, finder, &request, source, out, err) {
+    match run_request(rt, alloc, finder, &request, source, pages, out, err) {
         Ok(status) => status,
         Err(stop) => {
             put_refusal(alloc, source, &request, &stop, err);

@@ -4,7 +4,7 @@ ghost use Rattle.std.specs.Prelude.{◌≡◌, None};
 
 use audit_files::{ReadFailed, Source};
 use audit_model::{Sink, SinkFailed};
-use explain_program::{Explaining, Trouble};
+use explain_program::{Explaining, PageFile, Trouble};
 use std::fs::File;
 use std::io::{Read, Write};
 use std::rt::Files;
@@ -99,6 +99,52 @@ impl<W: Write> Sink for HostStream<W> {
         };
         match self.stream.flush() {
             Ok(()) => Ok(taken),
+            Err(_) => Err(SinkFailed),
+        }
+    }
+}
+
+/// A new file of the machine. It claims nothing of what reaches it.
+#[derive(Drop)]
+pub struct HostPage<'r, R: Files<File = File>> {
+    rt: &'r R,
+    made: Option<File>,
+}
+
+impl<'r, R: Files<File = File>> HostPage<'r, R> {
+    /// No file is made.
+    pub fn new(rt: &'r R) -> Self
+        ensures { result.made ≡ None }
+    {
+        HostPage { rt, made: None }
+    }
+}
+
+impl<R: Files<File = File>> Sink for HostPage<'_, R> {
+    ghost use Rattle.std.specs.Prelude.{None};
+
+    ghost taken = { λ _. None };
+
+    ghost failures = { λ _. None };
+
+    fn put(&mut self, piece: &[u8]) -> Result<usize, SinkFailed> {
+        let Some(file) = &mut self.made else {
+            return Err(SinkFailed);
+        };
+        match file.write(piece) {
+            Ok(taken) => Ok(taken),
+            Err(_) => Err(SinkFailed),
+        }
+    }
+}
+
+impl<R: Files<File = File>> PageFile for HostPage<'_, R> {
+    fn make(&mut self, name: &str) -> Result<(), SinkFailed> {
+        match File::create_new(self.rt, name) {
+            Ok(file) => {
+                self.made = Some(file);
+                Ok(())
+            }
             Err(_) => Err(SinkFailed),
         }
     }

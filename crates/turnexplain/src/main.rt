@@ -6,7 +6,7 @@ mod host;
 use audit_finder::WalkAndPasses;
 use audit_model::{Sink, put_all};
 use explain_program::run;
-use host::{HostFiles, HostStream};
+use host::{HostFiles, HostPage, HostStream};
 use std::process::ExitCode;
 use std::rt::Env;
 use std::{env, io};
@@ -37,12 +37,14 @@ fn main(rt: HostRuntime) -> ExitCode {
     let status = match words_of(&rt) {
         Ok(words) => {
             let mut files = HostFiles::new(&rt);
+            let mut pages = HostPage::new(&rt);
             run(
                 &rt,
                 alloc,
                 &WalkAndPasses,
                 &words,
                 &mut files,
+                &mut pages,
                 &mut out,
                 &mut err,
             )

@@ -1,0 +1,340 @@
+//! The command `evidence`: the page that is filed.
+
+use crate::command_line::{Inputs, VERSION};
+use crate::explaining::{case_of, status};
+use crate::frames::look_up;
+use crate::head::{head, put_answer};
+use crate::host::PageFile;
+use crate::judged::{Judged, judge_files};
+use crate::named::{NamedFile, NamedUser, named_files, plain_lines, users_in};
+use crate::picture::{Drawing, DrawnLease, drawing_of};
+use crate::reading::{digests_of, row_of_capture, text_of};
+use crate::verdict::rest_of_verdict;
+use audit_files::{Source, Stop};
+use audit_finding::CertificateFinder;
+use audit_model::{Breach, Sink, Verdict, put_all};
+use explain_frames::Frames;
+use explain_page::{Bar, CaptureRow, ClientRow, Facts, FileRow, Picture, UserRow, page_of};
+use explain_story::{Case, Lanes, Teller, ask_breaches, is_broken, lane_line, lanes_of, sums};
+use std::alloc::{AllocError, Global};
+use std::sync::Wait;
+use std::thread::Threads;
+
+/// How many clients are listed.
+const MOST_CLIENTS: usize = 200;
+
+/// How many bytes of the policy are told, and of the users looked at.
+const MOST_POLICY: usize = 65_536;
+
+const MOST_USERS: usize = 16_777_216;
+
+/// The program that runs.
+const SELF: &str = "/proc/self/exe";
+
+/// The SHA-256 of docs/headline.txt, which says what is proved. `tests/explain_page.py` compares it.
+const HEADLINE: &str = "032fd5ca2ef1e81154f10eb6c6170d9d6bb12855a73fed1783f17940e659d1c5";
+
+/// The clients' lines, and what is told of all.
+#[derive(Drop)]
+struct Clients {
+    lines: Vec<String>,
+    broken: Vec<bool>,
+    all: u32,
+    sums: String,
+}
+
+/// What the page shows, gathered.
+#[derive(Drop)]
+struct Gathered {
+    story: String,
+    clients: Clients,
+    files: Vec<NamedFile>,
+    captures: Vec<CaptureRow>,
+    policy: String,
+    users: Vec<NamedUser>,
+    drawing: Option<Drawing>,
+}
+
+/// The breach of a verdict.
+fn breach_of(verdict: &Verdict) -> Option<Breach> {
+    match verdict {
+        Verdict::Conforming { .. } => None,
+        Verdict::NotShown(breach) => Some(*breach),
+    }
+}
+
+/// The first clients' lines.
+fn lines_of(
+    alloc: Global,
+    teller: &Teller<'_>,
+    lanes: &Lanes<'_>,
+    verdict: &Verdict,
+) -> Result<Clients, AllocError> {
+    let mut lines = Vec::new(alloc);
+    let mut broken = Vec::new(alloc);
+    for finding in lanes.findings.iter().take(MOST_CLIENTS) {
+        lines.push(lane_line(alloc, teller, finding)?)?;
+        broken.push(is_broken(finding))?;
+    }
+    Ok(Clients {
+        lines,
+        broken,
+        all: u32::try_from(lanes.findings.len()).unwrap_or(u32::MAX),
+        sums: sums(alloc, teller, lanes, breach_of(verdict))?,
+    })
+}
+
+/// The clients of a run; none where placement breaks a rule, so that no lane is judged.
+fn clients_of<S: Source>(
+    alloc: Global,
+    source: &mut S,
+    case: Case<'_>,
+    lanes: Option<&Lanes<'_>>,
+    verdict: &Verdict,
+) -> Result<Clients, Stop> {
+    let Some(lanes) = lanes else {
+        return Ok(Clients {
+            lines: Vec::new(alloc),
+            broken: Vec::new(alloc),
+            all: 0,
+            sums: String::from_str(
+                alloc,
+                "No client is judged, since placement breaks a rule.\n",
+            )?,
+        });
+    };
+    let mut frames = Frames::new(alloc);
+    ask_breaches(lanes, &mut frames)?;
+    look_up(
+        alloc,
+        source,
+        case.intake.policy(),
+        case.captures,
+        &mut frames,
+    )?;
+    let teller = Teller {
+        case,
+        frames: &frames,
+    };
+    Ok(lines_of(alloc, &teller, lanes, verdict)?)
+}
+
+/// What is drawn where a lane breaks a rule.
+fn drawing_in(
+    alloc: Global,
+    case: Case<'_>,
+    lanes: Option<&Lanes<'_>>,
+    verdict: &Verdict,
+) -> Result<Option<Drawing>, AllocError> {
+    let (Some(lanes), Some(breach)) = (lanes, breach_of(verdict)) else {
+        return Ok(None);
+    };
+    match lanes.findings.get(breach.at.lane as usize) {
+        Some(finding) if is_broken(finding) => drawing_of(alloc, case, finding.input(), &breach),
+        _ => Ok(None),
+    }
+}
+
+/// The users that a file names.
+fn users_of<S: Source>(
+    alloc: Global,
+    source: &mut S,
+    inputs: &Inputs<'_>,
+) -> Result<Vec<NamedUser>, AllocError> {
+    match inputs.credentials {
+        Some(name) => {
+            let text = text_of(alloc, source, name, MOST_USERS)?;
+            users_in(alloc, text.as_slice())
+        }
+        None => Ok(Vec::new(alloc)),
+    }
+}
+
+/// What each capture has.
+fn rows_of<S: Source>(
+    alloc: Global,
+    source: &mut S,
+    inputs: &Inputs<'_>,
+) -> Result<Vec<CaptureRow>, AllocError> {
+    let mut rows = Vec::new(alloc);
+    for name in &inputs.captures {
+        rows.push(row_of_capture(alloc, source, *name)?)?;
+    }
+    Ok(rows)
+}
+
+/// Gathers what the page shows.
+fn gather<S: Source>(
+    alloc: Global,
+    source: &mut S,
+    inputs: &Inputs<'_>,
+    judged: &Judged,
+    case: Case<'_>,
+) -> Result<Gathered, Stop> {
+    let verdict = &judged.verdict;
+    let mut story = head(alloc, verdict)?;
+    let length = story.len();
+    story.push_str(rest_of_verdict(alloc, source, case, verdict, length)?.as_str())?;
+    let lanes = lanes_of(alloc, case)?;
+    let policy = text_of(alloc, source, inputs.policy, MOST_POLICY)?;
+    Ok(Gathered {
+        story,
+        clients: clients_of(alloc, source, case, lanes.as_ref(), verdict)?,
+        files: named_files(alloc, source, inputs)?,
+        captures: rows_of(alloc, source, inputs)?,
+        policy: plain_lines(alloc, policy.as_slice())?,
+        users: users_of(alloc, source, inputs)?,
+        drawing: drawing_in(alloc, case, lanes.as_ref(), verdict)?,
+    })
+}
+
+/// The rows of the clients.
+fn client_rows<'g>(alloc: Global, clients: &'g Clients) -> Result<Vec<ClientRow<'g>>, AllocError> {
+    let mut rows = Vec::new(alloc);
+    for (line, is_broken) in clients.lines.iter().zip(clients.broken.iter()) {
+        rows.push(ClientRow {
+            line: line.as_str(),
+            is_broken: *is_broken,
+        })?;
+    }
+    Ok(rows)
+}
+
+/// The rows of the files.
+fn file_rows<'g>(alloc: Global, files: &'g [NamedFile]) -> Result<Vec<FileRow<'g>>, AllocError> {
+    let mut rows = Vec::new(alloc);
+    for file in files {
+        rows.push(FileRow {
+            role: file.role,
+            name: file.name.as_str(),
+            digests: file.digests,
+        })?;
+    }
+    Ok(rows)
+}
+
+/// The rows of the users.
+fn user_rows<'g>(alloc: Global, users: &'g [NamedUser]) -> Result<Vec<UserRow<'g>>, AllocError> {
+    let mut rows = Vec::new(alloc);
+    for user in users {
+        rows.push(UserRow {
+            name: user.name.as_str(),
+            realm: user.realm.as_str(),
+        })?;
+    }
+    Ok(rows)
+}
+
+/// The bars of the leases, with the policy's grace.
+fn bars<'g>(
+    alloc: Global,
+    leases: &'g [DrawnLease],
+    grace: u64,
+) -> Result<Vec<Bar<'g>>, AllocError> {
+    let mut rows = Vec::new(alloc);
+    for lease in leases {
+        rows.push(Bar {
+            name: lease.name.as_str(),
+            from: lease.from,
+            until: lease.until,
+            last: lease.until.saturating_add(grace),
+        })?;
+    }
+    Ok(rows)
+}
+
+/// The bars of a drawing; none where nothing is drawn.
+fn bars_of<'g>(
+    alloc: Global,
+    drawing: &'g Option<Drawing>,
+    grace: u64,
+) -> Result<Vec<Bar<'g>>, AllocError> {
+    match drawing {
+        Some(drawing) => bars(alloc, drawing.leases.as_slice(), grace),
+        None => Ok(Vec::new(alloc)),
+    }
+}
+
+/// What is drawn, with its bars.
+fn picture_of<'g>(drawing: &'g Option<Drawing>, rows: &'g [Bar<'g>]) -> Option<Picture<'g>> {
+    match drawing {
+        Some(drawing) => {
+            let picture = Picture {
+                first: drawing.first,
+                last: drawing.last,
+                bars: rows,
+                marks: drawing.marks.as_slice(),
+            };
+            Some(picture)
+        }
+        None => None,
+    }
+}
+
+/// The page of what was gathered.
+fn page<S: Source>(
+    alloc: Global,
+    source: &mut S,
+    judged: &Judged,
+    gathered: &Gathered,
+) -> Result<String, AllocError> {
+    let head = head(alloc, &judged.verdict)?;
+    let files = file_rows(alloc, gathered.files.as_slice())?;
+    let users = user_rows(alloc, gathered.users.as_slice())?;
+    let clients = client_rows(alloc, &gathered.clients)?;
+    let grace = judged.files.intake.policy().grace;
+    let rows = bars_of(alloc, &gathered.drawing, grace)?;
+    let picture = picture_of(&gathered.drawing, rows.as_slice());
+    let program = digests_of(alloc, source, SELF)?;
+    let facts = Facts {
+        head: head.as_str(),
+        is_conforming: breach_of(&judged.verdict).is_none(),
+        story: gathered.story.as_str(),
+        files: files.as_slice(),
+        captures: gathered.captures.as_slice(),
+        policy: gathered.policy.as_str(),
+        users: users.as_slice(),
+        clients: clients.as_slice(),
+        all_clients: gathered.clients.all,
+        sums: gathered.clients.sums.as_str(),
+        release: VERSION,
+        program,
+        headline: HEADLINE,
+        picture,
+    };
+    page_of(alloc, &facts)
+}
+
+/// Judges captures, writes the page to a new file, and tells the verdict and where the page is. It gives 0 where they conform, and 1 where
+/// that isn't shown. Without a clause: `verdict` has it.
+pub fn evidence<R: Threads + Wait + Sync, F: CertificateFinder, S: Source, O: Sink, P: PageFile>(
+    rt: &R,
+    alloc: Global,
+    finder: &F,
+    source: &mut S,
+    inputs: &Inputs<'_>,
+    file: &str,
+    pages: &mut P,
+    out: &mut O,
+) -> Result<u8, Stop> {
+    let judged = judge_files(
+        rt,
+        alloc,
+        finder,
+        source,
+        inputs.policy,
+        inputs.credentials,
+        inputs.certificate,
+        &inputs.captures,
+        inputs.workers,
+    )?;
+    let case = case_of(&judged, &inputs.captures);
+    let gathered = gather(alloc, source, inputs, &judged, case)?;
+    let page = page(alloc, source, &judged, &gathered)?;
+    if pages.make(file).is_err() {
+        return Err(Stop::Write);
+    }
+    put_all(pages, page.as_bytes())?;
+    put_answer(alloc, &judged.verdict, "\n", out)?;
+    Ok(status(&judged.verdict))
+}

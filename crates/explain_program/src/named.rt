@@ -1,0 +1,90 @@
+//! Names and texts out of files, told plainly.
+
+use crate::command_line::Inputs;
+use crate::reading::digests_of;
+use audit_files::Source;
+use explain_page::{Digests, Role};
+use explain_text::Quoted;
+use std::alloc::{AllocError, Global};
+
+/// A file that was read, with its name told plainly.
+#[derive(Drop)]
+pub struct NamedFile {
+    pub role: Role,
+    pub name: String,
+    pub digests: Option<Digests>,
+}
+
+/// A user's name and realm, told plainly.
+#[derive(Drop)]
+pub struct NamedUser {
+    pub name: String,
+    pub realm: String,
+}
+
+/// Bytes told plainly.
+fn plain(alloc: Global, bytes: &[u8]) -> Result<String, AllocError> {
+    let quoted = Quoted { bytes };
+    format!(in alloc; "{quoted}")
+}
+
+/// A file with its digests.
+fn named<S: Source>(
+    alloc: Global,
+    source: &mut S,
+    role: Role,
+    name: &str,
+) -> Result<NamedFile, AllocError> {
+    Ok(NamedFile {
+        role,
+        name: plain(alloc, name.as_bytes())?,
+        digests: digests_of(alloc, source, name)?,
+    })
+}
+
+/// The files of a request, in the order in which they are read.
+pub fn named_files<S: Source>(
+    alloc: Global,
+    source: &mut S,
+    inputs: &Inputs<'_>,
+) -> Result<Vec<NamedFile>, AllocError> {
+    let mut files = Vec::new(alloc);
+    files.push(named(alloc, source, Role::Policy, inputs.policy)?)?;
+    if let Some(name) = inputs.credentials {
+        files.push(named(alloc, source, Role::Users, name)?)?;
+    }
+    if let Some(name) = inputs.certificate {
+        files.push(named(alloc, source, Role::Certificate, name)?)?;
+    }
+    for name in &inputs.captures {
+        files.push(named(alloc, source, Role::Capture, *name)?)?;
+    }
+    Ok(files)
+}
+
+/// The lines of a text, each told plainly.
+pub fn plain_lines(alloc: Global, text: &[u8]) -> Result<String, AllocError> {
+    let mut told = String::new(alloc);
+    for line in text.split(|byte| *byte == b'\n') {
+        if !line.is_empty() {
+            told.push_str(plain(alloc, line)?.as_str())?;
+            told.push_str("\n")?;
+        }
+    }
+    Ok(told)
+}
+
+/// The users that a text of credentials names: of each line the name and the realm, and not the password.
+pub fn users_in(alloc: Global, text: &[u8]) -> Result<Vec<NamedUser>, AllocError> {
+    let mut users = Vec::new(alloc);
+    for line in text.split(|byte| *byte == b'\n') {
+        let mut words = line.split(|byte| *byte == b'\t');
+        if let (Some(name), Some(realm), Some(_)) = (words.next(), words.next(), words.next()) {
+            users.push(NamedUser {
+                name: plain(alloc, name)?,
+                realm: plain(alloc, realm)?,
+            })?;
+        }
+    }
+    Ok(users)
+}

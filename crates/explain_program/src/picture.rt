@@ -1,0 +1,135 @@
+//! The picture of a breach: what its client had, and when its datagrams were seen.
+
+use audit_lane::{LaneEvent, LaneInput};
+use audit_model::{Breach, Sighting};
+use explain_page::Mark;
+use explain_state::{LaneAt, LeaseKind, LeaseRow, lane_before};
+use explain_story::{Case, Lanes};
+use explain_text::Ip;
+use std::alloc::{AllocError, Global};
+
+/// How many datagrams are drawn, at the most.
+const MOST_MARKS: usize = 2_000;
+
+/// How many leases are drawn, at the most.
+const MOST_BARS: usize = 40;
+
+/// A lease, as it is drawn. Moments are nanoseconds since 1970.
+#[derive(Drop)]
+pub struct DrawnLease {
+    pub name: String,
+    pub from: u64,
+    pub until: u64,
+}
+
+/// What is drawn of a client.
+#[derive(Drop)]
+pub struct Drawing {
+    pub leases: Vec<DrawnLease>,
+    pub marks: Vec<Mark>,
+    /// The least and the greatest stamp of its datagrams.
+    pub first: u64,
+    pub last: u64,
+}
+
+/// What a lease is of.
+fn name_of(alloc: Global, kind: LeaseKind) -> Result<String, AllocError> {
+    match kind {
+        LeaseKind::Allocation { relayed } => format!(in alloc; "allocation {relayed}"),
+        LeaseKind::Permission { ip } => {
+            let ip = Ip { ip };
+            format!(in alloc; "permission {ip}")
+        }
+        LeaseKind::Channel { number, peer } => {
+            format!(in alloc; "channel 0x{number:04X} to {peer}")
+        }
+    }
+}
+
+/// A lease that was made by an act whose request is there.
+fn drawn(alloc: Global, case: Case<'_>, row: &LeaseRow) -> Result<Option<DrawnLease>, AllocError> {
+    let Some(request) = case.intake.sighting(row.made.arrives) else {
+        return Ok(None);
+    };
+    Ok(Some(DrawnLease {
+        name: name_of(alloc, row.kind)?,
+        from: request.stamp,
+        until: row.until,
+    }))
+}
+
+/// Adds a lease, unless there are too many.
+fn add_lease(
+    alloc: Global,
+    case: Case<'_>,
+    row: &LeaseRow,
+    leases: &mut Vec<DrawnLease>,
+) -> Result<(), AllocError> {
+    if leases.len() >= MOST_BARS {
+        return Ok(());
+    }
+    if let Some(lease) = drawn(alloc, case, row)? {
+        leases.push(lease)?;
+    }
+    Ok(())
+}
+
+/// The leases that a client has.
+fn leases_of(
+    alloc: Global,
+    case: Case<'_>,
+    lane: &LaneAt<'_>,
+) -> Result<Vec<DrawnLease>, AllocError> {
+    let mut leases = Vec::new(alloc);
+    if let Some(row) = lane.allocation() {
+        add_lease(alloc, case, &row, &mut leases)?;
+    }
+    for row in &lane.channels(alloc)? {
+        add_lease(alloc, case, row, &mut leases)?;
+    }
+    for row in &lane.permissions(alloc)? {
+        add_lease(alloc, case, row, &mut leases)?;
+    }
+    Ok(leases)
+}
+
+/// The datagram of an event that came in or went out.
+fn datagram_of<'a>(event: &LaneEvent<'a>) -> Option<&'a Sighting> {
+    match event {
+        LaneEvent::In { sighting, .. } | LaneEvent::Out { sighting, .. } => Some(*sighting),
+        LaneEvent::Act { .. } => None,
+    }
+}
+
+/// What is drawn of the client of a breach; none where its lane can't be walked up to there.
+pub fn drawing_of(
+    alloc: Global,
+    case: Case<'_>,
+    input: &LaneInput<'_>,
+    breach: &Breach,
+) -> Result<Option<Drawing>, AllocError> {
+    let Some(lane) = lane_before(alloc, input, breach.at.place)? else {
+        return Ok(None);
+    };
+    let mut drawing = Drawing {
+        leases: leases_of(alloc, case, &lane)?,
+        marks: Vec::new(alloc),
+        first: u64::MAX,
+        last: 0,
+    };
+    let step = input.events().len() / MOST_MARKS;
+    for (place, event) in input.events().iter().enumerate() {
+        if let Some(sighting) = datagram_of(event) {
+            drawing.first = drawing.first.min(sighting.stamp);
+            drawing.last = drawing.last.max(sighting.stamp);
+            let is_breach = sighting.id == breach.sight;
+            if is_breach || place % (step + 1) == 0 {
+                drawing.marks.push(Mark {
+                    moment: sighting.stamp,
+                    is_breach,
+                })?;
+            }
+        }
+    }
+    Ok(Some(drawing))
+}

@@ -1,0 +1,152 @@
+#!/usr/bin/env python3
+"""Asks of the page that `turnexplain evidence` writes what is asked of it.
+
+    tests/explain_page.py TURNEXPLAIN
+
+It is HTML whose elements are closed, asks for nothing from elsewhere and has no script; the same inputs give the same page; the
+digests, sizes, packets and moments are those of the files; no password stands in it; names out of files can't become markup; a
+file that is there is kept. Where there is a Chromium, it opens the page without an error on its console and prints it.
+"""
+
+import hashlib
+import html.parser
+import pathlib
+import re
+import shutil
+import subprocess
+import sys
+import tempfile
+
+TOP = pathlib.Path(__file__).resolve().parent.parent
+VOID = {"meta", "br", "rect"}
+MARKUP = "<script>alert(1)</script>'\"&"
+
+
+class Looking(html.parser.HTMLParser):
+    """What the page has: whether each element is closed, and what could ask for something."""
+
+    def __init__(self):
+        super().__init__()
+        self.open, self.faults = [], []
+
+    def handle_starttag(self, tag, attrs):
+        if tag in ("script", "link", "img", "iframe", "object", "form", "a"):
+            self.faults.append(f"has <{tag}>")
+        for name, value in attrs:
+            if name in ("src", "href") or name.startswith("on") or "url(" in (value or ""):
+                self.faults.append(f"has {name}={value}")
+        if tag not in VOID:
+            self.open.append(tag)
+
+    def handle_startendtag(self, tag, attrs):
+        self.handle_starttag(tag, attrs)
+        if tag not in VOID:
+            self.open.pop()
+
+    def handle_endtag(self, tag):
+        if not self.open or self.open.pop() != tag:
+            self.faults.append(f"closes </{tag}>")
+
+
+def page_of(program, words, folder, name="page.html"):
+    """What `evidence` does: its status, and the page."""
+    file = pathlib.Path(folder) / name
+    done = subprocess.run([program, "evidence", "-o", file, *words], capture_output=True, text=True)
+    return done, file.read_text() if file.is_file() else ""
+
+
+def looked_at(page):
+    """What is wrong with a page's markup."""
+    looking = Looking()
+    looking.feed(page)
+    looking.close()
+    faults = list(looking.faults)
+    if looking.open:
+        faults.append(f"leaves {looking.open} open")
+    if "http:" in page or "https:" in page:
+        faults.append("names an address")
+    if re.search(r"[\x00-\x08\x0b-\x1f\x7f]", page):
+        faults.append("has control characters")
+    return faults
+
+
+def check_example(program, example, status, folder):
+    """What is wrong with the page of an example."""
+    captures = sorted(example.glob("*.pcapng"))
+    policy, users = example / "policy", example / "creds"
+    words = ["--policy", policy, "--creds", users, *captures]
+    done, page = page_of(program, words, folder, f"{example.name}.html")
+    faults = looked_at(page)
+    if done.returncode != status:
+        faults.append(f"status {done.returncode}: {done.stderr}")
+    for file in (policy, users, *captures):
+        content = file.read_bytes()
+        if hashlib.sha256(content).hexdigest() not in page or f"<td>{len(content)}</td>" not in page:
+            faults.append(f"lacks the digest or the size of {file.name}")
+    for line in users.read_text().splitlines():
+        name, realm, password = line.split("\t")
+        told = re.sub(r"<td>[^<]*</td>", "", page)
+        if re.search(rf"\b{re.escape(password)}\b", told) and password not in (name, realm):
+            faults.append("has a password")
+    if hashlib.sha256((TOP / "docs" / "headline.txt").read_bytes()).hexdigest() not in page:
+        faults.append("has another headline's digest")
+    if hashlib.sha256(pathlib.Path(program).read_bytes()).hexdigest() not in page:
+        faults.append("has another program's digest")
+    for line in policy.read_text().splitlines():
+        if line not in page:
+            faults.append(f"lacks the policy's line {line}")
+    again, same = page_of(program, words, folder, "again.html")
+    if same != page:
+        faults.append("is another one the second time")
+    kept, _ = page_of(program, words, folder, "again.html")
+    if kept.returncode != 4:
+        faults.append("is written over")
+    (pathlib.Path(folder) / "again.html").unlink()
+    return [f"{example.name}: {fault}" for fault in faults]
+
+
+def check_markup(program, folder):
+    """Names that would be markup."""
+    example = TOP / "examples" / "coturn-permission-outlived"
+    users = pathlib.Path(folder) / "creds<b>"
+    users.write_text((example / "creds").read_text() + f"{MARKUP}\tre<i>alm\tsecretly\n")
+    capture = pathlib.Path(folder) / "cap<script>.pcapng"
+    shutil.copyfile(example / "cap.pcapng", capture)
+    done, page = page_of(program, ["--policy", example / "policy", "--creds", users, capture], folder, "markup.html")
+    faults = looked_at(page)
+    if done.returncode != 1 or "secretly" in page or "&lt;script&gt;alert(1)" not in page:
+        faults.append("doesn't tell the user plainly")
+    return [f"markup: {fault}" for fault in faults]
+
+
+def check_browser(folder):
+    """What Chromium says of the pages."""
+    browser = shutil.which("chromium") or shutil.which("chromium-browser") or shutil.which("google-chrome")
+    if browser is None:
+        print("no Chromium is there: the pages aren't opened in it")
+        return []
+    faults = []
+    for file in sorted(pathlib.Path(folder).glob("*.html")):
+        words = [browser, "--headless", "--no-sandbox", "--disable-gpu", "--enable-logging=stderr", "--v=0"]
+        done = subprocess.run([*words, f"--print-to-pdf={file}.pdf", file], capture_output=True, text=True, timeout=120)
+        if "CONSOLE" in done.stderr or not pathlib.Path(f"{file}.pdf").is_file():
+            faults.append(f"{file.name}: {done.stderr[-300:]}")
+    return faults
+
+
+def main():
+    program = pathlib.Path(sys.argv[1]).resolve()
+    with tempfile.TemporaryDirectory() as folder:
+        faults = []
+        for name, status in (("coturn-permission-outlived", 1), ("coturn-channels-two-files", 0), ("coturn-24-clients", 0)):
+            faults += check_example(program, TOP / "examples" / name, status, folder)
+        faults += check_markup(program, folder)
+        faults += check_browser(folder)
+    for fault in faults:
+        print(fault)
+    print(f"pages: {len(faults)} faults")
+    return 1 if faults else 0
+
+
+if __name__ == "__main__":
+    sys.exit(main())
