@@ -7,14 +7,15 @@ use crate::head::{head, put_answer};
 use crate::host::PageFile;
 use crate::judged::{Judged, judge_files};
 use crate::named::{NamedFile, NamedUser, named_files, plain_lines, users_in};
-use crate::picture::{Drawing, DrawnLease, drawing_of};
+use crate::page_rows::{Clients, bars_of, client_rows, file_rows, picture_of, user_rows};
+use crate::picture::{Drawing, drawing_of};
 use crate::reading::{digests_of, row_of_capture, text_of};
 use crate::verdict::rest_of_verdict;
 use audit_files::{Source, Stop};
 use audit_finding::CertificateFinder;
 use audit_model::{Breach, Sink, Verdict, put_all};
 use explain_frames::Frames;
-use explain_page::{Bar, CaptureRow, ClientRow, Facts, FileRow, Picture, UserRow, page_of};
+use explain_page::{CaptureRow, Facts, page_of};
 use explain_story::{Case, Lanes, Teller, ask_breaches, is_broken, lane_line, lanes_of, sums};
 use std::alloc::{AllocError, Global};
 use std::sync::Wait;
@@ -33,15 +34,6 @@ const SELF: &str = "/proc/self/exe";
 
 /// The SHA-256 of docs/headline.txt, which says what is proved. `tests/explain_page.py` compares it.
 const HEADLINE: &str = "032fd5ca2ef1e81154f10eb6c6170d9d6bb12855a73fed1783f17940e659d1c5";
-
-/// The clients' lines, and what is told of all.
-#[derive(Drop)]
-struct Clients {
-    lines: Vec<String>,
-    broken: Vec<bool>,
-    all: u32,
-    sums: String,
-}
 
 /// What the page shows, gathered.
 #[derive(Drop)]
@@ -186,89 +178,6 @@ fn gather<S: Source>(
         users: users_of(alloc, source, inputs)?,
         drawing: drawing_in(alloc, case, lanes.as_ref(), verdict)?,
     })
-}
-
-/// The rows of the clients.
-fn client_rows<'g>(alloc: Global, clients: &'g Clients) -> Result<Vec<ClientRow<'g>>, AllocError> {
-    let mut rows = Vec::new(alloc);
-    for (line, is_broken) in clients.lines.iter().zip(clients.broken.iter()) {
-        rows.push(ClientRow {
-            line: line.as_str(),
-            is_broken: *is_broken,
-        })?;
-    }
-    Ok(rows)
-}
-
-/// The rows of the files.
-fn file_rows<'g>(alloc: Global, files: &'g [NamedFile]) -> Result<Vec<FileRow<'g>>, AllocError> {
-    let mut rows = Vec::new(alloc);
-    for file in files {
-        rows.push(FileRow {
-            role: file.role,
-            name: file.name.as_str(),
-            digests: file.digests,
-        })?;
-    }
-    Ok(rows)
-}
-
-/// The rows of the users.
-fn user_rows<'g>(alloc: Global, users: &'g [NamedUser]) -> Result<Vec<UserRow<'g>>, AllocError> {
-    let mut rows = Vec::new(alloc);
-    for user in users {
-        rows.push(UserRow {
-            name: user.name.as_str(),
-            realm: user.realm.as_str(),
-        })?;
-    }
-    Ok(rows)
-}
-
-/// The bars of the leases, with the policy's grace.
-fn bars<'g>(
-    alloc: Global,
-    leases: &'g [DrawnLease],
-    grace: u64,
-) -> Result<Vec<Bar<'g>>, AllocError> {
-    let mut rows = Vec::new(alloc);
-    for lease in leases {
-        rows.push(Bar {
-            name: lease.name.as_str(),
-            from: lease.from,
-            until: lease.until,
-            last: lease.until.saturating_add(grace),
-        })?;
-    }
-    Ok(rows)
-}
-
-/// The bars of a drawing; none where nothing is drawn.
-fn bars_of<'g>(
-    alloc: Global,
-    drawing: &'g Option<Drawing>,
-    grace: u64,
-) -> Result<Vec<Bar<'g>>, AllocError> {
-    match drawing {
-        Some(drawing) => bars(alloc, drawing.leases.as_slice(), grace),
-        None => Ok(Vec::new(alloc)),
-    }
-}
-
-/// What is drawn, with its bars.
-fn picture_of<'g>(drawing: &'g Option<Drawing>, rows: &'g [Bar<'g>]) -> Option<Picture<'g>> {
-    match drawing {
-        Some(drawing) => {
-            let picture = Picture {
-                first: drawing.first,
-                last: drawing.last,
-                bars: rows,
-                marks: drawing.marks.as_slice(),
-            };
-            Some(picture)
-        }
-        None => None,
-    }
 }
 
 /// The page of what was gathered.

@@ -16,6 +16,7 @@ mod last_lines;
 mod line_of_text;
 mod mistakes;
 mod named;
+mod page_rows;
 mod picture;
 mod reading;
 mod reasons;

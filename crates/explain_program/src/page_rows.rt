@@ -1,0 +1,109 @@
+//! What was gathered for a page, as its rows.
+
+use crate::named::{NamedFile, NamedUser};
+use crate::picture::{Drawing, DrawnLease};
+use explain_page::{Bar, ClientRow, FileRow, Picture, UserRow};
+use std::alloc::{AllocError, Global};
+
+/// The clients' lines, and what is told of all.
+#[derive(Drop)]
+pub struct Clients {
+    pub lines: Vec<String>,
+    /// Whether each of these breaks a rule.
+    pub broken: Vec<bool>,
+    /// How many clients there are.
+    pub all: u32,
+    pub sums: String,
+}
+
+/// The rows of the clients.
+pub fn client_rows<'g>(
+    alloc: Global,
+    clients: &'g Clients,
+) -> Result<Vec<ClientRow<'g>>, AllocError> {
+    let mut rows = Vec::new(alloc);
+    for (line, is_broken) in clients.lines.iter().zip(clients.broken.iter()) {
+        rows.push(ClientRow {
+            line: line.as_str(),
+            is_broken: *is_broken,
+        })?;
+    }
+    Ok(rows)
+}
+
+/// The rows of the files.
+pub fn file_rows<'g>(
+    alloc: Global,
+    files: &'g [NamedFile],
+) -> Result<Vec<FileRow<'g>>, AllocError> {
+    let mut rows = Vec::new(alloc);
+    for file in files {
+        rows.push(FileRow {
+            role: file.role,
+            name: file.name.as_str(),
+            digests: file.digests,
+        })?;
+    }
+    Ok(rows)
+}
+
+/// The rows of the users.
+pub fn user_rows<'g>(
+    alloc: Global,
+    users: &'g [NamedUser],
+) -> Result<Vec<UserRow<'g>>, AllocError> {
+    let mut rows = Vec::new(alloc);
+    for user in users {
+        rows.push(UserRow {
+            name: user.name.as_str(),
+            realm: user.realm.as_str(),
+        })?;
+    }
+    Ok(rows)
+}
+
+/// The bars of the leases, with the policy's grace.
+fn bars<'g>(
+    alloc: Global,
+    leases: &'g [DrawnLease],
+    grace: u64,
+) -> Result<Vec<Bar<'g>>, AllocError> {
+    let mut rows = Vec::new(alloc);
+    for lease in leases {
+        rows.push(Bar {
+            name: lease.name.as_str(),
+            from: lease.from,
+            until: lease.until,
+            last: lease.until.saturating_add(grace),
+        })?;
+    }
+    Ok(rows)
+}
+
+/// The bars of a drawing; none where nothing is drawn.
+pub fn bars_of<'g>(
+    alloc: Global,
+    drawing: &'g Option<Drawing>,
+    grace: u64,
+) -> Result<Vec<Bar<'g>>, AllocError> {
+    match drawing {
+        Some(drawing) => bars(alloc, drawing.leases.as_slice(), grace),
+        None => Ok(Vec::new(alloc)),
+    }
+}
+
+/// What is drawn, with its bars.
+pub fn picture_of<'g>(drawing: &'g Option<Drawing>, rows: &'g [Bar<'g>]) -> Option<Picture<'g>> {
+    match drawing {
+        Some(drawing) => {
+            let picture = Picture {
+                first: drawing.first,
+                last: drawing.last,
+                bars: rows,
+                marks: drawing.marks.as_slice(),
+            };
+            Some(picture)
+        }
+        None => None,
+    }
+}
