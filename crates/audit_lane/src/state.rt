@@ -1,6 +1,6 @@
 //! What the events of a lane leave, one after the other.
 
-ghost use Rattle.std.specs.Prelude.{◌≡◌, ◌++◌, ℕ, IfErr, IfOk, List, MatchResult, None, OnOk, Some, nat_eq, true};
+ghost use Rattle.std.specs.Prelude.{◌≡◌, ◌++◌, ℕ, IfErr, IfOk, List, MatchResult, None, OnOk, Some, nat_eq, min, true};
 ghost use Rattle.std.specs.BTreeMap.{get};
 ghost use Rattle.std.specs.Ordering.{nat_cmp};
 ghost use Rattle.audit_model.specs.declared.sighting.SightId.{SightId as SightName};
@@ -251,11 +251,11 @@ impl LaneState {
         &self.table
     }
 
-    /// How many acts there are whose departure has not left.
-    pub fn owed(&self) -> usize
-        ensures { AreOwed (kept_of self.now).owed result }
+    /// How many acts there are whose departure has not left, up to the greatest number of 32 bits. It takes no memory.
+    pub fn owed(&self) -> u32
+        ensures { (count : ℕ) × AreOwed (kept_of self.now).owed count × (result ≡ min count 4294967295) }
     {
-        self.owed.len()
+        u32::try_from(self.owed.len()).unwrap_or(u32::MAX)
     }
 
     /// The tenancies that acts of the lane ended, in order of birth. It takes no memory.

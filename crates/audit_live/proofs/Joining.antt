@@ -1,6 +1,7 @@
 -- What a turn tells is the breach of the whole, and what is known goes on.
-use Rattle.std.proofs.Common.{◌≡◌, ◌+◌, ◌≤◌, ◌<◌, ◌++◌, inl, inr, ℕ, List, length, map, Option, Some, None, refl, sym, ap, ◌∙◌, subst, arith}
+use Rattle.std.proofs.Common.{◌≡◌, ◌+◌, ◌≤◌, ◌<◌, ◌++◌, inl, inr, ℕ, List, length, map, Option, Some, None, refl, sym, ap, ◌∙◌, subst, arith, length-append}
 use Rattle.std.specs.Prelude.{Contains, IfSome, slice_get, vec_len}
+use Rattle.std.proofs.lemmas.List.{length-map}
 use Rattle.std.proofs.lemmas.Bool.{cases_lt}
 use Rattle.std.proofs.lemmas.List.Elements.{All-weaker}
 use Rattle.std.proofs.lemmas.Option.{none-some}
@@ -42,7 +43,7 @@ use Rattle.audit_live.specs.Chain.{Chain}
 use Rattle.audit_live.specs.Holding.{holder_of}
 use Rattle.audit_live.specs.Knows.{Knows, TakesWithNew, Tells, stands_for}
 use Rattle.audit_live.specs.Turn.{AddsLane, TakesTurn}
-use Rattle.audit_live.specs.Walked.{AreNoted, AreWalked, events_of}
+use Rattle.audit_live.specs.Walked.{AreNoted, AreWalked, IsSummed, events_of}
 use Rattle.audit_live.proofs.AskedEnough.{covers, no_others}
 use Rattle.audit_live.proofs.AskedNoted.{noted_length}
 use Rattle.audit_live.proofs.HoldersKnown.{known_then}
@@ -52,6 +53,7 @@ use Rattle.audit_live.proofs.LaneTurns.{fresh_in_whole, fresh_runs}
 use Rattle.audit_live.proofs.Lists.{some_in}
 use Rattle.audit_live.proofs.NewLanes.{all_walked, few_events, grown_at, grown_events, noted_with, stood_by}
 use Rattle.audit_live.proofs.Outcomes.{IsAfter, lane_after, least_of_turns}
+use Rattle.audit_live.proofs.Summed.{turn_summed}
 use Rattle.audit_live.proofs.WalkedOn.{runs_then, walked_then}
 
 module _ (taken : Taken) (key_for : KeyFor) (last : Option ℕ) (old new : Front) (extension : Extension) (knows : Knows taken key_for last old) (fits : Fits old.placing.certificate extension)
@@ -177,12 +179,20 @@ module _ (taken : Taken) (key_for : KeyFor) (last : Option ℕ) (horizon : ℕ) 
           takes.are_touched (stood_by last old.placing.certificate extension.lanes knows.going.by_last) (knew taken key_for last old new extension knows may.fits come_past None tells with_new adds holders takes) notes.holders
           number was.0 was.1))
 
-    by_told : (first : Option Breach) → OrElse first (TakesWithNew taken key_for last old extension new) None → AreWalked taken key_for new.placing.certificate.lanes new.lanes.lanes.items × AreNoted taken key_for (Some horizon) new.placing.certificate.lanes new.lanes.holders
+      summed_now : with_new.owed ≡ old.lanes.owed → IsSummed new.lanes
+      summed_now owed =
+          let many = (begins taken key_for last old new extension knows may.fits come_past None tells with_new adds holders takes).1 in
+          let more = length-append old.placing.certificate.lanes (map empty_lane extension.lanes) in
+          let few : length with_new.lanes.items ≤ 65536 = omega (arith, many, more, length-map extension.lanes empty_lane, may.fits.room.few_lanes) in
+          turn_summed taken key_for old.lanes with_new takes.mid new.lanes extension.lanes takes.walks.shown takes.touched few knows.summed adds owed takes.walks.chain (takes.notes refl).lanes (takes.notes refl).owed
+
+    by_told : (first : Option Breach) → OrElse first (TakesWithNew taken key_for last old extension new) None
+        → AreWalked taken key_for new.placing.certificate.lanes new.lanes.lanes.items × AreNoted taken key_for (Some horizon) new.placing.certificate.lanes new.lanes.holders × IsSummed new.lanes
     by_told (Some b) told = absurd (none-some b told)
-    by_told None (with_new, adds, owed, holders, takes) = (walked_now with_new adds holders takes, noted_now with_new adds holders takes)
+    by_told None (with_new, adds, owed, holders, takes) = (walked_now with_new adds holders takes, noted_now with_new adds holders takes, summed_now with_new adds holders takes owed)
 
     -- what is known goes on
     pub known_whole : Keeps taken new.placing → vec_len new.lanes.lanes ≡ length new.placing.certificate.lanes → Knows taken key_for (Some horizon) new
     known_whole keeps count =
         let lanes = by_told tells.of_placement tells.told in
-        record { numbered = knows.numbered; going = then_going; before = taken; stays = stays_same taken; keeps = keeps; lanes = count; walked = lanes.0; noted = lanes.1 }
+        record { numbered = knows.numbered; going = then_going; before = taken; stays = stays_same taken; keeps = keeps; lanes = count; walked = lanes.0; noted = lanes.1; summed = lanes.2 }

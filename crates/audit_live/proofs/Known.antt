@@ -33,6 +33,7 @@ use Rattle.audit_live.specs.Knows.{Knows, stands_for}
 use Rattle.audit_live.specs.Refusals.{IsRefusal, standing_of}
 use Rattle.audit_live.specs.Walked.{IsAt, events_of, memory_of}
 use Rattle.audit_live.proofs.NewLanes.{lane_has}
+use Rattle.audit_live.proofs.Summed.{summed_first}
 
 pub stays_same : (taken : Taken) → Stays taken taken
 stays_same taken = record { policy = refl; rows = λ iface. ([], sym (append-nil _)) }
@@ -57,6 +58,7 @@ known_on old new key_for last front numbered stays knows = record {
   walked = λ number lane live there live_there.
       subst (λ (m : Memory). IsAt (pair_of_lane lane) number (length lane.events) m (length m.ended) live) (sym (same number lane there)) (knows.walked number lane live there live_there);
   noted = λ number lane there r runs over. knows.noted number lane there r (runs_same number lane there ∙ runs) over;
+  summed = knows.summed;
 } where
   -- by the sightings to come the lanes remember the same
   same : (number : ℕ) (lane : CertLane) → slice_get front.placing.certificate.lanes number ≡ Some lane → memory_of new key_for number lane ≡ memory_of old key_for number lane
@@ -74,8 +76,8 @@ known_on old new key_for last front numbered stays knows = record {
 
 -- what is known where nothing is placed
 pub known_first : (taken : Taken) (key_for : KeyFor) (front : Front) → AreNumbered taken → front.placing.certificate.lanes ≡ [] → front.placing.certificate.drops ≡ [] → Keeps taken front.placing → vec_len front.lanes.lanes ≡ 0
-    → Knows taken key_for None front
-known_first taken key_for front numbered lanes drops keeps count = record {
+    → front.lanes.owed ≡ 0 → Knows taken key_for None front
+known_first taken key_for front numbered lanes drops keeps count owed = record {
   numbered = numbered;
   going = goes_at_first key_for (stands_for taken front None) numbered lanes drops refl;
   before = taken;
@@ -84,6 +86,7 @@ known_first taken key_for front numbered lanes drops keeps count = record {
   lanes = count ∙ sym (ap length lanes);
   walked = λ number lane live there live_there. absurd (none-some lane (sym (ap (λ (ls : List CertLane). slice_get ls number) lanes) ∙ there));
   noted = λ number lane there. absurd (none-some lane (sym (ap (λ (ls : List CertLane). slice_get ls number) lanes) ∙ there));
+  summed = summed_first front.lanes count owed;
 }
 
 -- a lane that was stepped, and whose step was counted

@@ -1,5 +1,5 @@
 -- What a lane's steps show in a turn is what its walk meets first.
-use Rattle.std.proofs.Common.{◌≡◌, ◌+◌, ◌≤◌, inl, inr, ℕ, true, List, [], ◌∷◌, length, map, Option, Some, None, refl, sym, ap, ◌∙◌, subst, arith}
+use Rattle.std.proofs.Common.{◌≡◌, ◌+◌, ◌≤◌, inl, inr, ℕ, true, List, [], ◌∷◌, length, map, min, Option, Some, None, refl, sym, ap, ◌∙◌, subst, arith}
 use Rattle.std.specs.Prelude.{Contains}
 use Rattle.std.proofs.lemmas.Bool.{true≢false}
 use Rattle.std.proofs.lemmas.Option.{none-some}
@@ -29,12 +29,14 @@ use Rattle.audit_whole.specs.Glued.{placed_of}
 use Rattle.audit_whole.proofs.Placement.{in_row}
 use Rattle.audit_live.specs.declared.lane.LiveLane.{LiveLane}
 use Rattle.audit_live.specs.Chain.{Chain}
+use Rattle.audit_live.specs.Owed.{Owes}
 use Rattle.audit_live.specs.Remembered.{Remembers}
 use Rattle.audit_live.specs.Steps.{IsBroken, IsStepped, Steps}
 use Rattle.audit_live.specs.Turn.{Shown}
 use Rattle.audit_live.specs.Walked.{IsAt}
 use Rattle.audit_live.proofs.Breaking.{stops_on}
 use Rattle.audit_live.proofs.Lists.{contains_cases, contains_head, contains_none, contains_tail}
+use Rattle.audit_live.proofs.OwingSteps.{owes_count, owes_on}
 use Rattle.audit_live.proofs.Remembering.{remembers_on}
 
 -- the events as they stand in their lane, from a place on
@@ -106,6 +108,10 @@ module _ (taken : Taken) (numbered : AreNumbered taken) (key_for : KeyFor) where
         stepped.goes_on.1 stepped.goes_on.2 in
         let both = subst (λ (e : Placed). GoesOn (rules_for taken key_for) m e.at.key.moment e.move × Remembers pair (kept_of new.state) (remembered (rules_for taken key_for) m e))
         (next_is terms refl meaning.happens meaning.from) law in
+        let w = rules_for taken key_for in
+        let owing = subst (λ (p : ℕ). Owes p (kept_of new.state) (remembered w m next).owing) (let on : old.steps + 1 ≡ place + 1 = omega (arith, at.steps) in on)
+        (subst (λ (e : Placed). Owes (old.steps + 1) (kept_of new.state) (remembered w m e).owing) (next_is terms refl meaning.happens meaning.from)
+        (owes_on w terms pair old.steps (kept_of old.state) (kept_of new.state) m (subst (λ (p : ℕ). Owes p (kept_of old.state) m.owing) (sym at.steps) at.owing) meaning.happens stepped.goes_on.1 stepped.goes_on.2)) in
         let steps = ap (λ (l : LiveLane). l.steps) stepped.rest in (
           both.0,
           record {
@@ -114,6 +120,8 @@ module _ (taken : Taken) (numbered : AreNumbered taken) (key_for : KeyFor) where
             steps = omega (arith, steps, at.steps, room);
             asked' = ap (λ (l : LiveLane). l.asked) stepped.rest ∙ at.asked';
             whole = ap (λ (l : LiveLane). l.broken) stepped.rest ∙ at.whole;
+            owing = owing;
+            owes' = stepped.owing.2 ∙ ap (λ (n : ℕ). min n 4294967295) (owes_count (place + 1) (kept_of new.state) (remembered w m next).owing stepped.owing.0 owing stepped.owing.1);
           },
         )
 

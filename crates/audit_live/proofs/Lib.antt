@@ -5,9 +5,12 @@ pub mod Meanings
 pub mod Fresh
 pub mod FirstTold
 pub mod Remembering
+pub mod Rising
+pub mod OwingSteps
 pub mod Breaking
 pub mod LaneWalk
 pub mod LaneShare
+pub mod Summed
 pub mod Outcomes
 pub mod LaneTurns
 pub mod AskedEnough
@@ -17,6 +20,7 @@ pub mod WalkedOn
 pub mod HoldersNoted
 pub mod HoldersKnown
 pub mod Known
+pub mod OwedExactly
 pub mod Named
 pub mod Takes
 pub mod Joining

@@ -6,6 +6,7 @@ use Rattle.std.proofs.lemmas.List.Sums.{sum_by-cons}
 use Rattle.std.proofs.lemmas.Option.{none-some, same_Some, slice_get_within}
 use Rattle.audit_lane.specs.declared.noted.Arrival.{Arrival}
 use Rattle.audit_lane.specs.declared.noted.Departure.{Departure}
+use Rattle.audit_lane.specs.Seen.{kept_of}
 use Rattle.audit_lane.proofs.Lists.{get_push}
 use Rattle.audit_model.specs.declared.address.Addr.{Addr}
 use Rattle.audit_model.specs.declared.certificate.Certificate.{Certificate}
@@ -30,6 +31,7 @@ use Rattle.audit_live.specs.Turn.{AddsLane}
 use Rattle.audit_live.specs.Walked.{AreNoted, AreWalked, IsWalked, events_of}
 use Rattle.audit_live.proofs.AskedEnough.{ByLast}
 use Rattle.audit_live.proofs.Lists.{get_either, of_map}
+use Rattle.audit_live.proofs.OwingSteps.{owes_none}
 use Rattle.audit_live.proofs.Outcomes.{turn_of}
 
 -- ---- new lanes
@@ -53,6 +55,8 @@ module _ (taken : Taken) (key_for : KeyFor) where
     steps = new.steps;
     asked' = new.asked;
     whole = new.broken;
+    owing = owes_none (kept_of lane.state) new.state.owed new.state.gave;
+    owes' = new.owes;
   }
 
   push_walked : (lanes : List CertLane) (lives : List LiveLane) (pair : Addr × Addr) (live : LiveLane) → length lives ≡ length lanes → AreWalked taken key_for lanes lives → IsNew (length lives) pair live

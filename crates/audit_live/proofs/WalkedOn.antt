@@ -1,5 +1,5 @@
 -- After a turn that showed nothing each lane keeps what its walk remembers.
-use Rattle.std.proofs.Common.{◌≡◌, inl, inr, ℕ, List, length, Some, None, sym, ap, ◌∙◌, subst, length-append}
+use Rattle.std.proofs.Common.{◌≡◌, inl, inr, ℕ, List, length, min, Some, None, sym, ap, ◌∙◌, subst, length-append}
 use Rattle.std.specs.Prelude.{option_and_then, slice_get}
 use Rattle.std.proofs.lemmas.Option.{same_Some}
 use Rattle.audit_lane.specs.declared.state.LaneState.{LaneState}
@@ -8,7 +8,7 @@ use Rattle.audit_model.specs.declared.certificate.CertLane.{CertLane}
 use Rattle.audit_model.specs.declared.event.Event.{Event}
 use Rattle.audit_order.specs.Grown.{of_lane, with_events}
 use Rattle.audit_prefix.specs.Turn.{runs_after, whole}
-use Rattle.audit_prefix.specs.Walk.{Memory, nothing_yet, remembered_all}
+use Rattle.audit_prefix.specs.Walk.{Memory, Owing, nothing_yet, remembered_all}
 use Rattle.audit_prefix.proofs.Covering.{remembers}
 use Rattle.audit_rules.specs.Keys.{KeyFor}
 use Rattle.audit_server.specs.Placed.{Placed}
@@ -19,6 +19,7 @@ use Rattle.audit_live.specs.declared.lane.LiveLane.{LiveLane}
 use Rattle.audit_live.specs.Asked.{AreTouched}
 use Rattle.audit_live.specs.Chain.{Chain}
 use Rattle.audit_live.specs.Holding.{runs_in, running_at}
+use Rattle.audit_live.specs.Owed.{Owes}
 use Rattle.audit_live.specs.Remembered.{Remembers}
 use Rattle.audit_live.specs.Turn.{NotesAsked}
 use Rattle.audit_live.specs.Walked.{AreWalked, IsWalked, events_of, memory_of}
@@ -32,6 +33,9 @@ module _ (taken : Taken) (key_for : KeyFor) (lanes : List CertLane) (events : Li
   module _ (number : ℕ) (lane : CertLane) (live : LiveLane) (at : IsAfter taken key_for events number lane live) (noted : IsNoted number live touched new) where
     then_memory : remembered_all (rules_for taken key_for) nothing_yet (whole (turn_of events number lane)) ≡ memory_of taken key_for number (grown events number lane)
     then_memory = ap (remembered_all (rules_for taken key_for) nothing_yet) (sym (grown_events events number lane))
+
+    abbrev owing_then : List Owing
+    owing_then = (remembered_all (rules_for taken key_for) nothing_yet (whole (turn_of events number lane))).owing
 
     same_state : noted.new.state ≡ live.state
     same_state = ap (λ (l : LiveLane). l.state) noted.rest
@@ -57,6 +61,10 @@ module _ (taken : Taken) (key_for : KeyFor) (lanes : List CertLane) (events : Li
       steps = ap (λ (l : LiveLane). l.steps) noted.rest ∙ at.steps ∙ sym (length-append lane.events (of_lane number events));
       asked' = all_asked;
       whole = ap (λ (l : LiveLane). l.broken) noted.rest ∙ at.whole;
+      owing = subst (λ (m : Memory). Owes (length (grown events number lane).events) (kept_of noted.new.state) m.owing) then_memory
+          (subst (λ (s : LaneState). Owes (length (grown events number lane).events) (kept_of s) owing_then) (sym same_state)
+          (subst (λ (place : ℕ). Owes place (kept_of live.state) owing_then) (sym (length-append lane.events (of_lane number events))) at.owing));
+      owes' = ap (λ (l : LiveLane). l.owes) noted.rest ∙ at.owes' ∙ ap (λ (m : Memory). min (length m.owing) 4294967295) then_memory;
     }
 
   pub walked_after : (number : ℕ) (lane : CertLane) → slice_get lanes number ≡ Some lane → (live : LiveLane) × (slice_get new number ≡ Some live) × IsWalked taken key_for number (grown events number lane) live

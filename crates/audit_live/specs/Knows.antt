@@ -14,14 +14,14 @@ use Rattle.audit_live.specs.declared.front.Front.{Front}
 use Rattle.audit_live.specs.declared.lanes.LiveLanes.{LiveLanes}
 use Rattle.audit_live.specs.Chain.{Chain}
 use Rattle.audit_live.specs.Turn.{AddsLane, TakesTurn}
-use Rattle.audit_live.specs.Walked.{AreNoted, AreWalked}
+use Rattle.audit_live.specs.Walked.{AreNoted, AreWalked, IsSummed}
 
 -- what an intake, a front and the last horizon stand for
 abbrev pub stands_for : Taken → Front → Option ℕ → Standing
 stands_for taken front last = record { taken = taken; certificate = front.placing.certificate; last = last }
 
 -- No breach is told of what is placed; where sightings are placed is known for the intake of an earlier call; each lane of the certificate
--- is walked; and the lanes that hold addresses are noted.
+-- is walked; the lanes that hold addresses are noted; and what the lanes owe is summed.
 pub record Knows (taken : Taken) (key_for : KeyFor) (last : Option ℕ) (front : Front) : Type 0 where
   pub numbered : AreNumbered taken
   pub going : IsGoing key_for (stands_for taken front last)
@@ -31,6 +31,7 @@ pub record Knows (taken : Taken) (key_for : KeyFor) (last : Option ℕ) (front :
   pub lanes : vec_len front.lanes.lanes ≡ length front.placing.certificate.lanes
   pub walked : AreWalked taken key_for front.placing.certificate.lanes front.lanes.lanes.items
   pub noted : AreNoted taken key_for last front.placing.certificate.lanes front.lanes.holders
+  pub summed : IsSummed front.lanes
 
 -- what the lanes make of a turn, with those that are new
 abbrev pub TakesWithNew : Taken → KeyFor → Option ℕ → Front → Extension → Front → Option Breach → Type 0

@@ -7,4 +7,5 @@ pub mod Knows
 pub mod Audit
 pub mod Refusals
 pub mod Remembered
+pub mod Owed
 pub mod Walked

@@ -1,5 +1,6 @@
 -- What is kept of each lane, while no breach was told.
-use Rattle.std.specs.Prelude.{◌≡◌, ℕ, false, List, length, map, Option, Some, slice_get}
+use Rattle.std.specs.Prelude.{◌≡◌, ◌≤◌, ℕ, false, List, length, map, min, Option, Some, slice_get, sum_by}
+use Rattle.std.specs.List.{AllByRecursion}
 use Rattle.audit_lane.specs.Seen.{kept_of}
 use Rattle.audit_model.specs.declared.certificate.CertLane.{CertLane}
 use Rattle.audit_model.specs.declared.pair.Pair.{Pair}
@@ -14,16 +15,21 @@ use Rattle.audit_whole.specs.CaptureRun.{rules_for}
 use Rattle.audit_whole.specs.Glued.{pair_of_lane, placed_of}
 use Rattle.audit_live.specs.declared.holders.Holders.{Holders}
 use Rattle.audit_live.specs.declared.lane.LiveLane.{LiveLane}
+use Rattle.audit_live.specs.declared.lanes.LiveLanes.{LiveLanes}
 use Rattle.audit_live.specs.Holding.{holder_of}
+use Rattle.audit_live.specs.Owed.{Owes}
 use Rattle.audit_live.specs.Remembered.{Remembers}
 
--- the lane keeps what its walk remembers, has come to a place, and as many of its tenancies that ended were asked
+-- The lane keeps what its walk remembers, has come to a place, and as many of its tenancies that ended were asked; and it owes what that
+-- walk remembers as owing.
 pub record IsAt (pair : Pair) (number place : ℕ) (m : Memory) (asked : ℕ) (lane : LiveLane) : Type 0 where
   pub keeps : Remembers pair (kept_of lane.state) m
   pub number' : lane.number ≡ number
   pub steps : lane.steps ≡ place
   pub asked' : lane.asked ≡ asked
   pub whole : lane.broken ≡ false
+  pub owing : Owes place (kept_of lane.state) m.owing
+  pub owes' : lane.owes ≡ min (length m.owing) 4294967295
 
 abbrev pub events_of : ℕ → CertLane → List Placed
 events_of number lane = map placed_of (lane_entries number lane)
@@ -45,3 +51,8 @@ AreWalked taken key_for lanes walked =
 abbrev pub AreNoted : Taken → KeyFor → Option ℕ → List CertLane → Holders → Type 0
 AreNoted taken key_for last lanes holders =
     (number : ℕ) (lane : CertLane) → slice_get lanes number ≡ Some lane → KnowsHolders (rules_for taken key_for) (horizon_of last) (holder_of holders) (events_of number lane)
+
+-- what all lanes owe is the sum of what each does, which is a number of 32 bits
+pub record IsSummed (lanes : LiveLanes) : Type 0 where
+  pub sum : lanes.owed ≡ sum_by (λ lane. lane.owes) lanes.lanes.items
+  pub few : AllByRecursion (λ lane. lane.owes ≤ 4294967295) lanes.lanes.items

@@ -1,14 +1,15 @@
 //! What is placed so far.
 
-ghost use Rattle.std.specs.Prelude.{◌≡◌, ℕ, Option, None, Some, IfNone, IfOk, OnOk, [], length, min, vec_len};
+ghost use Rattle.std.specs.Prelude.{◌≡◌, ℕ, Option, None, Some, IfNone, IfOk, OnOk, [], length, vec_len};
 ghost use Rattle.audit_keys.specs.KeyFor.{key_for};
 ghost use Rattle.audit_order.specs.Grown.{Fits};
 ghost use Rattle.audit_order.specs.Growing.{placing_count};
 ghost use Rattle.audit_placement.specs.Entries.{entries};
-ghost use Rattle.audit_prefix.specs.Live.{MayAdvance};
+ghost use Rattle.audit_prefix.specs.Live.{MayAdvance, owed_in};
 ghost use Rattle.audit_prefix.specs.Told.{LiveBreach};
 ghost use Rattle.audit_rules.specs.Keys.{KeyFor};
 ghost use Rattle.audit_sightings.specs.Intake.{AreNumbered, Taken, taken};
+ghost use Rattle.audit_whole.specs.Glued.{lanes_from};
 ghost use Rattle.audit_live.specs.Knows.{Knows, Tells, stands_for};
 
 use crate::lanes::LiveLanes;
@@ -71,7 +72,8 @@ impl Front {
         ensures horizon { result.horizon ≡ horizon }
         ensures placed { (taken : Taken) (key_for : KeyFor) (last : Option ℕ) → Knows taken key_for last self.now → result.placed ≡ placing_count (entries self.now.placing.certificate) }
         ensures lanes { result.lanes ≡ length self.now.placing.certificate.lanes }
-        ensures owed { result.owed ≡ min self.now.lanes.owed 4294967295 }
+        ensures owed { (taken : Taken) (key_for : KeyFor) (last : Option ℕ) → Knows taken key_for last self.now →
+            result.owed ≡ owed_in taken key_for (lanes_from 0 self.now.placing.certificate.lanes) }
     {
         Progress {
             horizon,

@@ -140,7 +140,7 @@ impl LiveLane {
         ensures owing { IsOwing self.new }
     {
         self.steps = self.steps.saturating_add(1);
-        self.owes = u32::try_from(self.state.owed()).unwrap_or(u32::MAX);
+        self.owes = self.state.owed();
     }
 
     /// Takes in its next event, and gives the breach that it shows. A lane that has shown one is not walked on.

@@ -1,11 +1,9 @@
 //! A live audit.
 
-ghost use Rattle.std.specs.Prelude.{◌≡◌, ◌<◌, ◌+◌, ◌++◌, ◌∷◌, ◌↔◌, ℕ, List, [], IfErr, IfOk, IsOkUnless, IsSome, OnErr, OnOk, None, Some, Ok, Err, vec_len, min, length};
+ghost use Rattle.std.specs.Prelude.{◌≡◌, ◌<◌, ◌+◌, ◌++◌, ◌∷◌, ◌↔◌, ℕ, List, [], IfErr, IfOk, IsOkUnless, IsSome, OnErr, OnOk, None, Some, Ok, Err, vec_len};
 ghost use Rattle.audit_keys.specs.KeyFor.{key_for};
 ghost use Rattle.audit_model.specs.declared.certificate.TheConstants.{MAX_LANES};
-ghost use Rattle.audit_order.specs.Growing.{placing_count};
-ghost use Rattle.audit_placement.specs.Entries.{entries};
-ghost use Rattle.audit_prefix.specs.Live.{Advances, MayAdvance, Shows, horizon_of};
+ghost use Rattle.audit_prefix.specs.Live.{Advances, IsProgress, MayAdvance, Shows, horizon_of};
 ghost use Rattle.audit_prefix.specs.Prefix.{IsPrefix};
 ghost use Rattle.audit_prefix.specs.Told.{LiveBreach};
 ghost use Rattle.audit_sightings.specs.Files.{Fed, GoesOn, Refuses, StandsFor, not_fed};
@@ -188,12 +186,9 @@ impl Live {
             LiveBreach (taken self.old.intake) (key_for self.old.credentials) self.new.front.placing.certificate (Some breach))) }
         // What is placed is the front of a run that explains the captures.
         ensures prefix { OnOk result (IsPrefix (taken self.new.intake) (rules_for (taken self.new.intake) (key_for self.new.credentials)) self.new.front.placing.certificate horizon) }
-        ensures progress { IfOk result (λ progress. progress ≡ record {
-          horizon = horizon;
-          placed = placing_count (entries self.new.front.placing.certificate);
-          lanes = length self.new.front.placing.certificate.lanes;
-          owed = min self.new.front.lanes.owed 4294967295;
-        }) }
+        // What it has come to: among it is what is owed, the departures that were given and haven't left.
+        ensures progress { IfOk result (λ progress. (progress.horizon ≡ horizon)
+            × IsProgress (key_for self.new.credentials) (standing_of self.new) horizon progress.placed progress.lanes progress.owed) }
         ensures rest { (self.new.intake ≡ self.old.intake) × (self.new.credentials ≡ self.old.credentials) }
     {
         match self.may_advance(horizon, &extension) {
@@ -234,6 +229,13 @@ impl Live {
         ensures { result.now ≡ self.now.credentials }
     {
         &self.credentials
+    }
+
+    /// The last horizon, up to which all is placed that will be. It takes no memory.
+    pub fn last(&self) -> Option<u64>
+        ensures { result ≡ self.now.last }
+    {
+        self.last
     }
 
     /// The verdict, if the captures end here: what ended the audit before, or else the fault of the first capture that may not end where it does,

@@ -1,4 +1,5 @@
 pub mod RowSteps
+pub mod NewestSteps
 pub mod TakingSteps
 pub mod Refusing
 pub mod FilesSteps

@@ -3,8 +3,10 @@
 ghost use Rattle.std.specs.Prelude.{◌≡◌, ◌<◌, ◌≤◌, ◌+◌, max, List, ℕ, [], ◌∷◌, ◌++◌, length, replicate, OnOk, OnErr};
 ghost use Rattle.audit_model.specs.declared.sighting.Sighting.{Sighting};
 ghost use Rattle.audit_sightings.specs.ByInterface.{Adds, AreBytes};
+ghost use Rattle.audit_sightings.specs.Newest.{later_of};
 
 use crate::fault::IntakeFaultKind;
+use crate::intake::MAX_FILES;
 use crate::service_datagram::ServiceDatagram;
 use audit_model::{Listed, SightId, Sighting, window};
 use std::alloc::{AllocError, Global};
@@ -13,11 +15,16 @@ use std::marker::Model;
 /// How many sightings there may be.
 pub const MAX_SIGHTINGS: u32 = 16_777_216;
 
+/// How many interface numbers each file has.
+pub const INTERFACES_OF_FILE: u32 = 64;
+
 /// The sightings of each interface, by the interface's number.
 #[derive(Drop)]
 pub struct ByInterface {
     interfaces: Vec<Listed<Sighting>>,
     count: u32,
+    /// By file, from which moment on its newest sighting may have come.
+    newest: [Option<u64>; MAX_FILES],
     alloc: Global,
 }
 
@@ -25,17 +32,19 @@ impl Model for ByInterface {
     ghost use Rattle.std.specs.Prelude.{List};
     ghost use Rattle.audit_model.specs.declared.sighting.Sighting.{Sighting};
     ghost use Rattle.audit_sightings.specs.ByInterface.{AreByInterface};
+    ghost use Rattle.audit_sightings.specs.Newest.{AreNewest};
 
     ghost Value = { List (List Sighting) };
 
     ghost view = { λ a. a.interfaces.items };
 
-    ghost invariant = { λ a. AreByInterface a.interfaces.items a.count };
+    ghost invariant = { λ a. AreByInterface a.interfaces.items a.count × AreNewest a.interfaces.items a.newest };
 }
 
 impl ByInterface {
     ghost use Rattle.std.specs.Prelude.{◌≡◌, ◌⊎◌, ◌<◌, ℕ, [], length, OnOk, OnErr, IfSome, IfErr, option_copied, option_and_then, slice_get};
     ghost use Rattle.audit_sightings.specs.ByInterface.{of_interface, count_of, IsNumbered, EachFits, Adds};
+    ghost use Rattle.audit_sightings.specs.Newest.{IsNewest};
     ghost use Rattle.audit_sightings.specs.View.{view};
     ghost use Rattle.audit_sightings.specs.Sightings.{sighting_of};
 
@@ -46,6 +55,7 @@ impl ByInterface {
         ByInterface {
             interfaces: Vec::new(alloc),
             count: 0,
+            newest: [None; MAX_FILES],
             alloc,
         }
     }
@@ -87,6 +97,13 @@ impl ByInterface {
         self.count
     }
 
+    /// From which moment on the newest sighting of a file may have come.
+    pub fn newest(&self, file: u32) -> Option<u64>
+        ensures { IsNewest self.now file result }
+    {
+        self.newest.get(file as usize).copied().flatten()
+    }
+
     /// Adds a sighting behind those of its interface. After a fault nothing is changed.
     pub fn push(
         &mut self,
@@ -121,7 +138,19 @@ impl ByInterface {
         };
         add(self.alloc, &mut self.interfaces, iface as usize, sighting)?;
         self.count += 1;
+        let file = (iface / INTERFACES_OF_FILE) as usize;
+        self.newest[file] = later(self.newest[file], lo);
         Ok(())
+    }
+}
+
+/// The later of two moments, where there is a first.
+fn later(before: Option<u64>, moment: u64) -> Option<u64>
+    ensures { result ≡ later_of before moment }
+{
+    match before {
+        Some(before) => Some(before.max(moment)),
+        None => Some(moment),
     }
 }
 

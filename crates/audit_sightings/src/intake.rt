@@ -35,6 +35,7 @@ impl Intake {
     ghost use Rattle.audit_sightings.specs.Intake.{taken, sighting_at, interface_at, AreNumbered};
     ghost use Rattle.audit_sightings.specs.Amid.{Amid};
     ghost use Rattle.audit_sightings.specs.Bounds.{IsBounded};
+    ghost use Rattle.audit_sightings.specs.Newest.{IsNewest};
     ghost use Rattle.audit_sightings.specs.Files.{Fed, not_fed, StandsFor, GoesOn, Refuses, FilesEnd};
 
     /// An intake of no files. It takes no memory.
@@ -351,6 +352,14 @@ impl Intake {
         ensures bounded { IsBounded (taken self.now) }
     {
         (self.files.len() as u32, self.interfaces.count())
+    }
+
+    /// From which moment on the newest sighting of a file may have come, in nanoseconds since 1970: the greatest of what each sighting's
+    /// stamp allows at the least. None where the file has no sighting. It takes no memory.
+    pub fn newest(&self, file: u32) -> Option<u64>
+        ensures { IsNewest (taken self.now).interfaces file result }
+    {
+        self.interfaces.newest(file)
     }
 
     /// The policy that it was made with. It takes no memory.

@@ -6,14 +6,11 @@ ghost use Rattle.audit_sightings.specs.ServiceDatagram.{service_datagram_of};
 ghost use Rattle.audit_sightings.specs.Sightings.{TakesIn, IsRefused, Stops};
 ghost use Rattle.audit_sightings.specs.View.{view_found};
 
-use crate::by_interface::ByInterface;
+use crate::by_interface::{ByInterface, INTERFACES_OF_FILE};
 use crate::fault::IntakeFaultKind;
 use crate::service_datagram::{ServiceDatagram, service_datagram};
 use audit_model::Policy;
 use audit_pcapng::{Packet, PacketSlice};
-
-/// How many interface numbers each file has.
-const INTERFACES_OF_FILE: u32 = 64;
 
 /// Takes in a packet of a file. After a fault nothing is changed.
 pub fn take_packet(
