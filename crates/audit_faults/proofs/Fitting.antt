@@ -14,7 +14,7 @@ use Rattle.audit_rules.specs.Responses.{AnswersBinding, AnswersError}
 use Rattle.audit_rules.specs.Situation.{Situation, asked, answered}
 use Rattle.audit_rules.specs.Standing.{IsResponse}
 use Rattle.audit_rules.specs.Values.{Names, lifetime_of}
-use Rattle.audit_faults.specs.Fits.{SuccessFits, TellsClient, TellsLifetime, IsFit}
+use Rattle.audit_faults.specs.Fits.{SuccessFits, TellsClient, IsFit}
 use Rattle.audit_faults.proofs.Asking.{to_client}
 
 module _ (x : Situation) where

@@ -1,5 +1,5 @@
 -- Whether what a response says fits its request, as far as the two tell it (RFC 8489, sections 2, 6.3 and 9.2; RFC 8656, sections 5, 7.2, 8.2, 10.2 and 12.2).
-use Rattle.std.specs.Prelude.{◌≡◌, ◌≢◌, ◌⊎◌, ◌↔◌, ℕ, ◌<◌, List, Some, IsSome, IsSomeAnd}
+use Rattle.std.specs.Prelude.{◌≡◌, ◌≢◌, ◌⊎◌, ◌↔◌, ℕ, List, Some, IsSome, IsSomeAnd}
 use Rattle.audit_model.specs.declared.address.Addr.{Addr}
 use Rattle.audit_model.specs.declared.sighting.Sighting.{Sighting}
 use Rattle.audit_stun.specs.declared.class.Class.TheVariants.{Success, Error}

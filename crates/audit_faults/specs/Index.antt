@@ -2,10 +2,12 @@
 use Rattle.std.specs.Prelude.{IfSome}
 use Rattle.audit_sightings.specs.Intake.{Taken}
 use Rattle.audit_faults.specs.declared.index.Index.{Index}
-use Rattle.audit_faults.specs.Placed.{IsListing}
+use Rattle.audit_faults.specs.Asked.{IsAsking}
+use Rattle.audit_faults.specs.Leased.{AreLeases}
 use Rattle.audit_faults.specs.Reach.{AreExtents}
 
--- what it says of moments and of places is so
+-- what it says of moments, of leases and of what was asked for is so
 pub record IsIndex (taken : Taken) (index : Index) : Type 0 where
   pub reach : AreExtents taken index.extents.now
-  pub listing : IfSome index.placed (λ placed. IsListing taken placed.now)
+  pub leases : IfSome index.leases (AreLeases taken)
+  pub asking : IfSome index.asking (λ asking. IsAsking taken asking)

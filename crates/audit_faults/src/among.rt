@@ -11,11 +11,14 @@ ghost use Rattle.audit_faults.specs.declared.fault.Fault.{Fault as FaultKind};
 ghost use Rattle.audit_faults.specs.Explains.{IsFault};
 ghost use Rattle.audit_faults.specs.Index.{IsIndex};
 
+use crate::answers::answers_of;
 use crate::explains::explains;
 use crate::fault::Fault;
 use crate::index::{Index, extents_by_interface, span_in};
+use crate::keyed::Keyed;
 use crate::laws::fault_excludes;
-use crate::placed::{Placed, placed_by_client};
+use crate::leased::Leases;
+use crate::requests::requests_of;
 use crate::telling::first_fault;
 use audit_keys::Credentials;
 use audit_model::{SightId, Sighting};
@@ -33,24 +36,24 @@ const TIMES: u64 = 6;
 /// How many leases a departure needs at the most.
 const LEASES: u64 = 3;
 
-/// The most places that one client has. The places of each client stand together.
-fn most_places(placed: &[Placed]) -> u64 {
+/// The most places that one key has. The places of each key stand together.
+fn most_places(keyed: &[Keyed]) -> u64 {
     let mut most = 0u64;
     let mut count = 0u64;
     let mut last = None;
-    for one in placed {
-        count = if last == Some(one.client) {
+    for one in keyed {
+        count = if last == Some(one.key) {
             count.saturating_add(1)
         } else {
             1
         };
-        last = Some(one.client);
+        last = Some(one.key);
         most = most.max(count);
     }
     most
 }
 
-/// How many steps it takes at the most to know whether a departure shows a fault, where each client has so many places at the most.
+/// How many steps it takes at the most to know whether a departure shows a fault, where each key has so many places at the most.
 fn steps_for(
     intake: &Intake,
     index: &Index<'_>,
@@ -121,12 +124,16 @@ pub fn fault_among(
 {
     fault_excludes();
     let extents = extents_by_interface(alloc, intake)?;
-    let placed = placed_by_client(alloc, intake)?;
+    let answers_kept = answers_of(alloc, intake)?;
+    let answers = answers_kept.by_key();
+    let requests_kept = requests_of(alloc, intake, answers)?;
+    let requests = requests_kept.by_key();
     let index = Index {
         extents: extents.as_slice(),
-        placed: Some(placed.as_slice()),
+        leases: Some(Leases { answers, requests }),
+        asking: None,
     };
-    let most = most_places(&placed);
+    let most = most_places(answers.places).max(most_places(requests.places));
     'departures: for sight in sights {
         if soon_known(intake, &index, credentials, most, *sight).is_some() {
             return Ok(Some(*sight));

@@ -9,16 +9,21 @@ ghost use Rattle.audit_sightings.specs.Intake.{taken, sighting_at};
 ghost use Rattle.audit_server.specs.Step.{Step};
 ghost use Rattle.audit_whole.specs.CaptureRun.{rules_for, IsCaptureRun};
 ghost use Rattle.audit_whole.specs.Conforms.{Conforms};
+ghost use Rattle.audit_faults.specs.Asked.{IsAsking};
 ghost use Rattle.audit_faults.specs.Beginning.{HasBeginning};
 ghost use Rattle.audit_faults.specs.Index.{IsIndex};
-ghost use Rattle.audit_faults.specs.Placed.{IsListing};
+ghost use Rattle.audit_faults.specs.Leased.{AreAnswers};
 ghost use Rattle.audit_faults.specs.Shown.{AreFaults, AreFaultsBefore, MayPredate};
 
-use crate::beginning::has_beginning;
+use crate::answers::answers_of;
+use crate::asked::asking_of;
+use crate::begun::has_beginning;
 use crate::fault::{Fault, ShownFault};
 use crate::index::{Index, extents_by_interface};
+use crate::keyed::ByKey;
 use crate::laws::fault_excludes;
-use crate::placed::{Placed, placed_by_client};
+use crate::leased::Leases;
+use crate::requests::requests_of;
 use crate::telling::first_fault;
 use audit_keys::Credentials;
 use audit_model::SightId;
@@ -26,16 +31,16 @@ use audit_sightings::Intake;
 use std::alloc::{AllocError, Global};
 
 /// Whether no Allocate success was captured to a client that asked for the departure.
-fn lacks_beginning(intake: &Intake, index: &Index<'_>, placed: &[Placed], sight: SightId) -> bool
-    requires index { IsIndex (taken intake.now) index.now }
-    requires listing { IsListing (taken intake.now) placed.now }
+fn lacks_beginning(intake: &Intake, asking: ByKey<'_>, answers: ByKey<'_>, sight: SightId) -> bool
+    requires asking { IsAsking (taken intake.now) asking }
+    requires answers { AreAnswers (taken intake.now) answers }
     requires there { IsSome (sighting_at (taken intake.now) sight) }
     ensures { IsTrue result ↔ ((given : OneSighting) → sighting_at (taken intake.now) sight ≡ Some given → HasBeginning (taken intake.now) given → ⊥) }
 {
     let Some(given) = intake.sighting(sight) else {
         return false;
     };
-    if has_beginning(intake, index, placed, given) {
+    if has_beginning(intake, asking, answers, given) {
         return false;
     }
     true
@@ -44,18 +49,18 @@ fn lacks_beginning(intake: &Intake, index: &Index<'_>, placed: &[Placed], sight:
 /// Whether the captures may have begun after the allocation that a departure without one needs.
 fn may_predate(
     intake: &Intake,
-    index: &Index<'_>,
-    placed: &[Placed],
+    asking: ByKey<'_>,
+    answers: ByKey<'_>,
     fault: Fault,
     sight: SightId,
 ) -> bool
-    requires index { IsIndex (taken intake.now) index.now }
-    requires listing { IsListing (taken intake.now) placed.now }
+    requires asking { IsAsking (taken intake.now) asking }
+    requires answers { AreAnswers (taken intake.now) answers }
     requires there { IsSome (sighting_at (taken intake.now) sight) }
     ensures { IsTrue result ↔ MayPredate (taken intake.now) fault sight }
 {
     match fault {
-        Fault::Unallocated => lacks_beginning(intake, index, placed, sight),
+        Fault::Unallocated => lacks_beginning(intake, asking, answers, sight),
         Fault::Unasked => false,
         Fault::Unpermitted => false,
         Fault::Unbound => false,
@@ -68,19 +73,21 @@ fn may_predate(
 fn add_of_sighting(
     intake: &Intake,
     index: &Index<'_>,
-    placed: &[Placed],
+    asking: ByKey<'_>,
+    answers: ByKey<'_>,
     credentials: &Credentials,
     sight: SightId,
     faults: &mut Vec<ShownFault>,
 ) -> Result<(), AllocError>
     requires index { IsIndex (taken intake.now) index.now }
-    requires listing { IsListing (taken intake.now) placed.now }
+    requires asking { IsAsking (taken intake.now) asking }
+    requires answers { AreAnswers (taken intake.now) answers }
     requires so_far { AreFaultsBefore (taken intake.now) (key_for credentials.now) sight faults.old.items }
     ensures { OnOk result (AreFaultsBefore (taken intake.now) (key_for credentials.now)
         (record { iface = sight.iface; index = sight.index + 1 }) faults.new.items) }
 {
     if let Some(fault) = first_fault(intake, index, credentials, sight) {
-        let may_predate = may_predate(intake, index, placed, fault, sight);
+        let may_predate = may_predate(intake, asking, answers, fault, sight);
         faults.push(ShownFault {
             sight,
             fault,
@@ -94,19 +101,29 @@ fn add_of_sighting(
 fn add_of_interface(
     intake: &Intake,
     index: &Index<'_>,
-    placed: &[Placed],
+    asking: ByKey<'_>,
+    answers: ByKey<'_>,
     credentials: &Credentials,
     iface: u32,
     faults: &mut Vec<ShownFault>,
 ) -> Result<(), AllocError>
     requires index { IsIndex (taken intake.now) index.now }
-    requires listing { IsListing (taken intake.now) placed.now }
+    requires asking { IsAsking (taken intake.now) asking }
+    requires answers { AreAnswers (taken intake.now) answers }
     requires so_far { AreFaultsBefore (taken intake.now) (key_for credentials.now) (record { iface = iface; index = 0 }) faults.old.items }
     ensures { OnOk result (AreFaultsBefore (taken intake.now) (key_for credentials.now)
         (record { iface = iface + 1; index = 0 }) faults.new.items) }
 {
     'sightings: for sighting in intake.interface(iface) {
-        add_of_sighting(intake, index, placed, credentials, sighting.id, faults)?;
+        add_of_sighting(
+            intake,
+            index,
+            asking,
+            answers,
+            credentials,
+            sighting.id,
+            faults,
+        )?;
     }
     Ok(())
 }
@@ -130,14 +147,28 @@ pub fn shown_faults(
 {
     fault_excludes();
     let extents = extents_by_interface(alloc, intake)?;
-    let placed = placed_by_client(alloc, intake)?;
+    let answers_kept = answers_of(alloc, intake)?;
+    let answers = answers_kept.by_key();
+    let requests_kept = requests_of(alloc, intake, answers)?;
+    let requests = requests_kept.by_key();
+    let asking_kept = asking_of(alloc, intake)?;
+    let asking = asking_kept.by_key();
     let index = Index {
         extents: extents.as_slice(),
-        placed: Some(placed.as_slice()),
+        leases: Some(Leases { answers, requests }),
+        asking: Some(asking),
     };
     let mut faults = Vec::new(alloc);
     'interfaces: for iface in 0..intake.interfaces() {
-        add_of_interface(intake, &index, &placed, credentials, iface, &mut faults)?;
+        add_of_interface(
+            intake,
+            &index,
+            asking,
+            answers,
+            credentials,
+            iface,
+            &mut faults,
+        )?;
     }
     Ok(faults)
 }

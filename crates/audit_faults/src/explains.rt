@@ -13,7 +13,7 @@ ghost use Rattle.audit_faults.specs.Explains.{Holds, SentOnHeld, SentInChannelHe
 use crate::asks::{in_reach, responds, sent_in_channel, sent_on, told, told_in_channel};
 use crate::fault::{Fault, Grant, Lease};
 use crate::fits::is_fit;
-use crate::grants::has_grant;
+use crate::held::has_grant;
 use crate::index::Index;
 use crate::values::{is_by_user, message_in};
 use audit_keys::Credentials;

@@ -5,7 +5,8 @@ ghost use Rattle.audit_sightings.specs.Intake.{taken, interface_at};
 ghost use Rattle.audit_faults.specs.Index.{IsIndex};
 ghost use Rattle.audit_faults.specs.Reach.{AreExtents, OutsideIsOut};
 
-use crate::placed::Placed;
+use crate::keyed::ByKey;
+use crate::leased::Leases;
 use crate::reach::{Extents, Span, extents_of, span_of};
 use audit_model::Sighting;
 use audit_sightings::Intake;
@@ -16,8 +17,10 @@ use std::alloc::{AllocError, Global};
 pub struct Index<'a> {
     /// Of each interface, by its number.
     pub extents: &'a [Extents],
-    /// Of each request for a lease and each success, by client.
-    pub placed: Option<&'a [Placed]>,
+    /// Of the requests for leases and their successes.
+    pub leases: Option<Leases<'a>>,
+    /// Of all that arrived, by what it asks for.
+    pub asking: Option<ByKey<'a>>,
 }
 
 /// The moments of each interface. It takes memory for two numbers a sighting, and linear time.

@@ -42,7 +42,8 @@ pub fn shown_fault(intake: &Intake, credentials: &Credentials, sight: SightId) -
     faults_of_any_users();
     let everywhere = Index {
         extents: &[],
-        placed: None,
+        leases: None,
+        asking: None,
     };
     first_fault(intake, &everywhere, credentials, sight)
 }

@@ -14,6 +14,7 @@ use crate::explains::explains;
 use crate::fault::Fault;
 use crate::index::{Index, span_in};
 use crate::near::is_explained_just_before;
+use crate::sought::is_explained_by_keys;
 use audit_keys::Credentials;
 use audit_model::{Side, SightId, Sighting};
 use audit_sightings::Intake;
@@ -43,6 +44,25 @@ fn explained_among(
     false
 }
 
+/// Whether something that was captured explains the departure, where something is in reach.
+fn is_explained_somewhere(
+    intake: &Intake,
+    index: &Index<'_>,
+    credentials: &Credentials,
+    fault: Fault,
+    given: &Sighting,
+) -> bool
+    requires { IsIndex (taken intake.now) index.now }
+    ensures { IsTrue result ↔ ((asked : Sighting) × IsCaptured (taken intake.now) asked × Explains (taken intake.now) (key_for credentials.now) fault asked given.now) }
+{
+    'interfaces: for iface in 0..intake.interfaces() {
+        if explained_among(intake, index, credentials, iface, fault, given) {
+            return true;
+        }
+    }
+    false
+}
+
 /// Whether something that was captured explains the departure.
 fn is_explained(
     intake: &Intake,
@@ -57,12 +77,10 @@ fn is_explained(
     if is_explained_just_before(intake, index, credentials, fault, given) {
         return true;
     }
-    'interfaces: for iface in 0..intake.interfaces() {
-        if explained_among(intake, index, credentials, iface, fault, given) {
-            return true;
-        }
+    match index.asking {
+        Some(asking) => is_explained_by_keys(intake, index, asking, credentials, fault, given),
+        None => is_explained_somewhere(intake, index, credentials, fault, given),
     }
-    false
 }
 
 /// Whether the departure of that name shows the fault.

@@ -1,15 +1,14 @@
 use Rattle.std.proofs.Common.{◌≤◌, length}
-use Rattle.audit_model.specs.declared.sighting.Sighting.{Sighting}
 use Rattle.audit_sightings.specs.Intake.{taken}
 use Rattle.audit_faults.specs.Beginning.{IsAllocated}
-use Rattle.audit_faults.proofs.Placing.{NoneFrom}
+use Rattle.audit_faults.proofs.Keying.{NoneFrom}
 use Rattle.audit_faults.proofs.beginning.has_allocated.Given as goal
 
--- none of the client's places from here on has one
+-- none of the places of the key from here on has one
 abbrev pub invariant-places : goal.invariant-places
 invariant-places l = record {
-  bound : l.place ≤ length l.placed;
-  none : NoneFrom (taken l.intake) (λ (s : Sighting). IsAllocated l.client s) l.client l.placed l.place;
+  bound : l.place ≤ length l.answers.places.now;
+  none : NoneFrom (taken l.intake) (IsAllocated l.client) l.key 0 18446744073709551615 l.answers.places.now l.place;
 }
 
 abbrev pub decreases-places : goal.decreases-places

@@ -1,0 +1,10 @@
+use Rattle.std.proofs.Common.{◌≡◌, ℕ, length, subst, arith}
+use Rattle.audit_sightings.specs.Intake.{taken}
+use Rattle.audit_faults.specs.Leased.{IsRequestBy}
+use Rattle.audit_faults.specs.Keyed.{AreKeyedBefore}
+use Rattle.audit_faults.proofs.requests.add_rows.Goals as goal
+
+pub returns : goal.returns
+returns c =
+    let last : c.interfaces.iface ≡ length (taken c.args.intake.now).interfaces = omega arith in
+    subst (λ (n : ℕ). AreKeyedBefore (taken c.args.intake.now) (IsRequestBy (taken c.args.intake.now)) (record { iface = n; index = 0 }) c.interfaces.keyed.items c.interfaces.width) last c.interfaces.invariant

@@ -1,0 +1,138 @@
+//! Whether the captures show the beginning of a client that asked for a departure, by what arrived with a key of it.
+
+ghost use Rattle.std.specs.Prelude.{◌≡◌, ◌↔◌, ℕ, IsTrue, Some};
+ghost use Rattle.audit_model.specs.Policy.{relays};
+ghost use Rattle.audit_model.specs.declared.sighting.Sighting.{Sighting};
+ghost use Rattle.audit_sightings.specs.Intake.{taken, sighting_at};
+ghost use Rattle.audit_faults.specs.Asked.{HasMessageKey, HasChannelKey, IsAskedBy, IsAsking};
+ghost use Rattle.audit_faults.specs.Beginning.{Begins, HasBeginning};
+ghost use Rattle.audit_faults.specs.Grants.{IsCaptured};
+ghost use Rattle.audit_faults.specs.Keyed.{digest_of};
+ghost use Rattle.audit_faults.specs.Leased.{AreAnswers};
+
+use crate::asked::{channel_key, message_key};
+use crate::beginning::begins;
+use crate::keyed::{ByKey, digest, span_of_key};
+use crate::sought::earliest;
+use audit_model::{SightId, Sighting};
+use audit_sightings::Intake;
+
+/// Whether the sighting of that name asked for the departure, for a client to which an Allocate success was captured.
+fn begins_at(intake: &Intake, answers: ByKey<'_>, sight: SightId, given: &Sighting) -> bool
+    requires { AreAnswers (taken intake.now) answers }
+    ensures { IsTrue result ↔ ((asked : Sighting) × (sighting_at (taken intake.now) sight ≡ Some asked)
+        × Begins (taken intake.now) given.now asked) }
+{
+    let Some(asked) = intake.sighting(sight) else {
+        return false;
+    };
+    begins(intake, answers, asked, given)
+}
+
+/// Whether something did that arrived with the key, the last one first.
+fn begun_by(
+    intake: &Intake,
+    asking: ByKey<'_>,
+    answers: ByKey<'_>,
+    key: u64,
+    given: &Sighting,
+) -> bool
+    requires answers { AreAnswers (taken intake.now) answers }
+    requires asking { IsAsking (taken intake.now) asking }
+    ensures some { IsTrue result → ((asked : Sighting) × IsCaptured (taken intake.now) asked
+        × Begins (taken intake.now) given.now asked) }
+    ensures all { (asked : Sighting) → IsCaptured (taken intake.now) asked → IsAskedBy (taken intake.now).policy key asked →
+        Begins (taken intake.now) given.now asked → IsTrue result }
+{
+    let first = earliest(given, intake.policy().hold, asking.width);
+    let span = span_of_key(asking.places, key, first, given.hi);
+    let mut place = span.past;
+    'places: while span.first < place {
+        place -= 1;
+        if begins_at(intake, answers, asking.places[place].sight, given) {
+            return true;
+        }
+    }
+    false
+}
+
+/// The same of what may have been relayed to a peer.
+fn begun_by_all_of_it(
+    intake: &Intake,
+    asking: ByKey<'_>,
+    answers: ByKey<'_>,
+    given: &Sighting,
+) -> bool
+    requires answers { AreAnswers (taken intake.now) answers }
+    requires asking { IsAsking (taken intake.now) asking }
+    ensures some { IsTrue result → ((asked : Sighting) × IsCaptured (taken intake.now) asked
+        × Begins (taken intake.now) given.now asked) }
+    ensures all { (key : ℕ) (asked : Sighting) → IsTrue (relays (taken intake.now).policy given.now.from) → key ≡ digest_of given.now.payload → IsCaptured (taken intake.now) asked →
+        IsAskedBy (taken intake.now).policy key asked → Begins (taken intake.now) given.now asked → IsTrue result }
+{
+    if !intake.policy().relays(given.from) {
+        return false;
+    }
+    let key = digest(given.payload.as_slice());
+    begun_by(intake, asking, answers, key, given)
+}
+
+/// The same of a message to a client.
+fn begun_by_message(
+    intake: &Intake,
+    asking: ByKey<'_>,
+    answers: ByKey<'_>,
+    given: &Sighting,
+) -> bool
+    requires answers { AreAnswers (taken intake.now) answers }
+    requires asking { IsAsking (taken intake.now) asking }
+    ensures some { IsTrue result → ((asked : Sighting) × IsCaptured (taken intake.now) asked
+        × Begins (taken intake.now) given.now asked) }
+    ensures all { (key : ℕ) (asked : Sighting) → HasMessageKey given.now.payload key → IsCaptured (taken intake.now) asked →
+        IsAskedBy (taken intake.now).policy key asked → Begins (taken intake.now) given.now asked → IsTrue result }
+{
+    let Some(key) = message_key(given.payload.as_slice()) else {
+        return false;
+    };
+    begun_by(intake, asking, answers, key, given)
+}
+
+/// The same of ChannelData to a client.
+fn begun_by_channel(
+    intake: &Intake,
+    asking: ByKey<'_>,
+    answers: ByKey<'_>,
+    given: &Sighting,
+) -> bool
+    requires answers { AreAnswers (taken intake.now) answers }
+    requires asking { IsAsking (taken intake.now) asking }
+    ensures some { IsTrue result → ((asked : Sighting) × IsCaptured (taken intake.now) asked
+        × Begins (taken intake.now) given.now asked) }
+    ensures all { (key : ℕ) (asked : Sighting) → HasChannelKey given.now.payload key → IsCaptured (taken intake.now) asked →
+        IsAskedBy (taken intake.now).policy key asked → Begins (taken intake.now) given.now asked → IsTrue result }
+{
+    let Some(key) = channel_key(given.payload.as_slice()) else {
+        return false;
+    };
+    begun_by(intake, asking, answers, key, given)
+}
+
+/// Whether something that was captured did: it arrived with a key of the departure.
+pub fn has_beginning(
+    intake: &Intake,
+    asking: ByKey<'_>,
+    answers: ByKey<'_>,
+    given: &Sighting,
+) -> bool
+    requires answers { AreAnswers (taken intake.now) answers }
+    requires asking { IsAsking (taken intake.now) asking }
+    ensures { IsTrue result ↔ HasBeginning (taken intake.now) given.now }
+{
+    if begun_by_all_of_it(intake, asking, answers, given) {
+        return true;
+    }
+    if begun_by_message(intake, asking, answers, given) {
+        return true;
+    }
+    begun_by_channel(intake, asking, answers, given)
+}

@@ -1,0 +1,87 @@
+//! The keys by which requests for leases and their successes are found.
+
+ghost use Rattle.std.specs.Prelude.{◌≡◌};
+ghost use Rattle.audit_stun.specs.Parts.{parts_of};
+ghost use Rattle.audit_faults.specs.Leased.{mixed_of, address_number, lease_key, answer_key as key_of_answer, ask_key as key_of_ask, relayed_key as key_of_relayed, beginning_key as key_of_beginning, permission_key as key_of_permission, channel_key as key_of_channel};
+
+use crate::keyed::transaction_key;
+use audit_model::Addr;
+use audit_stun::Message;
+use std::hash::{DefaultHasher, Hasher};
+
+/// Kinds of keys; below them are methods, and above them numbers of channels.
+const ASKED: u64 = 65_536;
+
+const RELAYED: u64 = 65_537;
+
+const BEGUN: u64 = 65_538;
+
+const PERMITTED: u64 = 65_539;
+
+const BOUND: u64 = 131_072;
+
+/// A number for two.
+fn mixed(one: u64, other: u64) -> u64
+    ensures { result ≡ mixed_of one other }
+{
+    let mut hasher = DefaultHasher::new();
+    hasher.write_u64(one);
+    hasher.write_u64(other);
+    hasher.finish()
+}
+
+/// A number for each address.
+fn number(addr: Addr) -> u64
+    ensures { result ≡ address_number addr }
+{
+    u64::from(addr.ip) * 65_536 + u64::from(addr.port)
+}
+
+/// A number for what is of a kind and of a client, and for a third number.
+fn of_client(kind: u64, client: Addr, rest: u64) -> u64
+    ensures { result ≡ lease_key kind client rest }
+{
+    mixed(mixed(kind, number(client)), rest)
+}
+
+/// The key of a success to the client, by the method and the transaction of it or of its request.
+pub fn answer_key(client: Addr, said: &Message<'_>) -> u64
+    ensures { result ≡ key_of_answer (parts_of said.now).method client (parts_of said.now).tid }
+{
+    of_client(u64::from(said.method()), client, transaction_key(said))
+}
+
+/// The key of an Allocate request of the client, by the transaction of it or of its success.
+pub fn ask_key(client: Addr, said: &Message<'_>) -> u64
+    ensures { result ≡ key_of_ask client (parts_of said.now).tid }
+{
+    of_client(ASKED, client, transaction_key(said))
+}
+
+/// The key of an Allocate success, by the address that it tells.
+pub fn relayed_key(client: Addr, relayed: Addr) -> u64
+    ensures { result ≡ key_of_relayed client relayed }
+{
+    of_client(RELAYED, client, number(relayed))
+}
+
+/// The key of each Allocate success to a client.
+pub fn beginning_key(client: Addr) -> u64
+    ensures { result ≡ key_of_beginning client }
+{
+    of_client(BEGUN, client, 0)
+}
+
+/// The key of a request for a permission.
+pub fn permission_key(client: Addr, ip: u32) -> u64
+    ensures { result ≡ key_of_permission client ip }
+{
+    of_client(PERMITTED, client, u64::from(ip))
+}
+
+/// The key of a request for a channel.
+pub fn channel_key(client: Addr, number_of_channel: u16, peer: Addr) -> u64
+    ensures { result ≡ key_of_channel client number_of_channel peer }
+{
+    of_client(BOUND + u64::from(number_of_channel), client, number(peer))
+}

@@ -1,0 +1,174 @@
+//! Whether a departure is explained by what arrived with a key of it.
+
+ghost use Rattle.std.specs.Prelude.{◌≡◌, ◌↔◌, ◌+◌, ◌≤◌, ℕ, IsTrue, Some};
+ghost use Rattle.audit_model.specs.Policy.{relays};
+ghost use Rattle.audit_model.specs.Window.{later};
+ghost use Rattle.audit_model.specs.declared.sighting.Sighting.{Sighting};
+ghost use Rattle.audit_keys.specs.KeyFor.{key_for};
+ghost use Rattle.audit_sightings.specs.Intake.{taken, sighting_at};
+ghost use Rattle.audit_faults.specs.Asked.{HasMessageKey, HasChannelKey, IsAskedBy, IsAsking};
+ghost use Rattle.audit_faults.specs.Explains.{Explains};
+ghost use Rattle.audit_faults.specs.Grants.{IsCaptured};
+ghost use Rattle.audit_faults.specs.Index.{IsIndex};
+ghost use Rattle.audit_faults.specs.Keyed.{digest_of};
+
+use crate::asked::{channel_key, message_key};
+use crate::explains::explains;
+use crate::fault::Fault;
+use crate::index::Index;
+use crate::keyed::{ByKey, digest, span_of_key};
+use audit_keys::Credentials;
+use audit_model::{SightId, Sighting};
+use audit_sightings::Intake;
+
+/// The earliest that something in reach of the departure may begin, where no window is wider than this.
+pub fn earliest(given: &Sighting, hold: u64, width: u64) -> u64
+    ensures { (lo hi : ℕ) → given.now.lo ≤ later hi hold → hi ≤ lo + width → result ≤ lo }
+{
+    given.lo.saturating_sub(hold).saturating_sub(width)
+}
+
+/// Whether the sighting of that name explains the departure.
+fn explains_at(
+    intake: &Intake,
+    index: &Index<'_>,
+    credentials: &Credentials,
+    fault: Fault,
+    sight: SightId,
+    given: &Sighting,
+) -> bool
+    requires { IsIndex (taken intake.now) index.now }
+    ensures { IsTrue result ↔ ((asked : Sighting) × (sighting_at (taken intake.now) sight ≡ Some asked)
+        × Explains (taken intake.now) (key_for credentials.now) fault asked given.now) }
+{
+    let Some(asked) = intake.sighting(sight) else {
+        return false;
+    };
+    explains(intake, index, credentials, fault, asked, given)
+}
+
+/// Whether something explains the departure that arrived with the key, the last one first.
+fn explained_by(
+    intake: &Intake,
+    index: &Index<'_>,
+    asking: ByKey<'_>,
+    credentials: &Credentials,
+    fault: Fault,
+    key: u64,
+    given: &Sighting,
+) -> bool
+    requires index { IsIndex (taken intake.now) index.now }
+    requires asking { IsAsking (taken intake.now) asking }
+    ensures some { IsTrue result → ((asked : Sighting) × IsCaptured (taken intake.now) asked
+        × Explains (taken intake.now) (key_for credentials.now) fault asked given.now) }
+    ensures all { (asked : Sighting) → IsCaptured (taken intake.now) asked → IsAskedBy (taken intake.now).policy key asked →
+        Explains (taken intake.now) (key_for credentials.now) fault asked given.now → IsTrue result }
+{
+    let first = earliest(given, intake.policy().hold, asking.width);
+    let span = span_of_key(asking.places, key, first, given.hi);
+    let mut place = span.past;
+    'places: while span.first < place {
+        place -= 1;
+        if explains_at(
+            intake,
+            index,
+            credentials,
+            fault,
+            asking.places[place].sight,
+            given,
+        ) {
+            return true;
+        }
+    }
+    false
+}
+
+/// The same of what may have been relayed to a peer.
+fn explained_by_all_of_it(
+    intake: &Intake,
+    index: &Index<'_>,
+    asking: ByKey<'_>,
+    credentials: &Credentials,
+    fault: Fault,
+    given: &Sighting,
+) -> bool
+    requires index { IsIndex (taken intake.now) index.now }
+    requires asking { IsAsking (taken intake.now) asking }
+    ensures some { IsTrue result → ((asked : Sighting) × IsCaptured (taken intake.now) asked
+        × Explains (taken intake.now) (key_for credentials.now) fault asked given.now) }
+    ensures all { (key : ℕ) (asked : Sighting) → IsTrue (relays (taken intake.now).policy given.now.from) → key ≡ digest_of given.now.payload → IsCaptured (taken intake.now) asked →
+        IsAskedBy (taken intake.now).policy key asked → Explains (taken intake.now) (key_for credentials.now) fault asked given.now → IsTrue result }
+{
+    if !intake.policy().relays(given.from) {
+        return false;
+    }
+    let key = digest(given.payload.as_slice());
+    explained_by(intake, index, asking, credentials, fault, key, given)
+}
+
+/// The same of a message to a client.
+fn explained_by_message(
+    intake: &Intake,
+    index: &Index<'_>,
+    asking: ByKey<'_>,
+    credentials: &Credentials,
+    fault: Fault,
+    given: &Sighting,
+) -> bool
+    requires index { IsIndex (taken intake.now) index.now }
+    requires asking { IsAsking (taken intake.now) asking }
+    ensures some { IsTrue result → ((asked : Sighting) × IsCaptured (taken intake.now) asked
+        × Explains (taken intake.now) (key_for credentials.now) fault asked given.now) }
+    ensures all { (key : ℕ) (asked : Sighting) → HasMessageKey given.now.payload key → IsCaptured (taken intake.now) asked →
+        IsAskedBy (taken intake.now).policy key asked → Explains (taken intake.now) (key_for credentials.now) fault asked given.now → IsTrue result }
+{
+    let Some(key) = message_key(given.payload.as_slice()) else {
+        return false;
+    };
+    explained_by(intake, index, asking, credentials, fault, key, given)
+}
+
+/// The same of ChannelData to a client.
+fn explained_by_channel(
+    intake: &Intake,
+    index: &Index<'_>,
+    asking: ByKey<'_>,
+    credentials: &Credentials,
+    fault: Fault,
+    given: &Sighting,
+) -> bool
+    requires index { IsIndex (taken intake.now) index.now }
+    requires asking { IsAsking (taken intake.now) asking }
+    ensures some { IsTrue result → ((asked : Sighting) × IsCaptured (taken intake.now) asked
+        × Explains (taken intake.now) (key_for credentials.now) fault asked given.now) }
+    ensures all { (key : ℕ) (asked : Sighting) → HasChannelKey given.now.payload key → IsCaptured (taken intake.now) asked →
+        IsAskedBy (taken intake.now).policy key asked → Explains (taken intake.now) (key_for credentials.now) fault asked given.now → IsTrue result }
+{
+    let Some(key) = channel_key(given.payload.as_slice()) else {
+        return false;
+    };
+    explained_by(intake, index, asking, credentials, fault, key, given)
+}
+
+/// Whether something explains the departure that arrived with a key of it: what explains it has one.
+pub fn is_explained_by_keys(
+    intake: &Intake,
+    index: &Index<'_>,
+    asking: ByKey<'_>,
+    credentials: &Credentials,
+    fault: Fault,
+    given: &Sighting,
+) -> bool
+    requires index { IsIndex (taken intake.now) index.now }
+    requires asking { IsAsking (taken intake.now) asking }
+    ensures { IsTrue result ↔ ((asked : Sighting) × IsCaptured (taken intake.now) asked
+        × Explains (taken intake.now) (key_for credentials.now) fault asked given.now) }
+{
+    if explained_by_all_of_it(intake, index, asking, credentials, fault, given) {
+        return true;
+    }
+    if explained_by_message(intake, index, asking, credentials, fault, given) {
+        return true;
+    }
+    explained_by_channel(intake, index, asking, credentials, fault, given)
+}
