@@ -36,34 +36,48 @@ fn file_option<'a>(alloc: Global, name: &'a str, value: &'a str, help: &'a str) 
         .action(ArgAction::Set)
 }
 
-fn command<'a>(alloc: Global) -> Result<Command<'a>, AllocError> {
-    let captures = Arg::new(alloc, "captures")
+/// The captures.
+fn captures_argument<'a>(alloc: Global) -> Arg<'a> {
+    Arg::new(alloc, "captures")
         .value_name("CAPTURE")
         .help(
             "Captures of the server's interfaces, as dumpcap writes them; their order numbers them from 0",
         )
         .required(true)
         .num_args(1..)
-        .action(ArgAction::Append);
-    let policy = file_option(
+        .action(ArgAction::Append)
+}
+
+/// The option with the policy.
+fn policy_option<'a>(alloc: Global) -> Arg<'a> {
+    file_option(
         alloc,
         "policy",
         "POLICY",
         "Which endpoints are the server's",
-    );
-    let credentials = file_option(
+    )
+    .required(true)
+}
+
+/// The option with the users.
+fn users_option<'a>(alloc: Global) -> Arg<'a> {
+    file_option(
         alloc,
         "creds",
         "CREDENTIALS",
         "The server's users and their passwords; without it there are none",
-    );
+    )
+}
+
+/// Each option is made where it is added: one that waits in a variable is let go on each way out, and each of these is proved.
+fn command<'a>(alloc: Global) -> Result<Command<'a>, AllocError> {
     Command::new(alloc, "turnaudit_faults")
         .about(ABOUT)
         .after_help(STATUSES)
         .arg_required_else_help(true)
-        .arg(policy.required(true))?
-        .arg(credentials)?
-        .arg(captures)
+        .arg(policy_option(alloc))?
+        .arg(users_option(alloc))?
+        .arg(captures_argument(alloc))
 }
 
 /// The request that an error of clap stands for.

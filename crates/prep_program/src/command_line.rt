@@ -2,12 +2,14 @@
 
 mod cut;
 mod look;
+mod policy;
 mod reassemble;
 mod translate;
 mod users;
 
 use self::cut::{cut_command, cut_request};
 use self::look::{look_command, look_request};
+use self::policy::{policy_command, policy_request};
 use self::reassemble::{reassemble_command, reassemble_request};
 use self::translate::{translate_command, translate_request};
 use self::users::{users_command, users_request};
@@ -16,7 +18,6 @@ use crate::reassembling::ReassembleRequest;
 use crate::set_aside::CutRequest;
 use crate::translating::TranslateRequest;
 use crate::users::UsersRequest;
-use audit_model::read_ip;
 use clap::error::ErrorKind;
 use clap::{Arg, ArgAction, ArgMatches, Command, Error};
 use std::alloc::{AllocError, Global};
@@ -54,7 +55,7 @@ pub enum Request<'a> {
 }
 
 /// The release, and the line of `rt version` that names what it is proved with.
-const VERSION: &str = "0.1.0, proved with rattle-kit-13b logic dac8208d650f15bf";
+const VERSION: &str = "0.1.0, proved with rattle-kit-13f logic dac8208d650f15bf";
 
 const ABOUT: &str = "Makes captures and a policy ready for turnaudit. It judges nothing";
 
@@ -65,13 +66,6 @@ const ABOUT_JOIN: &str = "Joins the captures of a ring, in their order, to one c
 
 const EXAMPLE_JOIN: &str =
     "Example:\n  turnprep join -o call.pcapng ring_00001_20261126120000.pcapng ring_00002_20261126120500.pcapng\n\nwrites call.pcapng: the first file whole, and of each other all blocks but the section header and the interfaces.";
-
-const ABOUT_POLICY: &str = "Writes the policy that coturn's configuration comes to";
-
-const EXAMPLE_POLICY: &str =
-    "Example:\n  turnprep policy --turnserver-conf /etc/turnserver.conf > policy\n\nwrites a listen line for each address and port at which coturn takes UDP, and a relay line for each relay address.";
-
-const NOT_AN_ADDRESS: &str = "turnprep: --listening-ip and --relay-ip are IPv4 addresses\n";
 
 /// The captures that a command reads.
 fn captures_argument<'a>(alloc: Global) -> Arg<'a> {
@@ -100,59 +94,23 @@ fn usage<'a>(alloc: Global, text: &str) -> Result<Option<Request<'a>>, AllocErro
     Ok(Some(Request::Usage(String::from_str(alloc, text)?)))
 }
 
-/// The command `join`.
-fn join_command<'a>(alloc: Global) -> Result<Command<'a>, AllocError> {
-    let file = Arg::new(alloc, "out")
+/// The file that is made.
+fn file_argument<'a>(alloc: Global) -> Arg<'a> {
+    Arg::new(alloc, "out")
         .short('o')
         .value_name("FILE")
         .help("The file that is made; one that is there is never written over")
         .required(true)
-        .action(ArgAction::Set);
+        .action(ArgAction::Set)
+}
+
+/// The command `join`.
+fn join_command<'a>(alloc: Global) -> Result<Command<'a>, AllocError> {
     Command::new(alloc, "join")
         .about(ABOUT_JOIN)
         .after_help(EXAMPLE_JOIN)
-        .arg(file)?
+        .arg(file_argument(alloc))?
         .arg(captures_argument(alloc))
-}
-
-/// An option with addresses.
-fn addresses_option<'a>(alloc: Global, name: &'a str, help: &'a str) -> Arg<'a> {
-    Arg::new(alloc, name)
-        .long(name)
-        .value_name("IP")
-        .help(help)
-        .action(ArgAction::Append)
-}
-
-/// The command `policy`.
-fn policy_command<'a>(alloc: Global) -> Result<Command<'a>, AllocError> {
-    let file = Arg::new(alloc, "turnserver-conf")
-        .long("turnserver-conf")
-        .value_name("FILE")
-        .help("coturn's configuration")
-        .required(true)
-        .action(ArgAction::Set);
-    let translated = Arg::new(alloc, "translated")
-        .long("translated")
-        .help("The captures are those with external-ip's addresses put in")
-        .action(ArgAction::SetTrue);
-    let listening = addresses_option(
-        alloc,
-        "listening-ip",
-        "An address at which coturn listens, which its configuration doesn't say",
-    );
-    let relaying = addresses_option(
-        alloc,
-        "relay-ip",
-        "An address from which coturn relays, which its configuration doesn't say",
-    );
-    Command::new(alloc, "policy")
-        .about(ABOUT_POLICY)
-        .after_help(EXAMPLE_POLICY)
-        .arg(file)?
-        .arg(listening)?
-        .arg(relaying)?
-        .arg(translated)
 }
 
 /// Adds the commands that make a policy and credentials.
@@ -177,13 +135,15 @@ fn with_captures<'a>(alloc: Global, command: Command<'a>) -> Result<Command<'a>,
 
 /// The whole command line.
 fn command<'a>(alloc: Global) -> Result<Command<'a>, AllocError> {
-    let command = Command::new(alloc, "turnprep")
-        .version(VERSION)
-        .about(ABOUT)
-        .after_help(STATUSES)
-        .arg_required_else_help(true)
-        .subcommand_required(true);
-    let command = with_policy_and_users(alloc, command)?;
+    let command = with_policy_and_users(
+        alloc,
+        Command::new(alloc, "turnprep")
+            .version(VERSION)
+            .about(ABOUT)
+            .after_help(STATUSES)
+            .arg_required_else_help(true)
+            .subcommand_required(true),
+    )?;
     with_captures(alloc, command)
 }
 
@@ -211,47 +171,6 @@ fn join_request<'a>(
     Ok(Some(Request::Join {
         captures: Vec::from_slice(alloc, names)?,
         file,
-    }))
-}
-
-/// The addresses that an option says, or nothing where one of them is none.
-fn addresses_of(
-    alloc: Global,
-    matches: &ArgMatches<'_>,
-    name: &str,
-) -> Result<Option<Vec<u32>>, AllocError> {
-    let mut addresses = Vec::new(alloc);
-    if let Some(words) = matches.get_strs(name) {
-        for word in words {
-            match read_ip(word.as_bytes()) {
-                Ok(ip) => addresses.push(ip)?,
-                Err(_) => return Ok(None),
-            }
-        }
-    }
-    Ok(Some(addresses))
-}
-
-/// The request that the words of the command `policy` are.
-fn policy_request<'a>(
-    alloc: Global,
-    matches: &ArgMatches<'a>,
-) -> Result<Option<Request<'a>>, AllocError> {
-    let Some(file) = matches.get_str("turnserver-conf") else {
-        return Ok(None);
-    };
-    let (Some(listening), Some(relaying)) = (
-        addresses_of(alloc, matches, "listening-ip")?,
-        addresses_of(alloc, matches, "relay-ip")?,
-    ) else {
-        let text = String::from_str(alloc, NOT_AN_ADDRESS)?;
-        return Ok(Some(Request::Usage(text)));
-    };
-    Ok(Some(Request::Policy {
-        file,
-        listening,
-        relaying,
-        is_translated: matches.get_flag("translated"),
     }))
 }
 

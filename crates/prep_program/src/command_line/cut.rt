@@ -64,16 +64,23 @@ fn with_switches<'a>(alloc: Global, command: Command<'a>) -> Result<Command<'a>,
         .arg(switch(alloc, "keep-inner", keep_inner))
 }
 
-/// The command `cut`.
-pub(super) fn cut_command<'a>(alloc: Global) -> Result<Command<'a>, AllocError> {
-    let policy = value(alloc, "policy", "FILE", "The policy of the audit").required(true);
-    let command = Command::new(alloc, "cut")
+/// The option with the policy.
+fn policy_option<'a>(alloc: Global) -> Arg<'a> {
+    value(alloc, "policy", "FILE", "The policy of the audit").required(true)
+}
+
+/// The command with its name and its files.
+fn begun<'a>(alloc: Global) -> Result<Command<'a>, AllocError> {
+    Command::new(alloc, "cut")
         .about(ABOUT)
         .after_help(EXAMPLE)
-        .arg(policy)?
-        .arg(folder_option(alloc))?;
-    let command = with_numbers(alloc, command)?;
-    with_switches(alloc, command)?.arg(captures_argument(alloc))
+        .arg(policy_option(alloc))?
+        .arg(folder_option(alloc))
+}
+
+/// The command `cut`.
+pub(super) fn cut_command<'a>(alloc: Global) -> Result<Command<'a>, AllocError> {
+    with_switches(alloc, with_numbers(alloc, begun(alloc)?)?)?.arg(captures_argument(alloc))
 }
 
 /// The number that an option says, if it says one; nothing where it isn't a number.

@@ -23,25 +23,33 @@ const MAX_CAPTURES: usize = 16;
 /// A policy has so many relay ranges at the most.
 const MAX_TRANSLATIONS: usize = 64;
 
-/// The command.
-pub(super) fn translate_command<'a>(alloc: Global) -> Result<Command<'a>, AllocError> {
-    let policy = Arg::new(alloc, "policy")
+/// The option with the policy.
+fn policy_option<'a>(alloc: Global) -> Arg<'a> {
+    Arg::new(alloc, "policy")
         .long("policy")
         .value_name("FILE")
         .help("The policy, with the relay ranges of the public addresses")
         .required(true)
-        .action(ArgAction::Set);
-    let external = Arg::new(alloc, "external-ip")
+        .action(ArgAction::Set)
+}
+
+/// The option with addresses that stand for others.
+fn external_option<'a>(alloc: Global) -> Arg<'a> {
+    Arg::new(alloc, "external-ip")
         .long("external-ip")
         .value_name("PUBLIC/PRIVATE")
         .help("A public address, and the one in the captures that it stands for")
         .required(true)
-        .action(ArgAction::Append);
+        .action(ArgAction::Append)
+}
+
+/// The command.
+pub(super) fn translate_command<'a>(alloc: Global) -> Result<Command<'a>, AllocError> {
     Command::new(alloc, "translate")
         .about(ABOUT)
         .after_help(EXAMPLE)
-        .arg(policy)?
-        .arg(external)?
+        .arg(policy_option(alloc))?
+        .arg(external_option(alloc))?
         .arg(folder_option(alloc))?
         .arg(captures_argument(alloc))
 }

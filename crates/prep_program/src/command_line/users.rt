@@ -22,33 +22,27 @@ fn value_option<'a>(alloc: Global, name: &'a str, value: &'a str, help: &'a str)
         .action(ArgAction::Set)
 }
 
-/// The command.
-pub(super) fn users_command<'a>(alloc: Global) -> Result<Command<'a>, AllocError> {
-    let configuration = value_option(alloc, "turnserver-conf", "FILE", "coturn's configuration");
-    let secret = value_option(
-        alloc,
-        "secret",
-        "S",
-        "The secret of which passwords are made (static-auth-secret)",
-    );
-    let realm = value_option(
-        alloc,
-        "realm",
-        "R",
-        "The realm, where the configuration doesn't say it, or the only one that is wanted",
-    );
-    let captures = Arg::new(alloc, "captures")
+/// The captures with requests of users.
+fn captures_option<'a>(alloc: Global) -> Arg<'a> {
+    Arg::new(alloc, "captures")
         .value_name("CAPTURE")
         .help("Captures with requests of the users")
         .num_args(1..)
-        .action(ArgAction::Append);
+        .action(ArgAction::Append)
+}
+
+/// The command.
+pub(super) fn users_command<'a>(alloc: Global) -> Result<Command<'a>, AllocError> {
+    let configuration = "coturn's configuration";
+    let secret = "The secret of which passwords are made (static-auth-secret)";
+    let realm = "The realm, where the configuration doesn't say it, or the only one that is wanted";
     Command::new(alloc, "users")
         .about(ABOUT)
         .after_help(EXAMPLE)
-        .arg(configuration)?
-        .arg(secret)?
-        .arg(realm)?
-        .arg(captures)
+        .arg(value_option(alloc, "turnserver-conf", "FILE", configuration))?
+        .arg(value_option(alloc, "secret", "S", secret))?
+        .arg(value_option(alloc, "realm", "R", realm))?
+        .arg(captures_option(alloc))
 }
 
 /// The request that the words are.
