@@ -23,7 +23,7 @@ import crates
 PROGRAM = "turnaudit"
 BUILT = crates.TOP / "out" / "turnaudit-unproved"
 # The release line's constant, and what an unproved build has in its place.
-RELEASE = crates.TOP / "crates" / "audit_program" / "src" / "command_line.rt"
+RELEASE = crates.TOP / "crates" / "audit_program" / "src" / "commands.rt"
 PROVED_WITH = ", proved with "
 # What the one line says of it.
 TOLD = "out/turnaudit-unproved has run-time checks in place of proofs"

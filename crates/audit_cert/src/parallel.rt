@@ -1,6 +1,6 @@
 //! A certificate written to a sink, its lanes' lines made by many threads.
 
-ghost use Rattle.std.specs.Prelude.{◌≡◌, ◌≤◌, ◌<◌, ◌++◌, codes, length, OnOk, OnErr, IfErr};
+ghost use Rattle.std.specs.Prelude.{◌≡◌, ◌≤◌, ◌<◌, ◌++◌, codes, length, IfOk, OnOk, OnErr, IfErr};
 ghost use Rattle.std.specs.List.{flat_map};
 ghost use Rattle.audit_model.specs.Sink.{followed_by, raised_by, IsFollowedByFront};
 ghost use Rattle.audit_model.specs.declared.write_fault.WriteFault.TheVariants as fault;
@@ -8,11 +8,11 @@ ghost use Rattle.audit_cert.specs.Spelling.{lane_lines, drop_line, spelling, sai
 ghost use Rattle.audit_cert.specs.Pieces.{piece_text};
 ghost use Rattle.audit_cert.specs.Writing.{Puts};
 
-use crate::piece_texts::text_of;
+use crate::piece_texts::{joined, text_of};
 use crate::pieces::{Piece, pieces_of};
-use crate::writing::{put, put_drops_on, put_front, write};
+use crate::writing::{put, put_drops_on, put_front, text_of_end, text_of_front};
 use audit_model::{CertLane, Certificate, Sink, WriteFault};
-use std::alloc::Global;
+use std::alloc::{AllocError, Global};
 use std::thread::Threads;
 
 /// Lines of so many events for each thread are made before they go out.
@@ -95,7 +95,59 @@ fn put_lanes_on<R: Threads + Sync, W: Sink>(
     put_drops_on(alloc, certificate.drops.as_slice(), out)
 }
 
-fn put_certificate<R: Threads + Sync, W: Sink>(
+/// Whether a certificate has no more lines of events and drops than are made before they go out.
+fn has_few_lines(certificate: &Certificate) -> bool {
+    let mut lines = certificate.drops.len();
+    'lanes: for lane in certificate.lanes.as_slice() {
+        lines = lines.saturating_add(lane.events.len());
+    }
+    lines <= EVENTS
+}
+
+/// The lanes' lines.
+fn text_of_lanes<R: Threads + Sync>(
+    rt: &R,
+    alloc: Global,
+    lanes: &[CertLane],
+    workers: u32,
+) -> Result<Vec<u8>, AllocError>
+    ensures { IfOk result (λ text. text.items ≡ flat_map lane_lines lanes.now) }
+{
+    let pieces = pieces_of(alloc, lanes)?;
+    text_of(rt, alloc, pieces.as_slice(), workers)
+}
+
+/// The certificate's one spelling.
+fn text_of_certificate<R: Threads + Sync>(
+    rt: &R,
+    alloc: Global,
+    certificate: &Certificate,
+    workers: u32,
+) -> Result<Vec<u8>, AllocError>
+    ensures { IfOk result (λ text. text.items ≡ spelling (said_by certificate.now)) }
+{
+    let front = text_of_front(alloc, certificate.skews.as_slice())?;
+    let lanes = text_of_lanes(rt, alloc, certificate.lanes.as_slice(), workers)?;
+    let end = text_of_end(alloc, certificate.drops.as_slice())?;
+    joined(front, joined(lanes, end)?)
+}
+
+/// Puts a certificate of few lines, all of which are made before any goes out.
+fn put_together<R: Threads + Sync, W: Sink>(
+    rt: &R,
+    alloc: Global,
+    certificate: &Certificate,
+    workers: u32,
+    out: &mut W,
+) -> Result<(), WriteFault>
+    ensures { Puts (spelling (said_by certificate.now)) result (record { taken = W.taken out.old; taken_now = W.taken out.new; failures = W.failures out.old; failures_now = W.failures out.new }) }
+{
+    let text = text_of_certificate(rt, alloc, certificate, workers)?;
+    put(text.as_slice(), out)
+}
+
+/// Puts a certificate's lines block by block.
+fn put_in_blocks<R: Threads + Sync, W: Sink>(
     rt: &R,
     alloc: Global,
     certificate: &Certificate,
@@ -108,8 +160,9 @@ fn put_certificate<R: Threads + Sync, W: Sink>(
     put_lanes_on(rt, alloc, certificate, workers, out)
 }
 
-/// Writes as `write` does, with the lines of the lanes made by so many threads at the most. It holds the lines of some 16,384 events for each of
-/// them at once, and 24 bytes for each lane and for each 1,024 events.
+/// Writes as `write` does, with the lines of the lanes made by so many threads at the most, and put some 16,384 for each of them at a time,
+/// so that a sink need gather nothing. Of a certificate with up to 16,384 events and drops nothing has gone out where there was no memory.
+/// It holds these lines, and 24 bytes for each lane and for each 1,024 events.
 pub fn write_parallel<R: Threads + Sync, W: Sink>(
     rt: &R,
     alloc: Global,
@@ -123,8 +176,8 @@ pub fn write_parallel<R: Threads + Sync, W: Sink>(
     ensures device { IfErr result (λ f. f ≡ fault.Device → W.failures out.new ≡ raised_by (W.failures out.old) 1) }
     ensures memory { IfErr result (λ f. f ≡ fault.Memory → W.failures out.new ≡ W.failures out.old) }
 {
-    if workers <= 1 {
-        return write(alloc, certificate, out);
+    if has_few_lines(certificate) {
+        return put_together(rt, alloc, certificate, workers, out);
     }
-    put_certificate(rt, alloc, certificate, workers, out)
+    put_in_blocks(rt, alloc, certificate, workers, out)
 }

@@ -58,7 +58,7 @@ fn text_in_turn(alloc: Global, pieces: &[Piece<'_>]) -> Result<Vec<u8>, AllocErr
 }
 
 /// One text, and another behind it.
-fn joined(text: Vec<u8>, more: Vec<u8>) -> Result<Vec<u8>, AllocError>
+pub fn joined(text: Vec<u8>, more: Vec<u8>) -> Result<Vec<u8>, AllocError>
     ensures { IfOk result (λ whole. whole.items ≡ text.items ++ more.items) }
 {
     let mut text = text;

@@ -1,6 +1,6 @@
 //! A certificate written to a sink, line by line.
 
-ghost use Rattle.std.specs.Prelude.{◌≡◌, ◌++◌, codes, OnOk, OnErr, IfErr};
+ghost use Rattle.std.specs.Prelude.{◌≡◌, ◌++◌, codes, IfOk, OnOk, OnErr, IfErr};
 ghost use Rattle.std.specs.List.{flat_map};
 ghost use Rattle.audit_model.specs.Sink.{followed_by, raised_by, IsFollowedByFront};
 ghost use Rattle.audit_model.specs.declared.write_fault.WriteFault.TheVariants as fault;
@@ -9,13 +9,16 @@ ghost use Rattle.audit_cert.specs.Writing.{Puts};
 
 use crate::spelling::{add_drop, add_event, add_skew, text_of_lane};
 use audit_model::{CertDrop, CertLane, CertSkew, Certificate, Event, Sink, WriteFault, put_all};
-use std::alloc::Global;
+use std::alloc::{AllocError, Global};
 
 const HEADING_LINE: &[u8; 24] = b"turnaudit-certificate 1\n";
 
 const SECOND_HEADING_LINE: &[u8; 24] = b"turnaudit-certificate 2\n";
 
 const END_LINE: &[u8; 4] = b"end\n";
+
+/// So many lines of drops are made before they go out.
+const LINES: usize = 16_384;
 
 /// Puts the bytes, all of them where it answers Ok.
 pub fn put<W: Sink>(bytes: &[u8], out: &mut W) -> Result<(), WriteFault>
@@ -68,23 +71,49 @@ fn put_lanes<W: Sink>(alloc: Global, lanes: &[CertLane], out: &mut W) -> Result<
     Ok(())
 }
 
-/// Puts a drop's line, which is made in the room of the one before.
-fn put_drop<W: Sink>(line: &mut Vec<u8>, drop: &CertDrop, out: &mut W) -> Result<(), WriteFault>
-    ensures { Puts (drop_line drop.now) result (record { taken = W.taken out.old; taken_now = W.taken out.new; failures = W.failures out.old; failures_now = W.failures out.new }) }
+/// The lines of drops.
+fn text_of_drops(alloc: Global, drops: &[CertDrop]) -> Result<Vec<u8>, AllocError>
+    ensures { IfOk result (λ text. text.items ≡ flat_map drop_line drops.now) }
 {
-    line.clear();
-    add_drop(line, drop)?;
-    put(line.as_slice(), out)
+    let mut text = Vec::new(alloc);
+    'drops: for drop in drops {
+        add_drop(&mut text, drop)?;
+    }
+    Ok(text)
 }
 
+/// Puts drops' lines, which are made before any goes out.
+fn put_drops_together<W: Sink>(
+    alloc: Global,
+    drops: &[CertDrop],
+    out: &mut W,
+) -> Result<(), WriteFault>
+    ensures { Puts (flat_map drop_line drops.now) result (record { taken = W.taken out.old; taken_now = W.taken out.new; failures = W.failures out.old; failures_now = W.failures out.new }) }
+{
+    let text = text_of_drops(alloc, drops)?;
+    put(text.as_slice(), out)
+}
+
+/// Puts drops' lines, so many at a time that a million of them aren't a million calls.
 fn put_drops<W: Sink>(alloc: Global, drops: &[CertDrop], out: &mut W) -> Result<(), WriteFault>
     ensures { Puts (flat_map drop_line drops.now) result (record { taken = W.taken out.old; taken_now = W.taken out.new; failures = W.failures out.old; failures_now = W.failures out.new }) }
 {
-    let mut line = Vec::new(alloc);
-    for drop in drops {
-        put_drop(&mut line, drop, out)?;
+    let mut done = 0;
+    'rounds: while done < drops.len() {
+        let end = drops.len().min(done.saturating_add(LINES));
+        put_drops_together(alloc, &drops[done..end], out)?;
+        done = end;
     }
     Ok(())
+}
+
+/// The drops' lines and the last line.
+pub fn text_of_end(alloc: Global, drops: &[CertDrop]) -> Result<Vec<u8>, AllocError>
+    ensures { IfOk result (λ text. text.items ≡ flat_map drop_line drops.now ++ codes "end\n") }
+{
+    let mut text = text_of_drops(alloc, drops)?;
+    text.extend_from_slice(END_LINE)?;
+    Ok(text)
 }
 
 /// Puts the drops' lines and the last line.
@@ -111,34 +140,36 @@ fn put_lanes_on<W: Sink>(
     put_drops_on(alloc, certificate.drops.as_slice(), out)
 }
 
-/// Puts a skew's line, which is made in the room of the one before.
-fn put_skew<W: Sink>(line: &mut Vec<u8>, skew: &CertSkew, out: &mut W) -> Result<(), WriteFault>
-    ensures { Puts (skew_line skew.now) result (record { taken = W.taken out.old; taken_now = W.taken out.new; failures = W.failures out.old; failures_now = W.failures out.new }) }
+/// Adds skews' lines.
+fn add_skews(text: &mut Vec<u8>, skews: &[CertSkew]) -> Result<(), AllocError>
+    ensures { OnOk result (text.new.items ≡ text.old.items ++ flat_map skew_line skews.now) }
 {
-    line.clear();
-    add_skew(line, skew)?;
-    put(line.as_slice(), out)
-}
-
-fn put_skews<W: Sink>(alloc: Global, skews: &[CertSkew], out: &mut W) -> Result<(), WriteFault>
-    ensures { Puts (flat_map skew_line skews.now) result (record { taken = W.taken out.old; taken_now = W.taken out.new; failures = W.failures out.old; failures_now = W.failures out.new }) }
-{
-    let mut line = Vec::new(alloc);
-    for skew in skews {
-        put_skew(&mut line, skew, out)?;
+    'skews: for skew in skews {
+        add_skew(text, skew)?;
     }
     Ok(())
 }
 
-/// Puts the heading, of version 2 where there are skews, and their lines.
+/// The heading, of version 2 where there are skews, and their lines.
+pub fn text_of_front(alloc: Global, skews: &[CertSkew]) -> Result<Vec<u8>, AllocError>
+    ensures { IfOk result (λ text. text.items ≡ front skews.now) }
+{
+    let mut text = Vec::new(alloc);
+    if skews.is_empty() {
+        text.extend_from_slice(HEADING_LINE)?;
+        return Ok(text);
+    }
+    text.extend_from_slice(SECOND_HEADING_LINE)?;
+    add_skews(&mut text, skews)?;
+    Ok(text)
+}
+
+/// Puts the heading and the skews' lines.
 pub fn put_front<W: Sink>(alloc: Global, skews: &[CertSkew], out: &mut W) -> Result<(), WriteFault>
     ensures { Puts (front skews.now) result (record { taken = W.taken out.old; taken_now = W.taken out.new; failures = W.failures out.old; failures_now = W.failures out.new }) }
 {
-    if skews.is_empty() {
-        return put(HEADING_LINE, out);
-    }
-    put(SECOND_HEADING_LINE, out)?;
-    put_skews(alloc, skews, out)
+    let text = text_of_front(alloc, skews)?;
+    put(text.as_slice(), out)
 }
 
 fn put_certificate<W: Sink>(

@@ -1,13 +1,15 @@
 -- Certificates that are found.
-use Rattle.std.specs.Prelude.{List, [], All}
+use Rattle.std.specs.Prelude.{◌≡◌, List, [], All, map}
 use Rattle.std.specs.List.Sorted.{IsSortedByKey}
 use Rattle.audit_model.specs.Breach.{key_cmp}
 use Rattle.audit_model.specs.Event.{key_of}
 use Rattle.audit_model.specs.declared.address.Addr.{Addr}
+use Rattle.audit_model.specs.declared.certificate.Certificate.{Certificate}
 use Rattle.audit_model.specs.declared.certificate.CertDrop.{CertDrop}
 use Rattle.audit_model.specs.declared.certificate.CertLane.{CertLane}
 use Rattle.audit_model.specs.declared.sighting.Side.TheVariants.{Arrives}
 use Rattle.audit_sightings.specs.Intake.{Taken, IsThere, NamesWhatIsThere}
+use Rattle.audit_clients.specs.Clients.{clients_of}
 
 -- a lane's client and listen address
 abbrev pub pair_of : CertLane → Addr × Addr
@@ -28,3 +30,8 @@ KeysRise lane = IsSortedByKey key_of key_cmp lane.events
 -- each drop names an arrival that is there
 abbrev pub AreThere : Taken → List CertDrop → Type 0
 AreThere taken drops = All (λ dropped. IsThere taken Arrives dropped.sight) drops
+
+-- what holds of each certificate that is found: its lanes are the clients that the captures show, and its events and drops name what is there
+abbrev pub IsFound : Taken → Certificate → Type 0
+IsFound taken certificate =
+    (map pair_of certificate.lanes ≡ clients_of taken) × AllNamed taken certificate.lanes × AreThere taken certificate.drops

@@ -6,7 +6,7 @@ ghost use Rattle.audit_sightings.specs.Intake.{taken, NamesWhatIsThere};
 ghost use Rattle.audit_model.specs.declared.certificate.TheConstants.{MAX_LANES};
 ghost use Rattle.audit_clients.specs.Clients.{same, with_new, row_lengths};
 ghost use Rattle.audit_finder.specs.Found.{AreThere};
-ghost use Rattle.audit_finder.specs.Turn.{StandInside};
+ghost use Rattle.audit_finding.specs.Turn.{StandInside};
 
 use crate::finding::extension;
 use crate::turn::Turn;

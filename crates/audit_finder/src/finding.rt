@@ -9,7 +9,7 @@ ghost use Rattle.audit_sightings.specs.Intake.{Taken, taken, NamesWhatIsThere};
 ghost use Rattle.audit_clients.specs.Clients.{same, clients_of, with_new};
 ghost use Rattle.audit_finder.specs.Found.{pair_of, AllNamed, AreThere, KeysRise};
 ghost use Rattle.audit_finder.specs.Departures.{outs, out_count, LeaveOnce, IsNoted};
-ghost use Rattle.audit_finder.specs.Turn.{StandInside};
+ghost use Rattle.audit_finding.specs.Turn.{StandInside};
 
 use crate::filling::{Filled, is_there};
 use crate::turn::Turn;

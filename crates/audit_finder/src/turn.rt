@@ -4,7 +4,7 @@ ghost use Rattle.std.specs.Prelude.{◌↔◌, All, IsTrue};
 ghost use Rattle.audit_model.specs.Event.{key_of};
 ghost use Rattle.audit_sightings.specs.Intake.{taken, NamesWhatIsThere};
 ghost use Rattle.audit_finder.specs.Found.{AreThere};
-ghost use Rattle.audit_finder.specs.Turn.{IsInside};
+ghost use Rattle.audit_finding.specs.Turn.{IsInside};
 
 use crate::filling::{is_there, names_what_is_there};
 use audit_model::{CertDrop, Event, Side};

@@ -15,7 +15,11 @@ use std::thread::Threads;
 pub struct WalkAndPasses;
 
 impl CertificateFinder for WalkAndPasses {
+    ghost use Rattle.audit_finder.specs.Found.{IsFound};
+
     type Extending = Finder;
+
+    ghost finds = { IsFound };
 
     fn find_once(
         &self,
@@ -56,6 +60,8 @@ impl CertificateFinder for WalkAndPasses {
 }
 
 impl ExtensionFinder for Finder {
+    ghost given_to = { λ finder. finder.search.given_to };
+
     fn extend(
         &mut self,
         intake: &Intake,

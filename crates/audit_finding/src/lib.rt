@@ -1,9 +1,10 @@
 //! What a finder of certificates is.
 //!
-//! Nothing rests on a finder. It promises to return and no more: whatever it gives is judged, or refused. So the program is stated and
-//! proved for every finder, and its proofs don't wait for those of the one that it has.
+//! No verdict rests on a finder: whatever it gives is judged, or refused. It promises to return, and where captures grow to give what comes
+//! in turn. So the program is stated and proved for every finder, and its proofs don't wait for those of the one that it has.
 #![tactic(auto)]
 
+ghost use Rattle.std.specs.Prelude.{◌≡◌, None, IfOk};
 ghost use Rattle.std.specs.Thread.{IsSync};
 
 use audit_keys::Credentials;
@@ -22,8 +23,14 @@ pub struct FoundOnce {
 
 /// Finds certificates for what was captured.
 pub trait CertificateFinder {
+    ghost use Rattle.audit_model.specs.declared.certificate.Certificate.{Certificate as Found};
+    ghost use Rattle.audit_sightings.specs.Intake.{Taken, taken};
+
     /// What finds the certificate of captures that grow.
     type Extending: ExtensionFinder + Drop;
+
+    /// What holds of each certificate that it finds for what was captured.
+    ghost finds: { Taken → Found → Type 0 };
 
     /// Finds a certificate in the least time, by one walk over the sightings.
     fn find_once(
@@ -31,7 +38,8 @@ pub trait CertificateFinder {
         alloc: Global,
         intake: &Intake,
         credentials: &Credentials,
-    ) -> Result<FoundOnce, AllocError>;
+    ) -> Result<FoundOnce, AllocError>
+        ensures { IfOk result (λ found. finds (taken intake.now) found.certificate) };
 
     /// Finds a certificate by one walk in which leases last as long as they may: each request is acted on as its answer leaves.
     fn find_late(
@@ -39,7 +47,8 @@ pub trait CertificateFinder {
         alloc: Global,
         intake: &Intake,
         credentials: &Credentials,
-    ) -> Result<Certificate, AllocError>;
+    ) -> Result<Certificate, AllocError>
+        ensures { IfOk result (finds (taken intake.now)) };
 
     /// Finds a certificate with all that can be tried, by so many threads at the most.
     fn find<R: Threads + Sync>(
@@ -50,19 +59,30 @@ pub trait CertificateFinder {
         credentials: &Credentials,
         workers: u32,
     ) -> Result<Certificate, AllocError>
-        requires { IsSync R.row };
+        requires { IsSync R.row }
+        ensures { IfOk result (finds (taken intake.now)) };
 
     /// What finds the certificate of captures that grow, of which nothing was found yet.
-    fn extending(&self, alloc: Global) -> Self::Extending;
+    fn extending(&self, alloc: Global) -> Self::Extending
+        ensures { Self.Extending.given_to result ≡ None };
 }
 
 /// Finds the certificate of captures that grow, in portions.
 pub trait ExtensionFinder {
+    ghost use Rattle.std.specs.Prelude.{◌≡◌, ℕ, IfOk, OnOk, Option, Some};
+    ghost use Rattle.audit_finding.specs.Turn.{StandInside};
+
+    /// The last horizon, up to which it has given all that it will.
+    ghost given_to: { Self → Option ℕ };
+
     /// What the certificate gains up to a horizon. After want of memory nothing more is found.
     fn extend(
         &mut self,
         intake: &Intake,
         credentials: &Credentials,
         horizon: u64,
-    ) -> Result<Extension, AllocError>;
+    ) -> Result<Extension, AllocError>
+        // All of it stands past the last horizon, and no later than this one.
+        ensures inside { IfOk result (StandInside (given_to self.old) horizon) }
+        ensures given { OnOk result (given_to self.new ≡ Some horizon) };
 }

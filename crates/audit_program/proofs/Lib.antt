@@ -1,2 +1,2 @@
-pub mod Passing
 pub mod Following
+pub mod Earliest

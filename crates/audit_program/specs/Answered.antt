@@ -2,12 +2,14 @@
 use Rattle.std.specs.Prelude.{◌≡◌, ◌⊎◌, ℕ, List, [], Option, Some, Ok, Err, Result, IfNone, IfOk, IfSome, OnOk, length, string_bytes}
 use Rattle.std.specs.List.{AllZip}
 use Rattle.audit_cert.specs.CertText.{cert_of}
-use Rattle.audit_cert.specs.Spelling.{said_by}
+use Rattle.audit_cert.specs.Spelling.{said_by, spelling}
 use Rattle.audit_files.specs.declared.stop.Stop.{Stop}
-use Rattle.audit_files.specs.Judged.{IsAudited}
+use Rattle.audit_files.specs.Judged.{AreRead, IsAudited}
 use Rattle.audit_files.specs.Stops.{status_of_stop}
 use Rattle.audit_model.specs.declared.certificate.Certificate.{Certificate}
 use Rattle.audit_model.specs.Sink.{followed_by}
+use Rattle.audit_rules.specs.Keys.{KeyFor}
+use Rattle.audit_sightings.specs.Intake.{Taken}
 use Rattle.audit_program.specs.declared.command_line.Inputs.{Inputs}
 use Rattle.audit_program.specs.declared.command_line.Request.{Request}
 use Rattle.audit_program.specs.declared.command_line.Request.TheVariants.{Check, Audit, Find, Live, Help, Usage}
@@ -33,9 +35,19 @@ pub record Streams : Type 0 where
 abbrev pub IsSilent : Streams → Type 0
 IsSilent streams = streams.said_after ≡ streams.said_before
 
-module _ (holds : List ℕ → Option (List ℕ)) (given : ℕ → Option (List ℕ)) (streams : Streams) where
+-- What the finder finds of what these files' bytes say was written, by its one spelling.
+pub record IsWritten (finds : Taken → Certificate → Type 0) (policy users : List ℕ) (captures : List (List ℕ)) (before after : Option (List ℕ)) (status : ℕ) : Type 0 where
+  pub taken : Taken
+  pub key_for : KeyFor
+  pub read : AreRead policy users captures taken key_for
+  pub certificate : Certificate
+  pub found : finds taken certificate
+  pub written : after ≡ followed_by before (spelling (said_by certificate))
+  pub told : status ≡ 0
+
+module _ (holds : List ℕ → Option (List ℕ)) (given : ℕ → Option (List ℕ)) (finds : Taken → Certificate → Type 0) (streams : Streams) where
   -- Each command is its own: `check` tells the verdict by the certificate that is named, `audit` by one that is found, `live` that on what the
-  -- captures gave; help goes to standard output alone, and what is no request to standard error alone, with status 5.
+  -- captures gave; `find` writes what is found by its one spelling; help goes to standard output alone, and what is no request to standard error alone, with status 5.
   abbrev pub Answers : Request → Result ℕ Stop → Type 0
   Answers (Check inputs certificate workers) done =
       IsSilent streams × ((policy users text : List ℕ) (captures : List (List ℕ)) → HaveTexts holds inputs policy users → HaveCaptures holds inputs captures → holds certificate.now ≡ Some text →
@@ -43,7 +55,9 @@ module _ (holds : List ℕ → Option (List ℕ)) (given : ℕ → Option (List 
   Answers (Audit inputs workers) done =
       IsSilent streams × ((policy users : List ℕ) (captures : List (List ℕ)) → HaveTexts holds inputs policy users → HaveCaptures holds inputs captures →
       IfOk done (λ status. (found : Certificate) × IsAudited policy users captures found streams.before streams.after status))
-  Answers (Find inputs workers) done = IsSilent streams × IfOk done (λ status. status ≡ 0)
+  Answers (Find inputs workers) done =
+      IsSilent streams × ((policy users : List ℕ) (captures : List (List ℕ)) → HaveTexts holds inputs policy users → HaveCaptures holds inputs captures →
+      IfOk done (IsWritten finds policy users captures streams.before streams.after))
   Answers (Live inputs turns) done =
       IsSilent streams × ((policy users : List ℕ) → HaveTexts holds inputs policy users →
       IfOk done (λ status. (found : Certificate) × IsWatched policy users (length inputs.captures.items) given found streams.before streams.after status))
@@ -56,8 +70,8 @@ status_told (Ok status) = status
 status_told (Err stop) = status_of_stop stop
 
 -- The words came to a request, which was answered; a line about what stopped it may stand behind on standard error. Or there was no memory for the words.
-abbrev pub IsRun : (List ℕ → Option (List ℕ)) → (ℕ → Option (List ℕ)) → Streams → ℕ → Type 0
-IsRun holds given streams status =
-    ((request : Request) × (done : Result ℕ Stop) × (said : Option (List ℕ)) × Answers holds given (record streams { said_after = said }) request done
+abbrev pub IsRun : (List ℕ → Option (List ℕ)) → (ℕ → Option (List ℕ)) → (Taken → Certificate → Type 0) → Streams → ℕ → Type 0
+IsRun holds given finds streams status =
+    ((request : Request) × (done : Result ℕ Stop) × (said : Option (List ℕ)) × Answers holds given finds (record streams { said_after = said }) request done
     × (status ≡ status_told done) × OnOk done (streams.said_after ≡ said))
     ⊎ ((streams.after ≡ streams.before) × (status ≡ 3))

@@ -2,3 +2,4 @@ pub mod Following
 pub mod Watched
 pub mod Answered
 pub mod Deciding
+pub mod Horizon

@@ -1,6 +1,6 @@
 //! A certificate for captures, and the verdict by it.
 
-ghost use Rattle.std.specs.Prelude.{IfOk, IfSome};
+ghost use Rattle.std.specs.Prelude.{◌≡◌, IfOk, IfSome};
 ghost use Rattle.audit_files.specs.Judged.{Judges};
 ghost use Rattle.audit_keys.specs.KeyFor.{key_for};
 ghost use Rattle.audit_sightings.specs.Intake.{taken};
@@ -29,7 +29,8 @@ fn judged<R: Threads + Wait + Sync>(
     certificate: Certificate,
     workers: Workers,
 ) -> Result<Found, AllocError>
-    ensures { IfOk result (λ found. Judges (taken files.now.intake) (key_for files.now.users) found.certificate found.verdict) }
+    ensures judged { IfOk result (λ found. Judges (taken files.now.intake) (key_for files.now.users) found.certificate found.verdict) }
+    ensures same { IfOk result (λ found. found.certificate ≡ certificate) }
 {
     let verdict = verdict_of(
         rt,
@@ -53,7 +54,8 @@ fn found_late<R: Threads + Wait + Sync, F: CertificateFinder>(
     files: &Files,
     workers: Workers,
 ) -> Result<Found, AllocError>
-    ensures { IfOk result (λ found. Judges (taken files.now.intake) (key_for files.now.users) found.certificate found.verdict) }
+    ensures judged { IfOk result (λ found. Judges (taken files.now.intake) (key_for files.now.users) found.certificate found.verdict) }
+    ensures finds { IfOk result (λ found. F.finds (taken files.now.intake) found.certificate) }
 {
     let certificate = finder.find_late(alloc, &files.intake, &files.users)?;
     judged(rt, alloc, files, certificate, workers)
@@ -67,7 +69,8 @@ fn found_at_last<R: Threads + Wait + Sync, F: CertificateFinder>(
     files: &Files,
     workers: Workers,
 ) -> Result<Found, AllocError>
-    ensures { IfOk result (λ found. Judges (taken files.now.intake) (key_for files.now.users) found.certificate found.verdict) }
+    ensures judged { IfOk result (λ found. Judges (taken files.now.intake) (key_for files.now.users) found.certificate found.verdict) }
+    ensures finds { IfOk result (λ found. F.finds (taken files.now.intake) found.certificate) }
 {
     let certificate = finder.find(rt, alloc, &files.intake, &files.users, workers.count)?;
     judged(rt, alloc, files, certificate, workers)
@@ -89,6 +92,7 @@ fn decided<R: Threads + Wait + Sync, F: CertificateFinder>(
     ensures judged { IfOk result (λ walk. IfSome walk (λ found. Judges (taken files.now.intake) (key_for files.now.users) found.certificate found.verdict)) }
     // Where any certificate conforms, this one does.
     ensures decides { IfOk result (λ walk. IfSome walk (λ found. Decides (taken files.now.intake) (key_for files.now.users) found.certificate)) }
+    ensures finds { F.finds (taken files.now.intake) certificate → IfOk result (λ walk. IfSome walk (λ found. F.finds (taken files.now.intake) found.certificate)) }
 {
     let once = judged(rt, alloc, files, certificate, workers)?;
     match outlook_by(alloc, files, &once.certificate, &once.verdict)? {
@@ -115,7 +119,8 @@ pub fn found_either_way<R: Threads + Wait + Sync, F: CertificateFinder>(
     files: &Files,
     workers: Workers,
 ) -> Result<Found, AllocError>
-    ensures { IfOk result (λ found. Judges (taken files.now.intake) (key_for files.now.users) found.certificate found.verdict) }
+    ensures judged { IfOk result (λ found. Judges (taken files.now.intake) (key_for files.now.users) found.certificate found.verdict) }
+    ensures finds { IfOk result (λ found. F.finds (taken files.now.intake) found.certificate) }
 {
     let once = finder.find_once(alloc, &files.intake, &files.users)?;
     match decided(rt, alloc, finder, files, once.certificate, workers)? {
@@ -131,7 +136,9 @@ pub fn certificate_for<R: Threads + Wait + Sync, F: CertificateFinder>(
     finder: &F,
     files: &Files,
     workers: Workers,
-) -> Result<Certificate, AllocError> {
+) -> Result<Certificate, AllocError>
+    ensures { IfOk result (F.finds (taken files.now.intake)) }
+{
     let once = finder.find_once(alloc, &files.intake, &files.users)?;
     if once.seems_conforming {
         return Ok(once.certificate);

@@ -1,12 +1,12 @@
 //! The whole program as a function: words in, files by a source, the answer and what is said of a refusal by two sinks, and the exit status.
 #![tactic(auto)]
 
-mod buffered;
 mod command_line;
+mod commands;
 mod finding;
 mod growing;
+mod horizon;
 mod live;
-mod newest;
 mod outlook;
 mod running;
 mod writing;

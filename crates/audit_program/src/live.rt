@@ -1,23 +1,26 @@
 //! The command `live`: captures are judged while they grow.
 
-ghost use Rattle.std.specs.Prelude.{◌≡◌, ◌≢◌, ◌<◌, ◌+◌, ℕ, List, [], Option, Some, IfNone, IfOk, IfSome, OnOk, length, vec_len, replicate};
+ghost use Rattle.std.specs.Prelude.{◌≡◌, ◌≢◌, ◌<◌, ◌+◌, ℕ, List, [], Option, None, Some, IfNone, IfOk, IfSome, OnOk, length, vec_len, replicate};
 ghost use Rattle.audit_keys.specs.KeyFor.{key_for};
 ghost use Rattle.audit_model.specs.declared.certificate.Certificate.{Certificate as Found};
 ghost use Rattle.audit_sightings.specs.Files.{StandsFor, not_fed};
 ghost use Rattle.audit_sightings.specs.Intake.{taken};
 ghost use Rattle.audit_verdict.specs.Verdicts.{IsConforming};
 ghost use Rattle.audit_whole.specs.Headline.{Headline};
+ghost use Rattle.audit_live.specs.Refusals.{standing_of};
+ghost use Rattle.audit_prefix.specs.Live.{IsOutOfTurn};
 ghost use Rattle.audit_program.specs.Following.{Follows, Goes, LeftBy};
+ghost use Rattle.audit_program.specs.Horizon.{IsTurned};
 ghost use Rattle.audit_program.specs.Watched.{IsToldOf, IsWatched};
-ghost use Rattle.audit_program.specs.declared.live.Turn.TheVariants.{Refused};
+ghost use Rattle.audit_program.specs.declared.live.Turn.TheVariants.{Quiet, Refused};
 
 use crate::command_line::Turns;
 use crate::growing::Growing;
-use crate::newest::Newest;
+use crate::horizon::next_horizon;
 use audit_files::{Source, Stop, read_policy, read_users};
 use audit_finding::{CertificateFinder, ExtensionFinder};
 use audit_live::{Live, LiveEnd, LiveFault};
-use audit_model::{Sink, Verdict};
+use audit_model::{Extension, Sink, Verdict};
 use audit_report::report;
 use std::alloc::{AllocError, Global};
 
@@ -32,9 +35,6 @@ const END: u64 = u64::MAX;
 struct Watch<F: Drop> {
     live: Live,
     finder: F,
-    newest: Newest,
-    /// The last horizon.
-    last: Option<u64>,
 }
 
 /// What a turn has come to.
@@ -103,20 +103,14 @@ impl<F: ExtensionFinder + Drop> Watch<F> {
             IfSome users.entry (λ name. S.holds source.old name.now ≡ Some users_text) → IfNone users.entry (users_text ≡ []) →
             IfOk result (λ watch. Goes policy_text users_text (length captures.now) (S.given source.new) watch.live) }
         ensures files { IfOk result (λ watch. vec_len watch.live.intake.files ≡ length captures.now) }
+        ensures step { F.given_to finder ≡ None → IfOk result (λ watch. F.given_to watch.finder ≡ watch.live.last) }
     {
         let policy = read_policy(alloc, source, policy)?;
         let users = read_users(alloc, source, users)?;
         let mut live = Live::open(alloc, policy, users);
         add_captures(&mut live, captures.len())?;
         source.start();
-        let (files, _) = live.intake().counts();
-        let newest = Newest::new(alloc, files)?;
-        Ok(Watch {
-            live,
-            finder,
-            newest,
-            last: None,
-        })
+        Ok(Watch { live, finder })
     }
 
     /// Feeds what a capture has next.
@@ -131,6 +125,7 @@ impl<F: ExtensionFinder + Drop> Watch<F> {
         ensures left { (policy users : List ℕ) (count : ℕ) → Goes policy users count (S.given source.old) self.old.live
             → IfOk result (λ turn. LeftBy turn policy users count (S.given source.new) self.new.live) }
         ensures files { vec_len self.new.live.intake.files ≡ vec_len self.old.live.intake.files }
+        ensures last { (self.new.live.last ≡ self.old.live.last) × (self.new.finder ≡ self.old.finder) }
     {
         let read = source.more(file, name, piece)?;
         match self.live.feed(file, &piece[..read]) {
@@ -150,6 +145,7 @@ impl<F: ExtensionFinder + Drop> Watch<F> {
         ensures left { (policy users : List ℕ) (count : ℕ) → Goes policy users count (S.given source.old) self.old.live
             → IfOk result (λ turn. LeftBy turn policy users count (S.given source.new) self.new.live) }
         ensures files { vec_len self.new.live.intake.files ≡ vec_len self.old.live.intake.files }
+        ensures last { (self.new.live.last ≡ self.old.live.last) × (self.new.finder ≡ self.old.finder) }
     {
         let mut turn = Turn::Quiet;
         let (files, _) = self.live.intake().counts();
@@ -163,28 +159,29 @@ impl<F: ExtensionFinder + Drop> Watch<F> {
         Ok(turn)
     }
 
-    /// How far the certificate can be found: what comes later of any capture may be answers to what came `hold` before, and nothing older.
-    fn horizon(&self) -> Option<u64> {
-        let horizon = self
-            .newest
-            .least()?
-            .saturating_sub(self.live.intake().policy().hold);
-        match self.last {
-            Some(last) if horizon <= last => None,
-            _ => Some(horizon),
-        }
+    /// What the finder gives up to a horizon. It is never out of turn, so no advance by it is refused for that (G2).
+    fn extension(&mut self, horizon: u64) -> Result<Extension, AllocError>
+        requires { F.given_to self.old.finder ≡ self.old.live.last }
+        ensures in_turn { IfOk result (λ extension. ¬ IsOutOfTurn (standing_of self.old.live) horizon extension) }
+        ensures given { OnOk result (F.given_to self.new.finder ≡ Some horizon) }
+        ensures live { self.new.live ≡ self.old.live }
+    {
+        self.finder
+            .extend(self.live.intake(), self.live.credentials(), horizon)
     }
 
     /// Finds the certificate up to a horizon, and tells what came of it.
     fn advance(&mut self, horizon: u64) -> Result<Turn, AllocError>
+        requires { F.given_to self.old.finder ≡ self.old.live.last }
         ensures left { (policy users : List ℕ) (count : ℕ) (given : ℕ → Option (List ℕ)) → Goes policy users count given self.old.live
             → IfOk result (λ turn. LeftBy turn policy users count given self.new.live) }
         ensures files { vec_len self.new.live.intake.files ≡ vec_len self.old.live.intake.files }
+        ensures intake { self.new.live.intake ≡ self.old.live.intake }
+        ensures fed { IfOk result (λ turn. turn ≢ Quiet) }
+        ensures last { IfOk result (λ turn. turn ≢ Refused → self.new.live.last ≡ Some horizon) }
+        ensures given { OnOk result (F.given_to self.new.finder ≡ Some horizon) }
     {
-        let extension = self
-            .finder
-            .extend(self.live.intake(), self.live.credentials(), horizon)?;
-        self.last = Some(horizon);
+        let extension = self.extension(horizon)?;
         match self.live.advance(horizon, extension) {
             Ok(_) => Ok(Turn::Fed),
             Err(_) => Ok(Turn::Refused),
@@ -198,18 +195,20 @@ impl<F: ExtensionFinder + Drop> Watch<F> {
         source: &mut S,
         piece: &mut [u8],
     ) -> Result<Turn, Stop>
-        requires { vec_len self.old.live.intake.files ≡ length names.now }
+        requires files { vec_len self.old.live.intake.files ≡ length names.now }
+        requires step { F.given_to self.old.finder ≡ self.old.live.last }
         ensures left { (policy users : List ℕ) (count : ℕ) → Goes policy users count (S.given source.old) self.old.live
             → IfOk result (λ turn. LeftBy turn policy users count (S.given source.new) self.new.live) }
         ensures files { vec_len self.new.live.intake.files ≡ vec_len self.old.live.intake.files }
+        ensures horizon { IfOk result (λ turn. IsTurned turn (taken self.new.live.intake) self.old.live.last self.new.live.last) }
+        ensures step { IfOk result (λ turn. turn ≢ Refused → F.given_to self.new.finder ≡ self.new.live.last) }
     {
         match self.feed_each(names, source, piece)? {
             Turn::Fed => {}
             Turn::Quiet => return Ok(Turn::Quiet),
             Turn::Refused => return Ok(Turn::Refused),
         }
-        self.newest.look(self.live.intake())?;
-        match self.horizon() {
+        match next_horizon(self.live.intake(), self.live.last()) {
             Some(horizon) => Ok(self.advance(horizon)?),
             None => Ok(Turn::Fed),
         }
@@ -223,12 +222,14 @@ impl<F: ExtensionFinder + Drop> Watch<F> {
         piece: &mut [u8],
         idle: u32,
     ) -> Result<Option<u32>, Stop>
-        requires { vec_len self.old.live.intake.files ≡ length names.now }
+        requires files { vec_len self.old.live.intake.files ≡ length names.now }
+        requires step { F.given_to self.old.finder ≡ self.old.live.last }
         ensures goes { (policy users : List ℕ) (count : ℕ) → Goes policy users count (S.given source.old) self.old.live
             → IfOk result (λ idle. IfSome idle (λ _. Goes policy users count (S.given source.new) self.new.live)) }
         ensures follows { (policy users : List ℕ) (count : ℕ) → Goes policy users count (S.given source.old) self.old.live
             → OnOk result (Follows policy users count (S.given source.new) self.new.live) }
         ensures files { vec_len self.new.live.intake.files ≡ vec_len self.old.live.intake.files }
+        ensures step { IfOk result (λ idle. IfSome idle (λ _. F.given_to self.new.finder ≡ self.new.live.last)) }
     {
         match self.turn(names, source, piece)? {
             Turn::Fed => Ok(Some(0)),
@@ -245,7 +246,8 @@ impl<F: ExtensionFinder + Drop> Watch<F> {
         turns: Turns,
         source: &mut S,
     ) -> Result<(), Stop>
-        requires { vec_len self.old.live.intake.files ≡ length names.now }
+        requires files { vec_len self.old.live.intake.files ≡ length names.now }
+        requires step { F.given_to self.old.finder ≡ self.old.live.last }
         ensures follows { (policy users : List ℕ) (count : ℕ) → Goes policy users count (S.given source.old) self.old.live
             → OnOk result (Follows policy users count (S.given source.new) self.new.live) }
     {

@@ -4,9 +4,8 @@ ghost use Rattle.std.specs.Prelude.{◌≡◌, [], ℕ, IfNone, IfOk, IfSome, Li
 ghost use Rattle.std.specs.List.{AllZip};
 ghost use Rattle.audit_files.specs.Judged.{IsAudited};
 ghost use Rattle.audit_model.specs.declared.certificate.Certificate.{Certificate as Found};
-ghost use Rattle.audit_program.specs.Answered.{Answers, IsRun};
+ghost use Rattle.audit_program.specs.Answered.{Answers, HaveCaptures, HaveTexts, IsRun, IsWritten};
 
-use crate::buffered::Buffered;
 use crate::command_line::{Inputs, Request, read as read_words};
 use crate::finding::{certificate_for, found_either_way};
 use crate::growing::Growing;
@@ -15,7 +14,7 @@ use crate::writing::{put_line, put_text};
 use audit_cert::write_parallel;
 use audit_files::{Source, Stop, Workers, check_files, read_files, tell};
 use audit_finding::CertificateFinder;
-use audit_model::{Certificate, Sink};
+use audit_model::Sink;
 use std::alloc::{AllocError, Global};
 use std::convert::AsStr;
 use std::sync::Wait;
@@ -45,21 +44,7 @@ pub fn audit_captures<R: Threads + Wait + Sync, F: CertificateFinder, S: Source,
     tell(alloc, &found.verdict, &files.intake, out)
 }
 
-/// Writes a certificate, whose lines are made by so many threads at the most.
-fn put_certificate<R: Threads + Sync, O: Sink>(
-    rt: &R,
-    alloc: Global,
-    certificate: &Certificate,
-    workers: u32,
-    out: &mut O,
-) -> Result<(), Stop> {
-    let mut buffered = Buffered::new(alloc, out)?;
-    write_parallel(rt, alloc, certificate, workers, &mut buffered)?;
-    buffered.flush()?;
-    Ok(())
-}
-
-/// Finds a certificate, and writes it.
+/// Finds a certificate, and writes its one spelling.
 fn run_find<R: Threads + Wait + Sync, F: CertificateFinder, S: Source, O: Sink>(
     rt: &R,
     alloc: Global,
@@ -69,7 +54,8 @@ fn run_find<R: Threads + Wait + Sync, F: CertificateFinder, S: Source, O: Sink>(
     source: &mut S,
     out: &mut O,
 ) -> Result<u8, Stop>
-    ensures { IfOk result (λ status. status ≡ 0) }
+    ensures { (policy users : List ℕ) (captures : List (List ℕ)) → HaveTexts (S.holds source.old) inputs.now policy users → HaveCaptures (S.holds source.old) inputs.now captures →
+        IfOk result (IsWritten F.finds policy users captures (O.taken out.old) (O.taken out.new)) }
 {
     let files = read_files(
         rt,
@@ -81,7 +67,7 @@ fn run_find<R: Threads + Wait + Sync, F: CertificateFinder, S: Source, O: Sink>(
         workers,
     )?;
     let certificate = certificate_for(rt, alloc, finder, &files, workers)?;
-    put_certificate(rt, alloc, &certificate, workers.count, out)?;
+    write_parallel(rt, alloc, &certificate, workers.count, out)?;
     // The program ends: to free each payload by itself would take longer than to write.
     std::mem::forget(files);
     Ok(0)
@@ -103,7 +89,7 @@ fn run_request<
     out: &mut O,
     err: &mut E,
 ) -> Result<u8, Stop>
-    ensures { Answers (S.holds source.old) (S.given source.new)
+    ensures { Answers (S.holds source.old) (S.given source.new) F.finds
         (record { before = O.taken out.old; after = O.taken out.new; said_before = E.taken err.old; said_after = E.taken err.new }) request.now result }
 {
     match request {
@@ -168,7 +154,7 @@ pub fn run<
     O: Sink,
     E: Sink,
 >(rt: &R, alloc: Global, finder: &F, words: &[N], source: &mut S, out: &mut O, err: &mut E) -> u8
-    ensures { IsRun (S.holds source.old) (S.given source.new)
+    ensures { IsRun (S.holds source.old) (S.given source.new) F.finds
         (record { before = O.taken out.old; after = O.taken out.new; said_before = E.taken err.old; said_after = E.taken err.new }) result }
 {
     let request = match read_words(alloc, words) {

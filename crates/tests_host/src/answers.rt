@@ -1,6 +1,7 @@
 //! Streams in memory, and what a run of the program writes to them.
 
 ghost use Rattle.std.specs.Prelude.{[], IfOk, Some};
+ghost use Rattle.audit_finder.specs.Found.{IsFound};
 ghost use Rattle.audit_program.specs.Answered.{IsRun};
 ghost use Rattle.tests_host.specs.Held.{gave_of, held_among};
 
@@ -64,6 +65,7 @@ pub fn ask(
     ensures { IfOk result (λ answer. IsRun
         (held_among files.old.policy.now files.old.credentials.now files.old.certificate.now files.old.capture.now files.old.second.now)
         (gave_of files.new.gave.items files.new.gave_second.items)
+        IsFound
         (record { before = Some []; after = Some answer.out.items; said_before = Some []; said_after = Some answer.err.items })
         answer.status) }
 {

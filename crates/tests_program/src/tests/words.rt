@@ -4,7 +4,7 @@ use super::rows::{CHECKED, NO_REQUEST, Row, Sample, answer_over, play};
 use std::test::Fail;
 use tests_host::{SECTION, Told};
 
-const RELEASE: &str = "turnaudit 0.1.0, proved with rattle-kit-13b logic dac8208d650f15bf\n";
+const RELEASE: &str = "turnaudit 0.1.0, proved with rattle-kit-13f logic dac8208d650f15bf\n";
 
 const WITHOUT_POLICY: Row<'static> = Row {
     name: "wrong_words_are_no_request, without a policy",

@@ -8,7 +8,7 @@ returns g c = λ policy_text users_text texts policy users none captures.
     let files = c.in_ok-files.files in
     let read = c.in_ok-files.ensures policy_text users_text texts policy users none captures in
     let found = c.in_ok-found.found in
-    let judges = c.in_ok-found.ensures in
+    let judges = c.in_ok-found.ensures.judged in
     if_ok c.tell.result (λ status told. (
       found.certificate,
       record {

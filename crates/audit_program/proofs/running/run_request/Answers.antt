@@ -26,3 +26,6 @@ returns-in-Live g c = rw (c.in-Live.is) (
       × IsWatched policy users (length of) (g.S.Growing.given c.run_live.new.source) found (g.O.Sink.taken c.args.out.now) (g.O.Sink.taken c.run_live.new.out) status))
       c.deref-in-Live.ensures.value (c.run_live.ensures policy users have.policy' have.users' have.nobody),
 )
+
+pub returns-in-Find : goal.returns-in-Find
+returns-in-Find g c = rw (c.in-Find.is) (refl, c.run_find.ensures)

@@ -1,4 +1,5 @@
 use Rattle.std.proofs.Common.{ℕ, [], List, Some, subst}
+use Rattle.audit_finder.specs.Found.{IsFound}
 use Rattle.audit_program.specs.Answered.{IsRun}
 use Rattle.tests_host.specs.Held.{gave_of, held_among}
 use Rattle.tests_host.proofs.answers.ask.Goals as goal
@@ -12,6 +13,7 @@ returns g c =
     let Claimed : List ℕ → List ℕ → Type 0 = λ before said_before. IsRun
     (held_among files.policy.now files.credentials.now files.certificate.now files.capture.now files.second.now)
     (gave_of given.gave.items given.gave_second.items)
+    IsFound
     (record { before = Some before; after = Some out.bytes.items; said_before = Some said_before; said_after = Some err.bytes.items })
     c.run-status.result in
     subst (λ before. Claimed before []) c.new.ensures.items (subst (λ said_before. Claimed c.new.result.items said_before) c.new-2.ensures.items c.run-status.ensures)

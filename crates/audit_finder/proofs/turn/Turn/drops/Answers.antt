@@ -2,7 +2,7 @@ use Rattle.std.proofs.Common.{rules}
 use Rattle.std.proofs.lemmas.Fn.{All-from_retain}
 use Rattle.audit_model.specs.declared.sighting.Side.TheVariants.{Arrives}
 use Rattle.audit_sightings.specs.Intake.{taken, IsThere}
-use Rattle.audit_finder.specs.Turn.{IsInside}
+use Rattle.audit_finding.specs.Turn.{IsInside}
 use Rattle.audit_finder.proofs.turn.Turn.drops.Goals as goal
 
 pub returns-clause-there : goal.returns-clause-there

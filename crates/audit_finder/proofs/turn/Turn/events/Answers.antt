@@ -2,7 +2,7 @@ use Rattle.std.proofs.Common.{rules}
 use Rattle.std.proofs.lemmas.Fn.{All-from_retain}
 use Rattle.audit_model.specs.Event.{key_of}
 use Rattle.audit_sightings.specs.Intake.{taken, NamesWhatIsThere}
-use Rattle.audit_finder.specs.Turn.{IsInside}
+use Rattle.audit_finding.specs.Turn.{IsInside}
 use Rattle.audit_finder.proofs.turn.Turn.events.Goals as goal
 
 pub returns-clause-named : goal.returns-clause-named

@@ -18,6 +18,7 @@ loop-file-preserved g c = record {
     | in-Fed w ↦ λ same. fed_apart (sym w.turn-is ∙ same)
     | in-Quiet w ↦ λ same. c.loop-file.invariant.apart (sym w.turn-is ∙ same)
   ];
+  last = (c.feed.ensures.last.0 ∙ c.loop-file.invariant.last.0, c.feed.ensures.last.1 ∙ c.loop-file.invariant.last.1);
   goes = λ policy users count goes.
       let left = c.in_ok-feed.ensures.left policy users count (c.loop-file.invariant.goes policy users count goes) in
       elim c.match-branch-2.branch [

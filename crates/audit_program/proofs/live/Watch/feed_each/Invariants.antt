@@ -9,5 +9,6 @@ invariant-loop-file g l = record {
   files : vec_len l.self.live.intake.files ≡ vec_len l.fn.self.live.intake.files;
   there : l.files ≡ vec_len l.fn.self.live.intake.files;
   apart : l.turn ≢ Refused;
+  last : (l.self.live.last ≡ l.fn.self.live.last) × (l.self.finder ≡ l.fn.self.finder);
   goes : (policy users : List ℕ) (count : ℕ) → Goes policy users count (g.S.Growing.given l.fn.source) l.fn.self.live → Goes policy users count (g.S.Growing.given l.source) l.self.live;
 }

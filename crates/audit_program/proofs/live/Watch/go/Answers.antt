@@ -1,4 +1,4 @@
-use Rattle.std.proofs.Common.{◌∙◌, ℕ, List, Option, ap, sym, subst}
+use Rattle.std.proofs.Common.{◌≡◌, ◌∙◌, ℕ, List, Option, ap, sym, subst}
 use Rattle.std.specs.Prelude.{IfSome}
 use Rattle.audit_program.specs.Following.{Goes}
 use Rattle.audit_program.specs.declared.live.Watch.{Watch}
@@ -14,6 +14,7 @@ returns-in-None g c = record {
 pub turns-preserved : goal.turns-preserved
 turns-preserved g c = record {
   files = c.turn_on.ensures.files ∙ c.turns.invariant.files;
+  step = subst (λ (o : Option ℕ). IfSome o (λ _. g.F.ExtensionFinder.given_to c.turn_on.new.self.finder ≡ c.turn_on.new.self.live.last)) c.in-Some.is c.in_ok-now.ensures.step;
   goes = λ policy users count goes.
       subst (λ (given : ℕ → Option (List ℕ)). Goes policy users count given c.turn_on.new.self.live) (sym c.pause_after.ensures)
       (subst (λ (o : Option ℕ). IfSome o (λ _. Goes policy users count (g.S.Growing.given c.turn_on.new.source) c.turn_on.new.self.live)) c.in-Some.is
@@ -38,3 +39,10 @@ returns g c = record {
             (w.in_ok-now.ensures.goes policy users count (c.turns.invariant.goes policy users count goes)))))
       ];
 }
+
+pub advance-requires : goal.advance-requires
+advance-requires g c = elim c.turns-test.branch [
+  | else-turns-test w ↦ subst (λ (watch : Watch _). g.F.ExtensionFinder.given_to watch.finder ≡ watch.live.last) (sym w.self-is) c.turns.invariant.step
+  | then-turns-test+in_ok-now+in-Some+then-idle-turns w ↦ subst (λ (watch : Watch _). g.F.ExtensionFinder.given_to watch.finder ≡ watch.live.last) (sym w.self-is)
+      (subst (λ (o : Option ℕ). IfSome o (λ _. g.F.ExtensionFinder.given_to w.turn_on.new.self.finder ≡ w.turn_on.new.self.live.last)) w.in-Some.is w.in_ok-now.ensures.step)
+]
