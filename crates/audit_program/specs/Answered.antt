@@ -14,6 +14,8 @@ use Rattle.audit_program.specs.declared.command_line.Inputs.{Inputs}
 use Rattle.audit_program.specs.declared.command_line.Request.{Request}
 use Rattle.audit_program.specs.declared.command_line.Request.TheVariants.{Check, Audit, Find, Live, Help, Usage}
 use Rattle.audit_program.specs.Watched.{IsWatched}
+use Rattle.audit_program.specs.Words.{Asks, turnaudit}
+use Rattle.clap.specs.Words.{Text, subcommand_of}
 
 -- the policy and the users that are named have these texts; where no users are named there are none
 pub record HaveTexts (holds : List ℕ → Option (List ℕ)) (inputs : Inputs) (policy users : List ℕ) : Type 0 where
@@ -69,9 +71,9 @@ abbrev pub status_told : Result ℕ Stop → ℕ
 status_told (Ok status) = status
 status_told (Err stop) = status_of_stop stop
 
--- The words came to a request, which was answered; a line about what stopped it may stand behind on standard error. Or there was no memory for the words.
-abbrev pub IsRun : (List ℕ → Option (List ℕ)) → (ℕ → Option (List ℕ)) → (Taken → Certificate → Type 0) → Streams → ℕ → Type 0
-IsRun holds given finds streams status =
-    ((request : Request) × (done : Result ℕ Stop) × (said : Option (List ℕ)) × Answers holds given finds (record streams { said_after = said }) request done
+-- The request is what the words ask for, and was answered; a line about what stopped it may stand behind on standard error. Or there was no memory for the words.
+abbrev pub IsRun : List Text → (List ℕ → Option (List ℕ)) → (ℕ → Option (List ℕ)) → (Taken → Certificate → Type 0) → Streams → ℕ → Type 0
+IsRun words holds given finds streams status =
+    ((request : Request) × Asks (subcommand_of turnaudit words) request × (done : Result ℕ Stop) × (said : Option (List ℕ)) × Answers holds given finds (record streams { said_after = said }) request done
     × (status ≡ status_told done) × OnOk done (streams.said_after ≡ said))
     ⊎ ((streams.after ≡ streams.before) × (status ≡ 3))

@@ -3,3 +3,4 @@ pub mod Watched
 pub mod Answered
 pub mod Deciding
 pub mod Horizon
+pub mod Words

@@ -1,5 +1,10 @@
 //! The commands and their options, as clap has them.
 
+ghost use Rattle.std.specs.Prelude.{◌≡◌, ◌≤◌, pos, false, IfOk};
+ghost use Rattle.clap.specs.Words.{app_of, rule_of};
+ghost use Rattle.clap.specs.declared.builder.Command.TheViews.{out-Command as fields_of};
+ghost use Rattle.audit_program.specs.Words as words;
+
 use clap::{Arg, ArgAction, Command};
 use std::alloc::{AllocError, Global};
 
@@ -36,7 +41,10 @@ const EXAMPLE_LIVE: &str =
     "Example:\n  turnaudit live --policy policy --creds users --idle 600 client.pcapng peer.pcapng\n\nreads what dumpcap still writes, and ends a minute after the last byte, or with the first rule that is broken.";
 
 /// An option with the name of a file.
-fn file_option<'a>(alloc: Global, name: &'a str, value: &'a str, help: &'a str) -> Arg<'a> {
+fn file_option<'a>(alloc: Global, name: &'a str, value: &'a str, help: &'a str) -> Arg<'a>
+    ensures rule { rule_of result ≡ words.valued name.entry.now }
+    ensures local { result.global ≡ false }
+{
     Arg::new(alloc, name)
         .long(name)
         .value_name(value)
@@ -45,7 +53,10 @@ fn file_option<'a>(alloc: Global, name: &'a str, value: &'a str, help: &'a str) 
 }
 
 /// The captures that a command reads.
-fn captures_argument<'a>(alloc: Global) -> Arg<'a> {
+fn captures_argument<'a>(alloc: Global) -> Arg<'a>
+    ensures rule { rule_of result ≡ words.captures }
+    ensures local { result.global ≡ false }
+{
     Arg::new(alloc, "captures")
         .value_name("CAPTURE")
         .help(
@@ -57,7 +68,10 @@ fn captures_argument<'a>(alloc: Global) -> Arg<'a> {
 }
 
 /// The option with the policy.
-fn policy_option<'a>(alloc: Global) -> Arg<'a> {
+fn policy_option<'a>(alloc: Global) -> Arg<'a>
+    ensures rule { rule_of result ≡ words.policy }
+    ensures local { result.global ≡ false }
+{
     file_option(
         alloc,
         "policy",
@@ -68,7 +82,10 @@ fn policy_option<'a>(alloc: Global) -> Arg<'a> {
 }
 
 /// The option with the users.
-fn users_option<'a>(alloc: Global) -> Arg<'a> {
+fn users_option<'a>(alloc: Global) -> Arg<'a>
+    ensures rule { rule_of result ≡ words.users }
+    ensures local { result.global ≡ false }
+{
     file_option(
         alloc,
         "creds",
@@ -78,7 +95,10 @@ fn users_option<'a>(alloc: Global) -> Arg<'a> {
 }
 
 /// The option with the certificate.
-fn certificate_option<'a>(alloc: Global) -> Arg<'a> {
+fn certificate_option<'a>(alloc: Global) -> Arg<'a>
+    ensures rule { rule_of result ≡ words.certificate }
+    ensures local { result.global ≡ false }
+{
     file_option(
         alloc,
         "cert",
@@ -95,7 +115,10 @@ fn command_of<'a>(
     name: &'a str,
     about: &'a str,
     example: &'a str,
-) -> Result<Command<'a>, AllocError> {
+) -> Result<Command<'a>, AllocError>
+    ensures app { IfOk result (λ command. app_of command ≡ words.command_of name.entry.now) }
+    ensures local { IfOk result (λ command. (fields_of command).has_globals ≡ false) }
+{
     Command::new(alloc, name)
         .about(about)
         .after_help(example)
@@ -105,7 +128,10 @@ fn command_of<'a>(
 }
 
 /// The option with the number of workers.
-fn workers_option<'a>(alloc: Global) -> Arg<'a> {
+fn workers_option<'a>(alloc: Global) -> Arg<'a>
+    ensures rule { rule_of result ≡ words.workers }
+    ensures local { result.global ≡ false }
+{
     Arg::new(alloc, "workers")
         .long("workers")
         .value_name("N")
@@ -116,7 +142,10 @@ fn workers_option<'a>(alloc: Global) -> Arg<'a> {
 }
 
 /// The option of `live` with a number of turns.
-fn turns_option<'a>(alloc: Global, name: &'a str, default: &'a str, help: &'a str) -> Arg<'a> {
+fn turns_option<'a>(alloc: Global, name: &'a str, default: &'a str, help: &'a str) -> Arg<'a>
+    ensures rule { rule_of result ≡ words.counted name.entry.now default.entry.now 1000000 }
+    ensures local { result.global ≡ false }
+{
     Arg::new(alloc, name)
         .long(name)
         .value_name("N")
@@ -127,7 +156,10 @@ fn turns_option<'a>(alloc: Global, name: &'a str, default: &'a str, help: &'a st
 }
 
 /// The option of `live` by which captures end that don't grow.
-fn idle_option<'a>(alloc: Global) -> Arg<'a> {
+fn idle_option<'a>(alloc: Global) -> Arg<'a>
+    ensures rule { rule_of result ≡ words.idle }
+    ensures local { result.global ≡ false }
+{
     turns_option(
         alloc,
         "idle",
@@ -137,7 +169,10 @@ fn idle_option<'a>(alloc: Global) -> Arg<'a> {
 }
 
 /// The option of `live` by which captures end that grow on.
-fn most_option<'a>(alloc: Global) -> Arg<'a> {
+fn most_option<'a>(alloc: Global) -> Arg<'a>
+    ensures rule { rule_of result ≡ words.most }
+    ensures local { result.global ≡ false }
+{
     turns_option(
         alloc,
         "turns",
@@ -147,14 +182,20 @@ fn most_option<'a>(alloc: Global) -> Arg<'a> {
 }
 
 /// The command `live`.
-fn live_command<'a>(alloc: Global) -> Result<Command<'a>, AllocError> {
+fn live_command<'a>(alloc: Global) -> Result<Command<'a>, AllocError>
+    ensures app { IfOk result (λ command. app_of command ≡ words.live) }
+    ensures local { IfOk result (λ command. (fields_of command).has_globals ≡ false) }
+{
     command_of(alloc, "live", ABOUT_LIVE, EXAMPLE_LIVE)?
         .arg(idle_option(alloc))?
         .arg(most_option(alloc))
 }
 
 /// The command `check`.
-fn check_command<'a>(alloc: Global) -> Result<Command<'a>, AllocError> {
+fn check_command<'a>(alloc: Global) -> Result<Command<'a>, AllocError>
+    ensures app { IfOk result (λ command. app_of command ≡ words.check) }
+    ensures local { IfOk result (λ command. (fields_of command).has_globals ≡ false) }
+{
     command_of(alloc, "check", ABOUT_CHECK, EXAMPLE_CHECK)?
         .arg(certificate_option(alloc))?
         .arg(workers_option(alloc))
@@ -166,18 +207,30 @@ fn finding_command<'a>(
     name: &'a str,
     about: &'a str,
     example: &'a str,
-) -> Result<Command<'a>, AllocError> {
+) -> Result<Command<'a>, AllocError>
+    ensures app { IfOk result (λ command. app_of command ≡ words.finding name.entry.now) }
+    ensures local { IfOk result (λ command. (fields_of command).has_globals ≡ false) }
+{
     command_of(alloc, name, about, example)?.arg(workers_option(alloc))
 }
 
-/// The whole command line.
-pub fn command<'a>(alloc: Global) -> Result<Command<'a>, AllocError> {
+/// The program, without its commands.
+fn program<'a>(alloc: Global) -> Command<'a>
+    ensures app { app_of result ≡ words.program }
+{
     Command::new(alloc, "turnaudit")
         .version(VERSION)
         .about(ABOUT)
         .after_help(STATUSES)
         .arg_required_else_help(true)
         .subcommand_required(true)
+}
+
+/// The whole command line.
+pub fn command<'a>(alloc: Global) -> Result<Command<'a>, AllocError>
+    ensures { IfOk result (λ command. app_of command ≡ words.turnaudit) }
+{
+    program(alloc)
         .subcommand(finding_command(alloc, "audit", ABOUT_AUDIT, EXAMPLE_AUDIT)?)?
         .subcommand(finding_command(alloc, "find", ABOUT_FIND, EXAMPLE_FIND)?)?
         .subcommand(live_command(alloc)?)?

@@ -1,6 +1,6 @@
 //! The whole program as a function.
 
-ghost use Rattle.std.specs.Prelude.{◌≡◌, [], ℕ, IfNone, IfOk, IfSome, List, Some};
+ghost use Rattle.std.specs.Prelude.{◌≡◌, [], ℕ, IfNone, IfOk, IfSome, List, Some, map};
 ghost use Rattle.std.specs.List.{AllZip};
 ghost use Rattle.audit_files.specs.Judged.{IsAudited};
 ghost use Rattle.audit_model.specs.declared.certificate.Certificate.{Certificate as Found};
@@ -154,7 +154,7 @@ pub fn run<
     O: Sink,
     E: Sink,
 >(rt: &R, alloc: Global, finder: &F, words: &[N], source: &mut S, out: &mut O, err: &mut E) -> u8
-    ensures { IsRun (S.holds source.old) (S.given source.new) F.finds
+    ensures { IsRun (map N.text words.now) (S.holds source.old) (S.given source.new) F.finds
         (record { before = O.taken out.old; after = O.taken out.new; said_before = E.taken err.old; said_after = E.taken err.new }) result }
 {
     let request = match read_words(alloc, words) {

@@ -1,6 +1,6 @@
 //! Streams in memory, and what a run of the program writes to them.
 
-ghost use Rattle.std.specs.Prelude.{[], IfOk, Some};
+ghost use Rattle.std.specs.Prelude.{[], IfOk, Some, map};
 ghost use Rattle.audit_finder.specs.Found.{IsFound};
 ghost use Rattle.audit_program.specs.Answered.{IsRun};
 ghost use Rattle.tests_host.specs.Held.{gave_of, held_among};
@@ -63,6 +63,7 @@ pub fn ask(
 ) -> Result<Answer, AllocError>
     // What the program promises of files that hold these bytes, and of captures that gave them, it promises of each test.
     ensures { IfOk result (λ answer. IsRun
+        (map (λ word. word.now) words.now)
         (held_among files.old.policy.now files.old.credentials.now files.old.certificate.now files.old.capture.now files.old.second.now)
         (gave_of files.new.gave.items files.new.gave_second.items)
         IsFound

@@ -7,6 +7,7 @@ returns-in-Ok-run_request g c =
     let said = g.E.Sink.taken c.run_request.new.err in
     inl (
       c.in-Ok.request,
+      c.in-Ok.ensures,
       c.run_request.result,
       said,
       c.run_request.ensures,
@@ -19,6 +20,7 @@ returns g c =
     let said = g.E.Sink.taken c.run_request.new.err in
     inl (
       c.in-Ok.request,
+      c.in-Ok.ensures,
       c.run_request.result,
       said,
       c.run_request.ensures,

@@ -1,4 +1,4 @@
-use Rattle.std.proofs.Common.{ℕ, [], List, Some, subst}
+use Rattle.std.proofs.Common.{ℕ, [], List, Some, map, subst}
 use Rattle.audit_finder.specs.Found.{IsFound}
 use Rattle.audit_program.specs.Answered.{IsRun}
 use Rattle.tests_host.specs.Held.{gave_of, held_among}
@@ -11,6 +11,7 @@ returns g c =
     let out = c.run-status.new.out in
     let err = c.run-status.new.err in
     let Claimed : List ℕ → List ℕ → Type 0 = λ before said_before. IsRun
+    (map (λ word. word.now) c.args.words.now)
     (held_among files.policy.now files.credentials.now files.certificate.now files.capture.now files.second.now)
     (gave_of given.gave.items given.gave_second.items)
     IsFound

@@ -1,0 +1,88 @@
+-- What words ask for: the program's commands as they are written, and their values by what `clap` says of such commands.
+use Rattle.std.specs.Prelude.{◌≡◌, ⊤, ℕ, pos, true, List, [], ◌∷◌, Option, Some, Ok, map, option_map, codes}
+use Rattle.std.specs.Str.Parse.{ParsesUnsigned}
+use Rattle.clap.specs.Lexer.{usize_max}
+use Rattle.clap.specs.Words.{App, Row, Rule, Text, all_of, first_of, one_of, new_app, new_rule, with_rule, with_subcommand}
+use Rattle.clap.specs.declared.builder.action.ArgAction.TheVariants.{Append, Set}
+use Rattle.clap.specs.declared.builder.value_parser.ValueParser.TheVariants.{Signed}
+use Rattle.audit_program.specs.declared.command_line.Inputs.{Inputs}
+use Rattle.audit_program.specs.declared.command_line.Request.{Request}
+use Rattle.audit_program.specs.declared.command_line.Request.TheVariants.{Check, Audit, Find, Live, Help, Usage}
+
+-- an option that takes a value
+abbrev pub valued : Text → Rule
+valued name = record (new_rule name) { long = Some name; value_names = 1; action = Some Set }
+
+-- an option that takes a number from 1 to the most
+abbrev pub counted : Text → Text → ℕ → Rule
+counted name default most = record (valued name) { defaults = default ∷ []; parser = Some (Signed (pos 1) (pos most)) }
+
+abbrev pub policy : Rule
+policy = record (valued (codes "policy")) { required = true }
+
+abbrev pub users : Rule
+users = valued (codes "creds")
+
+abbrev pub certificate : Rule
+certificate = record (valued (codes "cert")) { required = true }
+
+abbrev pub workers : Rule
+workers = counted (codes "workers") (codes "1") 256
+
+abbrev pub idle : Rule
+idle = counted (codes "idle") (codes "1") 1000000
+
+abbrev pub most : Rule
+most = counted (codes "turns") (codes "1000000") 1000000
+
+-- one capture or more, which are what is no option
+abbrev pub captures : Rule
+captures = record (new_rule (codes "captures")) {
+  value_names = 1;
+  required = true;
+  action = Some Append;
+  range = Some (record { start_inclusive = 1; end_inclusive = usize_max });
+}
+
+-- a command with what all commands have
+abbrev pub command_of : Text → App
+command_of name = with_rule (with_rule (with_rule (new_app name) policy) users) captures
+
+abbrev pub finding : Text → App
+finding name = with_rule (command_of name) workers
+
+abbrev pub live : App
+live = with_rule (with_rule (command_of (codes "live")) idle) most
+
+abbrev pub check : App
+check = with_rule (with_rule (command_of (codes "check")) certificate) workers
+
+abbrev pub program : App
+program =
+    let named = new_app (codes "turnaudit") in
+    record named { top = record named.top { has_version = true; arg_required_else_help = true; subcommand_required = true } }
+
+-- `turnaudit` with its commands
+abbrev pub turnaudit : App
+turnaudit = with_subcommand (with_subcommand (with_subcommand (with_subcommand program (finding (codes "audit")).top) (finding (codes "find")).top) live.top) check.top
+
+-- the number that an option has, as `u32` reads it
+abbrev pub HasNumber : Text → List Row → ℕ → Type 0
+HasNumber name rows number = (text : Text) × (one_of name rows ≡ Some text) × ParsesUnsigned {E = ⊤} 32 10 text (Ok number)
+
+-- the files that every command reads
+pub record AreNamed (rows : List Row) (inputs : Inputs) : Type 0 where
+  pub policy' : first_of (codes "policy") rows ≡ Some inputs.policy.now
+  pub users' : first_of (codes "creds") rows ≡ option_map (λ name. name.now) inputs.credentials
+  pub captures' : all_of (codes "captures") rows ≡ Some (map (λ name. name.now) inputs.captures.items)
+
+-- The command that the words name, and what they name for it, is the request. Of words that are no command's nothing is said.
+abbrev pub Asks : Option (Text × List Row) → Request → Type 0
+Asks asked (Check inputs certificate workers) = (rows : List Row) × (asked ≡ Some (codes "check", rows)) × AreNamed rows inputs
+    × (first_of (codes "cert") rows ≡ Some certificate.now) × HasNumber (codes "workers") rows workers.count
+Asks asked (Audit inputs workers) = (rows : List Row) × (asked ≡ Some (codes "audit", rows)) × AreNamed rows inputs × HasNumber (codes "workers") rows workers.count
+Asks asked (Find inputs workers) = (rows : List Row) × (asked ≡ Some (codes "find", rows)) × AreNamed rows inputs × HasNumber (codes "workers") rows workers.count
+Asks asked (Live inputs turns) = (rows : List Row) × (asked ≡ Some (codes "live", rows)) × AreNamed rows inputs
+    × HasNumber (codes "idle") rows turns.idle × HasNumber (codes "turns") rows turns.most
+Asks asked (Help text) = ⊤
+Asks asked (Usage text) = ⊤
