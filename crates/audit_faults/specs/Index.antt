@@ -5,9 +5,16 @@ use Rattle.audit_faults.specs.declared.index.Index.{Index}
 use Rattle.audit_faults.specs.Asked.{IsAsking}
 use Rattle.audit_faults.specs.Leased.{AreLeases}
 use Rattle.audit_faults.specs.Reach.{AreExtents}
+use Rattle.audit_faults.specs.Repeats.{AreRepeats}
+use Rattle.audit_faults.specs.declared.repeats.Asking.{Asking}
+
+-- what arrived stands by what it asks for, and what is said to come again does
+pub record AreAsked (taken : Taken) (asking : Asking) : Type 0 where
+  pub keyed : IsAsking taken asking.by_key
+  pub repeats : AreRepeats taken asking.by_key.places.now asking.repeats.now
 
 -- what it says of moments, of leases and of what was asked for is so
 pub record IsIndex (taken : Taken) (index : Index) : Type 0 where
   pub reach : AreExtents taken index.extents.now
   pub leases : IfSome index.leases (AreLeases taken)
-  pub asking : IfSome index.asking (λ asking. IsAsking taken asking)
+  pub asking : IfSome index.asking (AreAsked taken)

@@ -1,18 +1,21 @@
 //! Whether the captures show the beginning of a client that asked for a departure, by what arrived with a key of it.
 
-ghost use Rattle.std.specs.Prelude.{◌≡◌, ◌↔◌, ℕ, IsTrue, Some};
+ghost use Rattle.std.specs.Prelude.{◌≡◌, ◌↔◌, ℕ, IsFalse, IsTrue, Some};
 ghost use Rattle.audit_model.specs.Policy.{relays};
 ghost use Rattle.audit_model.specs.declared.sighting.Sighting.{Sighting};
 ghost use Rattle.audit_sightings.specs.Intake.{taken, sighting_at};
-ghost use Rattle.audit_faults.specs.Asked.{HasMessageKey, HasChannelKey, IsAskedBy, IsAsking};
+ghost use Rattle.audit_faults.specs.Asked.{HasMessageKey, HasChannelKey, IsAskedBy};
 ghost use Rattle.audit_faults.specs.Beginning.{Begins, HasBeginning};
 ghost use Rattle.audit_faults.specs.Grants.{IsCaptured};
+ghost use Rattle.audit_faults.specs.Index.{AreAsked};
 ghost use Rattle.audit_faults.specs.Keyed.{digest_of};
 ghost use Rattle.audit_faults.specs.Leased.{AreAnswers};
+ghost use Rattle.audit_faults.specs.Repeats.{HasBefore, IsPlaced};
 
 use crate::asked::{channel_key, message_key};
 use crate::beginning::begins;
 use crate::keyed::{ByKey, digest, span_of_key};
+use crate::repeats::{Asking, repeats_in_reach};
 use crate::sought::earliest;
 use audit_model::{SightId, Sighting};
 use audit_sightings::Intake;
@@ -29,27 +32,53 @@ fn begins_at(intake: &Intake, answers: ByKey<'_>, sight: SightId, given: &Sighti
     begins(intake, answers, asked, given)
 }
 
+/// Whether what stands at a place did, and repeats nothing that did.
+fn begins_first(
+    intake: &Intake,
+    asking: Asking<'_>,
+    answers: ByKey<'_>,
+    first: usize,
+    place: usize,
+    given: &Sighting,
+) -> bool
+    requires answers { AreAnswers (taken intake.now) answers }
+    requires asking { AreAsked (taken intake.now) asking }
+    ensures some { IsTrue result → ((asked : Sighting) × IsCaptured (taken intake.now) asked
+        × Begins (taken intake.now) given.now asked) }
+    ensures none { IsFalse result → (asked : Sighting) → IsPlaced (taken intake.now) asking.entry.by_key.places.now place asked →
+        Begins (taken intake.now) given.now asked →
+        HasBefore (taken intake.now) asking.entry.by_key.places.now (Begins (taken intake.now) given.now) first place }
+{
+    if repeats_in_reach(intake, asking, first, place, given) {
+        return false;
+    }
+    let Some(one) = asking.by_key.places.get(place) else {
+        return false;
+    };
+    begins_at(intake, answers, one.sight, given)
+}
+
 /// Whether something did that arrived with the key, the last one first.
 fn begun_by(
     intake: &Intake,
-    asking: ByKey<'_>,
+    asking: Asking<'_>,
     answers: ByKey<'_>,
     key: u64,
     given: &Sighting,
 ) -> bool
     requires answers { AreAnswers (taken intake.now) answers }
-    requires asking { IsAsking (taken intake.now) asking }
+    requires asking { AreAsked (taken intake.now) asking }
     ensures some { IsTrue result → ((asked : Sighting) × IsCaptured (taken intake.now) asked
         × Begins (taken intake.now) given.now asked) }
     ensures all { (asked : Sighting) → IsCaptured (taken intake.now) asked → IsAskedBy (taken intake.now).policy key asked →
         Begins (taken intake.now) given.now asked → IsTrue result }
 {
-    let first = earliest(given, intake.policy().hold, asking.width);
-    let span = span_of_key(asking.places, key, first, given.hi);
+    let first = earliest(given, intake.policy().hold, asking.by_key.width);
+    let span = span_of_key(asking.by_key.places, key, first, given.hi);
     let mut place = span.past;
     'places: while span.first < place {
         place -= 1;
-        if begins_at(intake, answers, asking.places[place].sight, given) {
+        if begins_first(intake, asking, answers, span.first, place, given) {
             return true;
         }
     }
@@ -59,12 +88,12 @@ fn begun_by(
 /// The same of what may have been relayed to a peer.
 fn begun_by_all_of_it(
     intake: &Intake,
-    asking: ByKey<'_>,
+    asking: Asking<'_>,
     answers: ByKey<'_>,
     given: &Sighting,
 ) -> bool
     requires answers { AreAnswers (taken intake.now) answers }
-    requires asking { IsAsking (taken intake.now) asking }
+    requires asking { AreAsked (taken intake.now) asking }
     ensures some { IsTrue result → ((asked : Sighting) × IsCaptured (taken intake.now) asked
         × Begins (taken intake.now) given.now asked) }
     ensures all { (key : ℕ) (asked : Sighting) → IsTrue (relays (taken intake.now).policy given.now.from) → key ≡ digest_of given.now.payload → IsCaptured (taken intake.now) asked →
@@ -80,12 +109,12 @@ fn begun_by_all_of_it(
 /// The same of a message to a client.
 fn begun_by_message(
     intake: &Intake,
-    asking: ByKey<'_>,
+    asking: Asking<'_>,
     answers: ByKey<'_>,
     given: &Sighting,
 ) -> bool
     requires answers { AreAnswers (taken intake.now) answers }
-    requires asking { IsAsking (taken intake.now) asking }
+    requires asking { AreAsked (taken intake.now) asking }
     ensures some { IsTrue result → ((asked : Sighting) × IsCaptured (taken intake.now) asked
         × Begins (taken intake.now) given.now asked) }
     ensures all { (key : ℕ) (asked : Sighting) → HasMessageKey given.now.payload key → IsCaptured (taken intake.now) asked →
@@ -100,12 +129,12 @@ fn begun_by_message(
 /// The same of ChannelData to a client.
 fn begun_by_channel(
     intake: &Intake,
-    asking: ByKey<'_>,
+    asking: Asking<'_>,
     answers: ByKey<'_>,
     given: &Sighting,
 ) -> bool
     requires answers { AreAnswers (taken intake.now) answers }
-    requires asking { IsAsking (taken intake.now) asking }
+    requires asking { AreAsked (taken intake.now) asking }
     ensures some { IsTrue result → ((asked : Sighting) × IsCaptured (taken intake.now) asked
         × Begins (taken intake.now) given.now asked) }
     ensures all { (key : ℕ) (asked : Sighting) → HasChannelKey given.now.payload key → IsCaptured (taken intake.now) asked →
@@ -120,12 +149,12 @@ fn begun_by_channel(
 /// Whether something that was captured did: it arrived with a key of the departure.
 pub fn has_beginning(
     intake: &Intake,
-    asking: ByKey<'_>,
+    asking: Asking<'_>,
     answers: ByKey<'_>,
     given: &Sighting,
 ) -> bool
     requires answers { AreAnswers (taken intake.now) answers }
-    requires asking { IsAsking (taken intake.now) asking }
+    requires asking { AreAsked (taken intake.now) asking }
     ensures { IsTrue result ↔ HasBeginning (taken intake.now) given.now }
 {
     if begun_by_all_of_it(intake, asking, answers, given) {

@@ -9,9 +9,8 @@ ghost use Rattle.audit_sightings.specs.Intake.{taken, sighting_at};
 ghost use Rattle.audit_server.specs.Step.{Step};
 ghost use Rattle.audit_whole.specs.CaptureRun.{rules_for, IsCaptureRun};
 ghost use Rattle.audit_whole.specs.Conforms.{Conforms};
-ghost use Rattle.audit_faults.specs.Asked.{IsAsking};
 ghost use Rattle.audit_faults.specs.Beginning.{HasBeginning};
-ghost use Rattle.audit_faults.specs.Index.{IsIndex};
+ghost use Rattle.audit_faults.specs.Index.{AreAsked, IsIndex};
 ghost use Rattle.audit_faults.specs.Leased.{AreAnswers};
 ghost use Rattle.audit_faults.specs.Shown.{AreFaults, AreFaultsBefore, MayPredate};
 
@@ -23,6 +22,7 @@ use crate::index::{Index, extents_by_interface};
 use crate::keyed::ByKey;
 use crate::laws::fault_excludes;
 use crate::leased::Leases;
+use crate::repeats::{Asking, repeats_of};
 use crate::requests::requests_of;
 use crate::telling::first_fault;
 use audit_keys::Credentials;
@@ -31,8 +31,8 @@ use audit_sightings::Intake;
 use std::alloc::{AllocError, Global};
 
 /// Whether no Allocate success was captured to a client that asked for the departure.
-fn lacks_beginning(intake: &Intake, asking: ByKey<'_>, answers: ByKey<'_>, sight: SightId) -> bool
-    requires asking { IsAsking (taken intake.now) asking }
+fn lacks_beginning(intake: &Intake, asking: Asking<'_>, answers: ByKey<'_>, sight: SightId) -> bool
+    requires asking { AreAsked (taken intake.now) asking }
     requires answers { AreAnswers (taken intake.now) answers }
     requires there { IsSome (sighting_at (taken intake.now) sight) }
     ensures { IsTrue result ↔ ((given : OneSighting) → sighting_at (taken intake.now) sight ≡ Some given → HasBeginning (taken intake.now) given → ⊥) }
@@ -49,12 +49,12 @@ fn lacks_beginning(intake: &Intake, asking: ByKey<'_>, answers: ByKey<'_>, sight
 /// Whether the captures may have begun after the allocation that a departure without one needs.
 fn may_predate(
     intake: &Intake,
-    asking: ByKey<'_>,
+    asking: Asking<'_>,
     answers: ByKey<'_>,
     fault: Fault,
     sight: SightId,
 ) -> bool
-    requires asking { IsAsking (taken intake.now) asking }
+    requires asking { AreAsked (taken intake.now) asking }
     requires answers { AreAnswers (taken intake.now) answers }
     requires there { IsSome (sighting_at (taken intake.now) sight) }
     ensures { IsTrue result ↔ MayPredate (taken intake.now) fault sight }
@@ -73,14 +73,14 @@ fn may_predate(
 fn add_of_sighting(
     intake: &Intake,
     index: &Index<'_>,
-    asking: ByKey<'_>,
+    asking: Asking<'_>,
     answers: ByKey<'_>,
     credentials: &Credentials,
     sight: SightId,
     faults: &mut Vec<ShownFault>,
 ) -> Result<(), AllocError>
     requires index { IsIndex (taken intake.now) index.now }
-    requires asking { IsAsking (taken intake.now) asking }
+    requires asking { AreAsked (taken intake.now) asking }
     requires answers { AreAnswers (taken intake.now) answers }
     requires so_far { AreFaultsBefore (taken intake.now) (key_for credentials.now) sight faults.old.items }
     ensures { OnOk result (AreFaultsBefore (taken intake.now) (key_for credentials.now)
@@ -101,14 +101,14 @@ fn add_of_sighting(
 fn add_of_interface(
     intake: &Intake,
     index: &Index<'_>,
-    asking: ByKey<'_>,
+    asking: Asking<'_>,
     answers: ByKey<'_>,
     credentials: &Credentials,
     iface: u32,
     faults: &mut Vec<ShownFault>,
 ) -> Result<(), AllocError>
     requires index { IsIndex (taken intake.now) index.now }
-    requires asking { IsAsking (taken intake.now) asking }
+    requires asking { AreAsked (taken intake.now) asking }
     requires answers { AreAnswers (taken intake.now) answers }
     requires so_far { AreFaultsBefore (taken intake.now) (key_for credentials.now) (record { iface = iface; index = 0 }) faults.old.items }
     ensures { OnOk result (AreFaultsBefore (taken intake.now) (key_for credentials.now)
@@ -152,7 +152,12 @@ pub fn shown_faults(
     let requests_kept = requests_of(alloc, intake, answers)?;
     let requests = requests_kept.by_key();
     let asking_kept = asking_of(alloc, intake)?;
-    let asking = asking_kept.by_key();
+    let by_key = asking_kept.by_key();
+    let repeats = repeats_of(alloc, intake, by_key.places)?;
+    let asking = Asking {
+        by_key,
+        repeats: repeats.as_slice(),
+    };
     let index = Index {
         extents: extents.as_slice(),
         leases: Some(Leases { answers, requests }),

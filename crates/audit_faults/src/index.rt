@@ -5,9 +5,9 @@ ghost use Rattle.audit_sightings.specs.Intake.{taken, interface_at};
 ghost use Rattle.audit_faults.specs.Index.{IsIndex};
 ghost use Rattle.audit_faults.specs.Reach.{AreExtents, OutsideIsOut};
 
-use crate::keyed::ByKey;
 use crate::leased::Leases;
 use crate::reach::{Extents, Span, extents_of, span_of};
+use crate::repeats::Asking;
 use audit_model::Sighting;
 use audit_sightings::Intake;
 use std::alloc::{AllocError, Global};
@@ -20,7 +20,7 @@ pub struct Index<'a> {
     /// Of the requests for leases and their successes.
     pub leases: Option<Leases<'a>>,
     /// Of all that arrived, by what it asks for.
-    pub asking: Option<ByKey<'a>>,
+    pub asking: Option<Asking<'a>>,
 }
 
 /// The moments of each interface. It takes memory for two numbers a sighting, and linear time.

@@ -2,7 +2,7 @@
 
 ghost use Rattle.std.specs.Prelude.{◌≡◌};
 ghost use Rattle.audit_stun.specs.Parts.{parts_of};
-ghost use Rattle.audit_faults.specs.Leased.{mixed_of, address_number, lease_key, answer_key as key_of_answer, ask_key as key_of_ask, relayed_key as key_of_relayed, beginning_key as key_of_beginning, permission_key as key_of_permission, channel_key as key_of_channel};
+ghost use Rattle.audit_faults.specs.Leased.{mixed_of, address_number as number_of_address, lease_key, answer_key as key_of_answer, ask_key as key_of_ask, relayed_key as key_of_relayed, beginning_key as key_of_beginning, permission_key as key_of_permission, channel_key as key_of_channel};
 
 use crate::keyed::transaction_key;
 use audit_model::Addr;
@@ -21,7 +21,7 @@ const PERMITTED: u64 = 65_539;
 const BOUND: u64 = 131_072;
 
 /// A number for two.
-fn mixed(one: u64, other: u64) -> u64
+pub fn mixed(one: u64, other: u64) -> u64
     ensures { result ≡ mixed_of one other }
 {
     let mut hasher = DefaultHasher::new();
@@ -31,8 +31,8 @@ fn mixed(one: u64, other: u64) -> u64
 }
 
 /// A number for each address.
-fn number(addr: Addr) -> u64
-    ensures { result ≡ address_number addr }
+pub fn address_number(addr: Addr) -> u64
+    ensures { result ≡ number_of_address addr }
 {
     u64::from(addr.ip) * 65_536 + u64::from(addr.port)
 }
@@ -41,7 +41,7 @@ fn number(addr: Addr) -> u64
 fn of_client(kind: u64, client: Addr, rest: u64) -> u64
     ensures { result ≡ lease_key kind client rest }
 {
-    mixed(mixed(kind, number(client)), rest)
+    mixed(mixed(kind, address_number(client)), rest)
 }
 
 /// The key of a success to the client, by the method and the transaction of it or of its request.
@@ -62,7 +62,7 @@ pub fn ask_key(client: Addr, said: &Message<'_>) -> u64
 pub fn relayed_key(client: Addr, relayed: Addr) -> u64
     ensures { result ≡ key_of_relayed client relayed }
 {
-    of_client(RELAYED, client, number(relayed))
+    of_client(RELAYED, client, address_number(relayed))
 }
 
 /// The key of each Allocate success to a client.
@@ -83,5 +83,9 @@ pub fn permission_key(client: Addr, ip: u32) -> u64
 pub fn channel_key(client: Addr, number_of_channel: u16, peer: Addr) -> u64
     ensures { result ≡ key_of_channel client number_of_channel peer }
 {
-    of_client(BOUND + u64::from(number_of_channel), client, number(peer))
+    of_client(
+        BOUND + u64::from(number_of_channel),
+        client,
+        address_number(peer),
+    )
 }

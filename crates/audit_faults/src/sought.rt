@@ -1,22 +1,24 @@
 //! Whether a departure is explained by what arrived with a key of it.
 
-ghost use Rattle.std.specs.Prelude.{◌≡◌, ◌↔◌, ◌+◌, ◌≤◌, ℕ, IsTrue, Some};
+ghost use Rattle.std.specs.Prelude.{◌≡◌, ◌↔◌, ◌+◌, ◌≤◌, ℕ, IsFalse, IsTrue, Some};
 ghost use Rattle.audit_model.specs.Policy.{relays};
 ghost use Rattle.audit_model.specs.Window.{later};
 ghost use Rattle.audit_model.specs.declared.sighting.Sighting.{Sighting};
 ghost use Rattle.audit_keys.specs.KeyFor.{key_for};
 ghost use Rattle.audit_sightings.specs.Intake.{taken, sighting_at};
-ghost use Rattle.audit_faults.specs.Asked.{HasMessageKey, HasChannelKey, IsAskedBy, IsAsking};
+ghost use Rattle.audit_faults.specs.Asked.{HasMessageKey, HasChannelKey, IsAskedBy};
 ghost use Rattle.audit_faults.specs.Explains.{Explains};
 ghost use Rattle.audit_faults.specs.Grants.{IsCaptured};
-ghost use Rattle.audit_faults.specs.Index.{IsIndex};
+ghost use Rattle.audit_faults.specs.Index.{AreAsked, IsIndex};
 ghost use Rattle.audit_faults.specs.Keyed.{digest_of};
+ghost use Rattle.audit_faults.specs.Repeats.{HasBefore, IsPlaced};
 
 use crate::asked::{channel_key, message_key};
 use crate::explains::explains;
 use crate::fault::Fault;
 use crate::index::Index;
-use crate::keyed::{ByKey, digest, span_of_key};
+use crate::keyed::{digest, span_of_key};
+use crate::repeats::{Asking, repeats_in_reach};
 use audit_keys::Credentials;
 use audit_model::{SightId, Sighting};
 use audit_sightings::Intake;
@@ -47,34 +49,65 @@ fn explains_at(
     explains(intake, index, credentials, fault, asked, given)
 }
 
-/// Whether something explains the departure that arrived with the key, the last one first.
+/// Whether what stands at a place explains the departure, and repeats nothing that does.
+fn explains_first(
+    intake: &Intake,
+    index: &Index<'_>,
+    asking: Asking<'_>,
+    credentials: &Credentials,
+    fault: Fault,
+    first: usize,
+    place: usize,
+    given: &Sighting,
+) -> bool
+    requires index { IsIndex (taken intake.now) index.now }
+    requires asking { AreAsked (taken intake.now) asking }
+    ensures some { IsTrue result → ((asked : Sighting) × IsCaptured (taken intake.now) asked
+        × Explains (taken intake.now) (key_for credentials.now) fault asked given.now) }
+    ensures none { IsFalse result → (asked : Sighting) → IsPlaced (taken intake.now) asking.entry.by_key.places.now place asked →
+        Explains (taken intake.now) (key_for credentials.now) fault asked given.now →
+        HasBefore (taken intake.now) asking.entry.by_key.places.now (λ s. Explains (taken intake.now) (key_for credentials.now) fault s given.now) first place }
+{
+    if repeats_in_reach(intake, asking, first, place, given) {
+        return false;
+    }
+    let Some(one) = asking.by_key.places.get(place) else {
+        return false;
+    };
+    explains_at(intake, index, credentials, fault, one.sight, given)
+}
+
+/// Whether something explains the departure that arrived with the key, the last one first. Of equal datagrams the first in reach alone is
+/// asked, since it explains what any of them does.
 fn explained_by(
     intake: &Intake,
     index: &Index<'_>,
-    asking: ByKey<'_>,
+    asking: Asking<'_>,
     credentials: &Credentials,
     fault: Fault,
     key: u64,
     given: &Sighting,
 ) -> bool
     requires index { IsIndex (taken intake.now) index.now }
-    requires asking { IsAsking (taken intake.now) asking }
+    requires asking { AreAsked (taken intake.now) asking }
     ensures some { IsTrue result → ((asked : Sighting) × IsCaptured (taken intake.now) asked
         × Explains (taken intake.now) (key_for credentials.now) fault asked given.now) }
     ensures all { (asked : Sighting) → IsCaptured (taken intake.now) asked → IsAskedBy (taken intake.now).policy key asked →
         Explains (taken intake.now) (key_for credentials.now) fault asked given.now → IsTrue result }
 {
-    let first = earliest(given, intake.policy().hold, asking.width);
-    let span = span_of_key(asking.places, key, first, given.hi);
+    let first = earliest(given, intake.policy().hold, asking.by_key.width);
+    let span = span_of_key(asking.by_key.places, key, first, given.hi);
     let mut place = span.past;
     'places: while span.first < place {
         place -= 1;
-        if explains_at(
+        if explains_first(
             intake,
             index,
+            asking,
             credentials,
             fault,
-            asking.places[place].sight,
+            span.first,
+            place,
             given,
         ) {
             return true;
@@ -87,13 +120,13 @@ fn explained_by(
 fn explained_by_all_of_it(
     intake: &Intake,
     index: &Index<'_>,
-    asking: ByKey<'_>,
+    asking: Asking<'_>,
     credentials: &Credentials,
     fault: Fault,
     given: &Sighting,
 ) -> bool
     requires index { IsIndex (taken intake.now) index.now }
-    requires asking { IsAsking (taken intake.now) asking }
+    requires asking { AreAsked (taken intake.now) asking }
     ensures some { IsTrue result → ((asked : Sighting) × IsCaptured (taken intake.now) asked
         × Explains (taken intake.now) (key_for credentials.now) fault asked given.now) }
     ensures all { (key : ℕ) (asked : Sighting) → IsTrue (relays (taken intake.now).policy given.now.from) → key ≡ digest_of given.now.payload → IsCaptured (taken intake.now) asked →
@@ -110,13 +143,13 @@ fn explained_by_all_of_it(
 fn explained_by_message(
     intake: &Intake,
     index: &Index<'_>,
-    asking: ByKey<'_>,
+    asking: Asking<'_>,
     credentials: &Credentials,
     fault: Fault,
     given: &Sighting,
 ) -> bool
     requires index { IsIndex (taken intake.now) index.now }
-    requires asking { IsAsking (taken intake.now) asking }
+    requires asking { AreAsked (taken intake.now) asking }
     ensures some { IsTrue result → ((asked : Sighting) × IsCaptured (taken intake.now) asked
         × Explains (taken intake.now) (key_for credentials.now) fault asked given.now) }
     ensures all { (key : ℕ) (asked : Sighting) → HasMessageKey given.now.payload key → IsCaptured (taken intake.now) asked →
@@ -132,13 +165,13 @@ fn explained_by_message(
 fn explained_by_channel(
     intake: &Intake,
     index: &Index<'_>,
-    asking: ByKey<'_>,
+    asking: Asking<'_>,
     credentials: &Credentials,
     fault: Fault,
     given: &Sighting,
 ) -> bool
     requires index { IsIndex (taken intake.now) index.now }
-    requires asking { IsAsking (taken intake.now) asking }
+    requires asking { AreAsked (taken intake.now) asking }
     ensures some { IsTrue result → ((asked : Sighting) × IsCaptured (taken intake.now) asked
         × Explains (taken intake.now) (key_for credentials.now) fault asked given.now) }
     ensures all { (key : ℕ) (asked : Sighting) → HasChannelKey given.now.payload key → IsCaptured (taken intake.now) asked →
@@ -154,13 +187,13 @@ fn explained_by_channel(
 pub fn is_explained_by_keys(
     intake: &Intake,
     index: &Index<'_>,
-    asking: ByKey<'_>,
+    asking: Asking<'_>,
     credentials: &Credentials,
     fault: Fault,
     given: &Sighting,
 ) -> bool
     requires index { IsIndex (taken intake.now) index.now }
-    requires asking { IsAsking (taken intake.now) asking }
+    requires asking { AreAsked (taken intake.now) asking }
     ensures { IsTrue result ↔ ((asked : Sighting) × IsCaptured (taken intake.now) asked
         × Explains (taken intake.now) (key_for credentials.now) fault asked given.now) }
 {

@@ -1,14 +1,14 @@
 use Rattle.std.proofs.Common.{◌≤◌, length}
 use Rattle.audit_sightings.specs.Intake.{taken}
 use Rattle.audit_faults.specs.Beginning.{Begins}
-use Rattle.audit_faults.proofs.Keying.{NoneFrom}
+use Rattle.audit_faults.proofs.Repeating.{OnlyWithEarlier}
 use Rattle.audit_faults.proofs.begun.begun_by.Given as goal
 
--- none of the places of the key from here on did
+-- a place of the key from here on did only where one before it did
 abbrev pub invariant-places : goal.invariant-places
 invariant-places l = record {
-  bound : l.place ≤ length l.asking.places.now;
-  none : NoneFrom (taken l.intake) (Begins (taken l.intake) l.given) l.key l.first l.given.hi l.asking.places.now l.place;
+  bound : l.place ≤ length l.asking.by_key.places.now;
+  none : OnlyWithEarlier (taken l.intake) (Begins (taken l.intake) l.given) l.key l.first l.given.hi l.span.first l.asking.by_key.places.now l.place;
 }
 
 abbrev pub decreases-places : goal.decreases-places

@@ -1,4 +1,4 @@
-use Rattle.std.proofs.Common.{List, arith}
+use Rattle.std.proofs.Common.{List, arith, rules}
 use Rattle.std.proofs.lemmas.List.Elements.{All-weaker}
 use Rattle.audit_model.specs.declared.certificate.Certificate.{Certificate}
 use Rattle.audit_keys.specs.KeyFor.{key_for}
@@ -26,3 +26,19 @@ returns-clause-no_certificate c =
     let key_for = key_for c.args.credentials.now in
     All-weaker (IsFirstFault taken key_for) (λ shown. (certificate : Certificate) → Conforms taken (rules_for taken key_for) certificate → ⊥)
     (λ shown first certificate k. c.fault_excludes.ensures taken key_for shown.fault shown.sight first.0 _ k.run) c.interfaces.faults.items c.interfaces.invariant.each
+
+pub add_of_interface-requires-clause-asking : goal.add_of_interface-requires-clause-asking
+add_of_interface-requires-clause-asking c = record {
+  keyed = rw (c.by_key-by_key.ensures.places, c.by_key-by_key.ensures.width) c.in_ok-asking_kept.ensures;
+  repeats = rw c.as_slice.ensures.value c.in_ok-repeats.ensures;
+}
+
+pub add_of_interface-requires-clause-index : goal.add_of_interface-requires-clause-index
+add_of_interface-requires-clause-index c = record {
+  reach = search rules;
+  leases = search rules;
+  asking = record {
+    keyed = rw (c.by_key-by_key.ensures.places, c.by_key-by_key.ensures.width) c.in_ok-asking_kept.ensures;
+    repeats = rw c.as_slice.ensures.value c.in_ok-repeats.ensures;
+  };
+}

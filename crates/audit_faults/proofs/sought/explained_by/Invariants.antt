@@ -3,14 +3,14 @@ use Rattle.audit_model.specs.declared.sighting.Sighting.{Sighting}
 use Rattle.audit_keys.specs.KeyFor.{key_for}
 use Rattle.audit_sightings.specs.Intake.{taken}
 use Rattle.audit_faults.specs.Explains.{Explains}
-use Rattle.audit_faults.proofs.Keying.{NoneFrom}
+use Rattle.audit_faults.proofs.Repeating.{OnlyWithEarlier}
 use Rattle.audit_faults.proofs.sought.explained_by.Given as goal
 
--- none of the places of the key from here on explains it
+-- a place of the key from here on explains it only where one before it does
 abbrev pub invariant-places : goal.invariant-places
 invariant-places l = record {
-  bound : l.place ≤ length l.asking.places.now;
-  none : NoneFrom (taken l.intake) (λ (s : Sighting). Explains (taken l.intake) (key_for l.credentials) l.fault s l.given) l.key l.first l.given.hi l.asking.places.now l.place;
+  bound : l.place ≤ length l.asking.by_key.places.now;
+  none : OnlyWithEarlier (taken l.intake) (λ (s : Sighting). Explains (taken l.intake) (key_for l.credentials) l.fault s l.given) l.key l.first l.given.hi l.span.first l.asking.by_key.places.now l.place;
 }
 
 abbrev pub decreases-places : goal.decreases-places
