@@ -1,7 +1,8 @@
 #!/bin/bash
 # no_memory.sh PROGRAM: each allocation of `audit`, `find`, `check` and `live` on a capture of a real server is refused in turn; the answer is status 3 and
-# one line each time, and nothing on standard output; with several workers that, or the answer of one, also where two lanes break a rule. Of a certificate larger than what `find` gathers before it writes (64 KiB), some allocations are refused, and a
-# front of it may be out: with status 3 it is no certificate. With several workers on 24 clients the last allocations are refused in turn, and then the threads
+# one line each time, and nothing on standard output; with several workers that, or the answer of one, also where two lanes break a rule. Of the
+# certificate for 24 clients, of which `find` makes all lines before it writes any, some allocations are refused. Of one with more lines than
+# that (16,384) the last allocations are refused, and a front of it may be out: with status 3 it is no certificate. With several workers on 24 clients the last allocations are refused in turn, and then the threads
 # from each number on: the answer is that of one thread, or status 3. It needs gcc.
 program=$(realpath "$1") || exit 1
 cd "$(dirname "$0")" || exit 1
@@ -86,27 +87,48 @@ for workers in 2 7 256; do
     done
 done
 
-find_all() { # NUMBER: `find` on the folder's capture, with the allocation of that number refused
-    FAIL_AT=$1 LD_PRELOAD="$scratch/failing_malloc.so" "$program" find --policy policy --creds creds cap.pcapng
+find_all() { # NUMBER: `find` on the captures, with the allocation of that number refused
+    FAIL_AT=$1 LD_PRELOAD="$scratch/failing_malloc.so" "$program" find --policy policy --creds creds "${captures[@]}"
 }
 
-find_all 1000000000 > "$scratch/whole" 2> "$scratch/told"
-count=$(sed -n 's/^allocations: //p' "$scratch/told")
-fronts=0
-for number in $(seq 1 97 "$count"); do
-    find_all "$number" > "$scratch/answer" 2> "$scratch/told"
-    status=$?
-    size=$(stat -c %s "$scratch/answer")
-    if [ "$status" != 3 ] || [ "$(cat "$scratch/told")" != "turnaudit: out of memory" ] || ! head -c "$size" "$scratch/whole" | cmp -s - "$scratch/answer"; then
-        failed=$((failed + 1))
-        echo "failed: find on 24 clients, allocation $number: status $status, $size bytes"
-    fi
-    if [ "$size" -gt 0 ]; then fronts=$((fronts + 1)); fi
-done
+count_find() { # how many allocations `find` makes
+    find_all 1000000000 > "$scratch/whole" 2> "$scratch/told"
+    count=$(sed -n 's/^allocations: //p' "$scratch/told")
+}
+
+refuse_find() { # NAME NUMBERS..: each is refused in turn; fronts is then how often a front of the certificate was out
+    name=$1
+    shift
+    fronts=0
+    for number in "$@"; do
+        find_all "$number" > "$scratch/answer" 2> "$scratch/told"
+        status=$?
+        size=$(stat -c %s "$scratch/answer")
+        if [ "$status" != 3 ] || [ "$(cat "$scratch/told")" != "turnaudit: out of memory" ] || ! head -c "$size" "$scratch/whole" | cmp -s - "$scratch/answer"; then
+            failed=$((failed + 1))
+            echo "failed: $name, allocation $number: status $status, $size bytes"
+        fi
+        if [ "$size" -gt 0 ]; then fronts=$((fronts + 1)); fi
+    done
+    echo "$name: $# of $count allocations refused, a front of the certificate out $fronts times"
+}
+
+captures=(cap.pcapng)
+count_find
+refuse_find "find on 24 clients" $(seq 1 97 "$count")
+if [ "$fronts" != 0 ]; then
+    failed=$((failed + 1))
+    echo "failed: a front of a certificate with few lines was out"
+fi
+
+python3 ../../bench/make_capture.py "$scratch/large" --clients 24 --datagrams 24000 || exit 1
+cd "$scratch/large" || exit 1
+captures=(client.pcapng peer.pcapng)
+count_find
+refuse_find "find on 24,000 datagrams" $(seq "$((count - 100))" "$count")
 if [ "$fronts" = 0 ]; then
     failed=$((failed + 1))
     echo "failed: no front of the certificate was ever out"
 fi
-echo "find on 24 clients: every 97th of $count allocations refused, a front of the certificate out $fronts times"
 echo "$failed failed"
 [ "$failed" = 0 ]
