@@ -59,7 +59,7 @@ edits:
 # of workers changes no answer, tries the examples of docs/REFUSALS.md, compares with the plain checker, gives it hostile input and captures
 # that grow, refuses it memory, installs it, audits a fleet by two engines, and has it find certificates for captures of a simulated server.
 # At last it runs turnprep on its cases and on captures of strangers, asks turnaudit_faults for what is known of captures, and turnexplain
-# for what its golden files have.
+# for what its golden files have, as text and as JSON, and for its pages.
 test:
 	python3 tests/documents.py
 	tools/reading_copy.py --check

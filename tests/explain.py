@@ -1,7 +1,8 @@
 #!/usr/bin/env python3
 """explain.py PROGRAM [--write]: what turnexplain tells of the stored captures, of captures that are built for a rule each, and of refusals.
 
-Each answer is compared with its golden file in tests/explain. Each frame that it tells is looked up in the capture by a reader of its own,
+Each answer is compared with its golden file in tests/explain, and given once more as JSON, which docs/turnexplain.schema.json has to allow
+and which has to tell the same. Each frame that it tells is looked up in the capture by a reader of its own,
 and by tshark where that is installed: the number, the ends and the time have to be those. No answer may have a byte that a terminal acts on.
 With --write the golden files are written anew.
 """
@@ -15,6 +16,7 @@ import tempfile
 from pathlib import Path
 
 import explain_captures
+import explain_json
 
 TOP = Path(__file__).resolve().parent.parent
 GOLDEN = TOP / "tests" / "explain"
@@ -132,13 +134,17 @@ def by_tshark(file, number):
     return [f"{source}:{source_port}", f"{target}:{target_port}"]
 
 
+def all_frames_of(folder, words):
+    """The frames of the captures that words name."""
+    return {word: frames_of((folder / word).read_bytes()) for word in words if word.endswith((".pcapng", ".pcap"))}
+
+
 def check_frames(name, folder, words, answer):
     """Whether each frame that is told has the ends and the time that are told with it."""
-    captures = [folder / word for word in words if word.endswith((".pcapng", ".pcap"))]
     told = LINE.findall(answer)
     if not told:
         return 0
-    all_frames = {file.name: frames_of(file.read_bytes()) for file in captures}
+    all_frames = all_frames_of(folder, words)
     first = min(stamp for frames in all_frames.values() for _, stamp, _ in frames)
     for file, number, seconds, rest, source, target in told:
         _, stamp, ends = all_frames[file][int(number) - 1]
@@ -160,6 +166,14 @@ def run(program, folder, words):
     return done.stdout.decode(), done.stderr.decode(), done.returncode
 
 
+def check_json(program, name, folder, words, text, status, write):
+    """Asks of the same words with --json what explain_json.py asks; a refusal is that of the text."""
+    out, err, other = run(program, folder, [words[0], "--json", *words[1:]])
+    if other != status or err:
+        sys.exit(f"{name}: with --json status {other} and {err!r}")
+    explain_json.check(name, text, out, all_frames_of(folder, words), folder, write)
+
+
 def compare(program, name, folder, words, write):
     """Runs one case, compares, and tells how many frames were checked."""
     out, err, status = run(program, folder, words)
@@ -170,6 +184,8 @@ def compare(program, name, folder, words, write):
     elif not golden.is_file() or golden.read_text(encoding="utf-8") != answer:
         print(answer, end="")
         sys.exit(f"{name}: that isn't what {golden} has")
+    if status in (0, 1) and words and "--help" not in words:
+        check_json(program, name, folder, words, out, status, write)
     return check_frames(name, folder, words, out)
 
 
@@ -186,6 +202,12 @@ def main(program, write=False):
         for name, data in explain_captures.CASES.items():
             (room / f"{name}.pcapng").write_bytes(data)
             words = ["verdict", "--policy", "policy", "--creds", "users", f"{name}.pcapng"]
+            frames += compare(program, name, room, words, write)
+            cases += 1
+        for name, (data, certificate) in explain_captures.CERTIFIED.items():
+            (room / f"{name}.pcapng").write_bytes(data)
+            (room / f"{name}.cert").write_text(certificate)
+            words = ["verdict", "--policy", "policy", "--creds", "users", "--cert", f"{name}.cert", f"{name}.pcapng"]
             frames += compare(program, name, room, words, write)
             cases += 1
         for name, words in refusals(room):

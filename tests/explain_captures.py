@@ -61,18 +61,28 @@ def frame(source, target, payload):
     return bytes(12) + b"\x08\0" + head + udp
 
 
+def segment(source, target, payload):
+    """A frame of TCP."""
+    tcp = struct.pack(">HHIIHHHH", source[1], target[1], 1, 1, 0x5018, 65535, 0, 0) + payload
+    head = struct.pack(">BBHHHBBH", 0x45, 0, 20 + len(tcp), 0, 0, 64, 6, 0) + ip(source[0]) + ip(target[0])
+    return bytes(12) + b"\x08\0" + head + tcp
+
+
 def block(kind, body):
     body += bytes(-len(body) % 4)
     return struct.pack("<II", kind, 12 + len(body)) + body + struct.pack("<I", 12 + len(body))
 
 
-def capture(*datagrams):
-    """A pcapng of one interface: each datagram is a time in microseconds, its ends and its payload. A frame of ARP comes first."""
+START = 1_795_000_000_000_000
+
+
+def capture(*datagrams, made_by=None):
+    """A pcapng of one interface: each datagram is a time in microseconds, its ends and its payload. A frame of ARP comes first. Frames
+    that are there already stand in `made_by`, by their times."""
     text = block(0x0A0D0D0A, struct.pack("<IHHq", 0x1A2B3C4D, 1, 0, -1)) + block(1, struct.pack("<HHI", 1, 0, 0))
-    start = 1_795_000_000_000_000
     frames = [(0, bytes(12) + b"\x08\x06" + bytes(28))] + [(at, frame(source, target, payload)) for at, source, target, payload in datagrams]
-    for at, data in frames:
-        stamp = start + at
+    for at, data in sorted([*frames, *(made_by or {}).items()], key=lambda one: one[0]):
+        stamp = START + at
         text += block(6, struct.pack("<IIIII", 0, stamp >> 32, stamp & 0xFFFFFFFF, len(data), len(data)) + data)
     return text
 
@@ -128,4 +138,45 @@ CASES = {
     "s1-nobody-asked": capture((1_000, RELAYED, PEER, b"hello")),
     "s11-left-without-act": capture(*BEGUN, (4_000, RELAYED2, PEER, b"hello")),
     "s12-held-too-long": capture(*exchange(1_000, message(0x001, b"one"), message(0x101, b"one", address(0x20, CLIENT)))[:1], (5 * SECOND, SERVER, CLIENT, message(0x101, b"one", address(0x20, CLIENT)))),
+}
+
+# Whom a relayed address was told to that no client was told over UDP by the server.
+STREAM, UNLISTED = ("198.51.100.9", 50_123), ("192.0.2.1", 3479)
+TOLD = allocated(b"far", RELAYED2, STREAM)
+CASES |= {
+    "s11-told-over-tcp": capture(*BEGUN, (4_000, RELAYED2, PEER, b"hello"), made_by={3_000: segment(SERVER, STREAM, TOLD)}),
+    "s11-policy-lacks-listen": capture(*BEGUN, (3_000, UNLISTED, OTHER, allocated(b"far", RELAYED2, OTHER)), (4_000, RELAYED2, PEER, b"hello")),
+    "s11-nearest-too-early": capture(*BEGUN, *exchange(2_000, *bound()), (4_000, CLIENT, SERVER, channel(0x4000, b"hello")), (5 * SECOND, RELAYED2, PEER, b"hello")),
+    "s11-nearest-too-late": capture(*BEGUN, *exchange(2_000, *bound()), (4_000, RELAYED, PEER, b"hello"), (5 * SECOND, CLIENT, SERVER, channel(0x4000, b"hello"))),
+    "r2-one-of-two-signed": capture(*BEGUN, *exchange(2_000, message(0x008, b"perm", address(0x12, PEER), *SIGNER, key=b"wrong"), permitted()[1])),
+}
+
+
+def certificate(*lines):
+    """A certificate of one lane, whose events are each a kind, names of datagrams, a time in microseconds and a tie."""
+    events = "".join(f"{kind} {' '.join(names)} {(START + at) * 1_000} {tie}\n" for kind, *names, at, tie in lines)
+    return f"turnaudit-certificate 1\nlane {CLIENT[0]}:{CLIENT[1]} {SERVER[0]}:{SERVER[1]}\n{events}end\n"
+
+
+ASKED = exchange(1_000, message(0x001, b"one"), message(0x101, b"one", address(0x20, CLIENT)))
+AT_ONCE = ((1_000, *ASKED[0][1:]), (1_100, *ASKED[1][1:]))
+CAME, ACTED, WENT = ("in", "0.0", 1_000, 0), ("act", "0.0", "0.1", 1_000, 1), ("out", "0.1", 1_400, 0)
+# Two clients, of which the first sends data to a peer: its datagrams are 0.0 to 0.5, and what leaves is 0.7.
+SENT = (*BEGUN, *exchange(2_000, *bound()), *exchange(3_000, allocate(b"b"), allocated(b"b", RELAYED2, OTHER), OTHER), (4_000, CLIENT, SERVER, channel(0x4000, b"hello")), (4_400, RELAYED, PEER, b"hello"))
+GIVEN = (CAME, ACTED, WENT, ("in", "0.2", 2_000, 0), ("act", "0.2", "0.3", 2_000, 1), ("out", "0.3", 2_400, 0), ("in", "0.6", 4_000, 0), ("act", "0.6", "0.7", 4_000, 1))
+OTHERS = certificate(("in", "0.4", 3_000, 0), ("act", "0.4", "0.5", 3_000, 1), ("out", "0.5", 3_400, 0), ("out", "0.7", 4_400, 0)).split("\n", 1)[1].replace(CLIENT[0], OTHER[0])
+RELAYED_TWICE = ((4_000, CLIENT, SERVER, channel(0x4000, b"hello")), (4_400, RELAYED, PEER, b"hello"), (4_500, RELAYED, PEER, b"hello"))
+
+# Captures with certificates that break a rule each.
+CERTIFIED = {
+    "s2-placed-twice": (capture(*ASKED), certificate(CAME, ("in", "0.0", 1_000, 1), ("act", "0.0", "0.1", 1_000, 2), WENT)),
+    "s3-stranger": (capture(*ASKED), certificate(CAME, ACTED, WENT, ("in", "0.7", 1_500, 0))),
+    "s5-interface-order": (capture(*AT_ONCE), certificate(("out", "0.1", 1_050, 0), ("in", "0.0", 1_060, 0), ("act", "0.0", "0.1", 1_060, 1))),
+    "s6-lane-order": (capture(*ASKED), certificate(("in", "0.0", 1_000, 5), ACTED, WENT)),
+    "s7-side": (capture(*ASKED), certificate(("out", "0.0", 1_000, 0), ("in", "0.1", 1_400, 0))),
+    "s8-endpoint": (capture(*ASKED), certificate(CAME, ACTED, WENT).replace(CLIENT[0], OTHER[0])),
+    "s9-act-before-arrival": (capture(*ASKED), certificate(("act", "0.0", "0.1", 999, 0), CAME, WENT)),
+    "s10-acted-twice": (capture(*ASKED, (1_500, SERVER, CLIENT, ASKED[1][3])), certificate(CAME, ACTED, WENT, ("act", "0.0", "0.2", 1_450, 0), ("out", "0.2", 1_500, 0))),
+    "s11-nearest-used": (capture(*BEGUN, *exchange(2_000, *bound()), *RELAYED_TWICE), certificate(*GIVEN[:6], *(("in", "0.4", 4_000, 0), ("act", "0.4", "0.5", 4_000, 1), ("out", "0.5", 4_400, 0), ("out", "0.6", 4_500, 0)))),
+    "s13-act-without-departure": (capture(*SENT), certificate(*GIVEN).removesuffix("end\n") + OTHERS),
 }

@@ -1,0 +1,3 @@
+mod Framing
+mod Going
+mod OfService

@@ -1,0 +1,2 @@
+pub mod FramesOf
+pub mod Counting

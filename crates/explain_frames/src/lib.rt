@@ -3,6 +3,9 @@
 
 mod counter;
 mod frames;
+mod tally;
+mod told;
 
 pub use counter::FrameCounter;
 pub use frames::{Frame, Frames};
+pub use told::{ToldBy, ToldFrame, tells_address};

@@ -1,5 +1,5 @@
 -- What the command verdict comes to, from the bytes of its files to the first words of its answer.
-use Rattle.std.specs.Prelude.{◌≡◌, ◌++◌, ℕ, List, Option, codes, decimal}
+use Rattle.std.specs.Prelude.{◌≡◌, ◌++◌, ◌∷◌, [], ℕ, List, Option, codes, decimal}
 use Rattle.audit_model.specs.declared.certificate.Certificate.{Certificate}
 use Rattle.audit_model.specs.declared.verdict.Verdict.{Verdict}
 use Rattle.audit_model.specs.declared.verdict.Verdict.TheVariants.{Conforming, NotShown}
@@ -9,6 +9,7 @@ use Rattle.audit_keys.specs.KeyFor.{key_for}
 use Rattle.audit_report.specs.RuleText.{text_of_rule}
 use Rattle.audit_rules.specs.Keys.{KeyFor}
 use Rattle.audit_sightings.specs.Intake.{Taken, taken}
+use Rattle.explain_json.specs.Answered.{IsAnswer}
 use Rattle.explain_program.specs.declared.judged.Judged.{Judged}
 
 -- the verdict in a few words, with which the answer begins
@@ -29,4 +30,20 @@ pub record IsExplained (policy users : List ℕ) (captures : List (List ℕ)) (c
   pub judges : Judges taken key_for certificate verdict
   pub rest : List ℕ
   pub written : after ≡ followed_by before (head_text verdict ++ rest)
+  pub told : status ≡ status_of verdict
+
+-- behind what was written before stands a line of JSON that says this verdict
+pub record IsJsonBehind (verdict : Verdict) (before after : Option (List ℕ)) : Type 0 where
+  pub text : List ℕ
+  pub answer : IsAnswer verdict text
+  pub written : after ≡ followed_by before (text ++ 10 ∷ [])
+
+-- The same of an answer in JSON: its members `verdict` and `rule` are those of the verdict.
+pub record IsToldAsJson (policy users : List ℕ) (captures : List (List ℕ)) (certificate : Certificate) (before after : Option (List ℕ)) (status : ℕ) : Type 0 where
+  pub taken : Taken
+  pub key_for : KeyFor
+  pub read : AreRead policy users captures taken key_for
+  pub verdict : Verdict
+  pub judges : Judges taken key_for certificate verdict
+  pub written : IsJsonBehind verdict before after
   pub told : status ≡ status_of verdict

@@ -5,7 +5,7 @@ use crate::last_lines::behind_head;
 use audit_files::{Source, Stop};
 use audit_lane::{Finding, Outcome};
 use explain_frames::Frames;
-use explain_story::{Case, Teller, ask_span, ladder_lines, lanes_of, span_of};
+use explain_story::{Case, Teller, ask_span, ladder_lines, lanes_of, rungs_of, span_of};
 use std::alloc::{AllocError, Global};
 
 /// The place of a lane's first breach.
@@ -59,7 +59,8 @@ fn ladder_of<S: Source>(
     };
     let mut rest = behind_head(alloc, &teller, length)?;
     rest.push_str(title(alloc, finding, breach)?.as_str())?;
-    rest.push_str(ladder_lines(alloc, &teller, input, span, breach)?.as_str())?;
+    let rungs = rungs_of(alloc, case, input, span, breach)?;
+    rest.push_str(ladder_lines(alloc, &teller, &rungs)?.as_str())?;
     Ok(rest)
 }
 

@@ -1,5 +1,9 @@
 //! The command line, as clap reads it. No other file knows clap.
 
+use crate::help_texts::{
+    ABOUT, ABOUT_CLIENT, ABOUT_EVIDENCE, ABOUT_LANES, ABOUT_VERDICT, EXAMPLE_CLIENT,
+    EXAMPLE_EVIDENCE, EXAMPLE_LANES, EXAMPLE_VERDICT, STATUSES, VERSION,
+};
 use audit_files::Workers;
 use clap::error::ErrorKind;
 use clap::{Arg, ArgAction, ArgMatches, Command, Error};
@@ -11,6 +15,8 @@ use std::convert::AsStr;
 pub enum Request<'a> {
     /// Judge captures, and tell of the verdict what is asked.
     Explain { inputs: Inputs<'a>, asked: Asked },
+    /// The same, as JSON.
+    AsJson { inputs: Inputs<'a>, asked: Asked },
     /// Judge captures, and write the page that is filed to a new file.
     Evidence { inputs: Inputs<'a>, file: &'a str },
     /// Tell how to use the program, or its release, on standard output.
@@ -41,39 +47,6 @@ pub struct Inputs<'a> {
     pub captures: Vec<&'a str>,
     pub workers: Workers,
 }
-
-/// The release, and the line of `rt version` that names what it is proved with.
-pub const VERSION: &str = "0.1.0, proved with rattle-kit-13b logic dac8208d650f15bf";
-
-const ABOUT: &str =
-    "Tells what a verdict of turnaudit means: the frames, what was due, what the server had, and the rule";
-
-const STATUSES: &str =
-    "Exit status, that of turnaudit:\n  0  conforming\n  1  not shown\n  2  an input is refused; standard error tells why\n  3  out of memory\n  4  a file can't be read, or the answer can't be written\n  5  wrong words";
-
-const ABOUT_VERDICT: &str =
-    "Tells the verdict, and where a rule is broken its frames, what was due, and what the server had then";
-
-const EXAMPLE_VERDICT: &str =
-    "Example:\n  turnexplain verdict --policy policy --creds users client.pcapng peer.pcapng";
-
-const ABOUT_LANES: &str =
-    "Tells each client by a line: its user, its datagrams, and its first breach";
-
-const EXAMPLE_LANES: &str =
-    "Example:\n  turnexplain lanes --policy policy --creds users --broken client.pcapng peer.pcapng";
-
-const ABOUT_CLIENT: &str =
-    "Tells the events of one client in their order, with the leases that last at each";
-
-const EXAMPLE_CLIENT: &str =
-    "Example:\n  turnexplain client --policy policy --creds users --lane 1 client.pcapng peer.pcapng";
-
-const ABOUT_EVIDENCE: &str =
-    "Writes one page to be filed: the verdict, what it was given on, the clients, and how it is repeated";
-
-const EXAMPLE_EVIDENCE: &str =
-    "Example:\n  turnexplain evidence --policy policy --creds users -o audit.html client.pcapng peer.pcapng";
 
 /// An option with the name of a file.
 fn file_option<'a>(alloc: Global, name: &'a str, value: &'a str, help: &'a str) -> Arg<'a> {
@@ -142,13 +115,27 @@ fn command_of<'a>(
         .arg(captures_words(alloc))
 }
 
+/// The command of that name whose answer may be JSON.
+fn json_command<'a>(
+    alloc: Global,
+    name: &'a str,
+    about: &'a str,
+    example: &'a str,
+) -> Result<Command<'a>, AllocError> {
+    let json = Arg::new(alloc, "json")
+        .long("json")
+        .help("One JSON object in place of the text (docs/JSON.md)")
+        .action(ArgAction::SetTrue);
+    command_of(alloc, name, about, example)?.arg(json)
+}
+
 /// The command `lanes`.
 fn lanes_command<'a>(alloc: Global) -> Result<Command<'a>, AllocError> {
     let broken = Arg::new(alloc, "broken")
         .long("broken")
         .help("Only the clients that break a rule")
         .action(ArgAction::SetTrue);
-    command_of(alloc, "lanes", ABOUT_LANES, EXAMPLE_LANES)?.arg(broken)
+    json_command(alloc, "lanes", ABOUT_LANES, EXAMPLE_LANES)?.arg(broken)
 }
 
 /// The command `client`.
@@ -168,7 +155,7 @@ fn client_command<'a>(alloc: Global) -> Result<Command<'a>, AllocError> {
         .default_value("20")
         .action(ArgAction::Set)
         .value_parser(clap::value_parser!(u32).range(0..=1_000_000));
-    command_of(alloc, "client", ABOUT_CLIENT, EXAMPLE_CLIENT)?
+    json_command(alloc, "client", ABOUT_CLIENT, EXAMPLE_CLIENT)?
         .arg(lane.required(true))?
         .arg(around)
 }
@@ -191,7 +178,7 @@ fn command<'a>(alloc: Global) -> Result<Command<'a>, AllocError> {
         .after_help(STATUSES)
         .arg_required_else_help(true)
         .subcommand_required(true)
-        .subcommand(command_of(alloc, "verdict", ABOUT_VERDICT, EXAMPLE_VERDICT)?)?
+        .subcommand(json_command(alloc, "verdict", ABOUT_VERDICT, EXAMPLE_VERDICT)?)?
         .subcommand(lanes_command(alloc)?)?
         .subcommand(client_command(alloc)?)?
         .subcommand(evidence_command(alloc)?)
@@ -255,6 +242,9 @@ fn asked_of<'a>(
     let (Some(inputs), Some(asked)) = (inputs_of(alloc, matches)?, asked) else {
         return Ok(None);
     };
+    if matches.get_flag("json") {
+        return Ok(Some(Request::AsJson { inputs, asked }));
+    }
     Ok(Some(Request::Explain { inputs, asked }))
 }
 

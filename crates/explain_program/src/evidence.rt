@@ -1,22 +1,31 @@
 //! The command `evidence`: the page that is filed.
 
-use crate::command_line::{Inputs, VERSION};
+ghost use Rattle.std.specs.Prelude.{◌≡◌, [], ℕ, IfNone, IfOk, IfSome, List, Some};
+ghost use Rattle.std.specs.List.{AllZip};
+ghost use Rattle.audit_model.specs.declared.certificate.Certificate.{Certificate as Found};
+ghost use Rattle.explain_program.specs.Explained.{IsExplained};
+
+use crate::command_line::Inputs;
 use crate::explaining::{case_of, status};
 use crate::frames::look_up;
 use crate::head::{head, put_answer};
+use crate::help_texts::VERSION;
 use crate::host::PageFile;
 use crate::judged::{Judged, judge_files};
+use crate::lanes::breach_of;
 use crate::named::{NamedFile, NamedUser, named_files, plain_lines, users_in};
 use crate::page_rows::{Clients, bars_of, client_rows, file_rows, picture_of, user_rows};
 use crate::picture::{Drawing, drawing_of};
-use crate::reading::{digests_of, row_of_capture, text_of};
-use crate::verdict::rest_of_verdict;
+use crate::reading::{digests_of, text_of};
+use crate::verdict::{story_in, verdict_lines};
 use audit_files::{Source, Stop};
 use audit_finding::CertificateFinder;
-use audit_model::{Breach, Sink, Verdict, put_all};
+use audit_model::{Sink, Verdict, put_all};
 use explain_frames::Frames;
 use explain_page::{CaptureRow, Facts, page_of};
-use explain_story::{Case, Lanes, Teller, ask_breaches, is_broken, lane_line, lanes_of, sums};
+use explain_story::{
+    Case, Lanes, Teller, ask_breaches, is_broken, lane_line, lanes_of, sum_lines, sums_of,
+};
 use std::alloc::{AllocError, Global};
 use std::sync::Wait;
 use std::thread::Threads;
@@ -47,14 +56,6 @@ struct Gathered {
     drawing: Option<Drawing>,
 }
 
-/// The breach of a verdict.
-fn breach_of(verdict: &Verdict) -> Option<Breach> {
-    match verdict {
-        Verdict::Conforming { .. } => None,
-        Verdict::NotShown(breach) => Some(*breach),
-    }
-}
-
 /// The first clients' lines.
 fn lines_of(
     alloc: Global,
@@ -72,20 +73,20 @@ fn lines_of(
         lines,
         broken,
         all: u32::try_from(lanes.findings.len()).unwrap_or(u32::MAX),
-        sums: sums(alloc, teller, lanes, breach_of(verdict))?,
+        sums: sum_lines(alloc, sums_of(teller.case, lanes, breach_of(verdict)))?,
     })
 }
 
 /// The clients of a run; none where placement breaks a rule, so that no lane is judged.
-fn clients_of<S: Source>(
+fn clients_of(
     alloc: Global,
-    source: &mut S,
-    case: Case<'_>,
+    teller: &Teller<'_>,
     lanes: Option<&Lanes<'_>>,
     verdict: &Verdict,
-) -> Result<Clients, Stop> {
-    let Some(lanes) = lanes else {
-        return Ok(Clients {
+) -> Result<Clients, AllocError> {
+    match lanes {
+        Some(lanes) => lines_of(alloc, teller, lanes, verdict),
+        None => Ok(Clients {
             lines: Vec::new(alloc),
             broken: Vec::new(alloc),
             all: 0,
@@ -93,10 +94,24 @@ fn clients_of<S: Source>(
                 alloc,
                 "No client is judged, since placement breaks a rule.\n",
             )?,
-        });
-    };
+        }),
+    }
+}
+
+/// The account of a verdict, and the clients: what is told by frames, which one pass over the captures looks up.
+fn by_frames<S: Source>(
+    alloc: Global,
+    source: &mut S,
+    case: Case<'_>,
+    lanes: Option<&Lanes<'_>>,
+    verdict: &Verdict,
+) -> Result<(String, Clients), Stop> {
+    let (story, shown) = story_in(alloc, case, verdict)?;
     let mut frames = Frames::new(alloc);
-    ask_breaches(lanes, &mut frames)?;
+    story.ask(&mut frames)?;
+    if let Some(lanes) = lanes {
+        ask_breaches(lanes, &mut frames)?;
+    }
     look_up(
         alloc,
         source,
@@ -108,7 +123,10 @@ fn clients_of<S: Source>(
         case,
         frames: &frames,
     };
-    Ok(lines_of(alloc, &teller, lanes, verdict)?)
+    let mut account = head(alloc, verdict)?;
+    let length = account.len();
+    account.push_str(verdict_lines(alloc, &teller, verdict, &story, shown, length)?.as_str())?;
+    Ok((account, clients_of(alloc, &teller, lanes, verdict)?))
 }
 
 /// What is drawn where a lane breaks a rule.
@@ -142,19 +160,6 @@ fn users_of<S: Source>(
     }
 }
 
-/// What each capture has.
-fn rows_of<S: Source>(
-    alloc: Global,
-    source: &mut S,
-    inputs: &Inputs<'_>,
-) -> Result<Vec<CaptureRow>, AllocError> {
-    let mut rows = Vec::new(alloc);
-    for name in &inputs.captures {
-        rows.push(row_of_capture(alloc, source, *name)?)?;
-    }
-    Ok(rows)
-}
-
 /// Gathers what the page shows.
 fn gather<S: Source>(
     alloc: Global,
@@ -164,16 +169,16 @@ fn gather<S: Source>(
     case: Case<'_>,
 ) -> Result<Gathered, Stop> {
     let verdict = &judged.verdict;
-    let mut story = head(alloc, verdict)?;
-    let length = story.len();
-    story.push_str(rest_of_verdict(alloc, source, case, verdict, length)?.as_str())?;
     let lanes = lanes_of(alloc, case)?;
+    let (story, clients) = by_frames(alloc, source, case, lanes.as_ref(), verdict)?;
     let policy = text_of(alloc, source, inputs.policy, MOST_POLICY)?;
+    let mut captures = Vec::new(alloc);
+    let files = named_files(alloc, source, inputs, &mut captures)?;
     Ok(Gathered {
         story,
-        clients: clients_of(alloc, source, case, lanes.as_ref(), verdict)?,
-        files: named_files(alloc, source, inputs)?,
-        captures: rows_of(alloc, source, inputs)?,
+        clients,
+        files,
+        captures,
         policy: plain_lines(alloc, policy.as_slice())?,
         users: users_of(alloc, source, inputs)?,
         drawing: drawing_in(alloc, case, lanes.as_ref(), verdict)?,
@@ -214,8 +219,7 @@ fn page<S: Source>(
     page_of(alloc, &facts)
 }
 
-/// Judges captures, writes the page to a new file, and tells the verdict and where the page is. It gives 0 where they conform, and 1 where
-/// that isn't shown. Without a clause: `verdict` has it.
+/// Judges captures, writes the page to a new file, and tells the verdict. It gives 0 where they conform, and 1 where that isn't shown.
 pub fn evidence<R: Threads + Wait + Sync, F: CertificateFinder, S: Source, O: Sink, P: PageFile>(
     rt: &R,
     alloc: Global,
@@ -225,7 +229,13 @@ pub fn evidence<R: Threads + Wait + Sync, F: CertificateFinder, S: Source, O: Si
     file: &str,
     pages: &mut P,
     out: &mut O,
-) -> Result<u8, Stop> {
+) -> Result<u8, Stop>
+    ensures { (policy_text users_text : List ℕ) (texts : List (List ℕ)) →
+        S.holds source.old inputs.now.policy.now ≡ Some policy_text →
+        IfSome inputs.now.credentials (λ name. S.holds source.old name.now ≡ Some users_text) → IfNone inputs.now.credentials (users_text ≡ []) →
+        AllZip (λ name text. S.holds source.old name.now ≡ Some text) inputs.now.captures.items texts →
+        IfOk result (λ status. (by : Found) × IsExplained policy_text users_text texts by (O.taken out.old) (O.taken out.new) status) }
+{
     let judged = judge_files(
         rt,
         alloc,

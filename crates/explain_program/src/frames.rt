@@ -2,6 +2,7 @@
 
 use audit_files::{Source, Stop};
 use audit_model::Policy;
+use audit_pcapng::CaptureFault;
 use explain_frames::{FrameCounter, Frames};
 use std::alloc::Global;
 
@@ -22,8 +23,13 @@ fn look_in<S: Source>(
         let Ok(read) = source.piece(name, at, &mut piece) else {
             return Ok(());
         };
-        if read == 0 || counter.feed(&piece[..read], frames).is_err() {
+        if read == 0 {
             return Ok(());
+        }
+        match counter.feed(&piece[..read], frames) {
+            Ok(()) => {}
+            Err(CaptureFault::Memory) => return Err(Stop::Memory),
+            Err(_) => return Ok(()),
         }
         let Some(next) = at.checked_add(read as u64) else {
             return Ok(());
@@ -41,7 +47,7 @@ pub fn look_up<S: Source>(
     captures: &[&str],
     frames: &mut Frames,
 ) -> Result<(), Stop> {
-    let mut file = 0u32;
+    let mut file = 0u16;
     for name in captures {
         let mut counter = FrameCounter::new(alloc, policy, file)?;
         look_in(alloc, source, name, &mut counter, frames)?;

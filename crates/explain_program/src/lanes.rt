@@ -5,14 +5,16 @@ use crate::last_lines::behind_head;
 use audit_files::{Source, Stop};
 use audit_model::{Breach, Verdict};
 use explain_frames::Frames;
-use explain_story::{Case, Lanes, Teller, ask_breaches, is_broken, lane_line, lanes_of, sums};
+use explain_story::{
+    Case, Lanes, Teller, ask_breaches, is_broken, lane_line, lanes_of, sum_lines, sums_of,
+};
 use std::alloc::{AllocError, Global};
 
 const NO_LANES: &str =
     "No lane is judged, since the certificate's placement breaks a rule: turnexplain verdict tells it.\n";
 
 /// The first breach of a verdict.
-fn breach_of(verdict: &Verdict) -> Option<Breach> {
+pub fn breach_of(verdict: &Verdict) -> Option<Breach> {
     match verdict {
         Verdict::Conforming { .. } => None,
         Verdict::NotShown(breach) => Some(*breach),
@@ -65,7 +67,7 @@ pub fn rest_of_lanes<S: Source>(
         None => rest.push_str(NO_LANES)?,
         Some(lanes) => {
             rest.push_str(lines(alloc, &teller, lanes, only_broken)?.as_str())?;
-            rest.push_str(sums(alloc, &teller, lanes, breach_of(verdict))?.as_str())?;
+            rest.push_str(sum_lines(alloc, sums_of(case, lanes, breach_of(verdict)))?.as_str())?;
         }
     }
     Ok(rest)

@@ -1,7 +1,7 @@
 //! What stands behind the head, and the last lines of a story.
 
 use audit_faults::Fault;
-use audit_model::Verdict;
+use audit_model::{SightId, Verdict};
 use explain_story::{InEveryOrder, Story, Teller};
 use explain_text::{Quoted, Utc};
 use std::alloc::{AllocError, Global};
@@ -9,11 +9,14 @@ use std::alloc::{AllocError, Global};
 /// Where the facts of the captures begin behind the head.
 const COLUMN: usize = 50;
 
+/// How many interface numbers each capture has.
+const INTERFACES: u32 = 64;
+
 /// How many frames a filter names at the most.
 const MOST_FRAMES: usize = 24;
 
 /// How many interfaces have a datagram of the service.
-fn interfaces(teller: &Teller<'_>) -> u32 {
+pub fn interfaces(teller: &Teller<'_>) -> u32 {
     let mut count = 0u32;
     for iface in 0..teller.case.intake.interfaces() {
         if !teller.case.intake.interface(iface).is_empty() {
@@ -80,14 +83,34 @@ fn joined(alloc: Global, numbers: &[u64]) -> Result<String, AllocError> {
     Ok(text)
 }
 
+/// The numbers of the frames in a capture that show datagrams, in rising order.
+fn numbers_in(
+    alloc: Global,
+    teller: &Teller<'_>,
+    sights: &[SightId],
+    file: u32,
+) -> Result<Vec<u64>, AllocError> {
+    let mut numbers = Vec::new(alloc);
+    for sight in sights {
+        if sight.iface / INTERFACES == file {
+            if let Some(frame) = teller.frames.frame(*sight) {
+                numbers.push(frame.number)?;
+            }
+        }
+    }
+    numbers.sort()?;
+    Ok(numbers)
+}
+
 /// How to look at the frames of a capture; nothing where none of its frames is told.
 fn look_line(
     alloc: Global,
     teller: &Teller<'_>,
+    sights: &[SightId],
     file: u32,
     name: &str,
 ) -> Result<String, AllocError> {
-    let numbers = teller.frames.numbers(alloc, file)?;
+    let numbers = numbers_in(alloc, teller, sights, file)?;
     if numbers.is_empty() {
         return Ok(String::new(alloc));
     }
@@ -96,19 +119,20 @@ fn look_line(
     format!(in alloc; "look: tshark -r {name} -Y 'frame.number in {{{frames}}}'\n")
 }
 
-/// How to look at the frames of all captures.
-pub fn look_lines(alloc: Global, teller: &Teller<'_>) -> Result<String, AllocError> {
+/// How to look at the frames of a story, capture by capture.
+pub fn look_lines(alloc: Global, teller: &Teller<'_>, story: &Story) -> Result<String, AllocError> {
+    let sights = story.sights()?;
     let mut text = String::new(alloc);
     let mut file = 0u32;
     for name in teller.case.captures {
-        text.push_str(look_line(alloc, teller, file, name)?.as_str())?;
+        text.push_str(look_line(alloc, teller, &sights, file, name)?.as_str())?;
         file = file.saturating_add(1);
     }
     Ok(text)
 }
 
 /// The fault's name.
-fn fault_name(fault: Fault) -> &'static str {
+pub fn fault_name(fault: Fault) -> &'static str {
     match fault {
         Fault::Unasked => "Unasked",
         Fault::Unallocated => "Unallocated",

@@ -2,6 +2,7 @@
 //! status.
 #![tactic(auto)]
 
+mod as_json;
 mod client;
 mod command_line;
 mod conforming;
@@ -9,7 +10,10 @@ mod evidence;
 mod explaining;
 mod frames;
 mod head;
+mod help_texts;
 mod host;
+mod inputs;
+mod json;
 mod judged;
 mod lanes;
 mod last_lines;
@@ -25,6 +29,7 @@ mod running;
 mod shape;
 mod verdict;
 
+pub use as_json::explain_as_json;
 pub use command_line::Asked;
 pub use explaining::explain;
 pub use host::{Explaining, PageFile, Trouble};

@@ -1,9 +1,9 @@
 //! Names and texts out of files, told plainly.
 
 use crate::command_line::Inputs;
-use crate::reading::digests_of;
+use crate::reading::{digests_of, look_over};
 use audit_files::Source;
-use explain_page::{Digests, Role};
+use explain_page::{CaptureRow, Digests, Role};
 use explain_text::Quoted;
 use std::alloc::{AllocError, Global};
 
@@ -42,11 +42,12 @@ fn named<S: Source>(
     })
 }
 
-/// The files of a request, in the order in which they are read.
+/// The files of a request, in the order in which they are read, and what each capture has.
 pub fn named_files<S: Source>(
     alloc: Global,
     source: &mut S,
     inputs: &Inputs<'_>,
+    rows: &mut Vec<CaptureRow>,
 ) -> Result<Vec<NamedFile>, AllocError> {
     let mut files = Vec::new(alloc);
     files.push(named(alloc, source, Role::Policy, inputs.policy)?)?;
@@ -57,7 +58,13 @@ pub fn named_files<S: Source>(
         files.push(named(alloc, source, Role::Certificate, name)?)?;
     }
     for name in &inputs.captures {
-        files.push(named(alloc, source, Role::Capture, *name)?)?;
+        let looked = look_over(alloc, source, *name)?;
+        rows.push(looked.row)?;
+        files.push(NamedFile {
+            role: Role::Capture,
+            name: plain(alloc, name.as_bytes())?,
+            digests: looked.digests,
+        })?;
     }
     Ok(files)
 }

@@ -98,24 +98,38 @@ fn count_piece(splitter: &mut BlockSplitter, piece: &[u8], row: &mut CaptureRow)
     true
 }
 
-/// What a capture has. Where it can't be read a second time, as a pipe, nothing is counted.
-pub fn row_of_capture<S: Source>(
+/// What a capture has, and its digests; none where it can't be read from its front again, as a pipe.
+#[derive(Clone, Copy)]
+pub struct LookedOver {
+    pub digests: Option<Digests>,
+    pub row: CaptureRow,
+}
+
+/// Goes over a capture once more. Of one that can't be read on, what came before is counted.
+pub fn look_over<S: Source>(
     alloc: Global,
     source: &mut S,
     name: &str,
-) -> Result<CaptureRow, AllocError> {
+) -> Result<LookedOver, AllocError> {
     let mut piece = vec![in alloc; 0u8; PIECE]?;
+    let mut hashing = Hashing::new();
     let mut splitter = BlockSplitter::new(alloc);
     let mut row = no_blocks();
+    let mut is_counted = true;
     let mut at = 0u64;
     'pieces: for _ in 0..u64::MAX {
         let Ok(read) = source.piece(name, at, &mut piece) else {
-            break;
+            return Ok(LookedOver { digests: None, row });
         };
-        if read == 0 || !count_piece(&mut splitter, &piece[..read], &mut row) {
+        if read == 0 {
             break;
         }
+        hashing.feed(&piece[..read]);
+        is_counted = is_counted && count_piece(&mut splitter, &piece[..read], &mut row);
         at = at.saturating_add(read as u64);
     }
-    Ok(row)
+    Ok(LookedOver {
+        digests: Some(hashing.finish()),
+        row,
+    })
 }

@@ -1,5 +1,6 @@
 //! The whole program as a function.
 
+use crate::as_json::explain_as_json;
 use crate::command_line::{Inputs, Request, read as read_words};
 use crate::evidence::evidence;
 use crate::explaining::explain;
@@ -45,6 +46,19 @@ fn run_request<
             *asked,
             out,
         ),
+        Request::AsJson { inputs, asked } => explain_as_json(
+            rt,
+            alloc,
+            finder,
+            source,
+            inputs.policy,
+            inputs.credentials,
+            inputs.certificate,
+            &inputs.captures,
+            inputs.workers,
+            *asked,
+            out,
+        ),
         Request::Evidence { inputs, file } => {
             evidence(rt, alloc, finder, source, inputs, file, pages, out)
         }
@@ -62,7 +76,9 @@ fn run_request<
 /// The files that a request names.
 fn inputs_of<'r, 'a>(request: &'r Request<'a>) -> Option<&'r Inputs<'a>> {
     match request {
-        Request::Explain { inputs, .. } | Request::Evidence { inputs, .. } => Some(inputs),
+        Request::Explain { inputs, .. }
+        | Request::AsJson { inputs, .. }
+        | Request::Evidence { inputs, .. } => Some(inputs),
         Request::Help(_) | Request::Usage(_) => None,
     }
 }

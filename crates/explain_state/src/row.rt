@@ -29,14 +29,6 @@ impl Traffic {
             bytes: self.bytes.saturating_add(size),
         }
     }
-
-    /// Both together.
-    pub fn and(self, other: Traffic) -> Traffic {
-        Traffic {
-            datagrams: self.datagrams.saturating_add(other.datagrams),
-            bytes: self.bytes.saturating_add(other.bytes),
-        }
-    }
 }
 
 /// A lane, and what it comes to by its own judgement.

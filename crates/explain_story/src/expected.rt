@@ -1,4 +1,4 @@
-//! What was due in place of what was seen, with the particulars of the act.
+//! What was due in place of what was seen, with the particulars of the act. It stands behind `expected:`.
 
 use crate::scene::Scene;
 use audit_model::Rule;
@@ -15,7 +15,7 @@ fn by_allocation(alloc: Global, scene: &Scene<'_>, what: &str) -> Result<String,
     } else {
         "dropped"
     };
-    format!(in alloc; "expected: {due}. The client {what}.")
+    format!(in alloc; "{due}. The client {what}.")
 }
 
 /// Where a permission is asked for.
@@ -23,17 +23,17 @@ fn by_permission(alloc: Global, scene: &Scene<'_>, what: &str) -> Result<String,
     match scene.peer() {
         Some(peer) => {
             let ip = Ip { ip: peer.ip };
-            format!(in alloc; "expected: dropped. The client had no {what} for {ip}.")
+            format!(in alloc; "dropped. The client had no {what} for {ip}.")
         }
-        None => format!(in alloc; "expected: dropped. The client had no {what} for the peer."),
+        None => format!(in alloc; "dropped. The client had no {what} for the peer."),
     }
 }
 
 /// Where a channel is asked for.
 fn by_channel(alloc: Global, scene: &Scene<'_>, what: &str) -> Result<String, AllocError> {
     match scene.channel() {
-        Some(number) => { format!(in alloc; "expected: dropped. Channel 0x{number:04X} {what}.") }
-        None => format!(in alloc; "expected: dropped. The channel {what}."),
+        Some(number) => { format!(in alloc; "dropped. Channel 0x{number:04X} {what}.") }
+        None => format!(in alloc; "dropped. The channel {what}."),
     }
 }
 
@@ -50,17 +50,17 @@ fn by_user(alloc: Global, scene: &Scene<'_>) -> Result<String, AllocError> {
                 bytes: allocation.user.as_slice(),
             };
             format!(in alloc;
-                "expected: 441 Wrong Credentials. User \"{owner}\" made the allocation, the request is of user \"{name}\"."
+                "441 Wrong Credentials. User \"{owner}\" made the allocation, the request is of user \"{name}\"."
             )
         }
-        None => format!(in alloc; "expected: an error. The request is of user \"{name}\"."),
+        None => format!(in alloc; "an error. The request is of user \"{name}\"."),
     }
 }
 
 /// Where an error says what isn't so.
 fn by_error(alloc: Global, scene: &Scene<'_>) -> Result<String, AllocError> {
     let Some(told) = scene.told() else {
-        return String::from_str(alloc, "expected: a success, or another error.");
+        return String::from_str(alloc, "a success, or another error.");
     };
     let value = told.first(ERROR_CODE).unwrap_or(&[]);
     let code = error_code(value).unwrap_or(0);
@@ -81,7 +81,7 @@ fn by_error(alloc: Global, scene: &Scene<'_>) -> Result<String, AllocError> {
         None => "there was none",
     };
     format!(in alloc;
-        "expected: a success, or another error. {word} to {method} says: {says}. Of allocations {was}."
+        "a success, or another error. {word} to {method} says: {says}. Of allocations {was}."
     )
 }
 
@@ -90,9 +90,9 @@ fn by_present(alloc: Global, scene: &Scene<'_>) -> Result<String, AllocError> {
     match scene.lane.table().allocation() {
         Some(allocation) => {
             let relayed = allocation.relayed;
-            format!(in alloc; "expected: 437 Allocation Mismatch. {relayed} lasts.")
+            format!(in alloc; "437 Allocation Mismatch. {relayed} lasts.")
         }
-        None => String::from_str(alloc, "expected: 437 Allocation Mismatch."),
+        None => String::from_str(alloc, "437 Allocation Mismatch."),
     }
 }
 
@@ -114,6 +114,5 @@ pub fn expected_of_act(alloc: Global, scene: &Scene<'_>, rule: Rule) -> Result<S
 
 /// What was due where a rule is broken, without particulars.
 pub fn expected_of_rule(alloc: Global, rule: Rule) -> Result<String, AllocError> {
-    let due = expected(rule);
-    format!(in alloc; "expected: {due}")
+    String::from_str(alloc, expected(rule))
 }

@@ -2,6 +2,7 @@
 
 use crate::line::Story;
 use crate::scene::{Scene, Way};
+use crate::signed::tell_signed;
 use audit_model::{Addr, Rule};
 use audit_rules::CredRow;
 use audit_stun::numbers::attribute::{
@@ -242,5 +243,9 @@ pub fn tell_got(scene: &Scene<'_>, rule: Rule, story: &mut Story) -> Result<(), 
         Rule::Malformed => of_bytes(alloc, scene)?,
         _ => return Ok(()),
     };
-    story.say(words)
+    story.say(words)?;
+    if rule == Rule::NotAuthentic {
+        tell_signed(scene, story)?;
+    }
+    Ok(())
 }

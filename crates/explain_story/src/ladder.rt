@@ -1,11 +1,12 @@
-//! One client's events in their order, as a ladder.
+//! One client's events in their order, each with what the client had before it.
 
-use crate::place::Teller;
+use crate::case::Case;
+use crate::leases::{channel_of, permission_of};
 use crate::scene::{Scene, Way};
 use audit_lane::{LaneEvent, LaneFault, LaneInput};
-use audit_model::{Side, SightId, Sighting};
+use audit_model::SightId;
 use explain_frames::Frames;
-use explain_state::{LaneAt, lane_before};
+use explain_state::{LaneAt, LeaseRow, lane_before};
 use std::alloc::{AllocError, Global};
 
 /// Events of a lane by their places: from the first on, up to the one before the last.
@@ -55,102 +56,82 @@ pub fn ask_span(input: &LaneInput<'_>, span: Span, frames: &mut Frames) -> Resul
     Ok(())
 }
 
-/// Which leases last at an event, each by a letter: the allocation, the permission for its peer, and its channel.
-fn marks(scene: &Scene<'_>) -> [char; 3] {
-    let grace = scene.case.intake.policy().grace;
-    let moment = scene.moment;
-    let lasts = |until: u64| moment <= until.saturating_add(grace);
-    let mut marks = ['.', '.', '.'];
-    if let Some(row) = scene.lane.allocation() {
-        if lasts(row.until) {
-            marks[0] = 'A';
+/// Which leases last at an act: the allocation, the permission for its peer, and its channel.
+#[derive(Clone, Copy, Debug)]
+pub struct Lasting {
+    pub allocation: bool,
+    pub permission: bool,
+    pub channel: bool,
+}
+
+/// What happens at a rung.
+#[derive(Clone, Copy)]
+pub enum Step {
+    Arrives(SightId),
+    Leaves(SightId),
+    Act {
+        arrives: SightId,
+        leaves: SightId,
+        way: Way,
+        lasting: Lasting,
+    },
+}
+
+/// An event of a lane.
+#[derive(Clone, Copy)]
+pub struct Rung {
+    pub place: u32,
+    /// In nanoseconds since 1970.
+    pub moment: u64,
+    /// Whether it is the lane's first breach.
+    pub is_breach: bool,
+    pub step: Step,
+}
+
+/// Whether a lease lasts at an act, with the grace.
+fn lasts(scene: &Scene<'_>, row: Option<LeaseRow>) -> bool {
+    match row {
+        Some(row) => {
+            let grace = scene.case.intake.policy().grace;
+            scene.moment <= row.until.saturating_add(grace)
         }
-    }
-    if let Some(peer) = scene.peer() {
-        if let Some(row) = scene.lane.permission(peer.ip) {
-            if lasts(row.until) {
-                marks[1] = 'P';
-            }
-        }
-    }
-    if let Some(number) = scene.channel() {
-        if let Some(row) = scene.lane.channel(number) {
-            if lasts(row.until) {
-                marks[2] = 'C';
-            }
-        }
-    }
-    marks
-}
-
-/// The arrow of a datagram.
-fn arrow(is_clients: bool, side: Side) -> &'static str {
-    match (is_clients, side) {
-        (true, Side::Arrives) => "C ---------> S             ",
-        (true, Side::Leaves) => "C <--------- S             ",
-        (false, Side::Arrives) => "             S <--------- P",
-        (false, Side::Leaves) => "             S ---------> P",
+        None => false,
     }
 }
 
-/// The arrow of an act.
-fn arrow_of_act(way: Way) -> &'static str {
-    match way {
-        Way::Response => "C <========> S             ",
-        Way::Up => "C =========> S =========> P",
-        Way::Down => "C <========= S <========= P",
+/// Which leases last at an act.
+fn what_lasts(scene: &Scene<'_>) -> Lasting {
+    Lasting {
+        allocation: lasts(scene, scene.lane.allocation()),
+        permission: lasts(scene, permission_of(scene)),
+        channel: lasts(scene, channel_of(scene)),
     }
 }
 
-/// The line of a datagram that comes or goes.
-fn datagram_line(
-    alloc: Global,
-    teller: &Teller<'_>,
-    sighting: &Sighting,
-    moment: u64,
-) -> Result<String, AllocError> {
-    let arrow = arrow(teller.is_clients(sighting), sighting.side);
-    let time = teller.since(moment);
-    let what = teller.what(alloc, sighting)?;
-    let place = teller.place(alloc, sighting.id)?;
-    format!(in alloc; "{time}  ...  {arrow}  {what:<40}  {place}")
-}
-
-/// The line of an act.
-fn act_line(alloc: Global, teller: &Teller<'_>, scene: &Scene<'_>) -> Result<String, AllocError> {
-    let [a, p, c] = marks(scene);
-    let arrow = arrow_of_act(scene.way());
-    let time = teller.since(scene.moment);
-    let came = teller.what(alloc, scene.arrives)?;
-    let went = teller.what(alloc, scene.leaves)?;
-    let arrives = teller.number(scene.arrives.id);
-    let leaves = teller.number(scene.leaves.id);
-    format!(in alloc; "{time}  {a}{p}{c}  {arrow}  {came} => {went}, frames {arrives} > {leaves}")
-}
-
-/// The line of an event.
-fn event_line(
-    alloc: Global,
-    teller: &Teller<'_>,
-    lane: &LaneAt<'_>,
-    event: &LaneEvent<'_>,
-) -> Result<String, AllocError> {
+/// What happens at an event, and when.
+fn step_of(case: Case<'_>, lane: &LaneAt<'_>, event: &LaneEvent<'_>) -> (Step, u64) {
     match event {
-        LaneEvent::In { sighting, key, .. } => datagram_line(alloc, teller, sighting, key.moment),
-        LaneEvent::Out { sighting, key } => datagram_line(alloc, teller, sighting, key.moment),
+        LaneEvent::In { sighting, key, .. } => (Step::Arrives(sighting.id), key.moment),
+        LaneEvent::Out { sighting, key } => (Step::Leaves(sighting.id), key.moment),
         LaneEvent::Act {
             arrives,
             leaves,
             key,
         } => {
             let scene = Scene {
-                case: teller.case,
+                case,
                 lane,
                 arrives,
                 leaves,
                 moment: key.moment,
             };
-            act_line(alloc, teller, &scene)
+            let step = Step::Act {
+                arrives: arrives.id,
+                leaves: leaves.id,
+                way: scene.way(),
+                lasting: what_lasts(&scene),
+            };
+            (step, key.moment)
         }
     }
 }
@@ -167,47 +148,33 @@ fn pass(lane: &mut LaneAt<'_>, place: u32) -> Result<bool, AllocError> {
     }
 }
 
-/// Adds the line of the event at a place.
-fn add_line(
+/// The events of a lane. Leases are those before each event, up to the lane's first breach; behind it they aren't known, and
+/// those of there are told.
+pub fn rungs_of(
     alloc: Global,
-    teller: &Teller<'_>,
-    lane: &LaneAt<'_>,
-    place: u32,
-    is_breach: bool,
-    text: &mut String,
-) -> Result<(), AllocError> {
-    let Some(event) = lane.input().events().get(place as usize) else {
-        return Ok(());
-    };
-    let line = event_line(alloc, teller, lane, event)?;
-    let mark = if is_breach { "=>" } else { "  " };
-    text.push_str(format!(in alloc; "{mark}{place:>7}  {line}\n")?.as_str())
-}
-
-/// The ladder of a lane's events. Leases are those before each event, up to the lane's first breach; behind it they aren't known.
-pub fn ladder_lines(
-    alloc: Global,
-    teller: &Teller<'_>,
+    case: Case<'_>,
     input: &LaneInput<'_>,
     span: Span,
     breach: Option<u32>,
-) -> Result<String, AllocError> {
-    let mut text = String::new(alloc);
+) -> Result<Vec<Rung>, AllocError> {
+    let mut rungs = Vec::new(alloc);
     let Some(mut lane) = lane_before(alloc, input, span.from)? else {
-        return Ok(text);
+        return Ok(rungs);
     };
     let mut goes_on = true;
     for place in span.from..span.to {
-        let is_breach = breach == Some(place);
-        add_line(alloc, teller, &lane, place, is_breach, &mut text)?;
-        if is_breach {
-            text.push_str(
-                "           first breach of this lane; the leases below are those of here\n",
-            )?;
+        if let Some(event) = input.events().get(place as usize) {
+            let (step, moment) = step_of(case, &lane, event);
+            rungs.push(Rung {
+                place,
+                moment,
+                is_breach: breach == Some(place),
+                step,
+            })?;
         }
         if goes_on {
             goes_on = pass(&mut lane, place)?;
         }
     }
-    Ok(text)
+    Ok(rungs)
 }

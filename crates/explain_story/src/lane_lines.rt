@@ -1,6 +1,6 @@
 //! A line for each client.
 
-use crate::case::Lanes;
+use crate::case::{Case, Lanes};
 use crate::place::Teller;
 use audit_lane::{Finding, Outcome};
 use audit_model::{Breach, Rule};
@@ -21,7 +21,7 @@ pub fn ask_breaches(lanes: &Lanes<'_>, frames: &mut Frames) -> Result<(), AllocE
 }
 
 /// How many allocations a lane has, up to its first breach.
-fn allocations(alloc: Global, finding: &Finding<'_>) -> Result<usize, AllocError> {
+pub fn allocations(alloc: Global, finding: &Finding<'_>) -> Result<usize, AllocError> {
     match finding.outcome() {
         Outcome::Passed(tenancies) => Ok(tenancies.len()),
         Outcome::Broken(breach) => {
@@ -101,30 +101,57 @@ pub fn is_broken(finding: &Finding<'_>) -> bool {
     }
 }
 
+/// What all lanes come to.
+#[derive(Clone, Copy, Debug)]
+pub struct Sums {
+    pub clients: usize,
+    /// How many of them break a rule.
+    pub broken: usize,
+    /// How many datagrams stand in no lane.
+    pub dropped: usize,
+    /// The lane that was given an address which another client held.
+    pub clash: Option<u32>,
+}
+
+/// The lane of a verdict's breach where that is an address which another client held.
+fn clash_of(breach: Option<Breach>) -> Option<u32> {
+    let breach = breach?;
+    if breach.rule == Rule::AddressHeld {
+        Some(breach.at.lane)
+    } else {
+        None
+    }
+}
+
+/// What all lanes come to, whose verdict has this breach.
+pub fn sums_of(case: Case<'_>, lanes: &Lanes<'_>, breach: Option<Breach>) -> Sums {
+    Sums {
+        clients: lanes.findings.len(),
+        broken: lanes
+            .findings
+            .iter()
+            .filter(|finding| is_broken(finding))
+            .count(),
+        dropped: case.certificate.drops.len(),
+        clash: clash_of(breach),
+    }
+}
+
 /// The lines behind those of the lanes.
-pub fn sums(
-    alloc: Global,
-    teller: &Teller<'_>,
-    lanes: &Lanes<'_>,
-    breach: Option<Breach>,
-) -> Result<String, AllocError> {
-    let count = lanes.findings.len();
-    let broken = lanes
-        .findings
-        .iter()
-        .filter(|finding| is_broken(finding))
-        .count();
-    let dropped = teller.case.certificate.drops.len();
+pub fn sum_lines(alloc: Global, sums: Sums) -> Result<String, AllocError> {
+    let Sums {
+        clients,
+        broken,
+        dropped,
+        clash,
+    } = sums;
     let mut text = format!(in alloc;
-        "{count} clients, {broken} of them break a rule; {dropped} datagrams stand in no lane, since the server never answered them\n"
+        "{clients} clients, {broken} of them break a rule; {dropped} datagrams stand in no lane, since the server never answered them\n"
     )?;
-    if let Some(breach) = breach {
-        if breach.rule == Rule::AddressHeld {
-            let lane = breach.at.lane;
-            text.push_str(format!(in alloc;
-                "lane {lane} was given an address that another client held (R22)\n"
-            )?.as_str())?;
-        }
+    if let Some(lane) = clash {
+        text.push_str(format!(in alloc;
+            "lane {lane} was given an address that another client held (R22)\n"
+        )?.as_str())?;
     }
     if broken > 0 {
         text.push_str(

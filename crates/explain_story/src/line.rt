@@ -1,15 +1,38 @@
 //! Lines whose frames are looked up before they are told.
 
-use audit_model::SightId;
+use audit_model::{Addr, Rule, SightId};
 use explain_frames::Frames;
 use explain_state::{Ended, GrantAct, LeaseRow};
 use std::alloc::{AllocError, Global};
+
+/// The name and the realm of a user, as a request has them.
+#[derive(Drop)]
+pub struct Account {
+    pub user: Vec<u8>,
+    pub realm: Vec<u8>,
+}
+
+/// The client of a lane.
+#[derive(Drop)]
+pub struct ClientOf {
+    pub lane: u32,
+    pub client: Addr,
+    pub listen: Addr,
+    /// The user that was named last of those who are known.
+    pub account: Option<Account>,
+}
 
 /// A line of a story.
 #[derive(Drop)]
 pub enum Line {
     /// Words as they are.
     Words(String),
+    /// Whose lane it is.
+    Client(ClientOf),
+    /// What was due.
+    Expected(String),
+    /// What the rule asks, and what its breaches usually come from.
+    Rule(Rule),
     /// A datagram, with its frame.
     Datagram(SightId),
     /// A lease, with the frames that made and renewed it.
@@ -22,6 +45,8 @@ pub enum Line {
         sight: SightId,
         behind: String,
     },
+    /// The frame that tells a relayed address and isn't judged; nothing where there is none.
+    ToldElsewhere(Addr),
 }
 
 /// Lines in their order, and the moment at which leases are looked at.
@@ -33,25 +58,29 @@ pub struct Story {
     alloc: Global,
 }
 
-/// Asks for the frames of an act.
-fn ask_act(frames: &mut Frames, act: &GrantAct) -> Result<(), AllocError> {
-    frames.ask(act.arrives)?;
-    frames.ask(act.leaves)
+/// Adds the datagrams of an act.
+fn add_act(sights: &mut Vec<SightId>, act: &GrantAct) -> Result<(), AllocError> {
+    sights.push(act.arrives)?;
+    sights.push(act.leaves)?;
+    Ok(())
 }
 
-/// Asks for the frames of a line.
-fn ask_line(frames: &mut Frames, line: &Line) -> Result<(), AllocError> {
+/// Adds the datagrams of a line.
+fn add_sights(sights: &mut Vec<SightId>, line: &Line) -> Result<(), AllocError> {
     match line {
-        Line::Words(_) => Ok(()),
-        Line::Datagram(sight) => frames.ask(*sight),
-        Line::UpTo { sight, .. } => frames.ask(*sight),
+        Line::Words(_) | Line::Client(_) | Line::Expected(_) | Line::Rule(_) => Ok(()),
+        Line::ToldElsewhere(_) => Ok(()),
+        Line::Datagram(sight) | Line::UpTo { sight, .. } => {
+            sights.push(*sight)?;
+            Ok(())
+        }
         Line::Lease(row) => {
-            ask_act(frames, &row.made)?;
-            ask_act(frames, &row.last)
+            add_act(sights, &row.made)?;
+            add_act(sights, &row.last)
         }
         Line::Ended(ended) => {
-            ask_act(frames, &ended.made)?;
-            ask_act(frames, &ended.ending)
+            add_act(sights, &ended.made)?;
+            add_act(sights, &ended.ending)
         }
     }
 }
@@ -89,6 +118,11 @@ impl Story {
         self.say(words)
     }
 
+    /// Adds what was due.
+    pub fn due(&mut self, words: String) -> Result<(), AllocError> {
+        self.add(Line::Expected(words))
+    }
+
     /// Adds a datagram.
     pub fn show(&mut self, sight: SightId) -> Result<(), AllocError> {
         self.add(Line::Datagram(sight))
@@ -102,10 +136,24 @@ impl Story {
         }
     }
 
+    /// The datagrams of all lines, some perhaps more than once.
+    pub fn sights(&self) -> Result<Vec<SightId>, AllocError> {
+        let mut sights = Vec::new(self.alloc);
+        for line in &self.lines {
+            add_sights(&mut sights, line)?;
+        }
+        Ok(sights)
+    }
+
     /// Asks for the frames of all lines.
     pub fn ask(&self, frames: &mut Frames) -> Result<(), AllocError> {
+        for sight in &self.sights()? {
+            frames.ask(*sight)?;
+        }
         for line in &self.lines {
-            ask_line(frames, line)?;
+            if let Line::ToldElsewhere(relayed) = line {
+                frames.ask_told(*relayed);
+            }
         }
         Ok(())
     }

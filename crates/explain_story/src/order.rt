@@ -4,9 +4,7 @@ use crate::case::Case;
 use crate::line::{Line, Story};
 use audit_lane::{LaneEvent, LaneInput};
 use audit_model::{SightId, Sighting};
-use audit_stun::numbers::attribute::XOR_RELAYED_ADDRESS;
-use audit_stun::numbers::method::ALLOCATE;
-use audit_stun::{Class, address, message};
+use explain_frames::tells_address;
 use explain_text::Seconds;
 use std::alloc::AllocError;
 
@@ -131,24 +129,10 @@ pub fn tell_held_out(
     tell_held(case, input, arrives, moment, story)
 }
 
-/// Whether a datagram is an Allocate success that tells this relayed address.
-fn tells_address(sighting: &Sighting, departure: &Sighting) -> bool {
-    let Some(told) = message(sighting.payload.as_slice()) else {
-        return false;
-    };
-    if told.class() != Class::Success || told.method() != ALLOCATE {
-        return false;
-    }
-    match told.first(XOR_RELAYED_ADDRESS) {
-        Some(value) => address(value) == Some(departure.from),
-        None => false,
-    }
-}
-
 /// The Allocate success of an interface that told the address from which a departure left.
 fn telling_on(case: Case<'_>, iface: u32, departure: &Sighting) -> Option<SightId> {
     for sighting in case.intake.interface(iface) {
-        if tells_address(sighting, departure) {
+        if tells_address(sighting.payload.as_slice(), departure.from) {
             return Some(sighting.id);
         }
     }
@@ -182,8 +166,11 @@ pub fn tell_whose(
             sight,
             behind: String::new(alloc),
         }),
-        None => story.say(format!(in alloc;
-            "  no client was told {from} over UDP in these captures"
-        )?),
+        None => {
+            story.say(format!(in alloc;
+                "  no client was told {from} over UDP in these captures"
+            )?)?;
+            story.add(Line::ToldElsewhere(from))
+        }
     }
 }

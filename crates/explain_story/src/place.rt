@@ -48,13 +48,27 @@ impl<'a> Teller<'a> {
         }
     }
 
+    /// The name of a sighting's capture, as it was given; none where there is no capture of its number.
+    pub fn capture_name(&self, sight: SightId) -> Option<&'a str> {
+        let name = self.case.captures.get((sight.iface / INTERFACES) as usize)?;
+        Some(*name)
+    }
+
     /// The name of a sighting's capture.
     pub fn capture(&self, sight: SightId) -> Quoted<'a> {
-        match self.case.captures.get((sight.iface / INTERFACES) as usize) {
-            Some(name) => Quoted {
-                bytes: name.as_bytes(),
-            },
-            None => Quoted { bytes: b"?" },
+        self.capture_of(sight.iface / INTERFACES)
+    }
+
+    /// The name of the capture of a number.
+    pub fn capture_of(&self, file: u32) -> Quoted<'a> {
+        let name = self
+            .case
+            .captures
+            .get(file as usize)
+            .copied()
+            .unwrap_or("?");
+        Quoted {
+            bytes: name.as_bytes(),
         }
     }
 

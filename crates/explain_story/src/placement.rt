@@ -2,6 +2,7 @@
 
 use crate::case::Case;
 use crate::line::Story;
+use crate::nearest::tell_nearest;
 use crate::order::tell_whose;
 use audit_model::{Breach, Rule, Side, SightId, Sighting};
 use explain_text::Seconds;
@@ -80,7 +81,8 @@ fn tell_unplaced(case: Case<'_>, sighting: &Sighting, story: &mut Story) -> Resu
                     "  it is the first datagram of its interface: the capture may have begun late",
                 )?;
             }
-            tell_whose(case, sighting, story)
+            tell_whose(case, sighting, story)?;
+            tell_nearest(case, None, sighting, story)
         }
     }
 }

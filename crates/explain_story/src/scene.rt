@@ -18,7 +18,7 @@ pub struct Scene<'s> {
 }
 
 /// What an act is about.
-#[derive(Clone, Copy, PartialEq, Eq)]
+#[derive(Clone, Copy, Debug, PartialEq, Eq)]
 pub enum Way {
     /// A request of the client and its response.
     Response,

@@ -1,9 +1,11 @@
 //! Telling lines.
 
-use crate::line::{Line, Story};
+use crate::line::{ClientOf, Line, Story};
 use crate::place::Teller;
+use audit_model::{Addr, Rule};
+use explain_frames::ToldBy;
 use explain_state::{Ended, GrantAct, LeaseKind, LeaseRow};
-use explain_text::{Ip, MethodWord, Seconds};
+use explain_text::{Ip, MethodWord, Quoted, Seconds, anchor, cause, meaning};
 use std::alloc::{AllocError, Global};
 
 impl Teller<'_> {
@@ -68,10 +70,31 @@ impl Teller<'_> {
         format!(in alloc; "  allocation {relayed}  {made}, ended by {method}, {ending}\n")
     }
 
+    /// The frame that tells a relayed address and isn't judged.
+    fn told_line(&self, alloc: Global, relayed: Addr) -> Result<String, AllocError> {
+        let Some(frame) = self.frames.told() else {
+            return Ok(String::new(alloc));
+        };
+        let capture = self.capture_of(u32::from(frame.file));
+        let number = frame.number;
+        match frame.told {
+            ToldBy::Elsewhere(client) => format!(in alloc;
+                "  {capture} frame {number} tells {relayed} in an Allocate success to {client}, a client that isn't judged\n"
+            ),
+            ToldBy::Unlisted { server, client } => format!(in alloc;
+                "  {capture} frame {number} tells {relayed} in an Allocate success of {server} to {client}: the policy lacks {server}\n"
+            ),
+        }
+    }
+
     /// A line of a story.
     pub fn line(&self, alloc: Global, line: &Line, moment: u64) -> Result<String, AllocError> {
         match line {
             Line::Words(words) => format!(in alloc; "{words}\n"),
+            Line::Client(client) => client_line(alloc, client),
+            Line::Expected(words) => format!(in alloc; "expected: {words}\n"),
+            Line::Rule(rule) => rule_lines(alloc, *rule),
+            Line::ToldElsewhere(relayed) => self.told_line(alloc, *relayed),
             Line::Datagram(sight) => self.datagram_line(alloc, *sight),
             Line::Lease(row) => self.lease_line(alloc, row, moment),
             Line::Ended(ended) => self.ended_line(alloc, ended),
@@ -94,6 +117,32 @@ impl Teller<'_> {
         }
         Ok(text)
     }
+}
+
+/// The line of a client.
+fn client_line(alloc: Global, of: &ClientOf) -> Result<String, AllocError> {
+    let lane = of.lane;
+    let client = of.client;
+    let listen = of.listen;
+    let ends = format!(in alloc; "client {client} at {listen}")?;
+    let Some(account) = &of.account else {
+        return format!(in alloc; "{ends:<50} lane {lane}, no user was named\n");
+    };
+    let user = Quoted {
+        bytes: &account.user,
+    };
+    let realm = Quoted {
+        bytes: &account.realm,
+    };
+    format!(in alloc; "{ends:<50} lane {lane}, user \"{user}\", realm \"{realm}\"\n")
+}
+
+/// What a rule asks, and what its breaches usually come from.
+fn rule_lines(alloc: Global, rule: Rule) -> Result<String, AllocError> {
+    let meaning = meaning(rule);
+    let cause = cause(rule);
+    let anchor = anchor(rule);
+    format!(in alloc; "rule: {meaning}\nusual cause: {cause}; {anchor}\n")
 }
 
 /// What a lease is of.

@@ -5,7 +5,8 @@ use crate::expected::{expected_of_act, expected_of_rule};
 use crate::got::tell_got;
 use crate::held_twice::tell_clash;
 use crate::leases::{asks_leases, tell_leases, tell_margin};
-use crate::line::Story;
+use crate::line::{Account, ClientOf, Line, Story};
+use crate::nearest::tell_nearest;
 use crate::order::{tell_held, tell_held_out, tell_twice, tell_whose};
 use crate::others::{Shown, tell_rest};
 use crate::placement::tell_placement;
@@ -14,25 +15,29 @@ use audit_faults::Fault;
 use audit_lane::{LaneEvent, LaneInput};
 use audit_model::{Breach, Rule, SightId, Sighting};
 use explain_state::{LaneAt, lane_before};
-use explain_text::{Quoted, anchor, cause, meaning};
 use std::alloc::{AllocError, Global};
 
-/// Tells the client of a lane.
-pub fn tell_client(lane: &LaneAt<'_>, story: &mut Story) -> Result<(), AllocError> {
-    let alloc = story.alloc();
-    let number = lane.input().number();
-    let client = lane.input().client();
-    let listen = lane.input().listen();
-    let ends = format!(in alloc; "client {client} at {listen}")?;
-    let words = match lane.user() {
-        Some((user, realm)) => {
-            let user = Quoted { bytes: user };
-            let realm = Quoted { bytes: realm };
-            format!(in alloc; "{ends:<50} lane {number}, user \"{user}\", realm \"{realm}\"")?
-        }
-        None => format!(in alloc; "{ends:<50} lane {number}, no user was named")?,
+/// The user that a lane named last of those who are known.
+fn account_of(alloc: Global, lane: &LaneAt<'_>) -> Result<Option<Account>, AllocError> {
+    let Some((user, realm)) = lane.user() else {
+        return Ok(None);
     };
-    story.say(words)?;
+    Ok(Some(Account {
+        user: Vec::from_slice(alloc, user)?,
+        realm: Vec::from_slice(alloc, realm)?,
+    }))
+}
+
+/// Tells the client of a lane.
+fn tell_client(lane: &LaneAt<'_>, story: &mut Story) -> Result<(), AllocError> {
+    let input = lane.input();
+    let client = ClientOf {
+        lane: input.number(),
+        client: input.client(),
+        listen: input.listen(),
+        account: account_of(story.alloc(), lane)?,
+    };
+    story.add(Line::Client(client))?;
     story.put("")
 }
 
@@ -46,7 +51,7 @@ fn tell_act(
     story.show(scene.arrives.id)?;
     story.show(scene.leaves.id)?;
     story.put("")?;
-    story.say(expected_of_act(story.alloc(), scene, rule)?)?;
+    story.due(expected_of_act(story.alloc(), scene, rule)?)?;
     tell_got(scene, rule, story)?;
     if asks_leases(rule) {
         tell_leases(scene, rule, story)?;
@@ -63,6 +68,7 @@ fn tell_act(
 /// Tells a departure that may not leave.
 fn tell_out(
     case: Case<'_>,
+    lanes: &Lanes<'_>,
     input: &LaneInput<'_>,
     sighting: &Sighting,
     breach: &Breach,
@@ -70,13 +76,14 @@ fn tell_out(
 ) -> Result<(), AllocError> {
     story.show(sighting.id)?;
     story.put("")?;
-    story.say(expected_of_rule(story.alloc(), breach.rule)?)?;
+    story.due(expected_of_rule(story.alloc(), breach.rule)?)?;
     match breach.rule {
         Rule::LeftWithoutAct => {
             story.put(
                 "  it stands in this lane for want of another, and need not be of this client",
             )?;
-            tell_whose(case, sighting, story)
+            tell_whose(case, sighting, story)?;
+            tell_nearest(case, Some(lanes), sighting, story)
         }
         Rule::HeldTooLong => tell_held_out(case, input, sighting.id, breach.at.key.moment, story),
         _ => Ok(()),
@@ -95,6 +102,7 @@ fn departure_of(event: &LaneEvent<'_>) -> Option<SightId> {
 /// Tells the event of a lane that breaks a rule.
 fn tell_event(
     case: Case<'_>,
+    lanes: &Lanes<'_>,
     lane: &LaneAt<'_>,
     event: &LaneEvent<'_>,
     breach: &Breach,
@@ -116,7 +124,9 @@ fn tell_event(
             };
             tell_act(&scene, breach.at.place, breach.rule, story)
         }
-        LaneEvent::Out { sighting, .. } => tell_out(case, lane.input(), sighting, breach, story),
+        LaneEvent::Out { sighting, .. } => {
+            tell_out(case, lanes, lane.input(), sighting, breach, story)
+        }
     }
 }
 
@@ -139,7 +149,7 @@ fn tell_lane(
     let Some(event) = input.events().get(breach.at.place as usize) else {
         return Ok(None);
     };
-    tell_event(case, &lane, event, breach, story)?;
+    tell_event(case, lanes, &lane, event, breach, story)?;
     if breach.phase == 3 {
         tell_clash(lanes, breach, story)?;
     }
@@ -160,7 +170,7 @@ fn tell_place(
     story.put("")?;
     story.show(breach.sight)?;
     story.put("")?;
-    story.say(expected_of_rule(story.alloc(), breach.rule)?)?;
+    story.due(expected_of_rule(story.alloc(), breach.rule)?)?;
     tell_placement(case, breach, story)?;
     story.put("")?;
     Ok(Some(breach.sight))
@@ -186,18 +196,8 @@ pub fn story_of(
         Some(lanes) => tell_lane(case, &lanes, breach, &shown, &mut story)?,
         None => tell_place(case, breach, &mut story)?,
     };
-    tell_rule(breach.rule, &mut story)?;
+    story.add(Line::Rule(breach.rule))?;
     Ok((story, in_every_order(&shown, departure)))
-}
-
-/// Tells what a rule asks, and what its breaches usually come from.
-fn tell_rule(rule: Rule, story: &mut Story) -> Result<(), AllocError> {
-    let alloc = story.alloc();
-    let meaning = meaning(rule);
-    let cause = cause(rule);
-    let anchor = anchor(rule);
-    story.say(format!(in alloc; "rule: {meaning}")?)?;
-    story.say(format!(in alloc; "usual cause: {cause}; {anchor}")?)
 }
 
 /// The fault of a departure, and how many show it.

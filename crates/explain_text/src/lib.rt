@@ -11,6 +11,6 @@ mod stun_words;
 pub use address::Ip;
 pub use moment::{Exactly, Seconds, Since, SinceShort, Utc};
 pub use payload::{Datagram, FirstBytes};
-pub use quoted::Quoted;
+pub use quoted::{Escaped, Quoted};
 pub use rule::{anchor, cause, code, expected, meaning};
 pub use stun_words::{AttributeBytes, CodeWord, MethodWord, code_says};

@@ -6,7 +6,13 @@ use std::fmt;
 const MOST: usize = 200;
 
 /// Bytes as text, without the marks around it. A control character, a mark that turns or hides text, a quote, a backslash and
-/// a byte that is no UTF-8 are told as `\xHH`, byte by byte. Of more than 200 bytes the first 200 are told, and `..`.
+/// a byte that is no UTF-8 are told as `\xHH`, byte by byte. Since each backslash is told so, the bytes can be had back.
+#[derive(Clone, Copy, Debug)]
+pub struct Escaped<'a> {
+    pub bytes: &'a [u8],
+}
+
+/// The same of the first 200 bytes; where there are more, `..` stands behind them.
 #[derive(Clone, Copy, Debug)]
 pub struct Quoted<'a> {
     pub bytes: &'a [u8],
@@ -58,14 +64,23 @@ fn tell_text<W: fmt::Write>(f: &mut fmt::Formatter<W>, text: &str) -> fmt::Resul
     Ok(())
 }
 
-impl fmt::Display for Quoted<'_> {
+impl fmt::Display for Escaped<'_> {
     fn fmt<W: fmt::Write>(&self, f: &mut fmt::Formatter<W>) -> fmt::Result {
-        let told = self.bytes.get(..MOST).unwrap_or(self.bytes);
-        for chunk in told.utf8_chunks() {
+        for chunk in self.bytes.utf8_chunks() {
             tell_text(f, chunk.valid())?;
             tell_bytes(f, chunk.invalid())?;
         }
-        if told.len() < self.bytes.len() {
+        Ok(())
+    }
+}
+
+impl fmt::Display for Quoted<'_> {
+    fn fmt<W: fmt::Write>(&self, f: &mut fmt::Formatter<W>) -> fmt::Result {
+        let told = Escaped {
+            bytes: self.bytes.get(..MOST).unwrap_or(self.bytes),
+        };
+        write!(f, "{told}")?;
+        if told.bytes.len() < self.bytes.len() {
             return f.write_str("..");
         }
         Ok(())

@@ -11,7 +11,7 @@ use std::alloc::AllocError;
 const MOST_TRIED: usize = 16;
 
 /// Adds the relayed addresses in the Allocate successes of a frame that is TCP over IPv4, or IPv6.
-pub(crate) fn note_told(
+pub fn note_told(
     policy: &Policy,
     stamp: u64,
     frame: &[u8],

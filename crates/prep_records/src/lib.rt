@@ -7,6 +7,7 @@ mod payload;
 mod record;
 mod recorder;
 
+pub use elsewhere::note_told;
 pub use keeper::slack_of;
 pub use record::{CapturePackets, Content, Outside, Record, Records, Stun, Told};
 pub use recorder::Recorder;

@@ -1,0 +1,148 @@
+//! The account of a breach: what the lines of the command `verdict` tell.
+
+use crate::lease::{ended_of, lease_of};
+use crate::object::{List, Object};
+use crate::sighting::sighting_of;
+use audit_model::{Addr, Rule, SightId};
+use explain_frames::{ToldBy, ToldFrame};
+use explain_story::{Account, ClientOf, Line, Story, Teller};
+use explain_text::{anchor, cause, code, meaning};
+use std::alloc::{AllocError, Global};
+
+/// The user and the realm that a lane named last; null where it named none that is known.
+fn tell_user(object: &mut Object, account: &Option<Account>) -> Result<(), AllocError> {
+    match account {
+        Some(account) => {
+            object.bytes("user", &account.user)?;
+            object.bytes("realm", &account.realm)
+        }
+        None => {
+            object.nothing("user")?;
+            object.nothing("realm")
+        }
+    }
+}
+
+/// The client of a lane.
+fn client_of(alloc: Global, of: &ClientOf) -> Result<Object, AllocError> {
+    let mut object = Object::new(alloc);
+    let client = of.client;
+    let listen = of.listen;
+    object.number("lane", u64::from(of.lane))?;
+    object.string("client", format!(in alloc; "{client}")?)?;
+    object.string("listen", format!(in alloc; "{listen}")?)?;
+    tell_user(&mut object, &of.account)?;
+    Ok(object)
+}
+
+/// What a rule asks.
+fn rule_of(alloc: Global, rule: Rule) -> Result<Object, AllocError> {
+    let mut object = Object::new(alloc);
+    object.text("code", code(rule))?;
+    object.text("meaning", meaning(rule))?;
+    object.text("usual_cause", cause(rule))?;
+    object.text("see", anchor(rule))?;
+    Ok(object)
+}
+
+/// Words of the text form, without the spaces in front.
+fn words_of(alloc: Global, words: &str) -> Result<Object, AllocError> {
+    let mut object = Object::new(alloc);
+    object.text("line", "words")?;
+    object.text("text", words.trim())?;
+    Ok(object)
+}
+
+/// A datagram that is shown.
+fn shown(alloc: Global, teller: &Teller<'_>, sight: SightId) -> Result<Object, AllocError> {
+    let mut object = sighting_of(alloc, teller, sight)?;
+    object.text("line", "datagram")?;
+    Ok(object)
+}
+
+/// Words with a datagram among them.
+fn words_with(
+    alloc: Global,
+    teller: &Teller<'_>,
+    words: &str,
+    sight: SightId,
+    behind: &str,
+) -> Result<Object, AllocError> {
+    let mut object = words_of(alloc, words)?;
+    object.object("datagram", sighting_of(alloc, teller, sight)?)?;
+    object.text("behind", behind)?;
+    Ok(object)
+}
+
+/// The frame that tells a relayed address and isn't judged.
+fn told_of(
+    alloc: Global,
+    teller: &Teller<'_>,
+    relayed: Addr,
+    frame: ToldFrame,
+) -> Result<Object, AllocError> {
+    let mut object = Object::new(alloc);
+    let capture = teller.capture_of(u32::from(frame.file));
+    object.text("line", "told elsewhere")?;
+    object.string("relayed", format!(in alloc; "{relayed}")?)?;
+    object.string("capture", format!(in alloc; "{capture}")?)?;
+    object.number("frame", frame.number)?;
+    match frame.told {
+        ToldBy::Elsewhere(client) => {
+            object.nothing("unlisted")?;
+            object.string("client", format!(in alloc; "{client}")?)?;
+        }
+        ToldBy::Unlisted { server, client } => {
+            object.string("unlisted", format!(in alloc; "{server}")?)?;
+            object.string("client", format!(in alloc; "{client}")?)?;
+        }
+    }
+    Ok(object)
+}
+
+/// Adds a line of the account, or a member of the answer.
+fn tell_line(
+    alloc: Global,
+    teller: &Teller<'_>,
+    moment: u64,
+    line: &Line,
+    answer: &mut Object,
+    account: &mut List,
+) -> Result<(), AllocError> {
+    match line {
+        Line::Words(words) if words.is_empty() => Ok(()),
+        Line::Words(words) => account.object(words_of(alloc, words.as_str())?),
+        Line::Client(of) => answer.object("client", client_of(alloc, of)?),
+        Line::Expected(words) => answer.text("expected", words.as_str()),
+        Line::Rule(rule) => answer.object("asks", rule_of(alloc, *rule)?),
+        Line::Datagram(sight) => account.object(shown(alloc, teller, *sight)?),
+        Line::Lease(row) => account.object(lease_of(alloc, teller, row, moment)?),
+        Line::Ended(ended) => account.object(ended_of(alloc, teller, ended)?),
+        Line::ToldElsewhere(relayed) => match teller.frames.told() {
+            Some(frame) => account.object(told_of(alloc, teller, *relayed, frame)?),
+            None => Ok(()),
+        },
+        Line::UpTo {
+            words,
+            sight,
+            behind,
+        } => account.object(words_with(alloc, teller, words.as_str(), *sight, behind.as_str())?),
+    }
+}
+
+/// Adds what a story tells. `client`, `expected` and `asks` are null where it doesn't tell them.
+pub fn tell_account(
+    alloc: Global,
+    teller: &Teller<'_>,
+    story: &Story,
+    answer: &mut Object,
+) -> Result<(), AllocError> {
+    answer.nothing("client")?;
+    answer.nothing("expected")?;
+    answer.nothing("asks")?;
+    let mut account = List::new(alloc);
+    for line in &story.lines {
+        tell_line(alloc, teller, story.moment, line, answer, &mut account)?;
+    }
+    answer.list("account", account)
+}

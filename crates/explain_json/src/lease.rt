@@ -1,0 +1,83 @@
+//! Leases, and the acts that made them.
+
+use crate::object::Object;
+use crate::sighting::sighting_of;
+use explain_state::{Ended, GrantAct, LeaseKind, LeaseRow};
+use explain_story::Teller;
+use explain_text::{Ip, MethodWord};
+use std::alloc::{AllocError, Global};
+
+/// A request and its success.
+fn act_of(alloc: Global, teller: &Teller<'_>, act: &GrantAct) -> Result<Object, AllocError> {
+    let mut object = Object::new(alloc);
+    let method = MethodWord { method: act.method };
+    object.string("method", format!(in alloc; "{method}")?)?;
+    object.object("request", sighting_of(alloc, teller, act.arrives)?)?;
+    object.object("success", sighting_of(alloc, teller, act.leaves)?)?;
+    Ok(object)
+}
+
+/// What a lease is of.
+fn tell_kind(object: &mut Object, kind: LeaseKind) -> Result<(), AllocError> {
+    let alloc = object.alloc();
+    match kind {
+        LeaseKind::Allocation { relayed } => {
+            object.text("of", "allocation")?;
+            object.string("relayed", format!(in alloc; "{relayed}")?)
+        }
+        LeaseKind::Permission { ip } => {
+            let ip = Ip { ip };
+            object.text("of", "permission")?;
+            object.string("ip", format!(in alloc; "{ip}")?)
+        }
+        LeaseKind::Channel { number, peer } => {
+            object.text("of", "channel")?;
+            object.number("channel", u64::from(number))?;
+            object.string("peer", format!(in alloc; "{peer}")?)
+        }
+    }
+}
+
+/// How a lease is at a moment, in the words of the text form.
+fn state_at(until: u64, last: u64, moment: u64) -> &'static str {
+    if moment <= until {
+        "lasts"
+    } else if moment <= last {
+        "in its grace"
+    } else {
+        "over"
+    }
+}
+
+/// A lease, as it is at a moment.
+pub fn lease_of(
+    alloc: Global,
+    teller: &Teller<'_>,
+    row: &LeaseRow,
+    moment: u64,
+) -> Result<Object, AllocError> {
+    let mut object = Object::new(alloc);
+    object.text("line", "lease")?;
+    tell_kind(&mut object, row.kind)?;
+    let last = row.until.saturating_add(teller.case.intake.policy().grace);
+    object.nanoseconds("until", row.until)?;
+    object.nanoseconds("until_with_grace", last)?;
+    object.text("state", state_at(row.until, last, moment))?;
+    object.nanoseconds("over_by", moment.saturating_sub(last))?;
+    object.object("made", act_of(alloc, teller, &row.made)?)?;
+    object.object("last", act_of(alloc, teller, &row.last)?)?;
+    object.number("renewals", u64::from(row.renewals))?;
+    Ok(object)
+}
+
+/// An allocation that is there no more.
+pub fn ended_of(alloc: Global, teller: &Teller<'_>, ended: &Ended) -> Result<Object, AllocError> {
+    let mut object = Object::new(alloc);
+    object.text("line", "ended")?;
+    let relayed = ended.relayed;
+    object.string("relayed", format!(in alloc; "{relayed}")?)?;
+    object.nanoseconds("until", ended.until)?;
+    object.object("made", act_of(alloc, teller, &ended.made)?)?;
+    object.object("ended", act_of(alloc, teller, &ended.ending)?)?;
+    Ok(object)
+}

@@ -1,0 +1,19 @@
+use Rattle.audit_keys.specs.KeyFor.{key_for}
+use Rattle.audit_sightings.specs.Intake.{taken}
+use Rattle.explain_program.proofs.evidence.evidence.Goals as goal
+
+pub returns : goal.returns
+returns g c = λ policy_text users_text texts policy users none captures.
+    let judged = c.in_ok-judged.judged in (
+      judged.certificate,
+      record {
+        taken = taken judged.files.intake;
+        key_for = key_for judged.files.users;
+        read = (rw c.deref.ensures.value at c.in_ok-judged.ensures.read) policy_text users_text texts policy users none captures;
+        verdict = judged.verdict;
+        judges = c.in_ok-judged.ensures.by;
+        rest = _;
+        written = c.in_ok-put_answer.ensures;
+        told = c.status.ensures;
+      },
+    )

@@ -1,0 +1,83 @@
+//! Every command whose answer may be JSON: the verdict, and what is asked of it.
+
+ghost use Rattle.std.specs.Prelude.{◌≡◌, [], ℕ, IfNone, IfOk, IfSome, List, OnOk, Some};
+ghost use Rattle.std.specs.List.{AllZip};
+ghost use Rattle.audit_model.specs.declared.certificate.Certificate.{Certificate as Found};
+ghost use Rattle.explain_program.specs.Explained.{IsJsonBehind, IsToldAsJson};
+
+use crate::command_line::Asked;
+use crate::explaining::{case_of, status};
+use crate::inputs::tell_inputs;
+use crate::json::tell_asked;
+use crate::judged::judge_files;
+use audit_files::{Source, Stop, Workers};
+use audit_finding::CertificateFinder;
+use audit_model::{Sink, Verdict, WriteFault, put_all};
+use explain_json::{Object, answer_text};
+use std::alloc::Global;
+use std::sync::Wait;
+use std::thread::Threads;
+
+/// Writes an answer, as one line of JSON with the verdict in it.
+fn put_json<O: Sink>(verdict: &Verdict, answer: Object, out: &mut O) -> Result<(), WriteFault>
+    ensures { OnOk result (IsJsonBehind verdict.now (O.taken out.old) (O.taken out.new)) }
+{
+    let mut text = answer_text(verdict, answer)?;
+    text.push_str("\n")?;
+    put_all(out, text.as_bytes())?;
+    Ok(())
+}
+
+/// As `explain`, but that the answer is JSON: one object on one line.
+pub fn explain_as_json<R: Threads + Wait + Sync, F: CertificateFinder, S: Source, O: Sink>(
+    rt: &R,
+    alloc: Global,
+    finder: &F,
+    source: &mut S,
+    policy: &str,
+    users: Option<&str>,
+    certificate: Option<&str>,
+    captures: &[&str],
+    workers: Workers,
+    asked: Asked,
+    out: &mut O,
+) -> Result<u8, Stop>
+    ensures { (policy_text users_text : List ℕ) (texts : List (List ℕ)) →
+        S.holds source.old policy.now ≡ Some policy_text →
+        IfSome users.entry (λ name. S.holds source.old name.now ≡ Some users_text) → IfNone users.entry (users_text ≡ []) →
+        AllZip (λ name text. S.holds source.old name.now ≡ Some text) captures.now texts →
+        IfOk result (λ status. (by : Found) × IsToldAsJson policy_text users_text texts by (O.taken out.old) (O.taken out.new) status) }
+{
+    let judged = judge_files(
+        rt,
+        alloc,
+        finder,
+        source,
+        policy,
+        users,
+        certificate,
+        captures,
+        workers,
+    )?;
+    let verdict = &judged.verdict;
+    let mut answer = Object::new(alloc);
+    tell_inputs(
+        alloc,
+        source,
+        policy,
+        users,
+        certificate,
+        captures,
+        &mut answer,
+    )?;
+    tell_asked(
+        alloc,
+        source,
+        case_of(&judged, captures),
+        verdict,
+        asked,
+        &mut answer,
+    )?;
+    put_json(verdict, answer, out)?;
+    Ok(status(verdict))
+}

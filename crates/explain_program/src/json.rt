@@ -1,0 +1,203 @@
+//! What is asked of a verdict, as JSON.
+
+use crate::command_line::Asked;
+use crate::frames::look_up;
+use crate::lanes::breach_of;
+use crate::last_lines::{fault_name, interfaces};
+use crate::verdict::story_in;
+use audit_files::{Source, Stop};
+use audit_lane::{Finding, Outcome};
+use audit_model::{Breach, Verdict};
+use explain_frames::Frames;
+use explain_json::{
+    Captured, Object, tell_account, tell_captured, tell_events, tell_lane, tell_lanes,
+    tell_no_lanes,
+};
+use explain_story::{
+    Case, InEveryOrder, Lanes, Rung, Teller, ask_breaches, ask_span, lanes_of, rungs_of, span_of,
+    sums_of,
+};
+use std::alloc::{AllocError, Global};
+
+/// Looks up the frames that are asked for, and that of the verdict's breach.
+fn look_up_all<S: Source>(
+    alloc: Global,
+    source: &mut S,
+    case: Case<'_>,
+    verdict: &Verdict,
+    frames: &mut Frames,
+) -> Result<(), Stop> {
+    if let Some(breach) = breach_of(verdict) {
+        frames.ask(breach.sight)?;
+    }
+    look_up(alloc, source, case.intake.policy(), case.captures, frames)
+}
+
+/// Adds what every answer has.
+fn tell_head(
+    alloc: Global,
+    teller: &Teller<'_>,
+    verdict: &Verdict,
+    answer: &mut Object,
+) -> Result<(), AllocError> {
+    let captured = Captured {
+        interfaces: interfaces(teller),
+        first: teller.frames.first(),
+    };
+    tell_captured(alloc, teller, verdict, captured, answer)
+}
+
+/// Adds which fault the breach's departure shows in every order.
+fn tell_shown(
+    alloc: Global,
+    shown: Option<InEveryOrder>,
+    answer: &mut Object,
+) -> Result<(), AllocError> {
+    let Some(shown) = shown else {
+        return answer.nothing("shown");
+    };
+    let mut object = Object::new(alloc);
+    object.text("fault", fault_name(shown.fault))?;
+    object.number("datagrams", shown.count as u64)?;
+    answer.object("shown", object)
+}
+
+/// The answer of the command `verdict`.
+fn tell_verdict<S: Source>(
+    alloc: Global,
+    source: &mut S,
+    case: Case<'_>,
+    verdict: &Verdict,
+    answer: &mut Object,
+) -> Result<(), Stop> {
+    let (story, shown) = story_in(alloc, case, verdict)?;
+    let mut frames = Frames::new(alloc);
+    story.ask(&mut frames)?;
+    look_up_all(alloc, source, case, verdict, &mut frames)?;
+    let teller = Teller {
+        case,
+        frames: &frames,
+    };
+    tell_head(alloc, &teller, verdict, answer)?;
+    tell_account(alloc, &teller, &story, answer)?;
+    tell_shown(alloc, shown, answer)?;
+    Ok(())
+}
+
+/// The answer of the command `lanes`.
+fn tell_all_lanes<S: Source>(
+    alloc: Global,
+    source: &mut S,
+    case: Case<'_>,
+    verdict: &Verdict,
+    only_broken: bool,
+    answer: &mut Object,
+) -> Result<(), Stop> {
+    let judged = lanes_of(alloc, case)?;
+    let mut frames = Frames::new(alloc);
+    if let Some(lanes) = &judged {
+        ask_breaches(lanes, &mut frames)?;
+    }
+    look_up_all(alloc, source, case, verdict, &mut frames)?;
+    let teller = Teller {
+        case,
+        frames: &frames,
+    };
+    tell_head(alloc, &teller, verdict, answer)?;
+    match &judged {
+        None => tell_no_lanes(answer)?,
+        Some(lanes) => {
+            let sums = sums_of(case, lanes, breach_of(verdict));
+            tell_lanes(alloc, &teller, lanes, only_broken, sums, answer)?;
+        }
+    }
+    Ok(())
+}
+
+/// The first breach of a lane.
+fn breach_in(finding: &Finding<'_>) -> Option<Breach> {
+    match finding.outcome() {
+        Outcome::Passed(_) => None,
+        Outcome::Broken(breach) => Some(*breach),
+    }
+}
+
+/// The lane of that number, where lanes are judged.
+fn finding_in<'j, 'a>(judged: &'j Option<Lanes<'a>>, lane: u32) -> Option<&'j Finding<'a>> {
+    match judged {
+        Some(lanes) => lanes.findings.get(lane as usize),
+        None => None,
+    }
+}
+
+/// The events of a lane, whose frames are asked for; none where there is no such lane.
+fn rungs_in(
+    alloc: Global,
+    case: Case<'_>,
+    finding: Option<&Finding<'_>>,
+    around: u32,
+    frames: &mut Frames,
+) -> Result<Vec<Rung>, AllocError> {
+    let Some(finding) = finding else {
+        return Ok(Vec::new(alloc));
+    };
+    let input = finding.input();
+    let breach = breach_in(finding);
+    if let Some(breach) = breach {
+        frames.ask(breach.sight)?;
+    }
+    let place = breach.map(|breach| breach.at.place);
+    let span = span_of(input, place, around);
+    ask_span(input, span, frames)?;
+    rungs_of(alloc, case, input, span, place)
+}
+
+/// The answer of the command `client`.
+fn tell_client<S: Source>(
+    alloc: Global,
+    source: &mut S,
+    case: Case<'_>,
+    verdict: &Verdict,
+    lane: u32,
+    around: u32,
+    answer: &mut Object,
+) -> Result<(), Stop> {
+    let judged = lanes_of(alloc, case)?;
+    let finding = finding_in(&judged, lane);
+    let mut frames = Frames::new(alloc);
+    let rungs = rungs_in(alloc, case, finding, around, &mut frames)?;
+    look_up_all(alloc, source, case, verdict, &mut frames)?;
+    let teller = Teller {
+        case,
+        frames: &frames,
+    };
+    tell_head(alloc, &teller, verdict, answer)?;
+    tell_lane(alloc, &teller, finding, answer)?;
+    tell_events(alloc, &teller, &rungs, answer)?;
+    Ok(())
+}
+
+/// Adds what is asked of a verdict.
+pub fn tell_asked<S: Source>(
+    alloc: Global,
+    source: &mut S,
+    case: Case<'_>,
+    verdict: &Verdict,
+    asked: Asked,
+    answer: &mut Object,
+) -> Result<(), Stop> {
+    match asked {
+        Asked::Verdict => {
+            answer.text("command", "verdict")?;
+            tell_verdict(alloc, source, case, verdict, answer)
+        }
+        Asked::Lanes { broken } => {
+            answer.text("command", "lanes")?;
+            tell_all_lanes(alloc, source, case, verdict, broken, answer)
+        }
+        Asked::Client { lane, around } => {
+            answer.text("command", "client")?;
+            tell_client(alloc, source, case, verdict, lane, around, answer)
+        }
+    }
+}

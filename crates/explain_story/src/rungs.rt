@@ -1,0 +1,112 @@
+//! A client's events as lines: its ladder.
+
+use crate::ladder::{Lasting, Rung, Step};
+use crate::place::Teller;
+use crate::scene::Way;
+use audit_model::{Side, SightId};
+use std::alloc::{AllocError, Global};
+
+/// The arrow of a datagram.
+fn arrow(is_clients: bool, side: Side) -> &'static str {
+    match (is_clients, side) {
+        (true, Side::Arrives) => "C ---------> S             ",
+        (true, Side::Leaves) => "C <--------- S             ",
+        (false, Side::Arrives) => "             S <--------- P",
+        (false, Side::Leaves) => "             S ---------> P",
+    }
+}
+
+/// The arrow of an act.
+fn arrow_of_act(way: Way) -> &'static str {
+    match way {
+        Way::Response => "C <========> S             ",
+        Way::Up => "C =========> S =========> P",
+        Way::Down => "C <========= S <========= P",
+    }
+}
+
+/// A letter for a lease that lasts.
+fn mark(lasts: bool, letter: char) -> char {
+    if lasts { letter } else { '.' }
+}
+
+/// What a datagram is.
+fn what(alloc: Global, teller: &Teller<'_>, sight: SightId) -> Result<String, AllocError> {
+    match teller.case.intake.sighting(sight) {
+        Some(sighting) => teller.what(alloc, sighting),
+        None => String::from_str(alloc, "?"),
+    }
+}
+
+/// What a datagram that comes or goes is, with its frame.
+fn datagram(
+    alloc: Global,
+    teller: &Teller<'_>,
+    sight: SightId,
+    side: Side,
+) -> Result<String, AllocError> {
+    let is_clients = match teller.case.intake.sighting(sight) {
+        Some(sighting) => teller.is_clients(sighting),
+        None => false,
+    };
+    let arrow = arrow(is_clients, side);
+    let what = what(alloc, teller, sight)?;
+    let place = teller.place(alloc, sight)?;
+    format!(in alloc; "...  {arrow}  {what:<40}  {place}")
+}
+
+/// What an act is, with its frames.
+fn act(
+    alloc: Global,
+    teller: &Teller<'_>,
+    arrives: SightId,
+    leaves: SightId,
+    way: Way,
+    lasting: Lasting,
+) -> Result<String, AllocError> {
+    let a = mark(lasting.allocation, 'A');
+    let p = mark(lasting.permission, 'P');
+    let c = mark(lasting.channel, 'C');
+    let arrow = arrow_of_act(way);
+    let came = what(alloc, teller, arrives)?;
+    let went = what(alloc, teller, leaves)?;
+    let arrives = teller.number(arrives);
+    let leaves = teller.number(leaves);
+    format!(in alloc; "{a}{p}{c}  {arrow}  {came} => {went}, frames {arrives} > {leaves}")
+}
+
+/// The line of an event.
+fn rung_line(alloc: Global, teller: &Teller<'_>, rung: &Rung) -> Result<String, AllocError> {
+    let told = match rung.step {
+        Step::Arrives(sight) => datagram(alloc, teller, sight, Side::Arrives)?,
+        Step::Leaves(sight) => datagram(alloc, teller, sight, Side::Leaves)?,
+        Step::Act {
+            arrives,
+            leaves,
+            way,
+            lasting,
+        } => act(alloc, teller, arrives, leaves, way, lasting)?,
+    };
+    let mark = if rung.is_breach { "=>" } else { "  " };
+    let place = rung.place;
+    let time = teller.since(rung.moment);
+    format!(in alloc; "{mark}{place:>7}  {time}  {told}\n")
+}
+
+/// The ladder of a lane's events.
+pub fn ladder_lines(
+    alloc: Global,
+    teller: &Teller<'_>,
+    rungs: &[Rung],
+) -> Result<String, AllocError> {
+    let mut text = String::new(alloc);
+    for rung in rungs {
+        text.push_str(rung_line(alloc, teller, rung)?.as_str())?;
+        if rung.is_breach {
+            text.push_str(
+                "           first breach of this lane; the leases below are those of here\n",
+            )?;
+        }
+    }
+    Ok(text)
+}

@@ -1,0 +1,70 @@
+//! How many requests of a user are signed: R2.
+
+use crate::case::Case;
+use crate::line::Story;
+use crate::scene::Scene;
+use audit_keys::signed;
+use audit_model::Sighting;
+use audit_rules::CredRow;
+use audit_stun::numbers::attribute::{REALM, USERNAME};
+use audit_stun::{Class, message};
+use std::alloc::AllocError;
+
+/// Requests that name one user and realm.
+#[derive(Clone, Copy)]
+struct Requests {
+    all: u64,
+    /// Those of them that are signed under the key that was given.
+    signed: u64,
+}
+
+/// Whether a request names the user and the realm; of one that does, whether it is signed under their key.
+fn signed_by(case: Case<'_>, sighting: &Sighting, user: &[u8], realm: &[u8]) -> Option<bool> {
+    let request = message(sighting.payload.as_slice())?;
+    if request.class() != Class::Request {
+        return None;
+    }
+    if request.first(USERNAME)? != user || request.first(REALM)? != realm {
+        return None;
+    }
+    let Some(row) = CredRow::of(case.users, sighting.payload.as_slice()) else {
+        return Some(false);
+    };
+    match row.key.chosen_by(&request) {
+        Some(key) => Some(signed(&request, key)),
+        None => Some(false),
+    }
+}
+
+/// The requests of an interface that name the user and the realm, added to those before.
+fn count_on(case: Case<'_>, iface: u32, user: &[u8], realm: &[u8], before: Requests) -> Requests {
+    let mut count = before;
+    for sighting in case.intake.interface(iface) {
+        if let Some(is_signed) = signed_by(case, sighting, user, realm) {
+            count.all = count.all.saturating_add(1);
+            if is_signed {
+                count.signed = count.signed.saturating_add(1);
+            }
+        }
+    }
+    count
+}
+
+/// Tells how many requests name the user of a request, and how many of them are signed.
+pub fn tell_signed(scene: &Scene<'_>, story: &mut Story) -> Result<(), AllocError> {
+    let Some(asked) = scene.asked() else {
+        return Ok(());
+    };
+    let (Some(user), Some(realm)) = (asked.first(USERNAME), asked.first(REALM)) else {
+        return Ok(());
+    };
+    let mut count = Requests { all: 0, signed: 0 };
+    for iface in 0..scene.case.intake.interfaces() {
+        count = count_on(scene.case, iface, user, realm, count);
+    }
+    let Requests { all, signed } = count;
+    let alloc = story.alloc();
+    story.say(format!(in alloc;
+        "  requests in these captures that name this user and realm: {all}; signed by a password that was given: {signed}"
+    )?)
+}
