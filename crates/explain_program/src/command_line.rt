@@ -1,12 +1,9 @@
-//! The command line, as clap reads it. No other file knows clap.
+//! The command line, as clap reads it. No file but this one and `commands` knows clap.
 
-use crate::help_texts::{
-    ABOUT, ABOUT_CLIENT, ABOUT_EVIDENCE, ABOUT_LANES, ABOUT_VERDICT, EXAMPLE_CLIENT,
-    EXAMPLE_EVIDENCE, EXAMPLE_LANES, EXAMPLE_VERDICT, STATUSES, VERSION,
-};
+use crate::commands::command;
 use audit_files::Workers;
 use clap::error::ErrorKind;
-use clap::{Arg, ArgAction, ArgMatches, Command, Error};
+use clap::{ArgMatches, Error};
 use std::alloc::{AllocError, Global};
 use std::convert::AsStr;
 
@@ -46,142 +43,6 @@ pub struct Inputs<'a> {
     pub certificate: Option<&'a str>,
     pub captures: Vec<&'a str>,
     pub workers: Workers,
-}
-
-/// An option with the name of a file.
-fn file_option<'a>(alloc: Global, name: &'a str, value: &'a str, help: &'a str) -> Arg<'a> {
-    Arg::new(alloc, name)
-        .long(name)
-        .value_name(value)
-        .help(help)
-        .action(ArgAction::Set)
-}
-
-/// The option with the number of workers.
-fn workers_option<'a>(alloc: Global) -> Arg<'a> {
-    Arg::new(alloc, "workers")
-        .long("workers")
-        .value_name("N")
-        .help("How many threads go to work at once, 1 to 256; the answer is the same")
-        .default_value("1")
-        .action(ArgAction::Set)
-        .value_parser(clap::value_parser!(u32).range(1..=256))
-}
-
-/// The files of captures.
-fn captures_words<'a>(alloc: Global) -> Arg<'a> {
-    Arg::new(alloc, "captures")
-        .value_name("CAPTURE")
-        .help(
-            "Captures of the server's interfaces, as dumpcap writes them; their order numbers them from 0",
-        )
-        .required(true)
-        .num_args(1..)
-        .action(ArgAction::Append)
-}
-
-/// The command of that name, with the options that all commands have.
-fn command_of<'a>(
-    alloc: Global,
-    name: &'a str,
-    about: &'a str,
-    example: &'a str,
-) -> Result<Command<'a>, AllocError> {
-    let policy = file_option(
-        alloc,
-        "policy",
-        "POLICY",
-        "Which endpoints are the server's",
-    );
-    let credentials = file_option(
-        alloc,
-        "creds",
-        "CREDENTIALS",
-        "The server's users and their passwords; without it there are none",
-    );
-    let certificate = file_option(
-        alloc,
-        "cert",
-        "CERTIFICATE",
-        "The certificate to judge by; without it one is found, as turnaudit audit does",
-    );
-    Command::new(alloc, name)
-        .about(about)
-        .after_help(example)
-        .arg(policy.required(true))?
-        .arg(credentials)?
-        .arg(certificate)?
-        .arg(workers_option(alloc))?
-        .arg(captures_words(alloc))
-}
-
-/// The command of that name whose answer may be JSON.
-fn json_command<'a>(
-    alloc: Global,
-    name: &'a str,
-    about: &'a str,
-    example: &'a str,
-) -> Result<Command<'a>, AllocError> {
-    let json = Arg::new(alloc, "json")
-        .long("json")
-        .help("One JSON object in place of the text (docs/JSON.md)")
-        .action(ArgAction::SetTrue);
-    command_of(alloc, name, about, example)?.arg(json)
-}
-
-/// The command `lanes`.
-fn lanes_command<'a>(alloc: Global) -> Result<Command<'a>, AllocError> {
-    let broken = Arg::new(alloc, "broken")
-        .long("broken")
-        .help("Only the clients that break a rule")
-        .action(ArgAction::SetTrue);
-    json_command(alloc, "lanes", ABOUT_LANES, EXAMPLE_LANES)?.arg(broken)
-}
-
-/// The command `client`.
-fn client_command<'a>(alloc: Global) -> Result<Command<'a>, AllocError> {
-    let lane = Arg::new(alloc, "lane")
-        .long("lane")
-        .value_name("N")
-        .help("The client's lane, as the commands verdict and lanes tell it, 0 to 65535")
-        .action(ArgAction::Set)
-        .value_parser(clap::value_parser!(u32).range(0..=65_535));
-    let around = Arg::new(alloc, "around")
-        .long("around")
-        .value_name("N")
-        .help(
-            "How many events each side of its first breach, 0 to 1000000; of a client that passes all are told",
-        )
-        .default_value("20")
-        .action(ArgAction::Set)
-        .value_parser(clap::value_parser!(u32).range(0..=1_000_000));
-    json_command(alloc, "client", ABOUT_CLIENT, EXAMPLE_CLIENT)?
-        .arg(lane.required(true))?
-        .arg(around)
-}
-
-/// The command `evidence`.
-fn evidence_command<'a>(alloc: Global) -> Result<Command<'a>, AllocError> {
-    let file = Arg::new(alloc, "output")
-        .short('o')
-        .long("output")
-        .value_name("FILE")
-        .help("The page, an HTML file; one that is there is never written over")
-        .action(ArgAction::Set);
-    command_of(alloc, "evidence", ABOUT_EVIDENCE, EXAMPLE_EVIDENCE)?.arg(file.required(true))
-}
-
-fn command<'a>(alloc: Global) -> Result<Command<'a>, AllocError> {
-    Command::new(alloc, "turnexplain")
-        .version(VERSION)
-        .about(ABOUT)
-        .after_help(STATUSES)
-        .arg_required_else_help(true)
-        .subcommand_required(true)
-        .subcommand(json_command(alloc, "verdict", ABOUT_VERDICT, EXAMPLE_VERDICT)?)?
-        .subcommand(lanes_command(alloc)?)?
-        .subcommand(client_command(alloc)?)?
-        .subcommand(evidence_command(alloc)?)
 }
 
 /// The request that an error of clap stands for.

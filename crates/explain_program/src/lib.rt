@@ -5,6 +5,7 @@
 mod as_json;
 mod client;
 mod command_line;
+mod commands;
 mod conforming;
 mod evidence;
 mod explaining;
