@@ -15,6 +15,7 @@ ghost use Rattle.audit_faults.specs.Repeats.{HasBefore, IsPlaced};
 use crate::asked::{channel_key, message_key};
 use crate::beginning::begins;
 use crate::keyed::{ByKey, digest, span_of_key};
+use crate::reach::Span;
 use crate::repeats::{Asking, repeats_in_reach};
 use crate::sought::earliest;
 use audit_model::{SightId, Sighting};
@@ -58,6 +59,27 @@ fn begins_first(
     begins_at(intake, answers, one.sight, given)
 }
 
+/// Whether what stands at the last of these places did. Mostly it did.
+fn begins_last(
+    intake: &Intake,
+    asking: Asking<'_>,
+    answers: ByKey<'_>,
+    span: Span,
+    given: &Sighting,
+) -> bool
+    requires { AreAnswers (taken intake.now) answers }
+    ensures { IsTrue result → ((asked : Sighting) × IsCaptured (taken intake.now) asked
+        × Begins (taken intake.now) given.now asked) }
+{
+    if span.past <= span.first {
+        return false;
+    }
+    let Some(one) = asking.by_key.places.get(span.past - 1) else {
+        return false;
+    };
+    begins_at(intake, answers, one.sight, given)
+}
+
 /// Whether something did that arrived with the key, the last one first.
 fn begun_by(
     intake: &Intake,
@@ -75,6 +97,9 @@ fn begun_by(
 {
     let first = earliest(given, intake.policy().hold, asking.by_key.width);
     let span = span_of_key(asking.by_key.places, key, first, given.hi);
+    if begins_last(intake, asking, answers, span, given) {
+        return true;
+    }
     let mut place = span.past;
     'places: while span.first < place {
         place -= 1;

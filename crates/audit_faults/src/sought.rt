@@ -18,6 +18,7 @@ use crate::explains::explains;
 use crate::fault::Fault;
 use crate::index::Index;
 use crate::keyed::{digest, span_of_key};
+use crate::reach::Span;
 use crate::repeats::{Asking, repeats_in_reach};
 use audit_keys::Credentials;
 use audit_model::{SightId, Sighting};
@@ -77,6 +78,29 @@ fn explains_first(
     explains_at(intake, index, credentials, fault, one.sight, given)
 }
 
+/// Whether what stands at the last of these places explains the departure. Mostly it does.
+fn explains_last(
+    intake: &Intake,
+    index: &Index<'_>,
+    asking: Asking<'_>,
+    credentials: &Credentials,
+    fault: Fault,
+    span: Span,
+    given: &Sighting,
+) -> bool
+    requires { IsIndex (taken intake.now) index.now }
+    ensures { IsTrue result → ((asked : Sighting) × IsCaptured (taken intake.now) asked
+        × Explains (taken intake.now) (key_for credentials.now) fault asked given.now) }
+{
+    if span.past <= span.first {
+        return false;
+    }
+    let Some(one) = asking.by_key.places.get(span.past - 1) else {
+        return false;
+    };
+    explains_at(intake, index, credentials, fault, one.sight, given)
+}
+
 /// Whether something explains the departure that arrived with the key, the last one first. Of equal datagrams the first in reach alone is
 /// asked, since it explains what any of them does.
 fn explained_by(
@@ -97,6 +121,9 @@ fn explained_by(
 {
     let first = earliest(given, intake.policy().hold, asking.by_key.width);
     let span = span_of_key(asking.by_key.places, key, first, given.hi);
+    if explains_last(intake, index, asking, credentials, fault, span, given) {
+        return true;
+    }
     let mut place = span.past;
     'places: while span.first < place {
         place -= 1;
