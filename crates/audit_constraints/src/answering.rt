@@ -1,29 +1,32 @@
-//! Wishes about which arrival a departure answers.
+//! Constraints about which arrival a departure answers.
 
 use crate::lane_so_far::{EACH, LaneSoFar};
 use audit_search_input::AHEAD;
-use audit_search_state::{PoolRef, Wish};
+use audit_search_state::{Constraint, PoolRef};
 use audit_seen::SeenNumber;
 use std::alloc::AllocError;
 
 impl LaneSoFar<'_> {
     /// Asks that an older arrival, which nothing else answers, is answered by the mate of the next one, so that this one is free.
-    pub(crate) fn wish_older(
+    pub(crate) fn ask_older(
         &self,
         departure: SeenNumber,
         pools: &[PoolRef],
-        wishes: &mut Vec<Wish>,
+        constraints: &mut Vec<Constraint>,
     ) -> Result<(), AllocError> {
         let mut older: Option<SeenNumber> = None;
         for (_, arrival) in self.near_of(departure, pools)? {
             let mate = self.given.mates.of(arrival);
             if let (Some(older), Some(mate)) = (older, mate) {
-                let wish = Wish::Answers {
+                let constraint = Constraint::Answers {
                     arrival: older,
                     departure: mate,
                 };
-                if mate != departure && self.may_answer(mate, older) && !wishes.contains(&wish) {
-                    wishes.push(wish)?;
+                if mate != departure
+                    && self.may_answer(mate, older)
+                    && !constraints.contains(&constraint)
+                {
+                    constraints.push(constraint)?;
                 }
             }
             let is_free = mate.is_none_or(|mate| mate == departure);
@@ -57,16 +60,16 @@ impl LaneSoFar<'_> {
         else {
             return false;
         };
-        let shift = self.given.asked.shift(leaves.id.iface);
+        let shift = self.given.constraints.shift(leaves.id.iface);
         arrives.hi.saturating_add(self.given.known.hold) >= leaves.lo.saturating_add(shift)
     }
 
     /// Asks that the last arrivals of a pool that came too long before a departure stand later, if they may.
-    pub(crate) fn wish_late(
+    pub(crate) fn ask_late(
         &self,
         departure: SeenNumber,
         pool: PoolRef,
-        wishes: &mut Vec<Wish>,
+        constraints: &mut Vec<Constraint>,
     ) -> Result<(), AllocError> {
         let all = self.given.views.arrivals(self.number, pool);
         let rank = self.given.rank(departure);
@@ -74,14 +77,14 @@ impl LaneSoFar<'_> {
         let behind = all.partition_point(|one| one.2 < rank);
         let near = all.get(behind.saturating_sub(EACH)..behind).unwrap_or(&[]);
         for (_, _, _, arrival) in near {
-            let wish = Wish::Answers {
+            let constraint = Constraint::Answers {
                 arrival: *arrival,
                 departure,
             };
             let is_late = self.given.held_until(*arrival) < moment;
             let may_stand = self.may_answer(departure, *arrival) && !self.state.is_used(*arrival);
-            if is_late && may_stand && !wishes.contains(&wish) {
-                wishes.push(wish)?;
+            if is_late && may_stand && !constraints.contains(&constraint) {
+                constraints.push(constraint)?;
             }
         }
         Ok(())

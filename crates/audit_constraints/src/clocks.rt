@@ -9,7 +9,7 @@ use std::alloc::AllocError;
 const COPIES: usize = 16;
 
 impl Settling<'_> {
-    /// What the wishes that helped, and the pairs that can't be others, tell of the clocks: where one departure of an interface has to
+    /// What the constraints that helped, and the pairs that can't be others, tell of the clocks: where one departure of an interface has to
     /// stand so much behind the start of its window, all of its sightings do. Tells whether that is new.
     pub fn tell_clocks(&mut self, round: &Round) -> Result<bool, AllocError> {
         let mut is_new = false;
@@ -29,10 +29,10 @@ impl Settling<'_> {
                 if arrives.id.iface != leaves.id.iface && is_sure {
                     let lo = arrives
                         .lo
-                        .saturating_add(self.asked.shift(arrives.id.iface));
+                        .saturating_add(self.constraints.shift(arrives.id.iface));
                     let need = lo.min(leaves.hi).saturating_sub(leaves.lo);
-                    if need > self.asked.shift(leaves.id.iface) {
-                        self.asked.set_shift(leaves.id.iface, need);
+                    if need > self.constraints.shift(leaves.id.iface) {
+                        self.constraints.set_shift(leaves.id.iface, need);
                         is_new = true;
                     }
                 }

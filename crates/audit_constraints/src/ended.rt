@@ -1,8 +1,8 @@
-//! Wishes about allocations that were ended shortly before departures.
+//! Constraints about allocations that were ended shortly before departures.
 
 use crate::lane_so_far::LaneSoFar;
 use audit_search_input::AHEAD;
-use audit_search_state::Wish;
+use audit_search_state::Constraint;
 use audit_seen::{Gives, SeenNumber};
 use std::alloc::AllocError;
 
@@ -21,30 +21,33 @@ impl LaneSoFar<'_> {
     }
 
     /// Asks that what a departure may answer stands before the answers that ended allocations before it.
-    pub(crate) fn wish_before_ends(
+    pub(crate) fn ask_before_ends(
         &self,
         departure: SeenNumber,
-        wishes: &mut Vec<Wish>,
+        constraints: &mut Vec<Constraint>,
     ) -> Result<(), AllocError> {
         for answer in self.ends_before(departure)? {
             for pool in self.any_pools(departure)? {
-                self.wish_behind(answer, pool, 1, wishes)?;
+                self.ask_behind(answer, pool, 1, constraints)?;
             }
         }
         Ok(())
     }
 
     /// Asks that channels which were bound before a departure were bound in allocations that were ended before their answers left.
-    pub(crate) fn wish_earlier(
+    pub(crate) fn ask_earlier(
         &self,
         departure: SeenNumber,
-        wishes: &mut Vec<Wish>,
+        constraints: &mut Vec<Constraint>,
     ) -> Result<(), AllocError> {
         for (_, answer) in self.changes_before(departure).iter().rev().take(AHEAD) {
             let is_bound = self.given.gives(*answer) == Some(Gives::Bound);
-            let wish = Wish::Earlier { answer: *answer };
-            if is_bound && !wishes.contains(&wish) && !self.ends_before(*answer)?.is_empty() {
-                wishes.push(wish)?;
+            let constraint = Constraint::Earlier { answer: *answer };
+            if is_bound
+                && !constraints.contains(&constraint)
+                && !self.ends_before(*answer)?.is_empty()
+            {
+                constraints.push(constraint)?;
             }
         }
         Ok(())

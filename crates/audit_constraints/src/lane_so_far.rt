@@ -8,7 +8,7 @@ use std::alloc::AllocError;
 /// How many arrivals of a pool are asked for.
 pub(crate) const EACH: usize = 2;
 
-/// A lane whose search has come so far, of which its wishes are told.
+/// A lane whose search has come so far, of which its constraints are told.
 #[derive(Clone, Copy)]
 pub struct LaneSoFar<'a> {
     /// What the search reads.

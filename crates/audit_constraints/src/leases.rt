@@ -1,28 +1,28 @@
-//! Wishes for acts at their requests, so that leases end as early as they may.
+//! Constraints for acts at their requests, so that leases end as early as they may.
 
 use crate::lane_so_far::{EACH, LaneSoFar};
 use audit_model::Rule;
 use audit_search_input::AHEAD;
-use audit_search_state::{Refused, Wish};
+use audit_search_state::{Constraint, Refused};
 use audit_seen::{Gives, SeenNumber};
 use std::alloc::AllocError;
 
 impl LaneSoFar<'_> {
     /// Asks that an address which another client had before is given before the departure, or at its request, where the answer leaves behind
     /// the departure.
-    pub(crate) fn wish_soon(
+    pub(crate) fn ask_soon(
         &self,
         departure: SeenNumber,
-        wishes: &mut Vec<Wish>,
+        constraints: &mut Vec<Constraint>,
     ) -> Result<(), AllocError> {
         for answer in self.owed_behind(departure)? {
             if self.given.deadlines.is_second(answer) {
-                for wish in [
-                    Wish::HandedOver { answer, departure },
-                    Wish::AtRequest { answer },
+                for constraint in [
+                    Constraint::HandedOver { answer, departure },
+                    Constraint::AtRequest { answer },
                 ] {
-                    if !wishes.contains(&wish) {
-                        wishes.push(wish)?;
+                    if !constraints.contains(&constraint) {
+                        constraints.push(constraint)?;
                     }
                 }
             }
@@ -31,42 +31,42 @@ impl LaneSoFar<'_> {
     }
 
     /// Asks that a lease is given anew at its request, before the one that was there is over.
-    pub(crate) fn wish_own_early(
+    pub(crate) fn ask_own_early(
         &self,
         departure: SeenNumber,
-        wishes: &mut Vec<Wish>,
+        constraints: &mut Vec<Constraint>,
     ) -> Result<(), AllocError> {
         if let Some(Gives::Refreshed { .. } | Gives::Bound | Gives::Permitted) = self
             .given
             .gives(departure)
         {
-            wishes.push(Wish::AtRequest { answer: departure })?;
+            constraints.push(Constraint::AtRequest { answer: departure })?;
         }
         Ok(())
     }
 
     /// Asks that what the lane holds was given at its request, the latest leases first, so that it may be over.
-    pub(crate) fn wish_at_request(
+    pub(crate) fn ask_at_request(
         &self,
         departure: SeenNumber,
-        wishes: &mut Vec<Wish>,
+        constraints: &mut Vec<Constraint>,
     ) -> Result<(), AllocError> {
         let before = self.changes_before(departure);
         for is_of_allocation in [true, false] {
-            let most = wishes.len().saturating_add(EACH.saturating_mul(2));
+            let most = constraints.len().saturating_add(EACH.saturating_mul(2));
             for (_, answer) in before.iter().rev().take(AHEAD) {
                 let gives = self.given.gives(*answer);
                 let is_one = gives.is_some_and(|gives| is_lease(gives, is_of_allocation));
-                if is_one && self.state.is_acted(*answer) && wishes.len() < most {
+                if is_one && self.state.is_acted(*answer) && constraints.len() < most {
                     let may_be_over = self.may_be_over(*answer, departure);
                     if may_be_over {
-                        wishes.push(Wish::OverBefore {
+                        constraints.push(Constraint::OverBefore {
                             answer: *answer,
                             departure,
                         })?;
                     }
                     if may_be_over || !self.ends_before(*answer)?.is_empty() {
-                        wishes.push(Wish::AtRequest { answer: *answer })?;
+                        constraints.push(Constraint::AtRequest { answer: *answer })?;
                     }
                 }
             }

@@ -1,22 +1,22 @@
 //! What rounds of searches are asked for beside what the sightings say, as constraints on where arrivals stand, what departures answer, and when acts are.
 //!
-//! `LaneSoFar::wishes` is what a lane would need to act on a departure. `Settling` keeps of all lanes' wishes those that got lanes further, and tells the next ones; `Prepared` is
+//! `LaneSoFar::constraints` is what a lane would need to act on a departure. `Settling` keeps of all lanes' constraints those that got lanes further, and tells the next ones; `Prepared` is
 //! what a round's searches go by under them, and `Round` what they found. Nothing rests on any of it.
 #![tactic(auto)]
 
 mod answering;
 mod clocks;
 mod ended;
+mod lane_constraints;
 mod lane_so_far;
-mod lane_wishes;
 mod leases;
+mod needed;
 mod overlaps;
 mod prepared;
 mod reading;
 mod round;
 mod searched;
 mod settling;
-mod wishes;
 mod within;
 
 pub use lane_so_far::LaneSoFar;

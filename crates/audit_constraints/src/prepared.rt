@@ -8,7 +8,7 @@ use audit_matching::{
     Edges, RelayedLanes, ask_handovers, handovers, lows, match_up, places, ranked,
 };
 use audit_search_input::{Deadlines, Given, Shared, Viewed, Views};
-use audit_search_state::Asked;
+use audit_search_state::{Constraint, Constraints};
 use std::alloc::{AllocError, Global};
 
 /// What the searches of one round go by.
@@ -30,7 +30,7 @@ impl Prepared {
     pub(crate) fn of(
         reading: &Reading<'_>,
         first: &FirstKeys,
-        asked: &Asked,
+        constraints: &Constraints,
     ) -> Result<Prepared, AllocError> {
         let alloc = reading.alloc;
         let sights = &reading.sights;
@@ -38,13 +38,21 @@ impl Prepared {
         let tenancies = first.tenancies(reading)?;
         let handovers = handovers(alloc, sights, &first.times, &first.mates)?;
         let known = first.known(reading, &tenancies);
-        let relayed = RelayedLanes::of(&known, &asked.banned)?;
-        let mut edges = edges_of(&known, &relayed, asked)?;
+        let relayed = RelayedLanes::of(&known, &constraints.banned(alloc)?)?;
+        let mut edges = edges_of(&known, &relayed, constraints)?;
         ask_handovers(sights, &handovers, &first.mates, &mut edges)?;
-        let low = lows(alloc, sights, &mut edges, &asked.shifts, hold)?;
+        let low = lows(alloc, sights, &mut edges, &constraints.shifts, hold)?;
         let at = places(alloc, sights, &edges, &low, hold)?;
         let order = ranked(alloc, sights, &edges, &low, &at)?;
-        let deadlines = Deadlines::of(alloc, sights, &handovers, &first.mates, &order, &at, asked)?;
+        let deadlines = Deadlines::of(
+            alloc,
+            sights,
+            &handovers,
+            &first.mates,
+            &order,
+            &at,
+            constraints,
+        )?;
         let shared = Shared::of(alloc, &known, &handovers, &first.mates)?;
         let viewed = Viewed {
             intake: reading.intake,
@@ -54,7 +62,7 @@ impl Prepared {
             at: &at,
             mates: &edges.mates,
             relayed: relayed.as_slice(),
-            asked,
+            constraints,
             shared: &shared,
         };
         let views = Views::of(alloc, &viewed, reading.pairs.len())?;
@@ -75,7 +83,7 @@ impl Prepared {
         &'a self,
         reading: &'a Reading<'_>,
         first: &'a FirstKeys,
-        asked: &'a Asked,
+        constraints: &'a Constraints,
     ) -> Given<'a> {
         Given {
             alloc: reading.alloc,
@@ -88,7 +96,7 @@ impl Prepared {
             at: &self.at,
             deadlines: &self.deadlines,
             mates: &self.edges.mates,
-            asked,
+            constraints,
             pairs: reading.pairs,
         }
     }
@@ -109,13 +117,20 @@ impl Prepared {
 }
 
 /// The matches, with the answers and the arrivals before departures that are asked for.
-fn edges_of(known: &Known<'_>, relayed: &RelayedLanes, asked: &Asked) -> Result<Edges, AllocError> {
+fn edges_of(
+    known: &Known<'_>,
+    relayed: &RelayedLanes,
+    constraints: &Constraints,
+) -> Result<Edges, AllocError> {
     let mut edges = Edges::of(known.alloc, match_up(known, relayed.as_slice())?);
-    for (departure, arrival) in &asked.answers {
-        edges.mates.join_anew(*departure, *arrival);
-    }
-    for (arrival, departure) in &asked.before {
-        edges.ask(*arrival, *departure)?;
+    for constraint in constraints.iter() {
+        match constraint {
+            Constraint::Answers { departure, arrival } => {
+                edges.mates.join_anew(*departure, *arrival);
+            }
+            Constraint::Before { arrival, departure } => edges.ask(*arrival, *departure)?,
+            _ => {}
+        }
     }
     Ok(edges)
 }

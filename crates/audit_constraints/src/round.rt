@@ -3,7 +3,7 @@
 use crate::searched::Act;
 use audit_known::Order;
 use audit_matching::{Edges, RelayedLanes};
-use audit_search_state::{Fault, Wish};
+use audit_search_state::{Constraint, Fault};
 use audit_seen::{LaneNumber, SeenNumber, Slot};
 use std::alloc::{AllocError, Global};
 
@@ -18,7 +18,7 @@ pub struct Round {
     /// The acts of all lanes, in order.
     pub acts: Vec<Act>,
     /// The lanes that can't act on a departure, and what they would need.
-    pub faults: Vec<(LaneNumber, Fault, Vec<Wish>)>,
+    pub faults: Vec<(LaneNumber, Fault, Vec<Constraint>)>,
 }
 
 impl Round {

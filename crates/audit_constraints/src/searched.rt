@@ -2,7 +2,7 @@
 
 use audit_known::Order;
 use audit_search_input::Given;
-use audit_search_state::{Fault, Found, Wish};
+use audit_search_state::{Constraint, Fault, Found};
 use audit_seen::{LaneNumber, SeenNumber, Slot};
 use std::alloc::{AllocError, Global};
 
@@ -27,7 +27,7 @@ pub struct Searched {
     print: u64,
     acts: Vec<Anchored>,
     fault: Option<Fault>,
-    wishes: Vec<Wish>,
+    constraints: Vec<Constraint>,
 }
 
 impl Searched {
@@ -38,7 +38,7 @@ impl Searched {
             print: given.views.print(lane),
             acts,
             fault: found.fault,
-            wishes: found.wishes,
+            constraints: found.constraints,
         })
     }
 
@@ -133,13 +133,16 @@ impl AllSearched {
     }
 
     /// The lanes that can't act on a departure, in order, and what they would need.
-    pub fn faults(&self, alloc: Global) -> Result<Vec<(LaneNumber, Fault, Vec<Wish>)>, AllocError> {
+    pub fn faults(
+        &self,
+        alloc: Global,
+    ) -> Result<Vec<(LaneNumber, Fault, Vec<Constraint>)>, AllocError> {
         let mut faults = Vec::new(alloc);
         for (number, place) in self.lanes.iter().enumerate() {
             if let (Some(searched), Ok(lane)) = (place, u32::try_from(number)) {
                 if let Some(fault) = searched.fault {
-                    let wishes = Vec::from_slice(alloc, searched.wishes.as_slice())?;
-                    faults.push((LaneNumber(lane), fault, wishes))?;
+                    let constraints = Vec::from_slice(alloc, searched.constraints.as_slice())?;
+                    faults.push((LaneNumber(lane), fault, constraints))?;
                 }
             }
         }

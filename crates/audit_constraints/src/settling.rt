@@ -1,16 +1,16 @@
-//! Which wishes of lanes are kept, taken back and tried next.
+//! Which constraints of lanes are kept, taken back and tried next.
 
-use crate::lane_wishes::{Kept, LaneWishes};
+use crate::lane_constraints::{Kept, LaneConstraints};
 use crate::prepared::Prepared;
 use crate::reading::{FirstKeys, Reading};
 use crate::round::Round;
 use audit_search_input::Given;
-use audit_search_state::{Asked, Fault, Wish};
+use audit_search_state::{Constraint, Constraints, Fault};
 use audit_seen::{LaneNumber, SeenNumber};
 use std::alloc::AllocError;
 use std::collections::{BTreeMap, BTreeSet};
 
-/// How many wishes of a lane are looked at in one round.
+/// How many constraints of a lane are looked at in one round.
 const LOOKED_AT: u32 = 1024;
 
 /// What is asked of the next round, and what became of it so far.
@@ -18,9 +18,9 @@ const LOOKED_AT: u32 = 1024;
 pub struct Settling<'a> {
     pub(crate) reading: &'a Reading<'a>,
     pub(crate) first: FirstKeys,
-    pub(crate) asked: Asked,
-    lanes: BTreeMap<LaneNumber, LaneWishes>,
-    tried: BTreeSet<(LaneNumber, Wish, u64)>,
+    pub(crate) constraints: Constraints,
+    lanes: BTreeMap<LaneNumber, LaneConstraints>,
+    tried: BTreeSet<(LaneNumber, Constraint, u64)>,
     /// Arrivals that were asked to stand before departures, and helped.
     pub(crate) helped: BTreeSet<(SeenNumber, SeenNumber)>,
     /// The lanes that had faults in the round before.
@@ -35,7 +35,7 @@ impl<'a> Settling<'a> {
         Ok(Settling {
             reading,
             first: FirstKeys::of(reading, &shifts)?,
-            asked: Asked::none(alloc, shifts),
+            constraints: Constraints::none(alloc, shifts),
             lanes: BTreeMap::new(alloc),
             tried: BTreeSet::new(alloc),
             helped: BTreeSet::new(alloc),
@@ -45,30 +45,30 @@ impl<'a> Settling<'a> {
 
     /// What the next round's searches go by.
     pub fn prepared(&self) -> Result<Prepared, AllocError> {
-        Prepared::of(self.reading, &self.first, &self.asked)
+        Prepared::of(self.reading, &self.first, &self.constraints)
     }
 
     /// What the search of each lane reads.
     pub fn given<'b>(&'b self, prepared: &'b Prepared) -> Given<'b> {
-        prepared.given(self.reading, &self.first, &self.asked)
+        prepared.given(self.reading, &self.first, &self.constraints)
     }
 
     /// Whether acts that make or keep an allocation are asked to stand at their requests.
     pub fn set_early(&mut self, is_early: bool) {
-        self.asked.is_early = is_early;
+        self.constraints.is_early = is_early;
     }
 
     /// Forgets what is asked for, and tells the keys anew.
     pub fn start_again(&mut self) -> Result<(), AllocError> {
-        self.asked.clear();
+        self.constraints.clear();
         self.lanes.clear();
         self.tried.clear();
         self.faulty.clear();
-        self.first = FirstKeys::of(self.reading, &self.asked.shifts)?;
+        self.first = FirstKeys::of(self.reading, &self.constraints.shifts)?;
         Ok(())
     }
 
-    /// Keeps the wishes that got their lanes further, and takes the others back.
+    /// Keeps the constraints that got their lanes further, and takes the others back.
     pub fn settle(&mut self, round: &Round) -> Result<(), AllocError> {
         let is_new = round
             .faults
@@ -78,35 +78,26 @@ impl<'a> Settling<'a> {
         for (_, fault, _) in &round.faults {
             blamed.insert(fault.departure)?;
         }
-        for (lane, wishes) in self.lanes.iter_mut() {
-            let Some(wish) = wishes.pending.take() else {
+        for (lane, of_lane) in self.lanes.iter_mut() {
+            let Some(constraint) = of_lane.pending.take() else {
                 continue;
             };
             let (fault, told) = fault_of(round, *lane);
-            let is_worse = match wish {
-                Wish::NotHere { sighting, .. } => is_new || blamed.contains(&sighting),
-                Wish::Before { .. }
-                | Wish::Answers { .. }
-                | Wish::AtRequest { .. }
-                | Wish::OverBefore { .. }
-                | Wish::Earlier { .. }
-                | Wish::HandedOver { .. }
-                | Wish::Precedes { .. }
-                | Wish::Within { .. } => false,
-            };
-            let is_stuck = fault.is_some_and(|fault| fault.low <= wishes.level)
-                && !wishes.is_half(wish, told);
+            let taken_away = constraint.taken_away();
+            let is_worse = taken_away.is_some_and(|sighting| is_new || blamed.contains(&sighting));
+            let is_stuck = fault.is_some_and(|fault| fault.low <= of_lane.level)
+                && !of_lane.is_half(constraint, told);
             if is_worse || is_stuck {
-                self.asked.take_back(wish);
+                self.constraints.take_back(constraint);
             } else {
-                if let Wish::Before { arrival, departure } = wish {
+                if let Constraint::Before { arrival, departure } = constraint {
                     self.helped.insert((arrival, departure))?;
                 }
                 let alloc = self.reading.alloc;
-                wishes.kept.push(Kept {
-                    wish,
-                    open: wishes.open.take().unwrap_or(Vec::new(alloc)),
-                    level: wishes.level,
+                of_lane.kept.push(Kept {
+                    constraint,
+                    open: of_lane.open.take().unwrap_or(Vec::new(alloc)),
+                    level: of_lane.level,
                 })?;
             }
         }
@@ -123,8 +114,8 @@ impl<'a> Settling<'a> {
         if self.ask_overlaps(round)? {
             is_more = true;
         }
-        for (lane, fault, wishes) in &round.faults {
-            if self.ask_lane(*lane, fault, wishes)? {
+        for (lane, fault, constraints) in &round.faults {
+            if self.ask_lane(*lane, fault, constraints)? {
                 is_more = true;
             }
         }
@@ -135,15 +126,16 @@ impl<'a> Settling<'a> {
     fn ask_doubles(&mut self, round: &Round) -> Result<bool, AllocError> {
         let mut is_more = false;
         for (arrival, later, earlier) in round.doubles(self.reading.alloc)? {
+            let not_of = |lane| Constraint::NotHere {
+                sighting: arrival,
+                lane,
+            };
             for lane in [later, earlier] {
-                let wish = Wish::NotHere {
-                    sighting: arrival,
-                    lane,
-                };
-                if self.tried.insert((lane, wish, 0))? {
-                    self.asked.banned.remove(&(arrival, later));
-                    self.asked.banned.remove(&(arrival, earlier));
-                    self.asked.banned.insert((arrival, lane))?;
+                let constraint = not_of(lane);
+                if self.tried.insert((lane, constraint, 0))? {
+                    self.constraints.take_back(not_of(later));
+                    self.constraints.take_back(not_of(earlier));
+                    self.constraints.ask(constraint)?;
                     is_more = true;
                     break;
                 }
@@ -157,43 +149,43 @@ impl<'a> Settling<'a> {
     fn ask_overlaps(&mut self, round: &Round) -> Result<bool, AllocError> {
         let mut is_more = false;
         for overlap in round.overlaps(self.reading)? {
-            let first = Wish::AtRequest {
+            let first = Constraint::AtRequest {
                 answer: overlap.answer,
             };
-            let over = Wish::Precedes {
+            let over = Constraint::Precedes {
                 maker: overlap.maker,
                 next: overlap.next,
             };
-            let second = Wish::Precedes {
+            let second = Constraint::Precedes {
                 maker: overlap.next,
                 next: overlap.maker,
             };
             if self.tried.insert((overlap.lane, first, 0))? {
-                self.asked.ask(first)?;
+                self.constraints.ask(first)?;
                 is_more = true;
             } else if self.tried.insert((overlap.lane, over, 0))? {
-                self.asked.ask(over)?;
+                self.constraints.ask(over)?;
                 is_more = true;
             } else if self.tried.insert((overlap.next_lane, second, 0))? {
-                self.asked.take_back(first);
-                self.asked.take_back(over);
-                self.asked.ask(second)?;
+                self.constraints.take_back(first);
+                self.constraints.take_back(over);
+                self.constraints.ask(second)?;
                 is_more = true;
             }
         }
         Ok(is_more)
     }
 
-    /// Asks for the next wish of a lane; tells whether there was one.
+    /// Asks for the next constraint of a lane; tells whether there was one.
     fn ask_lane(
         &mut self,
         lane: LaneNumber,
         fault: &Fault,
-        told: &[Wish],
+        told: &[Constraint],
     ) -> Result<bool, AllocError> {
         let alloc = self.reading.alloc;
         if !self.lanes.contains_key(&lane) {
-            let none = LaneWishes {
+            let none = LaneConstraints {
                 open: None,
                 level: 0,
                 pending: None,
@@ -201,22 +193,22 @@ impl<'a> Settling<'a> {
             };
             self.lanes.insert(lane, none)?;
         }
-        let Some(wishes) = self.lanes.get_mut(&lane) else {
+        let Some(of_lane) = self.lanes.get_mut(&lane) else {
             return Ok(false);
         };
-        if wishes.open.is_none() {
+        if of_lane.open.is_none() {
             let mut open = Vec::from_slice(alloc, told)?;
             open.reverse();
-            wishes.open = Some(open);
-            wishes.level = fault.low;
+            of_lane.open = Some(open);
+            of_lane.level = fault.low;
         }
         for _ in 0..LOOKED_AT {
-            let Some(wish) = wishes.next(&mut self.asked) else {
+            let Some(constraint) = of_lane.next(&mut self.constraints) else {
                 return Ok(false);
             };
-            if self.tried.insert((lane, wish, wishes.digest()))? {
-                self.asked.ask(wish)?;
-                wishes.pending = Some(wish);
+            if self.tried.insert((lane, constraint, of_lane.digest()))? {
+                self.constraints.ask(constraint)?;
+                of_lane.pending = Some(constraint);
                 return Ok(true);
             }
         }
@@ -225,7 +217,7 @@ impl<'a> Settling<'a> {
 }
 
 /// The fault of a lane, and what it would need.
-fn fault_of(round: &Round, lane: LaneNumber) -> (Option<Fault>, &[Wish]) {
+fn fault_of(round: &Round, lane: LaneNumber) -> (Option<Fault>, &[Constraint]) {
     let place = round.faults.partition_point(|fault| fault.0 < lane);
     match round.faults.get(place) {
         Some((other, fault, told)) if *other == lane => (Some(*fault), told.as_slice()),

@@ -1,18 +1,18 @@
-//! Wishes about the allocation in which permissions and channels were given.
+//! Constraints about the allocation in which permissions and channels were given.
 
 use crate::lane_so_far::{EACH, LaneSoFar};
 use audit_model::{Addr, Rule};
 use audit_search_input::{AHEAD, names, peer_of};
-use audit_search_state::{Past, Refused, Wish};
+use audit_search_state::{Constraint, Past, Refused};
 use audit_seen::{Gives, SeenNumber};
 use std::alloc::AllocError;
 
 impl LaneSoFar<'_> {
     /// Asks that permissions and channels which a departure may need were given in the allocation that is there, rather than in the one before.
-    pub(crate) fn wish_within(
+    pub(crate) fn ask_within(
         &self,
         departure: SeenNumber,
-        wishes: &mut Vec<Wish>,
+        constraints: &mut Vec<Constraint>,
     ) -> Result<(), AllocError> {
         let Some(past) = self.state.last_past() else {
             return Ok(());
@@ -20,14 +20,14 @@ impl LaneSoFar<'_> {
         let Some((place, maker)) = self.maker_by(past) else {
             return Ok(());
         };
-        let most = wishes.len().saturating_add(EACH.saturating_mul(2));
+        let most = constraints.len().saturating_add(EACH.saturating_mul(2));
         let near = self
             .changes
             .get(place.saturating_sub(AHEAD)..)
             .unwrap_or(&[]);
         for (_, answer) in near.iter().take(AHEAD.saturating_mul(2)) {
-            if wishes.len() < most && self.may_be_within(*answer, departure, past) {
-                wishes.push(Wish::Within {
+            if constraints.len() < most && self.may_be_within(*answer, departure, past) {
+                constraints.push(Constraint::Within {
                     answer: *answer,
                     maker,
                 })?;

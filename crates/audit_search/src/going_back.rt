@@ -4,7 +4,7 @@ use crate::sweep::{Choice, STEPS, Sweep};
 use audit_constraints::LaneSoFar;
 use audit_model::Rule;
 use audit_search_input::AHEAD;
-use audit_search_state::{Fault, Refused, State, Wish};
+use audit_search_state::{Constraint, Fault, Refused, State};
 use audit_seen::{Gives, SeenNumber};
 use std::alloc::AllocError;
 use std::collections::BTreeMap;
@@ -15,8 +15,8 @@ const REACH: u64 = 64;
 /// About how many steps and entries of tables are kept for going back.
 const TRAIL: u64 = 65_536;
 
-/// How many wishes a lane has at the most.
-const WISHES: usize = 64;
+/// How many constraints a lane has at the most.
+const CONSTRAINTS: usize = 64;
 
 impl Sweep<'_> {
     /// Forgets the choices that were made long ago, and those behind which too much is noted.
@@ -58,30 +58,30 @@ impl Sweep<'_> {
                 changes: self.lane.changes.as_slice(),
                 state: &self.lane.state,
             };
-            let wishes = so_far.wishes(departure, refused)?;
-            self.asked.push((departure, wishes))?;
+            let constraints = so_far.constraints(departure, refused)?;
+            self.asked.push((departure, constraints))?;
         }
         Ok(())
     }
 
     /// What the lane would need: for the departure where it came farthest, and then for the others.
-    pub(crate) fn wishes(&self) -> Result<Vec<Wish>, AllocError> {
-        let mut wishes: Vec<Wish> = Vec::new(self.lane.given.alloc);
+    pub(crate) fn constraints(&self) -> Result<Vec<Constraint>, AllocError> {
+        let mut constraints: Vec<Constraint> = Vec::new(self.lane.given.alloc);
         let Some(fault) = self.fault else {
-            return Ok(wishes);
+            return Ok(constraints);
         };
         for is_fault in [true, false] {
             for (departure, asked) in &self.asked {
                 if (*departure == fault.departure) == is_fault {
-                    for wish in asked {
-                        if wishes.len() < WISHES && !wishes.contains(wish) {
-                            wishes.push(*wish)?;
+                    for constraint in asked {
+                        if constraints.len() < CONSTRAINTS && !constraints.contains(constraint) {
+                            constraints.push(*constraint)?;
                         }
                     }
                 }
             }
         }
-        Ok(wishes)
+        Ok(constraints)
     }
 
     /// Goes back to the newest choice, or takes the ways to the farthest departure again.

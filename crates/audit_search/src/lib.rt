@@ -11,5 +11,5 @@ mod searching;
 mod sweep;
 
 pub use audit_constraints::{Act, Reading, Round};
-pub use audit_search_state::{Fault, Refused, Wish};
+pub use audit_search_state::{Constraint, Fault, Refused};
 pub use rounds::{best_round, best_round_by};

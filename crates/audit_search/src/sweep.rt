@@ -2,7 +2,7 @@
 
 use audit_search_acts::{Lane, PAST, Plan};
 use audit_search_input::Given;
-use audit_search_state::{Fault, Found, Wish};
+use audit_search_state::{Constraint, Fault, Found};
 use audit_seen::{LaneNumber, SeenNumber, Slot};
 use std::alloc::AllocError;
 use std::collections::{BTreeMap, VecDeque};
@@ -52,7 +52,7 @@ pub(crate) struct Sweep<'a> {
     pub(crate) is_replaying: bool,
     pub(crate) fault: Option<Fault>,
     /// Departures on which it couldn't act in some order, and what it would have needed.
-    pub(crate) asked: Vec<(SeenNumber, Vec<Wish>)>,
+    pub(crate) asked: Vec<(SeenNumber, Vec<Constraint>)>,
 }
 
 /// Finds the acts of a lane: an order in which the server kept to its rules, where it finds one; else the farthest one.
@@ -89,7 +89,7 @@ pub(crate) fn search_lane(given: &Given<'_>, number: LaneNumber) -> Result<Found
     Ok(Found {
         acts,
         fault: sweep.fault,
-        wishes: sweep.wishes()?,
+        constraints: sweep.constraints()?,
     })
 }
 

@@ -41,7 +41,9 @@ impl Lane<'_> {
         if self.is_before_its_maker(departure) {
             return Ok(Some(Refused::Rule(Rule::NoAllocation)));
         }
-        if self.given.asked.is_at_request(departure) && self.act_early(departure, seen, slot)? {
+        if self.given.constraints.is_at_request(departure)
+            && self.act_early(departure, seen, slot)?
+        {
             return Ok(None);
         }
         let empty = self.empty_table();

@@ -24,7 +24,7 @@ impl Lane<'_> {
             )
         );
         let given = self.given;
-        let is_asked = given.asked.is_early_itself(departure);
+        let is_asked = given.constraints.is_early_itself(departure);
         if !is_one
             || self.is_before_its_maker(departure)
             || (given.deadlines.is_second(departure) && !is_asked)
@@ -38,7 +38,7 @@ impl Lane<'_> {
             Slot::behind(self.given.rank(arrival)),
             self.given.at(arrival),
         );
-        let late = match given.asked.over_before(departure) {
+        let late = match given.constraints.over_before(departure) {
             Some(by) => self.given.slot_before(departure, by),
             None => None,
         };
@@ -60,12 +60,12 @@ impl Lane<'_> {
     /// Acts at their requests on the answers that leave behind a departure, and of which that is asked.
     pub fn act_on_asked(&mut self, departure: SeenNumber) -> Result<(), AllocError> {
         let given = self.given;
-        if !given.asked.has_early() {
+        if !given.constraints.has_early() {
             return Ok(());
         }
         let before = Slot::before(given.rank(departure));
         for answer in self.owed_behind(departure)? {
-            if given.asked.is_early_itself(answer) {
+            if given.constraints.is_early_itself(answer) {
                 if let Some(seen) = given.seen(answer) {
                     let _is_acted = self.act_early(answer, seen, before)?;
                 }

@@ -4,7 +4,7 @@ use crate::drawing::Draw;
 use crate::grants::is_of_grants;
 use crate::lane::Lane;
 use audit_model::Rule;
-use audit_search_state::Refused;
+use audit_search_state::{Constraint, Refused};
 use audit_seen::{Gives, SeenNumber, Slot};
 use std::alloc::AllocError;
 
@@ -145,7 +145,8 @@ impl Lane<'_> {
         departure: SeenNumber,
         gives: Gives,
     ) -> Result<bool, AllocError> {
-        if self.given.asked.earlier.contains(&departure) {
+        let earlier = Constraint::Earlier { answer: departure };
+        if self.given.constraints.contains(earlier) {
             return Ok(true);
         }
         if !matches!(gives, Gives::Allocated { .. } | Gives::Deleted) {
@@ -168,7 +169,7 @@ impl Lane<'_> {
         let (end, by) = (last.slot, last.by);
         // An allocation that is asked to have been made early is to be over early, too.
         let is_asked = match given.mates.of(by) {
-            Some(answer) => given.asked.is_early_itself(answer),
+            Some(answer) => given.constraints.is_early_itself(answer),
             None => false,
         };
         if is_asked && gives == Gives::Deleted {

@@ -1,7 +1,7 @@
 //! When addresses change hands: by when a lane's allocation has to be over, and when one may begin.
 
 use audit_known::{Handover, Mates, Order};
-use audit_search_state::Asked;
+use audit_search_state::{Constraint, Constraints};
 use audit_seen::{LaneNumber, SeenNumber, Sights, Slot};
 use std::alloc::{AllocError, Global};
 use std::collections::{BTreeMap, BTreeSet};
@@ -34,7 +34,7 @@ impl Deadlines {
         mates: &Mates,
         order: &Order,
         at: &[u64],
-        asked: &Asked,
+        constraints: &Constraints,
     ) -> Result<Deadlines, AllocError> {
         let mut deadlines = Deadlines {
             list: Vec::new(alloc),
@@ -42,12 +42,16 @@ impl Deadlines {
             seconds: BTreeSet::new(alloc),
         };
         for handover in handovers {
-            if asked.precedes.contains(&(handover.next, handover.maker)) {
+            let is_other_way = constraints.contains(Constraint::Precedes {
+                maker: handover.next,
+                next: handover.maker,
+            });
+            if is_other_way {
                 continue;
             }
             deadlines.seconds.insert(handover.next)?;
             // A handover stands before the answer, or before a departure where that is asked.
-            let by = asked
+            let by = constraints
                 .handed_over_before(handover.next)
                 .unwrap_or(handover.next);
             let next = order.rank(by).min(order.rank(handover.next));
@@ -58,7 +62,9 @@ impl Deadlines {
                 continue;
             };
             if order.rank(request) < next {
-                let is_soon = asked.at_requests.contains(&handover.next);
+                let is_soon = constraints.contains(Constraint::AtRequest {
+                    answer: handover.next,
+                });
                 let (slot, last) = if is_soon {
                     (Slot::behind(order.rank(request)), request)
                 } else {
@@ -76,7 +82,10 @@ impl Deadlines {
                 deadlines.not_before.insert(handover.next, behind)?;
             }
         }
-        for (maker, next) in &asked.precedes {
+        for constraint in constraints.iter() {
+            let Constraint::Precedes { maker, next } = constraint else {
+                continue;
+            };
             if let Some(lane) = sights.get(*maker).and_then(|seen| seen.lane) {
                 let slot = Slot::first(order.rank(*next));
                 let moment = at.get(next.index()).copied().unwrap_or(0);

@@ -5,7 +5,7 @@ use crate::views::Views;
 use audit_keys::Credentials;
 use audit_known::{Known, Mates, Order};
 use audit_model::{Addr, SightId, Sighting};
-use audit_search_state::{Asked, PoolRef};
+use audit_search_state::{Constraints, PoolRef};
 use audit_seen::{Gives, LaneNumber, PoolKey, Says, Seen, SeenNumber};
 use audit_sightings::Intake;
 use std::alloc::{AllocError, Global};
@@ -30,7 +30,7 @@ pub struct Given<'a> {
     /// The arrival that each departure most likely answers.
     pub mates: &'a Mates,
     /// What is asked for beside what the sightings say.
-    pub asked: &'a Asked,
+    pub constraints: &'a Constraints,
     /// The client and the listen address of each lane.
     pub pairs: &'a [(Addr, Addr)],
 }

@@ -2,7 +2,7 @@
 
 use crate::shared::Shared;
 use audit_known::{Known, Mates, Order};
-use audit_search_state::{Asked, PoolRef};
+use audit_search_state::{Constraint, Constraints, PoolRef};
 use audit_seen::{LaneNumber, PoolNumber, Says, Seen, SeenNumber};
 use audit_sightings::Intake;
 use std::alloc::{AllocError, Global};
@@ -52,7 +52,7 @@ pub struct Viewed<'a> {
     /// The lane of each departure from a relayed address.
     pub relayed: &'a [Option<LaneNumber>],
     /// What is asked for, and sightings by which other lanes go, too.
-    pub asked: &'a Asked,
+    pub constraints: &'a Constraints,
     pub shared: &'a Shared,
 }
 
@@ -162,7 +162,11 @@ impl Views {
         let moment = known.times.of(number).early;
         let mut is_shared = false;
         for lane in known.tenancies.lanes_at(sighting.to, moment, known.hold)? {
-            if !viewed.asked.banned.contains(&(number, lane)) {
+            let not_here = Constraint::NotHere {
+                sighting: number,
+                lane,
+            };
+            if !viewed.constraints.contains(not_here) {
                 self.arrivals
                     .push((lane, PoolRef { pool, is_shared }, rank, number))?;
                 self.mix(viewed, lane, number);
@@ -176,25 +180,26 @@ impl Views {
     fn mix(&mut self, viewed: &Viewed<'_>, lane: LaneNumber, number: SeenNumber) {
         let low = viewed.low.get(number.index()).copied().unwrap_or(0);
         let at = viewed.at.get(number.index()).copied().unwrap_or(0);
-        let asked = viewed.asked;
+        let constraints = viewed.constraints;
         let at_of = |other: Option<SeenNumber>| {
             let other = other.and_then(|other| viewed.at.get(other.index()).copied());
             other.unwrap_or(0)
         };
         if let Some(print) = self.prints.get_mut(lane.index()) {
             let mut mixed = *print;
-            let is_at_request = asked.at_requests.contains(&number);
+            let is_at_request = constraints.contains(Constraint::AtRequest { answer: number });
+            let is_earlier = constraints.contains(Constraint::Earlier { answer: number });
             let mate = viewed.mates.of(number).map_or(0, |mate| u64::from(mate.0));
             for word in [
                 u64::from(number.0),
                 low,
                 at,
                 u64::from(is_at_request),
-                u64::from(asked.earlier.contains(&number)),
-                at_of(asked.handed_over_before(number)),
-                at_of(asked.over_before(number)),
-                at_of(asked.next_of(number)),
-                at_of(asked.maker_of(number)),
+                u64::from(is_earlier),
+                at_of(constraints.handed_over_before(number)),
+                at_of(constraints.over_before(number)),
+                at_of(constraints.next_of(number)),
+                at_of(constraints.maker_of(number)),
                 mate,
             ] {
                 mixed = (mixed ^ word).wrapping_mul(FACTOR).rotate_left(29);

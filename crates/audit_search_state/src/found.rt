@@ -1,8 +1,8 @@
 //! What the search of a lane found.
 
+use crate::constraint::Constraint;
 use crate::refused::Refused;
 use crate::state::Acted;
-use crate::wish::Wish;
 use audit_seen::SeenNumber;
 
 /// A departure on which a lane can't act, and why.
@@ -27,5 +27,5 @@ pub struct Found {
     /// The first departure that it couldn't act on.
     pub fault: Option<Fault>,
     /// What it would need to go on, the likeliest first.
-    pub wishes: Vec<Wish>,
+    pub constraints: Vec<Constraint>,
 }

@@ -5,66 +5,74 @@ use crate::leases::{is_of_lease, is_of_what_is_there};
 use crate::within::is_of_what_was_granted;
 use audit_model::Rule;
 use audit_search_input::{AHEAD, helps};
-use audit_search_state::{PoolRef, Refused, Wish};
+use audit_search_state::{Constraint, PoolRef, Refused};
 use audit_seen::{Gives, SeenNumber};
 use std::alloc::AllocError;
 
 impl LaneSoFar<'_> {
     /// What the lane would need to act on a departure, the likeliest first: arrivals before it, its own or those of answers that may help;
     /// or that it is another lane's.
-    pub fn wishes(&self, departure: SeenNumber, refused: Refused) -> Result<Vec<Wish>, AllocError> {
-        let mut wishes = Vec::new(self.given.alloc);
-        if refused == Refused::Rule(Rule::ChannelConflict) {
-            self.wish_earlier(departure, &mut wishes)?;
-        }
-        if is_of_what_was_granted(refused) {
-            self.wish_within(departure, &mut wishes)?;
-        }
-        if is_of_what_is_there(refused) {
-            self.wish_at_request(departure, &mut wishes)?;
-        }
-        if is_of_lease(refused) {
-            self.wish_own_early(departure, &mut wishes)?;
-        }
-        self.wish_soon(departure, &mut wishes)?;
-        self.wish_before_ends(departure, &mut wishes)?;
-        if is_of_table(refused) {
-            self.wish_changes(departure, refused, &mut wishes)?;
-            self.wish_own(departure, &mut wishes)?;
-        } else {
-            self.wish_own(departure, &mut wishes)?;
-            self.wish_changes(departure, refused, &mut wishes)?;
-        }
-        if is_of_table(refused) {
-            self.wish_earlier(departure, &mut wishes)?;
-        }
-        if self.has_other_holders(departure)? {
-            let place = wishes.len().min(EACH);
-            let wish = Wish::NotHere {
-                sighting: departure,
-                lane: self.number,
-            };
-            wishes.insert(place, wish)?;
-        }
-        Ok(wishes)
-    }
-
-    /// Asks for arrivals that the departure may answer.
-    fn wish_own(&self, departure: SeenNumber, wishes: &mut Vec<Wish>) -> Result<(), AllocError> {
-        let pools = self.any_pools(departure)?;
-        for pool in &pools {
-            self.wish_late(departure, *pool, wishes)?;
-            self.wish_behind(departure, *pool, EACH, wishes)?;
-        }
-        self.wish_older(departure, &pools, wishes)
-    }
-
-    /// Asks for the requests of answers that may help.
-    fn wish_changes(
+    pub fn constraints(
         &self,
         departure: SeenNumber,
         refused: Refused,
-        wishes: &mut Vec<Wish>,
+    ) -> Result<Vec<Constraint>, AllocError> {
+        let mut constraints = Vec::new(self.given.alloc);
+        if refused == Refused::Rule(Rule::ChannelConflict) {
+            self.ask_earlier(departure, &mut constraints)?;
+        }
+        if is_of_what_was_granted(refused) {
+            self.ask_within(departure, &mut constraints)?;
+        }
+        if is_of_what_is_there(refused) {
+            self.ask_at_request(departure, &mut constraints)?;
+        }
+        if is_of_lease(refused) {
+            self.ask_own_early(departure, &mut constraints)?;
+        }
+        self.ask_soon(departure, &mut constraints)?;
+        self.ask_before_ends(departure, &mut constraints)?;
+        if is_of_table(refused) {
+            self.ask_changes(departure, refused, &mut constraints)?;
+            self.ask_own(departure, &mut constraints)?;
+        } else {
+            self.ask_own(departure, &mut constraints)?;
+            self.ask_changes(departure, refused, &mut constraints)?;
+        }
+        if is_of_table(refused) {
+            self.ask_earlier(departure, &mut constraints)?;
+        }
+        if self.has_other_holders(departure)? {
+            let place = constraints.len().min(EACH);
+            let constraint = Constraint::NotHere {
+                sighting: departure,
+                lane: self.number,
+            };
+            constraints.insert(place, constraint)?;
+        }
+        Ok(constraints)
+    }
+
+    /// Asks for arrivals that the departure may answer.
+    fn ask_own(
+        &self,
+        departure: SeenNumber,
+        constraints: &mut Vec<Constraint>,
+    ) -> Result<(), AllocError> {
+        let pools = self.any_pools(departure)?;
+        for pool in &pools {
+            self.ask_late(departure, *pool, constraints)?;
+            self.ask_behind(departure, *pool, EACH, constraints)?;
+        }
+        self.ask_older(departure, &pools, constraints)
+    }
+
+    /// Asks for the requests of answers that may help.
+    fn ask_changes(
+        &self,
+        departure: SeenNumber,
+        refused: Refused,
+        constraints: &mut Vec<Constraint>,
     ) -> Result<(), AllocError> {
         let reasons = [
             refused,
@@ -73,16 +81,16 @@ impl LaneSoFar<'_> {
             Refused::Rule(Rule::ErrorCondition),
         ];
         for reason in reasons {
-            self.wish_changes_for(departure, reason, wishes)?;
+            self.ask_changes_for(departure, reason, constraints)?;
         }
         Ok(())
     }
 
-    fn wish_changes_for(
+    fn ask_changes_for(
         &self,
         departure: SeenNumber,
         reason: Refused,
-        wishes: &mut Vec<Wish>,
+        constraints: &mut Vec<Constraint>,
     ) -> Result<(), AllocError> {
         let rank = self.given.rank(departure);
         let hi = self.given.seen(departure).map_or(0, |seen| seen.hi);
@@ -99,7 +107,7 @@ impl LaneSoFar<'_> {
                 .is_some_and(|gives| helps(reason, gives));
             if may_help && !self.state.is_acted(*answer) && self.given.low(*answer) <= until {
                 if let Some(pool) = self.given.response_ref(*answer) {
-                    self.wish_behind(departure, pool, 1, wishes)?;
+                    self.ask_behind(departure, pool, 1, constraints)?;
                 }
             }
         }
@@ -107,25 +115,25 @@ impl LaneSoFar<'_> {
     }
 
     /// Asks for the first arrivals of a pool that stand behind a departure, and might stand before it.
-    pub(crate) fn wish_behind(
+    pub(crate) fn ask_behind(
         &self,
         departure: SeenNumber,
         pool: PoolRef,
         count: usize,
-        wishes: &mut Vec<Wish>,
+        constraints: &mut Vec<Constraint>,
     ) -> Result<(), AllocError> {
         let all = self.given.views.arrivals(self.number, pool);
         let rank = self.given.rank(departure);
         let hi = self.given.seen(departure).map_or(0, |seen| seen.hi);
         let behind = all.partition_point(|one| one.2 < rank);
         for (_, _, _, arrival) in all.get(behind..).unwrap_or(&[]).iter().take(count) {
-            let wish = Wish::Before {
+            let constraint = Constraint::Before {
                 arrival: *arrival,
                 departure,
             };
             let may_stand = self.given.low(*arrival) <= hi && !self.state.is_used(*arrival);
-            if may_stand && !wishes.contains(&wish) {
-                wishes.push(wish)?;
+            if may_stand && !constraints.contains(&constraint) {
+                constraints.push(constraint)?;
             }
         }
         Ok(())
