@@ -281,22 +281,26 @@ def seconds(words):
     return after.ru_utime + after.ru_stime - before.ru_utime - before.ru_stime, run.stdout
 
 
-def timed(program, folder):
-    """The least seconds of three runs of each command on the folder."""
+def timed(program, explains, folder):
+    """The least seconds of three runs of each command on the folder; of `faults` where there is a program that has it."""
     inputs = ["--policy", folder / "policy", "--creds", folder / "creds"]
     captures = [folder / "client.pcapng", folder / "peer.pcapng"]
     certificate = folder / "certificate"
     certificate.write_bytes(seconds([program, "find", *inputs, *captures])[1])
     commands = {"audit": [], "find": [], "check": ["--cert", certificate]}
-    return {name: min(seconds([program, name, *inputs, *words, *captures])[0] for _ in range(3)) for name, words in commands.items()}
+    runs = {name: [program, name, *inputs, *words, *captures] for name, words in commands.items()}
+    if explains:
+        runs["faults"] = [explains, "faults", *inputs, *captures]
+    return {name: min(seconds(words)[0] for _ in range(3)) for name, words in runs.items()}
 
 
 def main():
     words = argparse.ArgumentParser(description="Times captures that strangers would make to keep the program busy.")
     words.add_argument("program", type=pathlib.Path)
     words.add_argument("--scale", type=float, default=4)
+    words.add_argument("--explains", type=pathlib.Path, help="turnexplain, whose command faults is timed too")
     asked = words.parse_args()
-    program = asked.program.resolve()
+    program, explains = asked.program.resolve(), asked.explains and asked.explains.resolve()
     # The datagrams at n, and how many bytes of data each has.
     small, large = (int(32_768 * asked.scale), 60), (int(512 * asked.scale), 54_000)
     attacks = {users: small, clients: small, silent: small, copies: small, denied: small, unasked: large, same: small}
@@ -311,7 +315,7 @@ def main():
             for count in (datagrams, 4 * datagrams):
                 folder = scratch / f"{build.__name__}-{size}-{count}"
                 build(folder, count, size)
-                times.append(timed(program, folder))
+                times.append(timed(program, explains, folder))
             if build is ordinary:
                 plain[datagrams] = times[1]
             for name in times[0]:

@@ -2,7 +2,7 @@
 """Makes captures of a TURN server that keeps to RFC 8656: CLIENTS clients that exchange DATAGRAMS datagrams in all.
 
     python3 bench/make_capture.py FOLDER [--clients 24] [--datagrams 1000000] [--step-us 40] [--offset-us 0] [--loss 0]
-                                         [--breaks renewals|numbers|data] [--broken 1]
+                                         [--breaks renewals|numbers|data|unasked] [--broken 1]
 
 It writes FOLDER/client.pcapng and FOLDER/peer.pcapng, one interface each, with FOLDER/policy and FOLDER/creds, and where the clocks agree
 FOLDER/certificate, the certificate of what the server did, for the captures in that order. Each client
@@ -11,7 +11,8 @@ deletes its allocation. The clock of the peer side is OFFSET-US microseconds ahe
 datagrams from a peer reach the server and go no further. One client after another exchanges two datagrams each STEP-US microseconds.
 
 With --breaks the server keeps to a rule no longer for BROKEN of the clients: it relays on for those that never ask again for a
-permission or a channel (R7 once the captures last 300 seconds), binds channels past 0x4FFF (R10), or changes a byte of the last data of each.
+permission or a channel (R7 once the captures last 300 seconds), binds channels past 0x4FFF (R10), relays other data than the last of each (R13), or
+sends a peer of each what nobody asked for (S11).
 
 bench/times.py runs it; bench/attacks.py, tests/simulated.py and tests/random_captures.py import its messages and blocks. It shares
 no code with turnaudit or with the plain checker of tests/plain.
@@ -184,7 +185,7 @@ def main():
     words.add_argument("--step-us", type=int, default=40)
     words.add_argument("--offset-us", type=int, default=0)
     words.add_argument("--loss", type=int, default=0)
-    words.add_argument("--breaks", choices=["renewals", "numbers", "data"])
+    words.add_argument("--breaks", choices=["renewals", "numbers", "data", "unasked"])
     words.add_argument("--broken", type=int, default=1)
     asked = words.parse_args()
     chance = random.Random(1)
@@ -221,6 +222,9 @@ def main():
         moment += asked.step_us
     for client in broken if asked.breaks == "data" else []:
         client.to_peer(moment, b"what the client sent", b"what the server relayed")
+        moment += asked.step_us
+    for client in broken if asked.breaks == "unasked" else []:
+        sides[1].put(moment, client.relayed, client.peer, b"what nobody asked for")
         moment += asked.step_us
     for client in clients:
         client.refresh(moment, 0)
