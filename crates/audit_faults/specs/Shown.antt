@@ -1,5 +1,5 @@
 -- All faults that captures show.
-use Rattle.std.specs.Prelude.{◌≡◌, ◌⊎◌, ◌↔◌, ◌<◌, IsTrue, List, Some, Any}
+use Rattle.std.specs.Prelude.{◌≡◌, ◌⊎◌, ◌↔◌, ◌<◌, IsTrue, List, Some, IfSome, Any}
 use Rattle.std.specs.List.{All, AllPairs}
 use Rattle.audit_model.specs.declared.sighting.SightId.{SightId}
 use Rattle.audit_model.specs.declared.sighting.Sighting.{Sighting}
@@ -10,6 +10,7 @@ use Rattle.audit_faults.specs.declared.fault.Fault.TheVariants.{Unallocated}
 use Rattle.audit_faults.specs.declared.fault.ShownFault.{ShownFault}
 use Rattle.audit_faults.specs.Beginning.{HasBeginning}
 use Rattle.audit_faults.specs.Explains.{IsFault, NoneBefore}
+use Rattle.audit_faults.specs.LastGrant.{IsTooEarly}
 
 -- the order of interface and index
 abbrev pub IsBefore : SightId → SightId → Type 0
@@ -20,9 +21,10 @@ abbrev pub MayPredate : Taken → Fault → SightId → Type 0
 MayPredate taken fault sight = (fault ≡ Unallocated) × ((given : Sighting) → sighting_at taken sight ≡ Some given → HasBeginning taken given → ⊥)
 
 module _ (taken : Taken) (key_for : KeyFor) where
-  -- the departure shows this fault, and none of those that are told before it
+  -- the departure shows this fault, and none of those that are told before it; a success that is told of is too early
   abbrev pub IsFirstFault : ShownFault → Type 0
   IsFirstFault shown = IsFault taken key_for shown.fault shown.sight × NoneBefore (λ earlier. IsFault taken key_for earlier shown.sight) shown.fault × (IsTrue shown.may_predate ↔ MayPredate taken shown.fault shown.sight)
+      × IfSome shown.last (IsTooEarly taken shown.fault)
 
   -- All shown faults: of each departure that shows one the first, in rising order, and so once.
   pub record AreFaults (faults : List ShownFault) : Type 0 where

@@ -20,6 +20,7 @@ use crate::begun::has_beginning;
 use crate::fault::{Fault, ShownFault};
 use crate::index::{Index, extents_by_interface};
 use crate::keyed::ByKey;
+use crate::last_grant::last_grant;
 use crate::laws::fault_excludes;
 use crate::leased::Leases;
 use crate::repeats::{Asking, repeats_of};
@@ -88,10 +89,12 @@ fn add_of_sighting(
 {
     if let Some(fault) = first_fault(intake, index, credentials, sight) {
         let may_predate = may_predate(intake, asking, answers, fault, sight);
+        let last = last_grant(intake, index, asking, credentials, fault, sight);
         faults.push(ShownFault {
             sight,
             fault,
             may_predate,
+            last,
         })?;
     }
     Ok(())

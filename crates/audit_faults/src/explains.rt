@@ -23,7 +23,7 @@ use audit_stun::Class;
 use audit_stun::numbers::method::BINDING;
 
 /// Whether the client has the lease, where the fault asks about it.
-fn holds(
+pub fn holds(
     intake: &Intake,
     index: &Index<'_>,
     fault: Fault,

@@ -25,7 +25,7 @@ use audit_stun::{Class, Message, address};
 use std::alloc::{AllocError, Global};
 
 /// Whether the sighting of that name is a success to the client, of the request's method and transaction.
-fn is_answer_at(intake: &Intake, sight: SightId, client: Addr, request: &Message<'_>) -> bool
+pub fn is_answer_at(intake: &Intake, sight: SightId, client: Addr, request: &Message<'_>) -> bool
     ensures { IsTrue result ↔ ((success : OneSighting) × (sighting_at (taken intake.now) sight ≡ Some success) × Answers client request.now success) }
 {
     let Some(success) = intake.sighting(sight) else {

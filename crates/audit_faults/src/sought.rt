@@ -18,17 +18,41 @@ use crate::explains::explains;
 use crate::fault::Fault;
 use crate::index::Index;
 use crate::keyed::{digest, span_of_key};
+use crate::needs::has_needed_leases;
 use crate::reach::Span;
 use crate::repeats::{Asking, repeats_in_reach};
 use audit_keys::Credentials;
 use audit_model::{SightId, Sighting};
 use audit_sightings::Intake;
 
+/// Arrivals of more bytes are read only where the leases are there: it would cost more to read them.
+const LONG: usize = 2048;
+
 /// The earliest that something in reach of the departure may begin, where no window is wider than this.
 pub fn earliest(given: &Sighting, hold: u64, width: u64) -> u64
     ensures { (lo hi : ℕ) → given.now.lo ≤ later hi hold → hi ≤ lo + width → result ≤ lo }
 {
     given.lo.saturating_sub(hold).saturating_sub(width)
+}
+
+/// Whether what arrived explains the departure. Of a long one the leases are looked at first.
+fn explains_by_leases(
+    intake: &Intake,
+    index: &Index<'_>,
+    credentials: &Credentials,
+    fault: Fault,
+    asked: &Sighting,
+    given: &Sighting,
+) -> bool
+    requires { IsIndex (taken intake.now) index.now }
+    ensures { IsTrue result ↔ Explains (taken intake.now) (key_for credentials.now) fault asked.now given.now }
+{
+    if asked.payload.len() > LONG {
+        if !has_needed_leases(intake, index, fault, asked, given) {
+            return false;
+        }
+    }
+    explains(intake, index, credentials, fault, asked, given)
 }
 
 /// Whether the sighting of that name explains the departure.
@@ -47,7 +71,7 @@ fn explains_at(
     let Some(asked) = intake.sighting(sight) else {
         return false;
     };
-    explains(intake, index, credentials, fault, asked, given)
+    explains_by_leases(intake, index, credentials, fault, asked, given)
 }
 
 /// Whether what stands at a place explains the departure, and repeats nothing that does.
