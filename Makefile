@@ -3,10 +3,9 @@
 # `make format` comes before a commit; `make edits` tries all must-fail edits; `make fuzz SECONDS=600` gives it damaged input for so long.
 
 PROVED = crates/turnaudit/out/turnaudit
-# The programs beside it, which make captures ready and print what no order explains.
+# The program beside it that makes captures ready.
 PREPARES = crates/turnprep/out/turnprep
-SHOWS = crates/turnaudit_faults/out/turnaudit_faults
-# The program that tells what a verdict means.
+# The program that tells what a verdict means, and what no order explains.
 EXPLAINS = crates/turnexplain/out/turnexplain
 # The program that is installed, packed and tested. Another one is taken as it is: `make install PROGRAM=/where/it/is`.
 PROGRAM = $(PROVED)
@@ -19,7 +18,7 @@ DESTDIR =
 # Where `make deb` puts the package.
 OUT = out
 
-.PHONY: deb demo edits format fuzz install test turnaudit turnaudit_faults turnexplain turnprep
+.PHONY: deb demo edits format fuzz install test turnaudit turnexplain turnprep
 
 # Prints the verdict on the captures of a call over coturn, by a build that isn't proved.
 demo:
@@ -32,9 +31,8 @@ $(PROVED): $(SOURCES)
 	@tools/build.py
 	@touch $@
 
-# Proves and builds the programs beside it: what makes captures ready, what prints the datagrams that no order explains, and what tells
-# what a verdict means.
-turnprep turnaudit_faults turnexplain:
+# Proves and builds the programs beside it: what makes captures ready, and what tells what a verdict means.
+turnprep turnexplain:
 	@tools/build.py $@
 
 # Puts the program, man pages, completions and documents below PREFIX.
@@ -58,7 +56,7 @@ edits:
 # others, and runs the tests and the program. Then, with the program that this built: judges the captures in examples, asks that the number
 # of workers changes no answer, tries the examples of docs/REFUSALS.md, compares with the plain checker, gives it hostile input and captures
 # that grow, refuses it memory, installs it, audits a fleet by two engines, and has it find certificates for captures of a simulated server.
-# At last it runs turnprep on its cases and on captures of strangers, asks turnaudit_faults for what is known of captures, and turnexplain
+# At last it runs turnprep on its cases and on captures of strangers, asks turnexplain for the faults that are known of captures,
 # for what its golden files have, as text and as JSON, and for its pages.
 test:
 	python3 tests/documents.py
@@ -86,7 +84,7 @@ test:
 	python3 tests/prepare_fails.py $(PREPARES)
 	python3 tests/looking.py $(PREPARES)
 	python3 tests/fragments.py $(PREPARES) $(PROGRAM)
-	python3 tests/shown_faults.py $(SHOWS) $(PROGRAM)
+	python3 tests/shown_faults.py $(EXPLAINS) $(PROGRAM)
 	python3 tests/explain.py $(EXPLAINS)
 	python3 tests/explain_page.py $(EXPLAINS)
 

@@ -1,7 +1,7 @@
 #!/usr/bin/env python3
 """explain.py PROGRAM [--write]: what turnexplain tells of the stored captures, of captures that are built for a rule each, and of refusals.
 
-Each answer is compared with its golden file in tests/explain, and given once more as JSON, which docs/turnexplain.schema.json has to allow
+Each answer is compared with its golden file in tests/explain, and all but `faults` are given once more as JSON, which docs/turnexplain.schema.json has to allow
 and which has to tell the same. Each frame that it tells is looked up in the capture by a reader of its own,
 and by tshark where that is installed: the number, the ends and the time have to be those. No answer may have a byte that a terminal acts on.
 With --write the golden files are written anew.
@@ -50,6 +50,8 @@ def stored():
     yield "peers-alone", call, ["verdict", *example("coturn-channels-two-files", "peer.pcapng")[1]]
     yield "one-file-twice", call, ["verdict", *example("coturn-channels-two-files", "client.pcapng", "client.pcapng", "peer.pcapng")[1]]
     yield "no-users", call, ["verdict", "--policy", "policy", "client.pcapng", "peer.pcapng"]
+    yield "no-users-faults", call, ["faults", "--policy", "policy", "client.pcapng", "peer.pcapng"]
+    yield "conforming-faults", call, ["faults", *words]
     yield "exchanged-captures", call, ["verdict", "--cert", "certificate", *example("coturn-channels-two-files", "peer.pcapng", "client.pcapng")[1]]
     two = TOP / "tests" / "two-lanes-broken"
     for command in ("verdict", "lanes"):
@@ -96,6 +98,8 @@ def refusals(room):
     yield "classic", ["verdict", *usual, "classic.pcap"]
     yield "torn", ["verdict", *usual, "torn.pcapng"]
     yield "missing", ["verdict", *usual, "no-such.pcapng"]
+    yield "faults-missing", ["faults", *usual, "no-such.pcapng"]
+    yield "faults-capture-as-policy", ["faults", "--policy", "call.pcapng", "call.pcapng"]
     yield "nothing-judged", ["verdict", "--policy", "wrong-policy", "call.pcapng"]
     yield "no-words", []
     yield "help", ["verdict", "--help"]
@@ -184,7 +188,7 @@ def compare(program, name, folder, words, write):
     elif not golden.is_file() or golden.read_text(encoding="utf-8") != answer:
         print(answer, end="")
         sys.exit(f"{name}: that isn't what {golden} has")
-    if status in (0, 1) and words and "--help" not in words:
+    if status in (0, 1) and words and words[0] != "faults" and "--help" not in words:
         check_json(program, name, folder, words, out, status, write)
     return check_frames(name, folder, words, out)
 

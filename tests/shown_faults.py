@@ -1,13 +1,13 @@
 #!/usr/bin/env python3
-"""Asks turnaudit_faults for the faults of captures of which it is known what no order explains.
+"""Asks `turnexplain faults` for the faults of captures of which it is known what no order explains.
 
-    python3 tests/shown_faults.py PROGRAM TURNAUDIT [--count 300]
+    python3 tests/shown_faults.py TURNEXPLAIN TURNAUDIT [--count 300]
 
 Captures that conform show none: those in examples, and those of a simulated server that keeps to RFC 8656, as many of each kind as
 --count says. Of a capture of coturn that relayed after a permission's end the datagrams were counted by hand. Then stored captures are
 changed: a byte of what is relayed, a response or its exchange taken out, another password. What has to be shown then is told by the
 frames, which are read here. None of that shares code with the program. At last files are damaged, as many times: it has to refuse what
-TURNAUDIT refuses, with the same words, and to show no fault where that says conforming.
+TURNAUDIT refuses, for the same reason, and to show no fault where that says conforming.
 
 The simulated servers are those of tests/random_captures.py and tests/edge_captures.py, and files are damaged as by tests/fuzz.py.
 """
@@ -37,14 +37,22 @@ SERVER = bytes([192, 0, 2, 1])
 FIRST_RELAY_PORT = 49152
 # The types of messages: an Allocate success, a CreatePermission success and its request.
 ALLOCATED, PERMITTED, PERMIT = 0x0103, 0x0108, 0x0008
+# The ChannelBind success of coturn-permission-outlived, frame 18: with it the permission began that ended 300 seconds later.
+GRANTED = "0.15"
 
 
 def ask(program, policy, creds, captures):
     """The status, the faults as (datagram, title), the lines on beginnings, and standard error."""
-    done = subprocess.run([program, "--policy", policy, "--creds", creds, *captures], capture_output=True, text=True)
+    done = subprocess.run([program, "faults", "--policy", policy, "--creds", creds, *captures], capture_output=True, text=True)
     faults = re.findall(r"^fault (\S+) (.*)$", done.stdout, re.M)
     beginnings = re.findall(r"^(beginning .*captured)", done.stdout, re.M)
     return done.returncode, faults, beginnings, done.stderr
+
+
+def reason_in(line):
+    """The number of the reason for a refusal, as C4, in what standard error tells; else the whole line."""
+    found = re.search(r"(?:refused |, )([A-Z]\d+)\b", line)
+    return found.group(1) if found else line
 
 
 def blocks_of(capture):
@@ -95,7 +103,7 @@ def with_a_byte_changed(block):
 
 
 def try_examples(tries, program):
-    """A capture that conforms shows no fault, and one that is refused is refused with the same words."""
+    """A capture that conforms shows no fault, and one that is refused is refused for the same reason."""
     for folder in sorted(EXAMPLES.iterdir()):
         if not (folder / "expected").is_file():
             continue
@@ -105,7 +113,7 @@ def try_examples(tries, program):
         if "conforming" in wanted:
             tries.same(folder.name, (0, [], ""), (status, faults, told))
         elif "refused" in wanted:
-            tries.same(folder.name, (2, wanted.replace("turnaudit:", "turnaudit_faults:")), (status, told))
+            tries.same(folder.name, (2, reason_in(wanted)), (status, reason_in(told)))
 
 
 def try_outlived(tries, program):
@@ -114,9 +122,18 @@ def try_outlived(tries, program):
     status, faults, _, _ = ask(program, folder / "policy", folder / "creds", [folder / "cap.pcapng"])
     found = (status, len(faults), {title for _, title in faults}, faults[0][0], faults[-1][0])
     tries.same(folder.name, (1, 40, {"relayed without a permission"}, "0.423", "0.625"), found)
+    tries.same(f"{folder.name}, the success", (40, {GRANTED}, 48_986_820), looked_at(program, folder))
     folder = EXAMPLES / "processone-other-user"
     status, faults, _, _ = ask(program, folder / "policy", folder / "creds", [folder / "cap.pcapng"])
     tries.same(folder.name, (0, []), (status, faults))
+
+
+def looked_at(program, folder):
+    """How many faults name the success that granted the lease last, which ones, and by how many nanoseconds the first is too early."""
+    words = [program, "faults", "--policy", folder / "policy", "--creds", folder / "creds", folder / "cap.pcapng"]
+    told = subprocess.run(words, capture_output=True, text=True).stdout
+    found = re.findall(r"^last granted by datagram (\S+), too early by (\d+) nanoseconds for datagram \S+$", told, re.M)
+    return len(found), {name for name, _ in found}, int(found[0][1])
 
 
 def try_changed(tries, program):
@@ -185,7 +202,7 @@ def told_of(words):
     with tempfile.TemporaryDirectory() as room:
         case.write(pathlib.Path(room), files)
         audit, *others = case.words("audit")
-        told = [subprocess.run([*start, *others], cwd=room, capture_output=True, text=True, timeout=20) for start in ([turnaudit, audit], [program])]
+        told = [subprocess.run([*start, *others], cwd=room, capture_output=True, text=True, timeout=20) for start in ([turnaudit, audit], [program, "faults"])]
     return number, told
 
 
@@ -199,7 +216,7 @@ def try_damaged(tries, program, turnaudit, count):
                 heading = shown.stdout.startswith("turnaudit-faults 1\n") and shown.stdout.endswith(" datagrams\n")
                 tries.same(f"damaged {number}", (True, True, ""), (shown.returncode in (0, audit.returncode), heading, shown.stderr))
             else:
-                tries.same(f"damaged {number}", (audit.returncode, "", audit.stderr.replace("turnaudit:", "turnaudit_faults:")), (shown.returncode, shown.stdout, shown.stderr))
+                tries.same(f"damaged {number}", (audit.returncode, "", reason_in(audit.stderr)), (shown.returncode, shown.stdout, reason_in(shown.stderr)))
 
 
 def main():

@@ -2,7 +2,7 @@
 """Proves and builds a program, crate by crate, and tells how far it is.
 
     tools/build.py              turnaudit; the program is crates/turnaudit/out/turnaudit then
-    tools/build.py PROGRAM      another one: turnprep, turnaudit_faults or turnexplain
+    tools/build.py PROGRAM      another one: turnprep or turnexplain
 
 What `rt` prints is shown only where a crate fails.
 """
@@ -14,7 +14,7 @@ import time
 import crates
 
 # Processor minutes of the proofs of a program and of all below it from nothing, summed up of the run in docs/GATE.md.
-MINUTES = {"turnaudit": 95, "turnaudit_faults": 40, "turnexplain": 115, "turnprep": 15}
+MINUTES = {"turnaudit": 95, "turnexplain": 115, "turnprep": 15}
 
 
 def main(program="turnaudit"):

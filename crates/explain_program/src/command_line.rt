@@ -14,6 +14,8 @@ pub enum Request<'a> {
     Explain { inputs: Inputs<'a>, asked: Asked },
     /// The same, as JSON.
     AsJson { inputs: Inputs<'a>, asked: Asked },
+    /// Tell what no order of the captures explains.
+    Faults { inputs: Inputs<'a> },
     /// Judge captures, and write the page that is filed to a new file.
     Evidence { inputs: Inputs<'a>, file: &'a str },
     /// Tell how to use the program, or its release, on standard output.
@@ -33,7 +35,7 @@ pub enum Asked {
     Client { lane: u32, around: u32 },
 }
 
-/// The files that every command reads.
+/// The files that a command reads.
 #[derive(Drop)]
 pub struct Inputs<'a> {
     pub policy: &'a str,
@@ -58,10 +60,11 @@ fn refused<'a>(alloc: Global, error: Error) -> Result<Request<'a>, AllocError> {
     }
 }
 
-/// The files that the words of a command name.
-fn inputs_of<'a>(
+/// The files that the words of a command name, beside a certificate.
+fn inputs_with<'a>(
     alloc: Global,
     matches: &ArgMatches<'a>,
+    certificate: Option<&'a str>,
 ) -> Result<Option<Inputs<'a>>, AllocError> {
     let Some(policy) = matches.get_str("policy") else {
         return Ok(None);
@@ -75,10 +78,18 @@ fn inputs_of<'a>(
     Ok(Some(Inputs {
         policy,
         credentials: matches.get_str("creds"),
-        certificate: matches.get_str("cert"),
+        certificate,
         captures: Vec::from_slice(alloc, names)?,
         workers,
     }))
+}
+
+/// The files that the words of a command name.
+fn inputs_of<'a>(
+    alloc: Global,
+    matches: &ArgMatches<'a>,
+) -> Result<Option<Inputs<'a>>, AllocError> {
+    inputs_with(alloc, matches, matches.get_str("cert"))
 }
 
 /// How many workers the words of a command ask for.
@@ -109,6 +120,17 @@ fn asked_of<'a>(
     Ok(Some(Request::Explain { inputs, asked }))
 }
 
+/// The request that the words of the command `faults` are.
+fn faults_of<'a>(
+    alloc: Global,
+    matches: &ArgMatches<'a>,
+) -> Result<Option<Request<'a>>, AllocError> {
+    let Some(inputs) = inputs_with(alloc, matches, None)? else {
+        return Ok(None);
+    };
+    Ok(Some(Request::Faults { inputs }))
+}
+
 /// The request that the words of the command `evidence` are.
 fn evidence_of<'a>(
     alloc: Global,
@@ -134,6 +156,9 @@ fn request_of<'a>(
     }
     if let Some(client) = matches.subcommand_matches("client") {
         return asked_of(alloc, client, client_of(client));
+    }
+    if let Some(faults) = matches.subcommand_matches("faults") {
+        return faults_of(alloc, faults);
     }
     if let Some(evidence) = matches.subcommand_matches("evidence") {
         return evidence_of(alloc, evidence);

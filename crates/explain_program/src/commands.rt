@@ -2,8 +2,8 @@
 //! each way out of the function, and each of these is proved.
 
 use crate::help_texts::{
-    ABOUT, ABOUT_CLIENT, ABOUT_EVIDENCE, ABOUT_LANES, ABOUT_VERDICT, EXAMPLE_CLIENT,
-    EXAMPLE_EVIDENCE, EXAMPLE_LANES, EXAMPLE_VERDICT, STATUSES, VERSION,
+    ABOUT, ABOUT_CLIENT, ABOUT_EVIDENCE, ABOUT_FAULTS, ABOUT_LANES, ABOUT_VERDICT, EXAMPLE_CLIENT,
+    EXAMPLE_EVIDENCE, EXAMPLE_FAULTS, EXAMPLE_LANES, EXAMPLE_VERDICT, STATUSES, VERSION,
 };
 use clap::{Arg, ArgAction, Command};
 use std::alloc::{AllocError, Global};
@@ -80,7 +80,7 @@ fn captures_argument<'a>(alloc: Global) -> Arg<'a> {
 }
 
 /// The command of that name, with the options that all commands have.
-fn command_of<'a>(
+fn reading_command<'a>(
     alloc: Global,
     name: &'a str,
     about: &'a str,
@@ -90,7 +90,17 @@ fn command_of<'a>(
         .about(about)
         .after_help(example)
         .arg(policy_option(alloc))?
-        .arg(users_option(alloc))?
+        .arg(users_option(alloc))
+}
+
+/// The command of that name, which judges captures by a certificate.
+fn command_of<'a>(
+    alloc: Global,
+    name: &'a str,
+    about: &'a str,
+    example: &'a str,
+) -> Result<Command<'a>, AllocError> {
+    reading_command(alloc, name, about, example)?
         .arg(certificate_option(alloc))?
         .arg(workers_option(alloc))?
         .arg(captures_argument(alloc))
@@ -173,6 +183,13 @@ fn evidence_command<'a>(alloc: Global) -> Result<Command<'a>, AllocError> {
     command_of(alloc, "evidence", ABOUT_EVIDENCE, EXAMPLE_EVIDENCE)?.arg(output_option(alloc))
 }
 
+/// The command `faults`, which needs no certificate: what it tells holds of each.
+fn faults_command<'a>(alloc: Global) -> Result<Command<'a>, AllocError> {
+    reading_command(alloc, "faults", ABOUT_FAULTS, EXAMPLE_FAULTS)?
+        .arg(workers_option(alloc))?
+        .arg(captures_argument(alloc))
+}
+
 /// The whole command line.
 pub fn command<'a>(alloc: Global) -> Result<Command<'a>, AllocError> {
     Command::new(alloc, "turnexplain")
@@ -184,5 +201,6 @@ pub fn command<'a>(alloc: Global) -> Result<Command<'a>, AllocError> {
         .subcommand(json_command(alloc, "verdict", ABOUT_VERDICT, EXAMPLE_VERDICT)?)?
         .subcommand(lanes_command(alloc)?)?
         .subcommand(client_command(alloc)?)?
+        .subcommand(faults_command(alloc)?)?
         .subcommand(evidence_command(alloc)?)
 }

@@ -32,3 +32,9 @@ pub const ABOUT_EVIDENCE: &str =
 
 pub const EXAMPLE_EVIDENCE: &str =
     "Example:\n  turnexplain evidence --policy policy --creds users -o audit.html client.pcapng peer.pcapng";
+
+pub const ABOUT_FAULTS: &str =
+    "Tells each datagram that no order of the captures explains: sent unasked, or relayed without an allocation, a permission or a channel";
+
+pub const EXAMPLE_FAULTS: &str =
+    "Exit status:\n  0  none is shown\n  1  some are\n  2 to 5 as of every command\n\nExample:\n  turnexplain faults --policy policy --creds users client.pcapng peer.pcapng";

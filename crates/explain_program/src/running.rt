@@ -9,6 +9,7 @@ use crate::refusal::refusal;
 use audit_files::Stop;
 use audit_finding::CertificateFinder;
 use audit_model::{Sink, put_all};
+use explain_faults::faults_of_files;
 use std::alloc::Global;
 use std::convert::AsStr;
 use std::sync::Wait;
@@ -59,6 +60,16 @@ fn run_request<
             *asked,
             out,
         ),
+        Request::Faults { inputs } => faults_of_files(
+            rt,
+            alloc,
+            source,
+            inputs.policy,
+            inputs.credentials,
+            &inputs.captures,
+            inputs.workers,
+            out,
+        ),
         Request::Evidence { inputs, file } => {
             evidence(rt, alloc, finder, source, inputs, file, pages, out)
         }
@@ -78,6 +89,7 @@ fn inputs_of<'r, 'a>(request: &'r Request<'a>) -> Option<&'r Inputs<'a>> {
     match request {
         Request::Explain { inputs, .. }
         | Request::AsJson { inputs, .. }
+        | Request::Faults { inputs }
         | Request::Evidence { inputs, .. } => Some(inputs),
         Request::Help(_) | Request::Usage(_) => None,
     }
@@ -113,8 +125,8 @@ fn put_refusal<S: Explaining, W: Sink>(
     }
 }
 
-/// Runs the program on its words, the first of which is its name, and gives its exit status: 0 conforming, help or the release; 1 not
-/// shown; 2 input refused; 3 out of memory; 4 a file that can't be read or an answer that can't be written; 5 words that are no request.
+/// Runs the program on its words, the first of which is its name, and gives its exit status: 0 conforming, no fault is shown, help or the
+/// release; 1 not shown, or faults are; 2 input refused; 3 out of memory; 4 a file that can't be read or an answer that can't be written; 5 words that are no request.
 /// What ended it before its answer is one line on `err`.
 pub fn run<
     R: Threads + Wait + Sync,

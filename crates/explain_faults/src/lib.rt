@@ -1,0 +1,9 @@
+//! The report of shown faults: what no order of captures explains.
+#![tactic(auto)]
+
+mod reporting;
+mod telling;
+mod wording;
+
+pub use reporting::report_faults;
+pub use telling::{faults_of_files, tell_faults};

@@ -1,8 +1,0 @@
-use Rattle.std.proofs.Common.{◌≡◌, ◌++◌, drop, string_bytes}
-use Rattle.audit_sightings.specs.Intake.{taken}
-use Rattle.faults_program.specs.FaultsText.{all_lines}
-use Rattle.faults_program.proofs.reporting.lines_of_all.Given as goal
-
--- the lines so far and those of what is left are all of them
-abbrev pub invariant-faults : goal.invariant-faults
-invariant-faults l = string_bytes l.lines ++ all_lines (taken l.intake) (drop l.shown-index l.faults) ≡ all_lines (taken l.intake) l.faults
