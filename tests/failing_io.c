@@ -1,5 +1,6 @@
 // Preloaded: of the calls that open, read or write a file, the one of number FAIL_AT, counted from 1, fails with EIO. Where SHORT is
 // set, each read and write does one byte at the most. Files that are opened by a path from the root, and what is written to standard error, don't count.
+// Where NO_RANDOM is set, the system gives no random bytes.
 #define _GNU_SOURCE
 #include <dlfcn.h>
 #include <errno.h>
@@ -12,6 +13,7 @@ static ssize_t (*next_read)(int, void *, size_t);
 static ssize_t (*next_write)(int, const void *, size_t);
 static int (*next_open)(const char *, int, ...);
 static long fail_at;
+static int (*next_random)(void *, size_t);
 static long count;
 static int is_short;
 
@@ -20,6 +22,7 @@ __attribute__((constructor)) static void begin(void) {
     next_read = dlsym(RTLD_NEXT, "read");
     next_write = dlsym(RTLD_NEXT, "write");
     next_open = dlsym(RTLD_NEXT, "open");
+    next_random = dlsym(RTLD_NEXT, "getentropy");
     fail_at = number ? atol(number) : 0;
     is_short = getenv("SHORT") != NULL;
 }
@@ -60,4 +63,12 @@ int open(const char *path, int flags, ...) {
         return -1;
     }
     return next_open(path, flags, mode);
+}
+
+int getentropy(void *into, size_t size) {
+    if (getenv("NO_RANDOM") != NULL) {
+        errno = ENOSYS;
+        return -1;
+    }
+    return next_random(into, size);
 }

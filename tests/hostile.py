@@ -6,7 +6,7 @@
 Each line of EDGES is a capture of a Binding request and its success, its certificate or its policy, changed in one place, with the
 status and the answer that the formats ask for. Then every front of the capture is audited; standard output takes fewer and fewer
 bytes of each report and of a certificate; and each read, write and opening of a file fails in turn, of whole files and of such that give
-one byte at a time (tests/failing_io.c; needs gcc).
+one byte at a time, and the system gives no random bytes (tests/failing_io.c; needs gcc).
 """
 
 import pathlib
@@ -28,6 +28,7 @@ EMPTY = "turnaudit-certificate 1\nend\n"
 SECOND_POLICY = POLICY.replace("turnaudit-policy 1", "turnaudit-policy 2")
 CONFORMING = "turnaudit-report 1\nconforming 2 datagrams 1 lanes\n"
 NOT_SHOWN = "turnaudit-report 1\nnot shown\n"
+NO_RANDOM = b"turnaudit: the system gives no random bytes\n"
 OTHER_ADDRESS = (
     NOT_SHOWN + "rule R17 mapped address\nphase 2 lane 0 event 1 moment 1000000 tie 1\ndatagram 0.0 198.51.100.7:40000 to 192.0.2.1:3478 20 bytes\n"
 )
@@ -229,6 +230,8 @@ def failing_files(tries):
         by_one_byte = tries.run(words, env={"LD_PRELOAD": str(library), "SHORT": "1"})
         tries.tell(f"{words[0]}, one byte at a time", (by_one_byte.returncode, by_one_byte.stdout, by_one_byte.stderr) == (0, whole, b""), by_one_byte)
         each_call_fails(tries, words, whole, {"LD_PRELOAD": str(library)})
+    no_random = tries.run(check, env={"LD_PRELOAD": str(library), "NO_RANDOM": "1"})
+    tries.tell("no random bytes", (no_random.returncode, no_random.stdout, no_random.stderr) == (4, b"", NO_RANDOM), no_random)
     # Every piece of every file is one byte.
     each_call_fails(tries, check, CONFORMING.encode(), {"LD_PRELOAD": str(library), "SHORT": "1"})
 

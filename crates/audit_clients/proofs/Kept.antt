@@ -1,5 +1,5 @@
 -- Pairs that are kept of others.
-use Rattle.std.proofs.Common.{◌≡◌, ◌≤◌, ℕ, List, length, take, drop, arith}
+use Rattle.std.proofs.Common.{◌≤◌, ℕ, List, length, take, drop, arith}
 use Rattle.std.specs.Cmp.{IsEquivalence}
 use Rattle.std.specs.List.{IsDistinct}
 use Rattle.std.proofs.lemmas.List.{length-drop, length-take}

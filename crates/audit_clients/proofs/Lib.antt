@@ -1,4 +1,3 @@
 mod Joining
 mod Kept
 mod Places
-mod PairPlaces

@@ -10,6 +10,7 @@ use crate::pairs::Pairs;
 use audit_model::{Addr, MAX_LANES, Policy, Side, Sighting};
 use audit_sightings::Intake;
 use std::alloc::{AllocError, Global};
+use std::hash::RandomState;
 
 /// The pairs of a client and a listen address, each once, in the order of its first arrival.
 #[derive(Drop)]
@@ -89,13 +90,13 @@ fn from(pairs: &[(Addr, Addr)], first: usize) -> &[(Addr, Addr)]
 }
 
 impl Clients {
-    /// No clients. It takes no memory.
-    pub fn new(alloc: Global) -> Clients
+    /// No clients. It takes no memory. The seed is one that those who send to the server don't know.
+    pub fn new(alloc: Global, seed: RandomState) -> Clients
         ensures pairs { result.pairs ≡ [] }
         ensures looked { result.looked.items ≡ [] }
     {
         Clients {
-            pairs: Pairs::new(alloc),
+            pairs: Pairs::new(alloc, seed),
             looked: Vec::new(alloc),
         }
     }

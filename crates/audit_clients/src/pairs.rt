@@ -6,40 +6,35 @@ ghost use Rattle.indexmap.specs.IndexSet.{insert_key};
 ghost use Rattle.audit_clients.specs.Clients.{same};
 
 use audit_model::Addr;
+use indexmap::IndexSet;
 use std::alloc::{AllocError, Global};
-use std::collections::BTreeMap;
+use std::hash::RandomState;
 use std::marker::Model;
 
 /// Pairs of a client and a listen address, each once, in the order in which they came.
 ///
-/// Their places are kept in an ordered map: whoever sends to the server chooses the client's address, and could choose such that
-/// hashes meet.
+/// Whoever sends to the server chooses the client's address. Without the seed nobody can choose some whose hashes meet.
 #[derive(Drop)]
 pub struct Pairs {
-    list: Vec<(Addr, Addr)>,
-    places: BTreeMap<(Addr, Addr), usize>,
+    set: IndexSet<(Addr, Addr), RandomState>,
 }
 
 impl Model for Pairs {
     ghost use Rattle.std.specs.Prelude.{List};
     ghost use Rattle.audit_clients.specs.Clients.{Pair};
-    ghost use Rattle.audit_clients.specs.Pairs.{HasPlaces};
 
     ghost Value = { List Pair };
 
-    ghost view = { λ pairs. pairs.list.items };
-
-    ghost invariant = { λ pairs. HasPlaces pairs.list.items pairs.places };
+    ghost view = { λ pairs. pairs.set.keys };
 }
 
 impl Pairs {
     /// No pair. It takes no memory.
-    pub fn new(alloc: Global) -> Pairs
+    pub fn new(alloc: Global, seed: RandomState) -> Pairs
         ensures { result ≡ [] }
     {
         Pairs {
-            list: Vec::new(alloc),
-            places: BTreeMap::new(alloc),
+            set: IndexSet::with_hasher(alloc, seed),
         }
     }
 
@@ -48,30 +43,22 @@ impl Pairs {
         ensures pairs { result.now ≡ self.now }
         ensures apart { IsDistinct same self.now }
     {
-        self.list.as_slice()
+        self.set.as_slice()
     }
 
-    /// The place of a pair, if it is there. The cost is the logarithm of their number.
+    /// The place of a pair, if it is there. The cost doesn't depend on their number, by a seed that nobody knew before.
     pub fn place_of(&self, client: Addr, listen: Addr) -> Option<usize>
         ensures { result ≡ position (same (client, listen)) self.now }
     {
-        self.places.get(&(client, listen)).copied()
+        self.set.get_index_of(&(client, listen))
     }
 
-    /// Puts a pair behind the others unless it is there. The cost is the logarithm of their number. Without memory nothing is
-    /// changed.
+    /// Puts a pair behind the others unless it is there, at the cost of `place_of`. Without memory nothing is changed.
     pub fn insert(&mut self, client: Addr, listen: Addr) -> Result<(), AllocError>
         ensures ok { OnOk result (self.new ≡ insert_key same self.old (client, listen)) }
         ensures err { OnErr result (self.new ≡ self.old) }
     {
-        let pair = (client, listen);
-        if self.places.contains_key(&pair) {
-            return Ok(());
-        }
-        let place = self.list.len();
-        self.list.reserve(1)?;
-        self.places.insert(pair, place)?;
-        self.list.push_reserved(pair);
+        self.set.insert((client, listen))?;
         Ok(())
     }
 }

@@ -16,6 +16,7 @@ use audit_model::{Extension, Listed};
 use audit_sightings::Intake;
 use audit_walk::{Ahead, Judge, Search};
 use std::alloc::{AllocError, Global};
+use std::hash::RandomState;
 
 /// What was found so far of captures that grow.
 #[derive(Drop)]
@@ -27,14 +28,14 @@ pub struct Finder {
 }
 
 impl Finder {
-    /// Nothing was found yet. It takes no memory.
-    pub fn new(alloc: Global) -> Finder
+    /// Nothing was found yet. It takes no memory. The table of clients hashes by the seed.
+    pub fn new(alloc: Global, seed: RandomState) -> Finder
         ensures clients { result.clients.pairs ≡ [] }
         ensures looked { result.clients.looked.items ≡ [] }
         ensures horizon { result.search.given_to ≡ None }
     {
         Finder {
-            clients: Clients::new(alloc),
+            clients: Clients::new(alloc, seed),
             search: Search::new(alloc),
             ahead: Ahead::new(alloc),
             alloc,

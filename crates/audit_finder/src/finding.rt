@@ -21,6 +21,7 @@ use audit_search::{Reading, best_round, best_round_by};
 use audit_sightings::Intake;
 use audit_walk::Portion;
 use std::alloc::{AllocError, Global};
+use std::hash::RandomState;
 use std::thread::Threads;
 
 /// The lanes that are new, with the events and the drops of a portion that name what is there and stand inside the turn.
@@ -165,11 +166,15 @@ fn in_passes_by<R: Threads + Sync>(
     written(alloc, &reading, &round)
 }
 
-/// The clients of all captures.
-pub(crate) fn clients_in(alloc: Global, intake: &Intake) -> Result<Clients, AllocError>
+/// The clients of all captures, in a table that hashes by the seed.
+pub(crate) fn clients_in(
+    alloc: Global,
+    seed: RandomState,
+    intake: &Intake,
+) -> Result<Clients, AllocError>
     ensures { IfOk result (λ clients. clients.pairs ≡ with_new [] (taken intake.now) []) }
 {
-    let mut clients = Clients::new(alloc);
+    let mut clients = Clients::new(alloc, seed);
     clients.take_in(alloc, intake)?;
     Ok(clients)
 }
@@ -178,9 +183,10 @@ pub(crate) fn clients_in(alloc: Global, intake: &Intake) -> Result<Clients, Allo
 /// not.
 ///
 /// Its lanes are the clients in the order of interface and place of their first arrivals, 65,536 of them at the most. It takes n log n
-/// in the sightings.
+/// in the sightings, by a seed that those who sent them didn't know.
 pub fn find(
     alloc: Global,
+    seed: RandomState,
     intake: &Intake,
     credentials: &Credentials,
 ) -> Result<Certificate, AllocError>
@@ -191,7 +197,7 @@ pub fn find(
     ensures drops { IfOk result (λ certificate. AreThere (taken intake.now) certificate.drops) }
     ensures skews { IfOk result (λ certificate. certificate.skews ≡ []) }
 {
-    let clients = clients_in(alloc, intake)?;
+    let clients = clients_in(alloc, seed, intake)?;
     let lanes = clients.lanes();
     let portion = in_passes(alloc, intake, credentials, lanes)?;
     certificate_with(alloc, intake, lanes, portion)
@@ -201,6 +207,7 @@ pub fn find(
 pub fn find_parallel<R: Threads + Sync>(
     rt: &R,
     alloc: Global,
+    seed: RandomState,
     intake: &Intake,
     credentials: &Credentials,
     workers: u32,
@@ -212,7 +219,7 @@ pub fn find_parallel<R: Threads + Sync>(
     ensures drops { IfOk result (λ certificate. AreThere (taken intake.now) certificate.drops) }
     ensures skews { IfOk result (λ certificate. certificate.skews ≡ []) }
 {
-    let clients = clients_in(alloc, intake)?;
+    let clients = clients_in(alloc, seed, intake)?;
     let lanes = clients.lanes();
     let found = in_passes_by(rt, alloc, intake, credentials, lanes, workers)?;
     certificate_with(alloc, intake, lanes, found)

@@ -1,5 +1,7 @@
 //! The finder of the program.
 
+ghost use Rattle.std.specs.Prelude.{◌≡◌};
+
 use crate::finder::Finder;
 use crate::finding::{find, find_parallel};
 use crate::walking::{find_late, find_once};
@@ -8,11 +10,23 @@ use audit_keys::Credentials;
 use audit_model::{Certificate, Extension};
 use audit_sightings::Intake;
 use std::alloc::{AllocError, Global};
+use std::hash::RandomState;
 use std::thread::Threads;
 
 /// Finds certificates by one walk over the sightings, or in passes over all of them.
 #[derive(Clone, Copy, Debug)]
-pub struct WalkAndPasses;
+pub struct WalkAndPasses {
+    seed: RandomState,
+}
+
+impl WalkAndPasses {
+    /// The finder whose tables of clients hash by this seed: clients choose their addresses, and mustn't know it before.
+    pub fn new(seed: RandomState) -> WalkAndPasses
+        ensures { result.seed ≡ seed }
+    {
+        WalkAndPasses { seed }
+    }
+}
 
 impl CertificateFinder for WalkAndPasses {
     ghost use Rattle.audit_finder.specs.Found.{IsFound};
@@ -27,7 +41,7 @@ impl CertificateFinder for WalkAndPasses {
         intake: &Intake,
         credentials: &Credentials,
     ) -> Result<FoundOnce, AllocError> {
-        find_once(alloc, intake, credentials)
+        find_once(alloc, self.seed, intake, credentials)
     }
 
     fn find_late(
@@ -36,7 +50,7 @@ impl CertificateFinder for WalkAndPasses {
         intake: &Intake,
         credentials: &Credentials,
     ) -> Result<Certificate, AllocError> {
-        Ok(find_late(alloc, intake, credentials)?.certificate)
+        Ok(find_late(alloc, self.seed, intake, credentials)?.certificate)
     }
 
     /// With one worker on the caller's thread alone.
@@ -49,13 +63,13 @@ impl CertificateFinder for WalkAndPasses {
         workers: u32,
     ) -> Result<Certificate, AllocError> {
         if workers == 1 {
-            return find(alloc, intake, credentials);
+            return find(alloc, self.seed, intake, credentials);
         }
-        find_parallel(rt, alloc, intake, credentials, workers)
+        find_parallel(rt, alloc, self.seed, intake, credentials, workers)
     }
 
     fn extending(&self, alloc: Global) -> Finder {
-        Finder::new(alloc)
+        Finder::new(alloc, self.seed)
     }
 }
 

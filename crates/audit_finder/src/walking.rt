@@ -16,6 +16,7 @@ use audit_model::Addr;
 use audit_sightings::Intake;
 use audit_walk::{Ahead, Judge, Search};
 use std::alloc::{AllocError, Global};
+use std::hash::RandomState;
 
 /// A lane for each pair, with the events that a walk gives but for the last ones.
 fn walked(
@@ -48,6 +49,7 @@ fn walked(
 /// What a walk finds that has found nothing yet.
 fn found_by(
     alloc: Global,
+    seed: RandomState,
     intake: &Intake,
     credentials: &Credentials,
     search: Search,
@@ -59,7 +61,7 @@ fn found_by(
     ensures drops { IfOk result (λ found. AreThere (taken intake.now) found.certificate.drops) }
     ensures skews { IfOk result (λ found. found.certificate.skews ≡ []) }
 {
-    let clients = clients_in(alloc, intake)?;
+    let clients = clients_in(alloc, seed, intake)?;
     let judge = Judge {
         alloc,
         intake,
@@ -80,6 +82,7 @@ fn found_by(
 /// time, and finds an order for fewer captures.
 pub fn find_once(
     alloc: Global,
+    seed: RandomState,
     intake: &Intake,
     credentials: &Credentials,
 ) -> Result<FoundOnce, AllocError>
@@ -90,12 +93,13 @@ pub fn find_once(
     ensures drops { IfOk result (λ found. AreThere (taken intake.now) found.certificate.drops) }
     ensures skews { IfOk result (λ found. found.certificate.skews ≡ []) }
 {
-    found_by(alloc, intake, credentials, Search::new(alloc))
+    found_by(alloc, seed, intake, credentials, Search::new(alloc))
 }
 
 /// Finds a certificate as `find_once` does, but acts on requests as their answers leave, so that leases last as long as they may.
 pub fn find_late(
     alloc: Global,
+    seed: RandomState,
     intake: &Intake,
     credentials: &Credentials,
 ) -> Result<FoundOnce, AllocError>
@@ -106,5 +110,5 @@ pub fn find_late(
     ensures drops { IfOk result (λ found. AreThere (taken intake.now) found.certificate.drops) }
     ensures skews { IfOk result (λ found. found.certificate.skews ≡ []) }
 {
-    found_by(alloc, intake, credentials, Search::late(alloc))
+    found_by(alloc, seed, intake, credentials, Search::late(alloc))
 }

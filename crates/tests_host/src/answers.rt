@@ -6,6 +6,7 @@ ghost use Rattle.audit_program.specs.Answered.{IsRun};
 ghost use Rattle.tests_host.specs.Held.{gave_of, held_among};
 
 use crate::files::Files;
+use crate::seed::fixed_seed;
 use audit_finder::WalkAndPasses;
 use audit_model::{Sink, SinkFailed};
 use audit_program::run;
@@ -78,7 +79,8 @@ pub fn ask(
         bytes: Vec::new(alloc),
         room: PLENTY,
     };
-    let status = run(rt, alloc, &WalkAndPasses, words, files, &mut out, &mut err);
+    let finder = WalkAndPasses::new(fixed_seed()?);
+    let status = run(rt, alloc, &finder, words, files, &mut out, &mut err);
     Ok(Answer {
         status,
         out: out.bytes,

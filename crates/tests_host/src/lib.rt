@@ -4,6 +4,7 @@
 mod answers;
 mod binding;
 mod files;
+mod seed;
 
 pub use answers::{Answer, PLENTY, Told, ask, text_of};
 pub use binding::{Parts, SECTION, binding_capture, binding_parts};

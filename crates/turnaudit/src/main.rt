@@ -7,6 +7,7 @@ use audit_finder::WalkAndPasses;
 use audit_model::{Sink, put_all};
 use audit_program::run;
 use host::{HostFiles, HostStream};
+use std::hash::RandomState;
 use std::process::ExitCode;
 use std::rt::Env;
 use std::{env, io};
@@ -26,6 +27,12 @@ fn refuse_memory<W: Sink>(err: &mut W) -> u8 {
     3
 }
 
+/// Says that the system gives no random bytes, and gives the exit status.
+fn refuse_seed<W: Sink>(err: &mut W) -> u8 {
+    let _ = put_all(err, b"turnaudit: the system gives no random bytes\n");
+    4
+}
+
 /// Says that the words could not be read, and gives the exit status.
 fn refuse_words<W: Sink>(err: &mut W, error: &io::Error) -> u8 {
     if error.kind() == io::ErrorKind::OutOfMemory {
@@ -40,17 +47,18 @@ fn main(rt: HostRuntime) -> ExitCode {
     let mut out = HostStream::new(rt.stdout());
     let mut err = HostStream::new(rt.stderr());
     let status = match words_of(&rt) {
-        Ok(words) => match HostFiles::new(&rt) {
-            Ok(mut files) => run(
+        Ok(words) => match (HostFiles::new(&rt), RandomState::new(&rt)) {
+            (Ok(mut files), Ok(seed)) => run(
                 &rt,
                 alloc,
-                &WalkAndPasses,
+                &WalkAndPasses::new(seed),
                 &words,
                 &mut files,
                 &mut out,
                 &mut err,
             ),
-            Err(_) => refuse_memory(&mut err),
+            (Err(_), _) => refuse_memory(&mut err),
+            (_, Err(_)) => refuse_seed(&mut err),
         },
         Err(error) => refuse_words(&mut err, &error),
     };

@@ -7,6 +7,7 @@ use audit_finder::WalkAndPasses;
 use audit_model::{Sink, put_all};
 use explain_program::run;
 use host::{HostFiles, HostPage, HostStream};
+use std::hash::RandomState;
 use std::process::ExitCode;
 use std::rt::Env;
 use std::{env, io};
@@ -18,6 +19,12 @@ fn words_of<R: Env + AllocGlobal>(rt: &R) -> io::Result<Vec<String>> {
         words.push(word)?;
     }
     Ok(words)
+}
+
+/// Says that the system gives no random bytes, and gives the exit status.
+fn refuse_seed<W: Sink>(err: &mut W) -> u8 {
+    let _ = put_all(err, b"turnexplain: the system gives no random bytes\n");
+    4
 }
 
 /// Says that the words could not be read, and gives the exit status.
@@ -35,20 +42,23 @@ fn main(rt: HostRuntime) -> ExitCode {
     let mut out = HostStream::new(rt.stdout());
     let mut err = HostStream::new(rt.stderr());
     let status = match words_of(&rt) {
-        Ok(words) => {
-            let mut files = HostFiles::new(&rt);
-            let mut pages = HostPage::new(&rt);
-            run(
-                &rt,
-                alloc,
-                &WalkAndPasses,
-                &words,
-                &mut files,
-                &mut pages,
-                &mut out,
-                &mut err,
-            )
-        }
+        Ok(words) => match RandomState::new(&rt) {
+            Ok(seed) => {
+                let mut files = HostFiles::new(&rt);
+                let mut pages = HostPage::new(&rt);
+                run(
+                    &rt,
+                    alloc,
+                    &WalkAndPasses::new(seed),
+                    &words,
+                    &mut files,
+                    &mut pages,
+                    &mut out,
+                    &mut err,
+                )
+            }
+            Err(_) => refuse_seed(&mut err),
+        },
         Err(error) => refuse_words(&mut err, &error),
     };
     ExitCode::from(status)
