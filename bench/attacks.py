@@ -6,10 +6,11 @@
 Each is built at n and at 4n datagrams and timed by `audit`, `find`, and `check` with the certificate that `find` writes: processor
 seconds, the least of three runs. It prints, of each, the seconds, how many times those at n the ones at 4n are, and how many times
 the ordinary ones (of `find` what `audit` takes of those, since `find` judges only what it doubts). It fails where 4n takes over 6 times as long as n (n log n
-and the caches come to 5, what is quadratic to 16), or an attack takes over 8 times as long as the ordinary capture. It takes some four minutes.
+and the caches come to 5, what is quadratic to 16), or an attack takes over 8 times as long as the ordinary capture. It takes some five minutes.
 
   users       one client with an allocation, and a Refresh by another user each time, answered by 441
   clients     every request by another client, their addresses in order, and each answered
+  colliding   four requests by each of 65,536 clients whose addresses meet in the table of clients where its seed is 0 (needs gcc)
   denied      64 Send indications of equal data to a peer without a permission, in messages of 54 kB that are all attributes, and departures
               that carry it all the same, each with 7 requests of other clients about it, for which it waits
   unasked     departures with the data of the last Send indication, which was relayed already, so that no arrival explains them
@@ -26,8 +27,10 @@ Messages and captures are made by bench/make_capture.py, which it imports. No ot
 """
 
 import argparse
+import functools
 import pathlib
 import resource
+import shutil
 import struct
 import subprocess
 import sys
@@ -100,16 +103,35 @@ def users(folder, datagrams, size):
     capture.close()
 
 
-def clients(folder, datagrams, size):
+def bindings(folder, sources):
+    """A Binding request from each of these addresses, and its success."""
     capture = Capture(folder, 0)
     moment = START
-    for number in range(min(datagrams // 2, 65_536)):
-        source = (f"198.51.{number >> 8}.{number & 255}", 40000)
+    for number, source in enumerate(sources):
         id = struct.pack(">III", 0, 0, number)
         capture.client.put(moment, source, SERVER, message(BINDING, id, []))
         capture.client.put(moment + 20, SERVER, source, message(BINDING | SUCCESS, id, [(MAPPED, address(source))]))
         moment += 40
     capture.close()
+
+
+def clients(folder, datagrams, size):
+    bindings(folder, [(f"198.51.{number >> 8}.{number & 255}", 40000) for number in range(min(datagrams // 2, 65_536))])
+
+
+@functools.cache
+def colliding_clients():
+    """Addresses that meet in the table of clients where its seed is 0."""
+    with tempfile.TemporaryDirectory() as room:
+        finder = pathlib.Path(room) / "colliding_clients"
+        source = pathlib.Path(__file__).with_name("colliding_clients.c")
+        subprocess.run(["gcc", "-O3", "-march=native", "-o", finder, source], check=True)
+        lines = subprocess.run([finder, "0"], stdout=subprocess.PIPE, text=True, check=True).stdout.splitlines()
+    return [(ip, int(port)) for ip, port in map(str.split, lines)]
+
+
+def colliding(folder, datagrams, size):
+    bindings(folder, 4 * colliding_clients()[:datagrams // 8])
 
 
 def send(client, peer, data):
@@ -305,6 +327,10 @@ def main():
     small, large = (int(32_768 * asked.scale), 60), (int(512 * asked.scale), 54_000)
     attacks = {users: small, clients: small, silent: small, copies: small, denied: small, unasked: large, same: small}
     attacks |= {permissions: small, channels: small, handed: small, outstanding: small, reversed_stamps: small}
+    if shutil.which("gcc"):
+        attacks[colliding] = small
+    else:
+        print("no gcc, so no clients that collide")
     failed = 0
     with tempfile.TemporaryDirectory() as scratch:
         scratch = pathlib.Path(scratch)
