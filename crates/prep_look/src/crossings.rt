@@ -26,7 +26,7 @@ pub(crate) struct Crossings {
     pub(crate) causeless: Vec<u64>,
 }
 
-/// A datagram with data: those with the same data that go the same way stand together, arrivals first.
+/// A datagram with data.
 #[derive(Clone, Copy, PartialEq, Eq, PartialOrd, Ord)]
 struct Carried {
     digest: u64,
@@ -81,28 +81,23 @@ impl Group {
 
 /// What the records show to be relayed. The cost is their number times its logarithm.
 pub(crate) fn find_crossings(alloc: Global, sheet: &Sheet<'_>) -> Result<Crossings, AllocError> {
-    let mut carried = Vec::new(alloc);
-    for at in 0..sheet.len() {
-        if let Some(record) = sheet.record(at) {
-            if let Some(one) = carried_by(&record) {
-                carried.push(one)?;
-            }
-        }
-    }
-    carried.sort()?;
+    let carried = carried_in(alloc, sheet)?;
     let mut all = Crossings {
         between: BTreeMap::new(alloc),
         causeless: Vec::new(alloc),
     };
     let mut group: Option<Group> = None;
-    for one in &carried {
+    for at in &carried {
+        let Some(one) = carried_at(sheet, *at) else {
+            continue;
+        };
         let longer = match group {
-            Some(group) if group.has(one) => group.with(one),
+            Some(group) if group.has(&one) => group.with(&one),
             Some(group) => {
                 all.note(&group)?;
-                Group::of(one)
+                Group::of(&one)
             }
-            None => Group::of(one),
+            None => Group::of(&one),
         };
         if one.leaves && longer.departures > longer.arrivals {
             all.causeless.push(one.stamp)?;
@@ -115,7 +110,24 @@ pub(crate) fn find_crossings(alloc: Global, sheet: &Sheet<'_>) -> Result<Crossin
     Ok(all)
 }
 
-/// A record with data.
+/// The numbers of the records with data: those with the same data that go the same way stand together, arrivals first.
+fn carried_in(alloc: Global, sheet: &Sheet<'_>) -> Result<Vec<u32>, AllocError> {
+    let mut all = Vec::new(alloc);
+    for at in 0..sheet.len() {
+        let at = u32::try_from(at).unwrap_or(u32::MAX);
+        if carried_at(sheet, at).is_some() {
+            all.push(at)?;
+        }
+    }
+    all.sort_unstable_by_key(|at| carried_at(sheet, *at));
+    Ok(all)
+}
+
+/// A record with data, by its number.
+fn carried_at(sheet: &Sheet<'_>, at: u32) -> Option<Carried> {
+    carried_by(&sheet.record(at as usize)?)
+}
+
 fn carried_by(record: &Record) -> Option<Carried> {
     let leaves = matches!(record.side, Side::Leaves);
     let is_for_peer = match record.content {

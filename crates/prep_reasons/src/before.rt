@@ -1,10 +1,11 @@
 //! Clients from before the captures, and what their allocations from before may explain.
 
 use crate::channels::Channels;
-use crate::sheet::{Exchanged, SECOND, Sheet};
+use crate::exchanged::Exchanged;
+use crate::sheet::{SECOND, Sheet};
+use crate::state_before::StateBefore;
 use audit_model::{Addr, Side};
 use audit_stun::numbers::method;
-use prep_cut::Reason;
 use prep_records::{Content, Record};
 use std::alloc::AllocError;
 use std::collections::BTreeMap;
@@ -33,8 +34,9 @@ pub(crate) fn time_before(sheet: &Sheet<'_>, pair: u32) -> TimeBefore {
     let longest = sheet.stated.lifetime.saturating_mul(SECOND);
     let grace = sheet.policy.grace;
     let mut until = sheet.begin.saturating_add(longest).saturating_add(grace);
-    for (_, at) in sheet.of_pair(pair) {
-        let Some(record) = sheet.record(*at) else {
+    for at in sheet.of_pair(pair) {
+        let at = *at as usize;
+        let Some(record) = sheet.record(at) else {
             continue;
         };
         if record.stamp > until.saturating_add(sheet.slack) {
@@ -43,7 +45,7 @@ pub(crate) fn time_before(sheet: &Sheet<'_>, pair: u32) -> TimeBefore {
                 departures: record.stamp,
             };
         }
-        let Some((answer, request)) = sheet.answered(*at) else {
+        let Some((answer, request)) = sheet.answered(at) else {
             continue;
         };
         if shows_none(&answer) {
@@ -101,9 +103,10 @@ pub(crate) fn explain(
     };
     let count = sheet.of_pair(pair).len();
     for place in 0..count {
-        let Some((_, at)) = sheet.of_pair(pair).get(place).copied() else {
+        let Some(at) = sheet.of_pair(pair).get(place).copied() else {
             return Ok(());
         };
+        let at = at as usize;
         let explained = explained_by(sheet, channels, (pair, at), before, &mut state)?;
         if let Some(mark) = sheet.old.get_mut(at) {
             *mark = explained;
@@ -119,10 +122,10 @@ fn explained_by(
     one: (u32, usize),
     before: TimeBefore,
     state: &mut Generous,
-) -> Result<Option<bool>, AllocError> {
+) -> Result<StateBefore, AllocError> {
     let (pair, at) = one;
     let Some(record) = sheet.record(at) else {
-        return Ok(None);
+        return Ok(StateBefore::IsNotNeeded);
     };
     let end = match record.side {
         Side::Leaves => before.departures,
@@ -130,21 +133,22 @@ fn explained_by(
     };
     match record.content {
         Content::Data { peer } if record.stamp < end => {
-            Ok(Some(state.permits(peer, record.stamp.saturating_sub(sheet.slack))))
+            let stamp = record.stamp.saturating_sub(sheet.slack);
+            Ok(StateBefore::of(state.permits(peer, stamp)))
         }
         Content::Channel { number } if record.stamp < end => {
             let moment = record.stamp.saturating_add(sheet.slack);
             let peer = channels.peer(pair, number, moment);
             let stamp = record.stamp.saturating_sub(sheet.slack);
-            Ok(Some(state.binds(&record, number, peer, stamp)))
+            Ok(StateBefore::of(state.binds(&record, number, peer, stamp)))
         }
         Content::Stun { .. } => match sheet.answered(at) {
             Some((answer, request)) if request.record.stamp < before.arrivals => {
                 state.answer(sheet, &answer, &request)
             }
-            _ => Ok(None),
+            _ => Ok(StateBefore::IsNotNeeded),
         },
-        _ => Ok(None),
+        _ => Ok(StateBefore::IsNotNeeded),
     }
 }
 
@@ -185,7 +189,7 @@ impl Generous {
         sheet: &Sheet<'_>,
         answer: &Exchanged,
         request: &Exchanged,
-    ) -> Result<Option<bool>, AllocError> {
+    ) -> Result<StateBefore, AllocError> {
         let stamp = answer.record.stamp;
         let grace = sheet.policy.grace;
         let binds = answer.succeeds(method::CHANNEL_BIND);
@@ -199,99 +203,14 @@ impl Generous {
                 let end = stamp.saturating_add(CHANNEL).saturating_add(grace);
                 self.channels.insert(number, end)?;
             }
-            return Ok(Some(true));
+            return Ok(StateBefore::Explains);
         }
         let refreshes = answer.succeeds(method::REFRESH) && answer.stun.lifetime.unwrap_or(0) > 0;
         let refused = answer.fails(441)
             || (answer.fails(437) && answer.stun.method == method::ALLOCATE);
         if refreshes || refused {
-            return Ok(Some(true));
+            return Ok(StateBefore::Explains);
         }
-        Ok(None)
+        Ok(StateBefore::IsNotNeeded)
     }
-}
-
-/// Sets aside what is left of clients from before, with what asked for it, and answers that may be to what came before. It counts
-/// the departures of such clients that no state from before allows.
-pub(crate) fn leave_clients(sheet: &mut Sheet<'_>, times: &[TimeBefore]) -> Result<(), AllocError> {
-    let mut needs = vec![in sheet.alloc; false; sheet.pairs.len()]?;
-    for at in 0..sheet.records.len() {
-        if let Some(pair) = needing(sheet, at) {
-            if let Some(mark) = needs.get_mut(pair as usize) {
-                *mark = true;
-            }
-        }
-    }
-    for at in 0..sheet.records.len() {
-        let Some(pair) = sheet.pair_number(at) else {
-            continue;
-        };
-        if matches!(needs.get(pair as usize), Some(true)) {
-            leave_explained(sheet, at, pair)?;
-        }
-    }
-    for at in 0..sheet.records.len() {
-        let (Some(pair), Some(record)) = (sheet.pair_number(at), sheet.record(at)) else {
-            continue;
-        };
-        if !matches!(record.side, Side::Leaves) {
-            continue;
-        }
-        if let Some(time) = times.get(pair as usize) {
-            leave_answer(sheet, at, pair, *time)?;
-        }
-        let is_beyond = matches!(sheet.old.get(at), Some(Some(false)));
-        if is_beyond && sheet.is_kept(at) && matches!(needs.get(pair as usize), Some(true)) {
-            sheet.beyond = sheet.beyond.saturating_add(1);
-        }
-    }
-    Ok(())
-}
-
-/// The client of a record that stays in and needs an allocation from before.
-fn needing(sheet: &Sheet<'_>, at: usize) -> Option<u32> {
-    let pair = sheet.pair_number(at)?;
-    let record = sheet.record(at)?;
-    let used = matches!(sheet.used.get(at), Some(true));
-    let needs = matches!(record.side, Side::Leaves) || used;
-    if needs && sheet.is_kept(at) && matches!(sheet.old.get(at), Some(Some(true))) {
-        Some(pair)
-    } else {
-        None
-    }
-}
-
-/// Sets aside a record that a state from before explains, with its request.
-fn leave_explained(sheet: &mut Sheet<'_>, at: usize, pair: u32) -> Result<(), AllocError> {
-    let Some(named) = sheet.pair(pair) else {
-        return Ok(());
-    };
-    if !sheet.is_kept(at) || !matches!(sheet.old.get(at), Some(Some(true))) {
-        return Ok(());
-    }
-    sheet.leave(at, Reason::Client(named))?;
-    if let Some(Some(mate)) = sheet.mates.get(at).copied() {
-        sheet.leave(mate, Reason::Client(named))?;
-    }
-    Ok(())
-}
-
-/// Sets aside an answer without a request in the captures that may be to one before them.
-fn leave_answer(
-    sheet: &mut Sheet<'_>,
-    at: usize,
-    pair: u32,
-    time: TimeBefore,
-) -> Result<(), AllocError> {
-    let (Some(exchanged), Some(named)) = (sheet.exchanged(at), sheet.pair(pair)) else {
-        return Ok(());
-    };
-    let stamp = exchanged.record.stamp;
-    let hold = sheet.policy.hold.saturating_add(sheet.slack);
-    let is_early = stamp < time.departures && stamp <= sheet.begin.saturating_add(hold);
-    let is_alone = matches!(sheet.mates.get(at), Some(None));
-    if exchanged.is_answer() && is_alone && is_early {
-        sheet.leave(at, Reason::Answer(named))?;
-    }
-    Ok(())
 }

@@ -1,8 +1,11 @@
 //! What is proposed to be set aside, out of the records of captures.
 
 use crate::addresses::leave_addresses;
-use crate::before::{TimeBefore, explain, leave_clients, time_before};
+use crate::before::{TimeBefore, explain, time_before};
+use crate::from_before::leave_clients;
 use crate::inner::{leave_dtls, leave_inner, pool_of_arrivals};
+use crate::members::Members;
+use crate::pool::Grouping;
 use crate::proposals::{Proposed, propose};
 use crate::responses::read_responses;
 use crate::sheet::Sheet;
@@ -42,19 +45,13 @@ pub fn sort_out<'a>(
         explain(&mut sheet, &shown.channels, pair, time)?;
         times.push(time)?;
     }
-    let mut by_pair = pool_of_arrivals(&sheet, true)?;
+    sheet.members = Members::new(alloc);
+    let mut by_client = pool_of_arrivals(&sheet, Grouping::ByClient)?;
     if !stated.keeps_inner {
-        let mut all = pool_of_arrivals(&sheet, false)?;
-        leave_inner(
-            &mut sheet,
-            &shown.channels,
-            &shown.tenures,
-            &mut all,
-            &mut by_pair,
-        )?;
+        leave_inner(&mut sheet, &shown, &mut by_client)?;
     }
     leave_dtls(&mut sheet)?;
-    leave_addresses(&mut sheet, &shown.tenures, &mut by_pair)?;
+    leave_addresses(&mut sheet, &shown.tenures, by_client)?;
     leave_clients(&mut sheet, &times)?;
     Ok(sheet)
 }

@@ -1,9 +1,9 @@
 //! Data between addresses of the service, and DTLS.
 
 use crate::channels::Channels;
-use crate::pool::{Place, Pool, Wanted};
+use crate::pool::{Group, Grouping, Pool, Wanted};
+use crate::responses::Shown;
 use crate::sheet::Sheet;
-use crate::tenures::Tenures;
 use audit_model::{Addr, Side};
 use prep_cut::Reason;
 use prep_records::{Content, Record};
@@ -35,42 +35,37 @@ fn inner_peer(sheet: &Sheet<'_>, channels: &Channels, at: usize) -> Option<Addr>
     }
 }
 
-/// The data of clients that stays in: all of one class, or each client's of its own.
-pub(crate) fn pool_of_arrivals(sheet: &Sheet<'_>, by_pair: bool) -> Result<Pool, AllocError> {
-    let mut places = Vec::new(sheet.alloc);
+/// The data of clients that stays in, all together or each client's apart.
+pub(crate) fn pool_of_arrivals(sheet: &Sheet<'_>, grouping: Grouping) -> Result<Pool, AllocError> {
+    let mut arrivals = Vec::new(sheet.alloc);
     for at in 0..sheet.records.len() {
-        let (Some(record), Some(pair)) = (sheet.record(at), sheet.pair_number(at)) else {
+        let (Some(record), Some(_)) = (sheet.record(at), sheet.pair_number(at)) else {
             continue;
         };
         if is_data(&record) && matches!(record.side, Side::Arrives) && !is_outside(sheet, at) {
-            places.push(Place {
-                digest: record.digest,
-                class: if by_pair { pair } else { 0 },
-                stamp: record.stamp,
-                record: at,
-            })?;
+            arrivals.push(u32::try_from(at).unwrap_or(u32::MAX))?;
         }
     }
-    Pool::new(sheet.alloc, places)
+    Pool::new(sheet, grouping, arrivals)
 }
 
 /// Whether a record is outside the moments that are stated.
 fn is_outside(sheet: &Sheet<'_>, at: usize) -> bool {
-    match sheet.why.get(at) {
-        Some(Some(line)) => matches!(
-            sheet.lines.reasons.get(*line as usize),
+    match sheet.line_of(at) {
+        Some(line) => matches!(
+            sheet.lines.reasons.get(line as usize),
             Some(Reason::BeforeSince | Reason::AfterUntil)
         ),
-        _ => false,
+        None => false,
     }
 }
 
 /// What is looked for of a departure: data that arrived within the hold before it.
-pub(crate) fn wanted_of(sheet: &Sheet<'_>, record: &Record, class: u32) -> Wanted {
+pub(crate) fn wanted_of(sheet: &Sheet<'_>, record: &Record, group: Group) -> Wanted {
     let before = sheet.policy.hold.saturating_add(sheet.slack);
     Wanted {
         digest: record.digest,
-        class,
+        group,
         from: record.stamp.saturating_sub(before),
         to: record.stamp.saturating_add(sheet.slack),
     }
@@ -79,10 +74,8 @@ pub(crate) fn wanted_of(sheet: &Sheet<'_>, record: &Record, class: u32) -> Wante
 /// Sets aside datagrams inside the service, and the data of such.
 pub(crate) fn leave_inner(
     sheet: &mut Sheet<'_>,
-    channels: &Channels,
-    tenures: &Tenures,
-    all: &mut Pool,
-    by_pair: &mut Pool,
+    shown: &Shown,
+    by_client: &mut Pool,
 ) -> Result<(), AllocError> {
     for at in 0..sheet.records.len() {
         let Some(record) = sheet.record(at) else {
@@ -92,32 +85,48 @@ pub(crate) fn leave_inner(
             let Record { from, to, .. } = record;
             sheet.leave(at, Reason::Inside { from, to })?;
         } else if matches!(record.side, Side::Arrives) && sheet.is_kept(at) {
-            leave_data(sheet, channels, at)?;
+            leave_data(sheet, &shown.channels, at)?;
         }
     }
+    leave_inner_departures(sheet, shown, by_client)
+}
+
+/// Sets aside the data that leaves for clients from addresses of the service: from a client's own where that client sent it.
+fn leave_inner_departures(
+    sheet: &mut Sheet<'_>,
+    shown: &Shown,
+    by_client: &mut Pool,
+) -> Result<(), AllocError> {
+    // It is made where it is needed first, since most captures have no such data.
+    let mut all: Option<Pool> = None;
     for at in 0..sheet.records.len() {
         let (Some(record), true) = (sheet.record(at), sheet.is_kept(at)) else {
             continue;
         };
-        let Some(peer) = inner_peer(sheet, channels, at) else {
+        let Some(peer) = inner_peer(sheet, &shown.channels, at) else {
             continue;
         };
         if !matches!(record.side, Side::Leaves) {
             continue;
         }
-        let leaves = match tenures.holder(peer, record.stamp) {
-            Some(pair) => {
-                let wanted = wanted_of(sheet, &record, pair);
-                by_pair.take(wanted, &mut sheet.used).is_some()
+        let leaves = match shown.tenures.holder(peer, record.stamp) {
+            Some(client) => {
+                let wanted = wanted_of(sheet, &record, Group::Client(client));
+                by_client.take(sheet, wanted).is_some()
             }
             None => {
-                let wanted = wanted_of(sheet, &record, 0);
-                let _ = all.take(wanted, &mut sheet.used);
+                let mut pool = match all {
+                    Some(pool) => pool,
+                    None => pool_of_arrivals(sheet, Grouping::Together)?,
+                };
+                let wanted = wanted_of(sheet, &record, Group::All);
+                let _ = pool.take(sheet, wanted);
+                all = Some(pool);
                 true
             }
         };
         if leaves {
-            leave_data(sheet, channels, at)?;
+            leave_data(sheet, &shown.channels, at)?;
         }
     }
     Ok(())

@@ -1,90 +1,126 @@
 //! Records by what they carry, of which each is taken once.
 
-use std::alloc::{AllocError, Global};
+use crate::sheet::Sheet;
+use crate::state_before::StateBefore;
+use std::alloc::AllocError;
 
-/// A record in a pool: those of one digest and class stand in the order of their moments.
-#[derive(Clone, Copy, PartialEq, Eq, PartialOrd, Ord)]
-pub(crate) struct Place {
-    pub(crate) digest: u64,
-    pub(crate) class: u32,
-    pub(crate) stamp: u64,
-    pub(crate) record: usize,
+/// Which records a pool has apart, besides those of other data.
+#[derive(Clone, Copy, PartialEq, Eq)]
+pub(crate) enum Grouping {
+    /// None.
+    Together,
+    /// Those of each client, by its number.
+    ByClient,
+    /// Those that a state from before may explain.
+    ByState,
 }
 
-/// What is looked for: a digest and a class, between two moments.
+/// One of the groups of a pool.
+#[derive(Clone, Copy, PartialEq, Eq, PartialOrd, Ord)]
+pub(crate) enum Group {
+    All,
+    Client(u32),
+    /// Whatever was before.
+    Judged,
+    /// By a state from before.
+    Explained,
+}
+
+/// Where a record stands in a pool.
+#[derive(Clone, Copy, PartialEq, Eq, PartialOrd, Ord)]
+struct Place {
+    digest: u64,
+    group: Group,
+    stamp: u64,
+    record: u32,
+}
+
+/// What is looked for: a digest and a group, between two moments.
 #[derive(Clone, Copy)]
 pub(crate) struct Wanted {
     pub(crate) digest: u64,
-    pub(crate) class: u32,
+    pub(crate) group: Group,
     pub(crate) from: u64,
     pub(crate) to: u64,
 }
 
-/// Records by digest, class and moment.
+/// The numbers of records by digest, group and moment.
 #[derive(Drop)]
 pub(crate) struct Pool {
-    places: Vec<Place>,
+    grouping: Grouping,
+    records: Vec<u32>,
     /// For each place a later one or the same, before which all behind it are used.
-    next: Vec<usize>,
+    next: Vec<u32>,
 }
 
 impl Pool {
-    /// A pool of these places. The cost is their number times its logarithm.
-    pub(crate) fn new(alloc: Global, places: Vec<Place>) -> Result<Self, AllocError> {
-        let mut places = places;
-        places.sort()?;
-        let mut next = Vec::new(alloc);
-        for at in 0..places.len() {
-            next.push(at)?;
+    /// A pool of these records. The cost is their number times its logarithm.
+    pub(crate) fn new(
+        sheet: &Sheet<'_>,
+        grouping: Grouping,
+        records: Vec<u32>,
+    ) -> Result<Self, AllocError> {
+        let mut records = records;
+        records.sort_unstable_by_key(|at| place_of(sheet, grouping, *at));
+        let mut next = Vec::with_capacity(sheet.alloc, records.len())?;
+        for at in 0..records.len() {
+            next.push(u32::try_from(at).unwrap_or(u32::MAX))?;
         }
-        Ok(Pool { places, next })
+        Ok(Pool {
+            grouping,
+            records,
+            next,
+        })
     }
 
     /// The first place that is wanted or behind such.
-    fn begin(&self, wanted: Wanted) -> usize {
+    fn begin(&self, sheet: &Sheet<'_>, wanted: Wanted) -> usize {
         let least = Place {
             digest: wanted.digest,
-            class: wanted.class,
+            group: wanted.group,
             stamp: wanted.from,
             record: 0,
         };
-        self.places.partition_point(|place| *place < least)
+        let grouping = self.grouping;
+        self.records
+            .partition_point(|at| place_of(sheet, grouping, *at) < least)
     }
 
     /// The record at a place, where it is wanted.
-    fn fitting(&self, at: usize, wanted: Wanted) -> Option<usize> {
-        let place = self.places.get(at)?;
+    fn fitting(&self, sheet: &Sheet<'_>, at: usize, wanted: Wanted) -> Option<usize> {
+        let record = *self.records.get(at)?;
+        let place = place_of(sheet, self.grouping, record);
         if place.digest == wanted.digest
-            && place.class == wanted.class
+            && place.group == wanted.group
             && place.stamp <= wanted.to
         {
-            Some(place.record)
+            Some(record as usize)
         } else {
             None
         }
     }
 
     /// The first record that is wanted, used or not.
-    pub(crate) fn first(&self, wanted: Wanted) -> Option<usize> {
-        self.fitting(self.begin(wanted), wanted)
+    pub(crate) fn first(&self, sheet: &Sheet<'_>, wanted: Wanted) -> Option<usize> {
+        self.fitting(sheet, self.begin(sheet, wanted), wanted)
     }
 
     /// Takes the first record that is wanted and is not used, which it then is. Places that are used are passed over at once the
     /// next time, so that the cost of all is nearly their number times its logarithm.
-    pub(crate) fn take(&mut self, wanted: Wanted, used: &mut [bool]) -> Option<usize> {
-        let begin = self.begin(wanted);
+    pub(crate) fn take(&mut self, sheet: &mut Sheet<'_>, wanted: Wanted) -> Option<usize> {
+        let begin = self.begin(sheet, wanted);
         let mut at = begin;
-        'places: for _ in 0..self.places.len() {
-            let Some(record) = self.fitting(at, wanted) else {
+        'places: for _ in 0..self.records.len() {
+            let Some(record) = self.fitting(sheet, at, wanted) else {
                 // All from the first place to this one are used.
                 self.shorten(begin, at);
                 return None;
             };
-            match used.get(record) {
+            match sheet.used.get(record) {
                 Some(true) => at = self.behind(at),
                 Some(false) => {
                     self.shorten(begin, at);
-                    if let Some(mark) = used.get_mut(record) {
+                    if let Some(mark) = sheet.used.get_mut(record) {
                         *mark = true;
                     }
                     return Some(record);
@@ -98,7 +134,7 @@ impl Pool {
     /// The next place that may be unused, behind one that is used.
     fn behind(&mut self, at: usize) -> usize {
         let next = match self.next.get(at) {
-            Some(next) => *next,
+            Some(next) => *next as usize,
             None => at,
         };
         let behind = if next > at {
@@ -107,7 +143,7 @@ impl Pool {
             at.saturating_add(1)
         };
         if let Some(mark) = self.next.get_mut(at) {
-            *mark = behind;
+            *mark = u32::try_from(behind).unwrap_or(u32::MAX);
         }
         behind
     }
@@ -115,19 +151,44 @@ impl Pool {
     /// Has the places from one on lead straight to another, all between which are used.
     fn shorten(&mut self, from: usize, to: usize) {
         let mut at = from;
-        'path: for _ in 0..self.places.len() {
+        'path: for _ in 0..self.records.len() {
             if at >= to {
                 return;
             }
             let Some(mark) = self.next.get_mut(at) else {
                 return;
             };
-            let next = *mark;
-            *mark = to;
+            let next = *mark as usize;
+            *mark = u32::try_from(to).unwrap_or(u32::MAX);
             if next <= at {
                 return;
             }
             at = next;
         }
+    }
+}
+
+/// Where a record stands. One that isn't there stands first.
+fn place_of(sheet: &Sheet<'_>, grouping: Grouping, at: u32) -> Place {
+    let (digest, stamp) = match sheet.record(at as usize) {
+        Some(record) => (record.digest, record.stamp),
+        None => (0, 0),
+    };
+    let group = match grouping {
+        Grouping::Together => Group::All,
+        Grouping::ByClient => match sheet.pair_number(at as usize) {
+            Some(client) => Group::Client(client),
+            None => Group::All,
+        },
+        Grouping::ByState => match sheet.state_before(at as usize) {
+            StateBefore::Explains => Group::Explained,
+            _ => Group::Judged,
+        },
+    };
+    Place {
+        digest,
+        group,
+        stamp,
+        record: at,
     }
 }

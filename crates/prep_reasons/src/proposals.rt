@@ -33,7 +33,7 @@ fn order_lines(sheet: &Sheet<'_>) -> Result<Ordered, AllocError> {
     let count = sheet.lines.reasons.len();
     let mut first = vec![in sheet.alloc; usize::MAX; count]?;
     for at in 0..sheet.why.len() {
-        if let Some(Some(line)) = sheet.why.get(at).copied() {
+        if let Some(line) = sheet.line_of(at) {
             if let Some(mark) = first.get_mut(line as usize) {
                 *mark = (*mark).min(at);
             }
@@ -66,6 +66,7 @@ pub(crate) fn propose(
     let early = sheet.lines.number_of(Reason::BeforeSince)?;
     let late = sheet.lines.number_of(Reason::AfterUntil)?;
     let ordered = order_lines(sheet)?;
+    sheet.forget_marks();
     let mut captures = Vec::new(sheet.alloc);
     for capture in packets {
         let mut proposals: Vec<Option<LineNumber>> =
@@ -79,11 +80,11 @@ pub(crate) fn propose(
         captures.push(proposals)?;
     }
     for at in 0..sheet.records.len() {
-        let (Some(record), Some(Some(line))) = (sheet.record(at), sheet.why.get(at).copied()) else {
+        let (Some(record), Some(line)) = (sheet.record(at), sheet.line_of(at)) else {
             continue;
         };
         let number = ordered.numbers.get(line as usize).copied();
-        if let Some(proposals) = captures.get_mut(record.capture as usize) {
+        if let Some(proposals) = captures.get_mut(record.capture() as usize) {
             if let Some(mark) = proposals.get_mut(record.packet as usize) {
                 *mark = number;
             }

@@ -1,7 +1,8 @@
 //! Responses with their requests, and what they show: leases and channels.
 
 use crate::channels::{Binding, Channels};
-use crate::sheet::{Exchanged, Sheet};
+use crate::exchanged::Exchanged;
+use crate::sheet::Sheet;
 use crate::tenures::{Tenure, Tenures};
 use audit_model::Side;
 use audit_stun::Class;
@@ -72,9 +73,10 @@ fn read_pair(sheet: &mut Sheet<'_>, pair: u32, reading: &mut Reading) -> Result<
     let mut lease: Option<Lease> = None;
     let count = sheet.of_pair(pair).len();
     for place in 0..count {
-        let Some((_, at)) = sheet.of_pair(pair).get(place).copied() else {
+        let Some(at) = sheet.of_pair(pair).get(place).copied() else {
             return Ok(());
         };
+        let at = at as usize;
         let Some(exchanged) = sheet.exchanged(at) else {
             continue;
         };
@@ -85,9 +87,7 @@ fn read_pair(sheet: &mut Sheet<'_>, pair: u32, reading: &mut Reading) -> Result<
             }
         } else if exchanged.is_answer() {
             let request = asked.get(&key).copied();
-            if let Some(mark) = sheet.mates.get_mut(at) {
-                *mark = request;
-            }
+            sheet.note_request(at, request);
             let request = match request {
                 Some(request) => sheet.exchanged(request),
                 None => None,

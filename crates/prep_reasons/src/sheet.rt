@@ -1,17 +1,20 @@
 //! The records in the order of their moments, and what is found of each.
 
+use crate::exchanged::Exchanged;
 use crate::lines::Lines;
+use crate::members::Members;
+use crate::state_before::StateBefore;
 use audit_model::{Addr, Pair, Policy, Side};
-use audit_stun::Class;
 use prep_cut::{LineNumber, Reason, Stated};
-use prep_records::{Content, Record, Records, Stun, Told, slack_of};
+use prep_records::{Content, Kept, MaybeNumber, Record, Records, Stun, Told, slack_of};
 use std::alloc::{AllocError, Global};
 use std::collections::BTreeMap;
 
 /// Nanoseconds of a second.
 pub(crate) const SECOND: u64 = 1_000_000_000;
 
-/// What is known of the captures: their records by number, from 0, in the order of their moments.
+/// What is known of the captures: their records by number, from 0, in the order of their moments. Of each datagram it keeps little: what is
+/// numbered takes four bytes, and what was needed to decide is let go of.
 #[derive(Drop)]
 pub struct Sheet<'a> {
     pub(crate) alloc: Global,
@@ -22,34 +25,24 @@ pub struct Sheet<'a> {
     /// The moment at which the captures begin.
     pub(crate) begin: u64,
     /// In the order of their moments.
-    pub(crate) records: Vec<Record>,
+    pub(crate) records: Vec<Kept>,
     pub(crate) stun: Vec<Stun>,
+    /// Of each response among these its request's record.
+    pub(crate) requests: Vec<MaybeNumber>,
     pub(crate) peers: Vec<Addr>,
     /// By address and moment.
     pub(crate) told: Vec<Told>,
     pub(crate) pairs: Vec<Pair>,
     pub(crate) lines: Lines,
     /// Of each record the line by which it is set aside.
-    pub(crate) why: Vec<Option<LineNumber>>,
-    /// Of each record the number of its client and listen address.
-    pub(crate) pair_of: Vec<Option<u32>>,
-    /// Of each response its request.
-    pub(crate) mates: Vec<Option<usize>>,
-    /// Of each record whether a client's allocation from before may explain it, where only such a one can.
-    pub(crate) old: Vec<Option<bool>>,
+    pub(crate) why: Vec<MaybeNumber>,
+    pub(crate) old: Vec<StateBefore>,
     /// Of each record whether its data has left already.
     pub(crate) used: Vec<bool>,
-    /// The records of each client within the moments that are stated, client by client.
-    pub(crate) by_pair: Vec<(u32, usize)>,
+    /// The records of each client within the moments that are stated.
+    pub(crate) members: Members,
     /// Departures of clients from before that no state from before allows, and that stay in.
     pub(crate) beyond: u64,
-}
-
-/// A response or a request of a record.
-#[derive(Clone, Copy)]
-pub struct Exchanged {
-    pub record: Record,
-    pub stun: Stun,
 }
 
 impl<'a> Sheet<'a> {
@@ -69,7 +62,7 @@ impl<'a> Sheet<'a> {
             first,
             allocations: _,
         } = all;
-        records.sort_by_key(|record| (record.stamp, record.iface, record.packet))?;
+        records.sort_unstable_by_key(|kept| kept.order());
         told.sort_by_key(|told| (told.relayed, told.stamp))?;
         let count = records.len();
         let begin = match (stated.since, first) {
@@ -84,17 +77,16 @@ impl<'a> Sheet<'a> {
             slack: slack_of(policy),
             begin,
             records,
+            requests: vec![in alloc; MaybeNumber::none(); stun.len()]?,
             stun,
             peers,
             told,
             pairs: Vec::new(alloc),
             lines: Lines::new(alloc),
-            why: vec![in alloc; None; count]?,
-            pair_of: vec![in alloc; None; count]?,
-            mates: vec![in alloc; None; count]?,
-            old: vec![in alloc; None; count]?,
+            why: vec![in alloc; MaybeNumber::none(); count]?,
+            old: vec![in alloc; StateBefore::IsNotNeeded; count]?,
             used: vec![in alloc; false; count]?,
-            by_pair: Vec::new(alloc),
+            members: Members::new(alloc),
             beyond: 0,
         };
         sheet.leave_outside()?;
@@ -139,14 +131,11 @@ impl<'a> Sheet<'a> {
                     number
                 }
             };
-            if let Some(mark) = self.pair_of.get_mut(at) {
-                *mark = Some(number);
-            }
-            if self.is_kept(at) {
-                self.by_pair.push((number, at))?;
+            if let Some(kept) = self.records.get_mut(at) {
+                kept.client = MaybeNumber::some(number);
             }
         }
-        self.by_pair.sort()?;
+        self.members = Members::of_clients(self.alloc, &self.records, &self.why, &self.pairs)?;
         Ok(())
     }
 
@@ -175,7 +164,7 @@ impl<'a> Sheet<'a> {
 
     /// A record by its number.
     pub fn record(&self, at: usize) -> Option<Record> {
-        self.records.get(at).copied()
+        Some(self.records.get(at)?.record())
     }
 
     /// The lines by which records are set aside, in no order.
@@ -185,30 +174,53 @@ impl<'a> Sheet<'a> {
 
     /// The line by which a record is set aside.
     pub fn line_of(&self, at: usize) -> Option<LineNumber> {
-        match self.why.get(at) {
-            Some(line) => *line,
-            None => None,
-        }
+        self.why.get(at)?.get()
     }
 
     /// The number of the request that a response answers.
     pub fn request_of(&self, at: usize) -> Option<usize> {
-        match self.mates.get(at) {
-            Some(request) => *request,
-            None => None,
+        let Content::Stun { place } = self.record(at)?.content else {
+            return None;
+        };
+        let request = self.requests.get(place as usize)?.get()?;
+        Some(request as usize)
+    }
+
+    /// Notes the request of a response.
+    pub(crate) fn note_request(&mut self, at: usize, request: Option<usize>) {
+        let Some(Content::Stun { place }) = self.content(at) else {
+            return;
+        };
+        if let Some(mark) = self.requests.get_mut(place as usize) {
+            *mark = match request {
+                Some(request) => MaybeNumber::of_place(request),
+                None => MaybeNumber::none(),
+            };
         }
     }
 
+    fn content(&self, at: usize) -> Option<Content> {
+        Some(self.record(at)?.content)
+    }
+
     pub(crate) fn is_kept(&self, at: usize) -> bool {
-        matches!(self.why.get(at), Some(None))
+        match self.why.get(at) {
+            Some(line) => line.get().is_none(),
+            None => false,
+        }
+    }
+
+    /// Whether a client's allocation from before explains a record.
+    pub(crate) fn state_before(&self, at: usize) -> StateBefore {
+        match self.old.get(at) {
+            Some(state) => *state,
+            None => StateBefore::IsNotNeeded,
+        }
     }
 
     /// The number of a record's client, where it has one.
     pub fn pair_number(&self, at: usize) -> Option<u32> {
-        match self.pair_of.get(at) {
-            Some(number) => *number,
-            None => None,
-        }
+        self.records.get(at)?.client.get()
     }
 
     pub(crate) fn pair(&self, number: u32) -> Option<Pair> {
@@ -218,13 +230,11 @@ impl<'a> Sheet<'a> {
     /// A record's request or response, where it is one.
     pub fn exchanged(&self, at: usize) -> Option<Exchanged> {
         let record = self.record(at)?;
-        match record.content {
-            Content::Stun { place } => {
-                let stun = self.stun.get(place as usize).copied()?;
-                Some(Exchanged { record, stun })
-            }
-            _ => None,
-        }
+        let Content::Stun { place } = record.content else {
+            return None;
+        };
+        let stun = self.stun.get(place as usize).copied()?;
+        Some(Exchanged { record, stun })
     }
 
     /// A response that left, and the request that it answers.
@@ -236,20 +246,26 @@ impl<'a> Sheet<'a> {
 
     /// The peers that a request names.
     pub(crate) fn peers_of(&self, stun: &Stun) -> &[Addr] {
-        let end = stun.peers_from.saturating_add(stun.peers);
-        self.peers.get(stun.peers_from..end).unwrap_or(&[])
+        let from = stun.peers_from as usize;
+        let to = from.saturating_add(stun.peers as usize);
+        self.peers.get(from..to).unwrap_or(&[])
     }
 
     /// The records of a client, in the order of their moments.
-    pub(crate) fn of_pair(&self, number: u32) -> &[(u32, usize)] {
-        let from = self.by_pair.partition_point(|one| one.0 < number);
-        let to = self.by_pair.partition_point(|one| one.0 <= number);
-        self.by_pair.get(from..to).unwrap_or(&[])
+    pub(crate) fn of_pair(&self, number: u32) -> &[u32] {
+        self.members.of(number)
     }
 
     /// How many clients there are.
     pub fn pair_count(&self) -> u32 {
         u32::try_from(self.pairs.len()).unwrap_or(u32::MAX)
+    }
+
+    /// Lets go of what only decisions need.
+    pub(crate) fn forget_marks(&mut self) {
+        self.requests = Vec::new(self.alloc);
+        self.old = Vec::new(self.alloc);
+        self.used = Vec::new(self.alloc);
     }
 
     /// Sets a record aside by a line, unless it is already.
@@ -259,34 +275,8 @@ impl<'a> Sheet<'a> {
         }
         let line = self.lines.number_of(reason)?;
         if let Some(mark) = self.why.get_mut(at) {
-            *mark = Some(line);
+            *mark = MaybeNumber::some(line);
         }
         Ok(())
-    }
-}
-
-impl Exchanged {
-    /// Whether it is a response that the server sent.
-    pub fn is_answer(&self) -> bool {
-        matches!(self.record.side, Side::Leaves)
-            && matches!(self.stun.class, Class::Success | Class::Error)
-    }
-
-    /// Whether it is a success of this method.
-    pub fn succeeds(&self, method: u16) -> bool {
-        matches!(self.stun.class, Class::Success) && self.stun.method == method
-    }
-
-    /// Whether it is an error of this code.
-    pub fn fails(&self, code: u16) -> bool {
-        matches!(self.stun.class, Class::Error) && self.stun.code == Some(code)
-    }
-
-    /// The moment at which a lease of its lifetime ends, without the grace.
-    pub fn lease_end(&self) -> u64 {
-        let lifetime = u64::from(self.stun.lifetime.unwrap_or(0));
-        self.record
-            .stamp
-            .saturating_add(lifetime.saturating_mul(SECOND))
     }
 }

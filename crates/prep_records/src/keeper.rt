@@ -3,6 +3,7 @@
 ghost use Rattle.std.specs.Prelude.{◌≡◌};
 
 use crate::elsewhere::note_told;
+use crate::kept::Kept;
 use crate::payload::{content_of, digest_of};
 use crate::record::{CapturePackets, Content, Outside, Record, Records};
 use audit_model::{Addr, Policy, Side};
@@ -150,17 +151,16 @@ impl<'p> Keeper<'p> {
         let iface = u32::from(self.capture)
             .saturating_mul(64)
             .saturating_add(head.iface);
-        self.all.records.push(Record {
+        self.all.records.push(Kept::new(Record {
             stamp: head.stamp,
             digest,
             from,
             to,
             packet: self.packets.count,
-            capture: self.capture,
             iface: u16::try_from(iface).unwrap_or(u16::MAX),
             side: if leaves { Side::Leaves } else { Side::Arrives },
             content,
-        })?;
+        }))?;
         Ok(())
     }
 }

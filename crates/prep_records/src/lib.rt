@@ -3,11 +3,15 @@
 
 mod elsewhere;
 mod keeper;
+mod kept;
+mod maybe_number;
 mod payload;
 mod record;
 mod recorder;
 
 pub use elsewhere::note_told;
 pub use keeper::slack_of;
+pub use kept::Kept;
+pub use maybe_number::MaybeNumber;
 pub use record::{CapturePackets, Content, Outside, Record, Records, Stun, Told};
 pub use recorder::Recorder;

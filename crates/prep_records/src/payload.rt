@@ -54,17 +54,17 @@ fn of_indication(message: &Message<'_>) -> (Content, u64) {
 }
 
 fn of_message(message: &Message<'_>, all: &mut Records) -> Result<Content, AllocError> {
-    let peers_from = all.peers.len();
+    let peers_from = count_in(all.peers.len());
     for value in message.peers() {
         if let Some(peer) = address(value) {
             all.peers.push(peer)?;
         }
     }
-    let peers = all.peers.len().saturating_sub(peers_from);
+    let peers = count_in(all.peers.len()).saturating_sub(peers_from);
     let stun = Stun {
-        class: message.class(),
-        method: message.method(),
         tid: message.tid(),
+        method: message.method(),
+        class: message.class(),
         lifetime: lifetime_in(message),
         relayed: relayed_in(message),
         code: code_in(message),
@@ -72,9 +72,14 @@ fn of_message(message: &Message<'_>, all: &mut Records) -> Result<Content, Alloc
         peers_from,
         peers,
     };
-    let place = u32::try_from(all.stun.len()).unwrap_or(u32::MAX);
+    let place = count_in(all.stun.len());
     all.stun.push(stun)?;
     Ok(Content::Stun { place })
+}
+
+/// A length, as far as 32 bits count.
+fn count_in(length: usize) -> u32 {
+    u32::try_from(length).unwrap_or(u32::MAX)
 }
 
 fn lifetime_in(message: &Message<'_>) -> Option<u32> {

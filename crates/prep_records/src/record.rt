@@ -1,5 +1,8 @@
 //! What is kept of captures.
 
+ghost use Rattle.std.specs.Prelude.{◌≡◌, ◌/◌};
+
+use crate::kept::Kept;
 use audit_model::{Addr, Side};
 use audit_stun::Class;
 use prep_cut::{Allocations, FarEnd};
@@ -16,11 +19,19 @@ pub struct Record {
     pub to: Addr,
     /// The packet's number among those of its capture, from 0.
     pub packet: u32,
-    pub capture: u16,
-    /// 64 times the capture's number, plus the interface's number in the capture.
+    /// 64 times the capture's number, plus the interface's number in the capture, which is less than 64.
     pub iface: u16,
     pub side: Side,
     pub content: Content,
+}
+
+impl Record {
+    /// The number of its capture.
+    pub fn capture(&self) -> u16
+        ensures { result ≡ self.now.iface / 64 }
+    {
+        self.iface / 64
+    }
 }
 
 /// What the payload is.
@@ -43,17 +54,17 @@ pub enum Content {
 /// A request or a response of STUN.
 #[derive(Clone, Copy, Debug)]
 pub struct Stun {
-    pub class: Class,
-    pub method: u16,
     pub tid: [u8; 12],
+    pub method: u16,
+    pub class: Class,
     /// In seconds.
     pub lifetime: Option<u32>,
     pub relayed: Option<Addr>,
     pub code: Option<u16>,
     pub channel: Option<u16>,
     /// The peers that it names: where they begin among all, and how many they are.
-    pub peers_from: usize,
-    pub peers: usize,
+    pub peers_from: u32,
+    pub peers: u32,
 }
 
 /// A relayed address in an Allocate success over TCP or IPv6.
@@ -81,7 +92,7 @@ pub struct CapturePackets {
 /// What is kept of captures, in the order in which it came.
 #[derive(Debug, Drop)]
 pub struct Records {
-    pub records: Vec<Record>,
+    pub records: Vec<Kept>,
     pub stun: Vec<Stun>,
     pub peers: Vec<Addr>,
     pub told: Vec<Told>,
