@@ -5,7 +5,8 @@
 
 Each line of tests/prepare/cases is a name and the words, in which OUT is a new folder. Of words that are no request
 only the status is compared, since clap says the rest. Then it asks for what no case has: that a file that is there is
-never written over, that a missing file of a ring is told, and what `cut` tells of its words.
+never written over, that a missing file of a ring is told, what `cut` tells of its words, and what it leaves out behind a Refresh
+of 0 (tests/hang_ups.py).
 """
 
 import hashlib
@@ -13,6 +14,8 @@ import pathlib
 import subprocess
 import sys
 import tempfile
+
+import hang_ups
 
 HERE = pathlib.Path(__file__).resolve().parent / "prepare"
 
@@ -83,15 +86,32 @@ def check_cut(program):
         done = run(program, ["cut", "--policy", "inputs/plain.conf", *words[2:]])
         if done.returncode != 2 or not done.stderr.endswith("in policy line 1\n"):
             faults.append("takes a policy that is none")
-        for wrong in (["--since", "2", "--until", "1"], ["--since", "x"]):
+        for wrong in (["--since", "2", "--until", "1"], ["--since", "x"], ["--released-ms", "60001"], ["--released-ms", "x"]):
             if run(program, ["cut", *wrong, *words]).returncode != 5:
                 faults.append(f"takes {wrong}")
     return faults
 
 
+def check_released(program):
+    """What is set aside behind a Refresh of 0, and that the list's head says for how long."""
+    faults = []
+    for relays, time, lines, _ in hang_ups.CASES:
+        with tempfile.TemporaryDirectory() as room:
+            folder = pathlib.Path(room)
+            captures = hang_ups.build(folder, relays)
+            (folder / "out").mkdir()
+            said = ["--released-ms", str(time)] if time else []
+            done = run(program, ["cut", *said, "--policy", str(folder / "policy"), "-o", str(folder / "out"), *map(str, captures)])
+            told = done.stdout.splitlines()
+            head = [f"released-ms {time}"] if time else []
+            if [line for line in told if line.startswith("released")] != [*head, *lines]:
+                faults.append(f"{relays.__name__} {time}: {done.stdout}{done.stderr}")
+    return faults
+
+
 def main():
     program = pathlib.Path(sys.argv[1]).resolve()
-    faults = check_files(program) + check_cut(program)
+    faults = check_files(program) + check_cut(program) + check_released(program)
     cases = [line.split(" | ") for line in (HERE / "cases").read_text().splitlines()]
     for name, words in cases:
         if told_by(program, words.split()) != expected(name):

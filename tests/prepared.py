@@ -5,13 +5,16 @@
 
 Each line of tests/prepare/judged names a case of tests/prepare/cases, the policy of the audits (or that before, and that
 behind), and what they say: of the captures that the case reads, and of those that it wrote. Where they conform, the list's last line has the same numbers.
-Then each example whose captures conform is cut: they stay byte for byte, and the list names nothing.
+Then each example whose captures conform is cut: they stay byte for byte, and the list names nothing. At last captures are cut in which
+a server relays on behind a Refresh of 0 (tests/hang_ups.py).
 """
 
 import pathlib
 import subprocess
 import sys
 import tempfile
+
+import hang_ups
 
 TOP = pathlib.Path(__file__).resolve().parent.parent
 HERE = TOP / "tests" / "prepare"
@@ -61,6 +64,23 @@ def check_example(preparer, example):
     return None
 
 
+def check_hang_up(preparer, auditor, relays, time, after):
+    """What is wrong with cutting what is relayed behind a Refresh of 0, if anything is."""
+    with tempfile.TemporaryDirectory() as room:
+        folder = pathlib.Path(room)
+        captures = hang_ups.build(folder, relays)
+        words = ["--policy", folder / "policy", "-o", folder / "out", *captures]
+        (folder / "out").mkdir()
+        said = said_of(auditor, folder / "policy", folder / "creds", captures)
+        if said != "R4 no allocation":
+            return f"says {said!r} before"
+        done = subprocess.run([preparer, "cut", "--released-ms", str(time), *words], capture_output=True, text=True)
+        said = said_of(auditor, folder / "policy", folder / "creds", [folder / "out" / it.name for it in captures])
+        numbers = done.stdout.splitlines()[-1].removeprefix("kept ")
+        expected = f"conforming {numbers}" if after == "conforming" else after
+        return None if said == expected else f"says {said!r} of what was written"
+
+
 def main():
     preparer, auditor = (pathlib.Path(word).resolve() for word in sys.argv[1:])
     cases = dict(line.split(" | ") for line in (HERE / "cases").read_text().splitlines())
@@ -72,6 +92,8 @@ def main():
         expected = example / "expected"
         if expected.is_file() and "\nconforming " in expected.read_text():
             faults[example.name] = check_example(preparer, example)
+    for relays, time, _, after in hang_ups.CASES:
+        faults[f"{relays.__name__} {time}"] = check_hang_up(preparer, auditor, relays, time, after)
     wrong = {name: fault for name, fault in faults.items() if fault}
     for name, fault in wrong.items():
         print(f"{name}: {fault}")

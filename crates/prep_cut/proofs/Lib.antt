@@ -2,3 +2,5 @@ pub mod Marked
 mod Going
 mod Staying
 mod Noting
+mod Releases
+mod Bounding

@@ -14,19 +14,20 @@ use Rattle.audit_model.specs.declared.sighting.Side.TheVariants.{Arrives, Leaves
 use Rattle.prep_cut.specs.declared.transaction.Transaction.{Transaction}
 use Rattle.prep_cut.specs.Allocating.{is_noted, is_noted_on, is_shown, is_shown_on}
 use Rattle.prep_cut.specs.Datagrams.{datagram_of_block}
-use Rattle.prep_cut.specs.Guard.{is_stated, is_named, may_leave_datagram}
+use Rattle.prep_cut.specs.Guard.{is_stated, is_due, is_named, may_leave_datagram}
 use Rattle.prep_cut.specs.Marks.{may_leave_head, line_of}
 use Rattle.prep_cut.specs.Kept.{IsMoment, IsOfMoment}
 
-never : (a b c : Bool) → c ≡ true → (a && (b && not c)) ≡ false
-never true true c e = rw e refl
-never true false c e = refl
-never false b c e = refl
+never : (a b c d : Bool) → d ≡ true → (a && (b && (c && not d))) ≡ false
+never true true true d e = rw e refl
+never true true false d e = refl
+never true false c d e = refl
+never false b c d e = refl
 
 barred : (stated : Stated) (allocations : Allocations) (reason : Reason) (found : Option Datagram) (datagram : Datagram) → found ≡ Some datagram
     → is_shown allocations datagram ≡ true → may_leave_datagram stated allocations reason found ≡ false
 barred stated allocations reason found datagram e shown =
-    ap (may_leave_datagram stated allocations reason) e ∙ never (is_stated stated reason) (is_named reason datagram) (is_shown allocations datagram) shown
+    ap (may_leave_datagram stated allocations reason) e ∙ never (is_stated stated reason) (is_due stated allocations reason datagram) (is_named reason datagram) (is_shown allocations datagram) shown
 
 by_moment : (plan : Plan) (reason : Option Reason) (block : Block) (packet : Option PacketHead) (datagram : Datagram) → datagram_of_block plan.policy block ≡ Some datagram
     → is_shown plan.allocations datagram ≡ true → IsMoment reason ⊎ (may_leave_head plan reason block packet ≡ false)
@@ -39,6 +40,7 @@ by_moment plan (Some (reasons.Answer pair)) block (Some head) datagram e shown =
 by_moment plan (Some (reasons.AddressOf relayed tenure pair)) block (Some head) datagram e shown = inr (barred plan.stated plan.allocations (reasons.AddressOf relayed tenure pair) (datagram_of_block plan.policy block) datagram e shown)
 by_moment plan (Some (reasons.AddressTold relayed tenure client)) block (Some head) datagram e shown = inr (barred plan.stated plan.allocations (reasons.AddressTold relayed tenure client) (datagram_of_block plan.policy block) datagram e shown)
 by_moment plan (Some (reasons.Address relayed tenure)) block (Some head) datagram e shown = inr (barred plan.stated plan.allocations (reasons.Address relayed tenure) (datagram_of_block plan.policy block) datagram e shown)
+by_moment plan (Some (reasons.Released pair relayed moment)) block (Some head) datagram e shown = inr (barred plan.stated plan.allocations (reasons.Released pair relayed moment) (datagram_of_block plan.policy block) datagram e shown)
 by_moment plan (Some (reasons.Dtls pair)) block (Some head) datagram e shown = inr (barred plan.stated plan.allocations (reasons.Dtls pair) (datagram_of_block plan.policy block) datagram e shown)
 by_moment plan (Some (reasons.Inner pair peer)) block (Some head) datagram e shown = inr (barred plan.stated plan.allocations (reasons.Inner pair peer) (datagram_of_block plan.policy block) datagram e shown)
 by_moment plan (Some (reasons.Inside from to)) block (Some head) datagram e shown = inr (barred plan.stated plan.allocations (reasons.Inside from to) (datagram_of_block plan.policy block) datagram e shown)

@@ -13,6 +13,7 @@ use Rattle.prep_cut.specs.declared.transaction.Transaction.{Transaction}
 use Rattle.prep_cut.specs.declared.allocations.Allocations.{Allocations}
 use Rattle.prep_cut.specs.declared.datagram.Datagram.{Datagram}
 use Rattle.prep_cut.specs.Datagrams.{datagram_of_block}
+use Rattle.prep_cut.specs.Releasing.{AreReleased}
 
 -- the order of transactions
 abbrev pub transaction_cmp : Transaction → Transaction → Ordering
@@ -36,9 +37,14 @@ abbrev pub is_noted_in : Policy → Allocations → Block → Bool
 is_noted_in policy allocations block = is_noted_if allocations (datagram_of_block policy block)
 
 -- the same of each of these blocks
-abbrev pub AreNoted : Policy → Allocations → List Block → Type 0
-AreNoted policy allocations [] = ⊤
-AreNoted policy allocations (first ∷ others) = (is_noted_in policy allocations first ≡ true) × AreNoted policy allocations others
+abbrev pub AreAllNoted : Policy → Allocations → List Block → Type 0
+AreAllNoted policy allocations [] = ⊤
+AreAllNoted policy allocations (first ∷ others) = (is_noted_in policy allocations first ≡ true) × AreAllNoted policy allocations others
+
+-- what these blocks ask and grant is noted, and each release that is noted is one of theirs
+pub record AreNoted (policy : Policy) (allocations : Allocations) (blocks : List Block) : Type 0 where
+  pub noted : AreAllNoted policy allocations blocks
+  pub released : AreReleased policy allocations blocks
 
 abbrev pub is_shown_on : Side → Allocations → Option Transaction → Bool
 is_shown_on side allocations None = false

@@ -1,5 +1,5 @@
 -- The datagram of the service in a packet's block, by the definition of what a frame holds.
-use Rattle.std.specs.Prelude.{ℕ, Bool, true, false, not, ◌&&◌, ◌||◌, List, [], ◌∷◌, length, take, drop, Option, Some, None, nat_lt, nat_le}
+use Rattle.std.specs.Prelude.{ℕ, Bool, true, false, not, ◌&&◌, ◌||◌, ◌==◌, if◌then◌else◌, List, [], ◌∷◌, length, take, drop, Option, Some, None, nat_lt, nat_le}
 use Rattle.audit_model.specs.declared.address.Addr.{Addr}
 use Rattle.audit_model.specs.declared.policy.Policy.{Policy}
 use Rattle.audit_model.specs.declared.sighting.Side.TheVariants.{Arrives, Leaves}
@@ -25,6 +25,12 @@ abbrev pub is_secured : List ℕ → Bool
 is_secured [] = false
 is_secured (first ∷ rest) = nat_le 20 first && nat_lt first 64
 
+-- the first byte is 64 to 127, or the first two are the type of a Send or a Data indication
+abbrev pub carries : List ℕ → Bool
+carries [] = false
+carries (first ∷ []) = nat_le 64 first && nat_lt first 128
+carries (first ∷ second ∷ rest) = if first == 0 then (second == 22) || (second == 23) else (nat_le 64 first && nat_lt first 128)
+
 -- an Allocate success (type 259) that leaves a listen address to a client
 abbrev pub granted_by : Policy → Bool → Addr → Addr → List ℕ → Option Transaction
 granted_by policy arrives from to payload = transaction_of (listens policy from && not arrives) to from (id_of 259 payload)
@@ -42,6 +48,7 @@ by_ends policy true arrives stamp from to payload = Some (record {
   side = Leaves;
   is_inside = arrives;
   is_dtls = is_secured payload;
+  is_data = carries payload;
   size = length payload;
   allocate = granted_by policy arrives from to payload;
 })
@@ -52,6 +59,7 @@ by_ends policy false true stamp from to payload = Some (record {
   side = Arrives;
   is_inside = false;
   is_dtls = is_secured payload;
+  is_data = carries payload;
   size = length payload;
   allocate = asked_by policy from to payload;
 })

@@ -1,5 +1,5 @@
 -- Which packets a reason may set aside.
-use Rattle.std.specs.Prelude.{ℕ, Bool, true, false, not, ◌&&◌, ◌==◌, Option, Some, None, nat_lt}
+use Rattle.std.specs.Prelude.{ℕ, ◌*◌, ◌-◌, min, Bool, true, false, not, ◌&&◌, ◌||◌, ◌==◌, Option, Some, None, nat_lt, nat_le}
 use Rattle.audit_model.specs.declared.address.Addr.{Addr}
 use Rattle.audit_model.specs.declared.pair.Pair.{Pair}
 use Rattle.audit_model.specs.declared.sighting.Side.{Side}
@@ -10,6 +10,7 @@ use Rattle.prep_cut.specs.declared.reason.Reason.TheVariants as reasons
 use Rattle.prep_cut.specs.declared.stated.Stated.{Stated}
 use Rattle.prep_cut.specs.declared.allocations.Allocations.{Allocations}
 use Rattle.prep_cut.specs.Allocating.{is_shown}
+use Rattle.prep_cut.specs.Releasing.{is_released}
 
 abbrev pub same : Addr → Addr → Bool
 same a b = (a.ip == b.ip) && (a.port == b.port)
@@ -48,6 +49,7 @@ is_stated stated (reasons.Answer pair) = not stated.is_from_start
 is_stated stated (reasons.AddressOf relayed tenure pair) = not stated.is_from_start
 is_stated stated (reasons.AddressTold relayed tenure client) = not stated.has_no_tcp
 is_stated stated (reasons.Address relayed tenure) = not stated.has_no_tcp
+is_stated stated (reasons.Released pair relayed moment) = nat_lt 0 stated.released_ms
 is_stated stated (reasons.Dtls pair) = true
 is_stated stated (reasons.Inner pair peer) = not stated.keeps_inner
 is_stated stated (reasons.Inside from to) = not stated.keeps_inner
@@ -61,14 +63,30 @@ is_named (reasons.Answer pair) datagram = is_of_pair datagram pair
 is_named (reasons.AddressOf relayed tenure pair) datagram = is_at datagram relayed
 is_named (reasons.AddressTold relayed tenure client) datagram = is_at datagram relayed
 is_named (reasons.Address relayed tenure) datagram = is_at datagram relayed
+is_named (reasons.Released pair relayed moment) datagram = is_at datagram relayed || (datagram.is_data && is_of_pair datagram pair)
 is_named (reasons.Dtls pair) datagram = datagram.is_dtls && is_of_pair datagram pair
 is_named (reasons.Inner pair peer) datagram = is_of_pair datagram pair
 is_named (reasons.Inside from to) datagram = datagram.is_inside && (same datagram.from from && same datagram.to to)
 is_named reasons.AfterUntil datagram = true
 
+-- behind a release, by so many milliseconds at the most as are stated
+abbrev pub is_behind : Stated → ℕ → ℕ → Bool
+is_behind stated moment stamp = nat_lt moment stamp && nat_le (stamp - moment) (min (stated.released_ms * 1000000) 18446744073709551615)
+
+abbrev pub is_in_time : Side → Stated → ℕ → ℕ → Bool
+is_in_time Arrives stated moment stamp = true
+is_in_time Leaves stated moment stamp = is_behind stated moment stamp
+
+-- the release that the reason names is noted, and a departure is in its time
+abbrev pub is_due : Stated → Allocations → Reason → Datagram → Bool
+is_due stated allocations (reasons.Released pair relayed moment) datagram =
+    is_released allocations (record { client = pair.client; listen = pair.listen; moment = moment }) && is_in_time datagram.side stated moment datagram.stamp
+is_due stated allocations other datagram = true
+
 abbrev pub may_leave_datagram : Stated → Allocations → Reason → Option Datagram → Bool
 may_leave_datagram stated allocations reason None = false
-may_leave_datagram stated allocations reason (Some datagram) = is_stated stated reason && (is_named reason datagram && not (is_shown allocations datagram))
+may_leave_datagram stated allocations reason (Some datagram) =
+    is_stated stated reason && (is_due stated allocations reason datagram && (is_named reason datagram && not (is_shown allocations datagram)))
 
 -- The reason may set aside a packet of this stamp, which holds this datagram or none. Of the Allocates that the captures show with their
 -- successes it may not, but outside the moments that are stated.
@@ -80,6 +98,7 @@ may_leave_packet stated allocations (reasons.Answer pair) stamp datagram = may_l
 may_leave_packet stated allocations (reasons.AddressOf relayed tenure pair) stamp datagram = may_leave_datagram stated allocations (reasons.AddressOf relayed tenure pair) datagram
 may_leave_packet stated allocations (reasons.AddressTold relayed tenure client) stamp datagram = may_leave_datagram stated allocations (reasons.AddressTold relayed tenure client) datagram
 may_leave_packet stated allocations (reasons.Address relayed tenure) stamp datagram = may_leave_datagram stated allocations (reasons.Address relayed tenure) datagram
+may_leave_packet stated allocations (reasons.Released pair relayed moment) stamp datagram = may_leave_datagram stated allocations (reasons.Released pair relayed moment) datagram
 may_leave_packet stated allocations (reasons.Dtls pair) stamp datagram = may_leave_datagram stated allocations (reasons.Dtls pair) datagram
 may_leave_packet stated allocations (reasons.Inner pair peer) stamp datagram = may_leave_datagram stated allocations (reasons.Inner pair peer) datagram
 may_leave_packet stated allocations (reasons.Inside from to) stamp datagram = may_leave_datagram stated allocations (reasons.Inside from to) datagram

@@ -1,9 +1,11 @@
 pub mod Identifying
 pub mod Datagrams
+pub mod Releasing
 pub mod Allocating
 pub mod Guard
 pub mod Marks
 pub mod Kept
+pub mod Bounded
 pub mod Tallied
 pub mod Marking
 pub mod Cutting

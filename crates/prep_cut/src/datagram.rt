@@ -2,7 +2,7 @@
 
 ghost use Rattle.std.specs.Prelude.{◌≡◌};
 ghost use Rattle.audit_packets.specs.View.{view};
-ghost use Rattle.prep_cut.specs.Datagrams.{frame_of, datagram_of_block, of_seen, of_ends, is_secured};
+ghost use Rattle.prep_cut.specs.Datagrams.{frame_of, datagram_of_block, of_seen, of_ends, is_secured, carries};
 
 use crate::transaction::{Transaction, id_in};
 use audit_model::{Addr, Policy, Side};
@@ -23,6 +23,8 @@ pub struct Datagram {
     pub is_inside: bool,
     /// Whether its payload begins as DTLS does: 20 to 63 (RFC 7983).
     pub is_dtls: bool,
+    /// Whether its payload begins as data between a client and the server does: ChannelData, or a Send or Data indication.
+    pub is_data: bool,
     /// How many bytes its payload has.
     pub size: usize,
     /// Of an Allocate request that arrives at a listen address from a client, and of a success that leaves one.
@@ -108,6 +110,7 @@ fn in_ends(policy: &Policy, stamp: u64, from: Addr, to: Addr, payload: &[u8]) ->
         side,
         is_inside: leaves && arrives,
         is_dtls: is_dtls(payload),
+        is_data: is_data(payload),
         size: payload.len(),
         allocate,
     })
@@ -119,6 +122,18 @@ fn is_dtls(payload: &[u8]) -> bool
 {
     match payload {
         [first, ..] => 20 <= *first && *first < 64,
+        [] => false,
+    }
+}
+
+/// Whether a payload begins as ChannelData does, with a number whose two highest bits are 01 (RFC 8656, section 12.4), or with the type of
+/// a Send or a Data indication, 0x0016 or 0x0017 (section 17).
+fn is_data(payload: &[u8]) -> bool
+    ensures { result ≡ carries payload.now }
+{
+    match payload {
+        [0, second, ..] => *second == 0x16 || *second == 0x17,
+        [first, ..] => 64 <= *first && *first < 128,
         [] => false,
     }
 }

@@ -1,6 +1,6 @@
-//! What is kept of allocations. It does nothing when it runs.
+//! What is kept of allocations, and what is left out behind their releases. It does nothing when it runs.
 
-ghost use Rattle.std.specs.Prelude.{◌≡◌, ℕ, Option, Some, true};
+ghost use Rattle.std.specs.Prelude.{◌≡◌, ℕ, List, Option, Some, slice_get, true};
 ghost use Rattle.audit_model.specs.declared.sighting.Side.TheVariants.{Arrives, Leaves};
 ghost use Rattle.prep_blocks.specs.declared.block.Block.{Block};
 ghost use Rattle.prep_cut.specs.declared.datagram.Datagram.{Datagram};
@@ -10,6 +10,11 @@ ghost use Rattle.prep_cut.specs.Datagrams.{datagram_of_block};
 ghost use Rattle.prep_cut.specs.Allocating.{is_noted};
 ghost use Rattle.prep_cut.specs.Marks.{line_of};
 ghost use Rattle.prep_cut.specs.Kept.{IsOfMoment};
+ghost use Rattle.audit_model.specs.declared.address.Addr.{Addr};
+ghost use Rattle.audit_model.specs.declared.pair.Pair.{Pair};
+ghost use Rattle.prep_cut.specs.declared.reason.Reason.TheVariants.{Released};
+ghost use Rattle.prep_cut.specs.Releasing.{AreReleased};
+ghost use Rattle.prep_cut.specs.Bounded.{IsBehindRelease};
 
 /// Of an Allocate request and a success of its transaction, both of which are noted in the plan's allocations, none is left out by any line
 /// but those of the moments that are stated, whatever is proposed for them.
@@ -22,4 +27,13 @@ pub fn shown_allocates_stay()
         → datagram_of_block plan.policy request ≡ Some asked → asked.side ≡ Arrives → asked.allocate ≡ Some transaction
         → datagram_of_block plan.policy success ≡ Some granted → granted.side ≡ Leaves → granted.allocate ≡ Some transaction
         → is_noted plan.allocations granted ≡ true → IsOfMoment plan (line_of plan proposed request) }
+{}
+
+/// What a line of released datagrams leaves out is of the client or the address that it names, behind a Refresh success with LIFETIME 0 of that
+/// client which the captures show, and where it leaves, in the time that is stated; where none is stated such a line leaves out nothing. What
+/// is noted of releases the captures show.
+pub fn released_is_bounded()
+    ensures { (plan : Plan) (captured : List Block) (line : ℕ) (block : Block) (pair : Pair) (relayed : Addr) (moment : ℕ) →
+        AreReleased plan.policy plan.allocations captured → slice_get plan.lines line ≡ Some (Released pair relayed moment) →
+        line_of plan (Some line) block ≡ Some line → IsBehindRelease plan captured pair relayed moment (datagram_of_block plan.policy block) }
 {}

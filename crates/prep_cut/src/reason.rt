@@ -36,6 +36,13 @@ pub enum Reason {
         relayed: Addr,
         tenure: u32,
     },
+    /// What is relayed for a client in the time that `--released-ms` says, behind its Refresh success with LIFETIME 0 at this moment: data
+    /// with the client, and what is at the relayed address that it had.
+    Released {
+        pair: Pair,
+        relayed: Addr,
+        moment: u64,
+    },
     /// DTLS at a listen address.
     Dtls(Pair),
     /// Data between a client and an address of the service.
@@ -61,6 +68,7 @@ pub enum ReasonKind {
     AddressOf,
     AddressTold,
     Address,
+    Released,
     Dtls,
     Inner,
     Inside,
@@ -77,6 +85,7 @@ impl Reason {
             Reason::AddressOf { .. } => ReasonKind::AddressOf,
             Reason::AddressTold { .. } => ReasonKind::AddressTold,
             Reason::Address { .. } => ReasonKind::Address,
+            Reason::Released { .. } => ReasonKind::Released,
             Reason::Dtls(_) => ReasonKind::Dtls,
             Reason::Inner { .. } => ReasonKind::Inner,
             Reason::Inside { .. } => ReasonKind::Inside,
@@ -95,6 +104,7 @@ impl fmt::Display for ReasonKind {
             ReasonKind::AddressOf => "address-of",
             ReasonKind::AddressTold => "address-told",
             ReasonKind::Address => "address",
+            ReasonKind::Released => "released",
             ReasonKind::Dtls => "dtls",
             ReasonKind::Inner => "inner",
             ReasonKind::Inside => "inside",
@@ -139,6 +149,10 @@ impl fmt::Display for Reason {
                 ..
             } => write!(f, " {relayed} {client}"),
             Reason::Address { relayed, .. } => write!(f, " {relayed}"),
+            Reason::Released { pair, relayed, .. } => {
+                write_pair(f, pair)?;
+                write!(f, " {relayed}")
+            }
             Reason::Inner { pair, peer } => {
                 write_pair(f, pair)?;
                 write!(f, " {peer}")

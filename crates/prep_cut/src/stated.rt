@@ -1,11 +1,12 @@
 //! What the operator states, and which packets each reason may set aside then.
 
 ghost use Rattle.std.specs.Prelude.{◌≡◌};
-ghost use Rattle.prep_cut.specs.Guard.{is_early, is_late, is_of_pair, is_at, is_stated, is_named, may_leave_packet, same};
+ghost use Rattle.prep_cut.specs.Guard.{is_early, is_late, is_of_pair, is_at, is_due, is_in_time, is_behind, is_stated, is_named, may_leave_packet, same};
 
 use crate::allocations::Allocations;
 use crate::datagram::Datagram;
 use crate::reason::Reason;
+use crate::release::Release;
 use audit_model::{Addr, Pair, Side};
 
 /// What the operator states of the captures. Moments are nanoseconds since 1970.
@@ -23,12 +24,18 @@ pub struct Stated {
     pub keeps_inner: bool,
     /// The longest lifetime of an allocation from before, in seconds.
     pub lifetime: u64,
+    /// For so many milliseconds behind a client's Refresh success with LIFETIME 0 what is relayed for it is left out: 0 to 60,000.
+    pub released_ms: u64,
 }
+
+/// Nanoseconds of a millisecond.
+const MILLISECOND: u64 = 1_000_000;
 
 impl Stated {
     /// Whether the reason may set aside a packet of this stamp, which holds this datagram of the service or none: what the operator
     /// states has to allow the reason, and the packet has to be of the client or the address that the reason names. An Allocate success
-    /// whose request is among the allocations, and an Allocate request whose success is, is set aside only by its moment.
+    /// whose request is among the allocations, and an Allocate request whose success is, is set aside only by its moment. What is relayed
+    /// behind a release is so only where the release is among the allocations, and where it left in the time that is stated.
     pub fn may_leave(
         &self,
         allocations: &Allocations,
@@ -45,6 +52,7 @@ impl Stated {
                 None => false,
                 Some(datagram) => {
                     self.allows(reason)
+                        && self.is_due(allocations, reason, &datagram)
                         && is_named(reason, &datagram)
                         && !allocations.shows(&datagram)
                 }
@@ -80,8 +88,44 @@ impl Stated {
             Reason::BeforeSince | Reason::AfterUntil | Reason::Dtls(_) => true,
             Reason::Client(_) | Reason::Answer(_) | Reason::AddressOf { .. } => !self.is_from_start,
             Reason::AddressTold { .. } | Reason::Address { .. } => !self.has_no_tcp,
+            Reason::Released { .. } => self.released_ms > 0,
             Reason::Inner { .. } | Reason::Inside { .. } => !self.keeps_inner,
         }
+    }
+
+    /// Whether a release is noted that a reason names, and a departure is in its time. An arrival has none: one that is left out hides
+    /// nothing.
+    fn is_due(&self, allocations: &Allocations, reason: &Reason, datagram: &Datagram) -> bool
+        ensures { result ≡ is_due self.now allocations.now reason.now datagram.now }
+    {
+        match reason {
+            Reason::Released { pair, moment, .. } => {
+                let release = Release {
+                    client: pair.client,
+                    listen: pair.listen,
+                    moment: *moment,
+                };
+                allocations.has_release(&release) && self.is_in_time(*moment, datagram)
+            }
+            _ => true,
+        }
+    }
+
+    fn is_in_time(&self, moment: u64, datagram: &Datagram) -> bool
+        ensures { result ≡ is_in_time datagram.now.side self.now moment datagram.now.stamp }
+    {
+        match datagram.side {
+            Side::Arrives => true,
+            Side::Leaves => self.is_behind(moment, datagram.stamp),
+        }
+    }
+
+    /// Whether a moment is behind that of a release, and in the time that is stated.
+    pub fn is_behind(&self, release: u64, stamp: u64) -> bool
+        ensures { result ≡ is_behind self.now release stamp }
+    {
+        let longest = self.released_ms.saturating_mul(MILLISECOND);
+        release < stamp && stamp - release <= longest
     }
 }
 
@@ -97,6 +141,9 @@ fn is_named(reason: &Reason, datagram: &Datagram) -> bool
         Reason::AddressOf { relayed, .. }
         | Reason::AddressTold { relayed, .. }
         | Reason::Address { relayed, .. } => is_at(datagram, *relayed),
+        Reason::Released { pair, relayed, .. } => {
+            is_at(datagram, *relayed) || (datagram.is_data && is_of_pair(datagram, pair))
+        }
         Reason::Dtls(pair) => datagram.is_dtls && is_of_pair(datagram, pair),
         Reason::Inside { from, to } => {
             datagram.is_inside && datagram.from == *from && datagram.to == *to

@@ -154,6 +154,7 @@ fn what_is_set_aside(kind: ReasonKind) -> &'static str {
         ReasonKind::Address => {
             "relayed addresses were given to no UDP client: clients by TLS, or another program on the relay range"
         }
+        ReasonKind::Released => "clients were relayed for behind a Refresh of 0",
         ReasonKind::Dtls => "clients speak DTLS",
         ReasonKind::Inner => "clients relay to a relayed address of the server",
         ReasonKind::Inside => "pairs of the server's own addresses are on the wire (V2)",

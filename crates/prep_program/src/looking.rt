@@ -78,5 +78,6 @@ fn stated_for(lifetime: u64) -> Stated {
         has_no_tcp: false,
         keeps_inner: false,
         lifetime,
+        released_ms: 0,
     }
 }

@@ -155,7 +155,7 @@ fn list_of(alloc: Global, plan: &Plan, told: &Told, all: &AllCut) -> Result<Stri
     Ok(list)
 }
 
-/// A line for each that counts something.
+/// A line for each that counts something. What is relayed behind a release tells the longest time behind it, in microseconds.
 fn write_lines(list: &mut String, lines: &[Reason], tallies: &[Tally]) -> Result<(), AllocError> {
     for (reason, tally) in lines.iter().zip(tallies.iter()) {
         if tally.is_some() {
@@ -163,6 +163,11 @@ fn write_lines(list: &mut String, lines: &[Reason], tallies: &[Tally]) -> Result
             let last = tally.last;
             write!(list, "{reason} from {first} to {last}")?;
             write_counts(list, tally.arrived, tally.left)?;
+            if let Reason::Released { moment, .. } = reason {
+                let longest = last.saturating_sub(*moment) / 1_000;
+                write!(list, " longest-us {longest}")?;
+            }
+            list.push_str("\n")?;
         }
     }
     Ok(())
@@ -189,10 +194,11 @@ fn write_sums(list: &mut String, tallies: &[Tally]) -> Result<(), AllocError> {
         left = left.plus(tally.left);
     }
     list.push_str("aside")?;
-    write_counts(list, arrived, left)
+    write_counts(list, arrived, left)?;
+    list.push_str("\n")
 }
 
-/// The end of a line, as ` in 3 4 out 5 6`.
+/// What a line counts, as ` in 3 4 out 5 6`.
 fn write_counts(list: &mut String, arrived: Count, left: Count) -> Result<(), AllocError> {
     let arrivals = arrived.datagrams;
     let in_bytes = arrived.bytes;
@@ -200,7 +206,7 @@ fn write_counts(list: &mut String, arrived: Count, left: Count) -> Result<(), Al
     let out_bytes = left.bytes;
     write!(
         list,
-        " in {arrivals} {in_bytes} out {departures} {out_bytes}\n"
+        " in {arrivals} {in_bytes} out {departures} {out_bytes}"
     )
 }
 
@@ -211,6 +217,10 @@ fn head_of(alloc: Global, stated: &Stated, begin: u64) -> Result<String, AllocEr
     if stated.lifetime != USUAL_LIFETIME {
         let lifetime = stated.lifetime;
         write!(text, "lifetime {lifetime}\n")?;
+    }
+    if stated.released_ms > 0 {
+        let released = stated.released_ms;
+        write!(text, "released-ms {released}\n")?;
     }
     if stated.keeps_inner {
         text.push_str("keep-inner\n")?;

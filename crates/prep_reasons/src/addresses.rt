@@ -1,5 +1,6 @@
 //! Relayed addresses that nobody was given.
 
+use crate::hang_ups::HangUps;
 use crate::pool::Pool;
 use crate::sheet::Sheet;
 use crate::strays::{Cause, Stray, Strays, find_strays, relayed_in};
@@ -17,9 +18,10 @@ type LeftOf = BTreeSet<(Addr, u32)>;
 pub(crate) fn leave_addresses(
     sheet: &mut Sheet<'_>,
     tenures: &Tenures,
+    hang_ups: &HangUps,
     by_client: Pool,
 ) -> Result<(), AllocError> {
-    let found = find_strays(sheet, tenures, by_client)?;
+    let found = find_strays(sheet, tenures, hang_ups, by_client)?;
     let mut left: LeftOf = BTreeSet::new(sheet.alloc);
     for side in [Side::Leaves, Side::Arrives] {
         for place in 0..found.all.len() {
@@ -95,17 +97,12 @@ fn elsewhere(
         return None;
     }
     let moment = record.stamp.saturating_add(sheet.slack);
-    let behind = sheet
-        .told
-        .partition_point(|told| (told.relayed, told.stamp) <= (relayed, moment));
-    if let Some(told) = sheet.told.get(behind.wrapping_sub(1)) {
-        if told.relayed == relayed {
-            return Some(Reason::AddressTold {
-                relayed,
-                tenure,
-                client: told.client,
-            });
-        }
+    if let Some(told) = sheet.told_before(relayed, moment) {
+        return Some(Reason::AddressTold {
+            relayed,
+            tenure,
+            client: told.client,
+        });
     }
     if else_nobody {
         Some(Reason::Address { relayed, tenure })

@@ -11,10 +11,10 @@ use std::alloc::AllocError;
 use std::collections::BTreeMap;
 
 /// A permission's lifetime (RFC 8656, section 9).
-const PERMISSION: u64 = 300 * SECOND;
+pub(crate) const PERMISSION: u64 = 300 * SECOND;
 
 /// A channel's lifetime (RFC 8656, section 12).
-const CHANNEL: u64 = 600 * SECOND;
+pub(crate) const CHANNEL: u64 = 600 * SECOND;
 
 /// When a client's time before ends: by its arrivals, and by its departures.
 #[derive(Clone, Copy)]

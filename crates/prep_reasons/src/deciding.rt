@@ -3,6 +3,7 @@
 use crate::addresses::leave_addresses;
 use crate::before::{TimeBefore, explain, time_before};
 use crate::from_before::leave_clients;
+use crate::hang_ups::{HangUps, leave_hang_ups};
 use crate::inner::{leave_dtls, leave_inner, pool_of_arrivals};
 use crate::members::Members;
 use crate::pool::Grouping;
@@ -45,13 +46,15 @@ pub fn sort_out<'a>(
         explain(&mut sheet, &shown.channels, pair, time)?;
         times.push(time)?;
     }
+    let hang_ups = HangUps::new(&sheet)?;
     sheet.members = Members::new(alloc);
     let mut by_client = pool_of_arrivals(&sheet, Grouping::ByClient)?;
     if !stated.keeps_inner {
         leave_inner(&mut sheet, &shown, &mut by_client)?;
     }
     leave_dtls(&mut sheet)?;
-    leave_addresses(&mut sheet, &shown.tenures, by_client)?;
+    leave_hang_ups(&mut sheet, &shown.tenures, &hang_ups)?;
+    leave_addresses(&mut sheet, &shown.tenures, &hang_ups, by_client)?;
     leave_clients(&mut sheet, &times)?;
     Ok(sheet)
 }

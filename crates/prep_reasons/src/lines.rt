@@ -10,6 +10,7 @@ use std::collections::BTreeMap;
 struct ReasonKey {
     kind: ReasonKind,
     tenure: u32,
+    moment: u64,
     first: Addr,
     second: Addr,
     third: Addr,
@@ -56,12 +57,17 @@ fn key_of(reason: &Reason) -> ReasonKey {
             (*tenure, *relayed, high, low)
         }
         Reason::Address { relayed, tenure } => (*tenure, *relayed, NO_ADDRESS, NO_ADDRESS),
+        Reason::Released { pair, relayed, .. } => (0, pair.client, pair.listen, *relayed),
         Reason::Inner { pair, peer } => (0, pair.client, pair.listen, *peer),
         Reason::Inside { from, to } => (0, *from, *to, NO_ADDRESS),
     };
     ReasonKey {
         kind: reason.kind(),
         tenure,
+        moment: match reason {
+            Reason::Released { moment, .. } => *moment,
+            _ => 0,
+        },
         first,
         second,
         third,

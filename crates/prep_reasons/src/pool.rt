@@ -2,6 +2,7 @@
 
 use crate::sheet::Sheet;
 use crate::state_before::StateBefore;
+use audit_model::Addr;
 use std::alloc::AllocError;
 
 /// Which records a pool has apart, besides those of other data.
@@ -13,6 +14,8 @@ pub(crate) enum Grouping {
     ByClient,
     /// Those that a state from before may explain.
     ByState,
+    /// Those that arrive at each relayed address.
+    ByAddress,
 }
 
 /// One of the groups of a pool.
@@ -20,6 +23,7 @@ pub(crate) enum Grouping {
 pub(crate) enum Group {
     All,
     Client(u32),
+    At(Addr),
     /// Whatever was before.
     Judged,
     /// By a state from before.
@@ -170,9 +174,13 @@ impl Pool {
 
 /// Where a record stands. One that isn't there stands first.
 fn place_of(sheet: &Sheet<'_>, grouping: Grouping, at: u32) -> Place {
-    let (digest, stamp) = match sheet.record(at as usize) {
-        Some(record) => (record.digest, record.stamp),
-        None => (0, 0),
+    let Some(record) = sheet.record(at as usize) else {
+        return Place {
+            digest: 0,
+            group: Group::All,
+            stamp: 0,
+            record: at,
+        };
     };
     let group = match grouping {
         Grouping::Together => Group::All,
@@ -184,11 +192,12 @@ fn place_of(sheet: &Sheet<'_>, grouping: Grouping, at: u32) -> Place {
             StateBefore::Explains => Group::Explained,
             _ => Group::Judged,
         },
+        Grouping::ByAddress => Group::At(record.to),
     };
     Place {
-        digest,
+        digest: record.digest,
         group,
-        stamp,
+        stamp: record.stamp,
         record: at,
     }
 }

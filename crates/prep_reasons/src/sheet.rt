@@ -261,6 +261,19 @@ impl<'a> Sheet<'a> {
         u32::try_from(self.pairs.len()).unwrap_or(u32::MAX)
     }
 
+    /// The last client that was told a relayed address over TCP or IPv6 up to a moment.
+    pub(crate) fn told_before(&self, relayed: Addr, moment: u64) -> Option<Told> {
+        let behind = self
+            .told
+            .partition_point(|told| (told.relayed, told.stamp) <= (relayed, moment));
+        let told = *self.told.get(behind.checked_sub(1)?)?;
+        if told.relayed == relayed {
+            Some(told)
+        } else {
+            None
+        }
+    }
+
     /// Lets go of what only decisions need.
     pub(crate) fn forget_marks(&mut self) {
         self.requests = Vec::new(self.alloc);

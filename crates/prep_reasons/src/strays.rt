@@ -1,5 +1,6 @@
 //! What is at relayed addresses that nobody was given, and whose data it carries.
 
+use crate::hang_ups::HangUps;
 use crate::inner::{is_data, wanted_of};
 use crate::pool::{Group, Grouping, Pool, Wanted};
 use crate::sheet::{SECOND, Sheet};
@@ -56,10 +57,11 @@ pub(crate) fn relayed_in(record: &Record) -> Option<Addr> {
 pub(crate) fn find_strays(
     sheet: &mut Sheet<'_>,
     tenures: &Tenures,
+    hang_ups: &HangUps,
     by_client: Pool,
 ) -> Result<Strays, AllocError> {
     let mut found = Strays {
-        all: strays_of(sheet, tenures, by_client)?,
+        all: strays_of(sheet, tenures, hang_ups, by_client)?,
         votes: BTreeMap::new(sheet.alloc),
         owners: BTreeMap::new(sheet.alloc),
     };
@@ -69,10 +71,12 @@ pub(crate) fn find_strays(
     Ok(found)
 }
 
-/// Takes the data that left from its client's own address, and finds what is at addresses that nobody was given.
+/// Takes the data that left from its client's own address, and finds what is at addresses that nobody was given. What leaves for a peer
+/// behind a release is set aside, with its arrival.
 fn strays_of(
     sheet: &mut Sheet<'_>,
     tenures: &Tenures,
+    hang_ups: &HangUps,
     by_client: Pool,
 ) -> Result<Vec<Stray>, AllocError> {
     let mut by_client = by_client;
@@ -84,6 +88,13 @@ fn strays_of(
         let Some(relayed) = relayed_in(&record) else {
             continue;
         };
+        if matches!(record.side, Side::Leaves) {
+            if let Some(allowed) = hang_ups.to_peer(sheet, tenures, &record) {
+                let wanted = wanted_of(sheet, &record, Group::Client(allowed.client));
+                allowed.leave(sheet, at, &mut by_client, wanted)?;
+                continue;
+            }
+        }
         match tenures.holder(relayed, record.stamp) {
             None => strays.push(Stray {
                 record: u32::try_from(at).unwrap_or(u32::MAX),

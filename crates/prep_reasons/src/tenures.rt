@@ -59,6 +59,17 @@ impl Tenures {
         }
     }
 
+    /// The last tenure of an address that began before a moment or at it.
+    pub(crate) fn last_begun(&self, relayed: Addr, stamp: u64) -> Option<Tenure> {
+        let last = self.behind(relayed, stamp).checked_sub(1)?;
+        let tenure = self.all.get(last)?;
+        if tenure.relayed == relayed {
+            Some(*tenure)
+        } else {
+            None
+        }
+    }
+
     /// How many tenures of an address began before a moment or at it.
     pub(crate) fn begun(&self, relayed: Addr, stamp: u64) -> u32 {
         let first = self.all.partition_point(|tenure| tenure.relayed < relayed);

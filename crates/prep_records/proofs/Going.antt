@@ -1,5 +1,5 @@
 -- A recorder's relation, step by step.
-use Rattle.std.proofs.Common.{◌≡◌, ℕ, true, List, [], ◌∷◌, ◌++◌, Option, Some, None, refl, sym, ap, subst, ◌∙◌, append_assoc}
+use Rattle.std.proofs.Common.{◌≡◌, ◌⊎◌, inl, inr, ℕ, Bool, true, false, List, [], ◌∷◌, ◌++◌, Option, Some, None, refl, sym, ap, subst, ◌∙◌, append_assoc}
 use Rattle.std.proofs.lemmas.List.{append-nil}
 use Rattle.audit_model.specs.declared.policy.Policy.{Policy}
 use Rattle.prep_blocks.specs.declared.block.Block.{Block}
@@ -7,7 +7,9 @@ use Rattle.prep_blocks.specs.Splitting.{StandsFor, Gave, IsWhole}
 use Rattle.prep_cut.specs.declared.allocations.Allocations.{Allocations}
 use Rattle.prep_cut.specs.declared.datagram.Datagram.{Datagram}
 use Rattle.prep_cut.specs.Datagrams.{datagram_of_block}
-use Rattle.prep_cut.specs.Allocating.{is_noted, is_noted_if, is_noted_in, AreNoted}
+use Rattle.prep_cut.specs.declared.release.Release.{Release}
+use Rattle.prep_cut.specs.Allocating.{is_noted, is_noted_if, is_noted_in, AreNoted, AreAllNoted}
+use Rattle.prep_cut.specs.Releasing.{AreReleased, IsReleaseIn, IsShownBy, is_released}
 use Rattle.prep_records.specs.declared.recorder.Recorder.{Recorder}
 use Rattle.prep_records.specs.Recording.{IsRecording, GoesOn, Ended}
 
@@ -19,13 +21,38 @@ kept_if : (old new : Allocations) → Keeps old new → (found : Option Datagram
 kept_if old new keeps None noted = refl
 kept_if old new keeps (Some datagram) noted = keeps datagram noted
 
-kept_all : (policy : Policy) (old new : Allocations) → Keeps old new → (blocks : List Block) → AreNoted policy old blocks → AreNoted policy new blocks
+kept_all : (policy : Policy) (old new : Allocations) → Keeps old new → (blocks : List Block) → AreAllNoted policy old blocks → AreAllNoted policy new blocks
 kept_all policy old new keeps [] noted = tt
 kept_all policy old new keeps (first ∷ others) noted = (kept_if old new keeps (datagram_of_block policy first) noted.0, kept_all policy old new keeps others noted.1)
 
-one_more : (policy : Policy) (all : Allocations) (blocks : List Block) (b : Block) → AreNoted policy all blocks → is_noted_in policy all b ≡ true → AreNoted policy all (blocks ++ b ∷ [])
+one_more : (policy : Policy) (all : Allocations) (blocks : List Block) (b : Block) → AreAllNoted policy all blocks → is_noted_in policy all b ≡ true → AreAllNoted policy all (blocks ++ b ∷ [])
 one_more policy all [] b noted one = (one, tt)
 one_more policy all (first ∷ others) b noted one = (noted.0, one_more policy all others b noted.1 one)
+
+-- each release that is new is the block's
+abbrev pub Adds : Policy → Allocations → Allocations → Block → Type 0
+Adds policy old new b = (release : Release) → is_released new release ≡ true → (is_released old release ≡ true) ⊎ IsReleaseIn policy release b
+
+shown_before : (policy : Policy) (release : Release) (blocks : List Block) (b : Block) → IsShownBy policy release blocks → IsShownBy policy release (blocks ++ b ∷ [])
+shown_before policy release [] b shown = absurd shown
+shown_before policy release (first ∷ others) b (inl one) = inl one
+shown_before policy release (first ∷ others) b (inr other) = inr (shown_before policy release others b other)
+
+shown_last : (policy : Policy) (release : Release) (blocks : List Block) (b : Block) → IsReleaseIn policy release b → IsShownBy policy release (blocks ++ b ∷ [])
+shown_last policy release [] b is = inl is
+shown_last policy release (first ∷ others) b is = inr (shown_last policy release others b is)
+
+shown_by_all : (policy : Policy) (old : Allocations) (release : Release) (blocks : List Block) (b : Block) → AreReleased policy old blocks
+    → (is_released old release ≡ true) ⊎ IsReleaseIn policy release b → IsShownBy policy release (blocks ++ b ∷ [])
+shown_by_all policy old release blocks b released (inl had) = shown_before policy release blocks b (released release had)
+shown_by_all policy old release blocks b released (inr is) = shown_last policy release blocks b is
+
+noted_more : (policy : Policy) (old new : Allocations) (blocks : List Block) (b : Block) → AreNoted policy old blocks → is_noted_in policy new b ≡ true → Keeps old new
+    → Adds policy old new b → AreNoted policy new (blocks ++ b ∷ [])
+noted_more policy old new blocks b noted one keeps adds = record {
+  noted = one_more policy new blocks b (kept_all policy old new keeps blocks noted.noted) one;
+  released = λ release is. shown_by_all policy old release blocks b noted.released (adds release is);
+}
 
 pub nothing_yet : (recorder : Recorder) (policy : Policy) (earlier : List Block) (text : List ℕ) (current : List Block) (piece : List ℕ)
     → IsRecording recorder policy earlier text current → GoesOn recorder policy earlier text current piece piece
@@ -35,13 +62,13 @@ nothing_yet recorder policy earlier text current piece r = record { taken = []; 
 pub step : (old new : Recorder) (policy : Policy) (earlier : List Block) (text : List ℕ) (current : List Block) (piece rest behind : List ℕ) (b : Block)
     → (g : GoesOn old policy earlier text current piece rest) → Gave new.splitter (text ++ g.taken) (current ++ g.more) rest b behind
     → new.policy.now ≡ old.policy.now → is_noted_in old.policy.now new.allocations b ≡ true → Keeps old.allocations new.allocations
-    → GoesOn new policy earlier text current piece behind
-step old new policy earlier text current piece rest behind b g gave same noted keeps =
+    → Adds old.policy.now old.allocations new.allocations b → GoesOn new policy earlier text current piece behind
+step old new policy earlier text current piece rest behind b g gave same noted keeps adds =
     let text_so = append_assoc text g.taken gave.taken in
     let blocks_so = append_assoc current g.more (b ∷ []) in
     let one : is_noted_in policy new.allocations b ≡ true = ap (λ (p : Policy). is_noted_in p new.allocations b) (sym g.recording.policy_is) ∙ noted in
-    let all = one_more policy new.allocations (earlier ++ (current ++ g.more)) b
-    (kept_all policy old.allocations new.allocations keeps (earlier ++ (current ++ g.more)) g.recording.noted) one in
+    let more : Adds policy old.allocations new.allocations b = subst (λ (p : Policy). Adds p old.allocations new.allocations b) g.recording.policy_is adds in
+    let all = noted_more policy old.allocations new.allocations (earlier ++ (current ++ g.more)) b g.recording.noted one keeps more in
     let noted_so : AreNoted policy new.allocations (earlier ++ ((current ++ g.more) ++ b ∷ [])) =
     subst (λ (bs : List Block). AreNoted policy new.allocations bs) (append_assoc earlier (current ++ g.more) (b ∷ [])) all in
     record {
@@ -77,8 +104,12 @@ ended old new policy earlier text current r whole stands same noted = record {
   next = record { policy_is = same ∙ r.policy_is; splits = stands; noted = rw (noted, append-nil (earlier ++ current)) r.noted };
 }
 
-pub first : (recorder : Recorder) (policy : Policy) → recorder.policy.now ≡ policy → StandsFor recorder.splitter [] [] → IsRecording recorder policy [] [] []
-first recorder policy same stands = record { policy_is = same; splits = stands; noted = tt }
+differ : {b : Bool} → b ≡ true → b ≡ false → ⊥
+differ e f = absurd cc
+
+pub first : (recorder : Recorder) (policy : Policy) → recorder.policy.now ≡ policy → StandsFor recorder.splitter [] []
+    → ((release : Release) → is_released recorder.allocations release ≡ false) → IsRecording recorder policy [] [] []
+first recorder policy same stands none = record { policy_is = same; splits = stands; noted = record { noted = tt; released = λ release is. absurd (differ is (none release)) } }
 
 pub finished : (recorder : Recorder) (policy : Policy) (earlier : List Block) → IsRecording recorder policy earlier [] [] → AreNoted policy recorder.allocations earlier
 finished recorder policy earlier r = subst (λ (bs : List Block). AreNoted policy recorder.allocations bs) (append-nil earlier) r.noted

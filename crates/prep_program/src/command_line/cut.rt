@@ -17,6 +17,11 @@ pub(super) const LONGEST: u64 = 1_000_000_000;
 
 const NOT_A_NUMBER: &str = "turnprep: --since, --until and --lifetime are numbers\n";
 
+/// The longest time behind a Refresh success of 0 that is asked for, in milliseconds.
+const LONGEST_RELEASED: u64 = 60_000;
+
+const NOT_RELEASED: &str = "turnprep: --released-ms is a number up to 60000\n";
+
 const BACKWARDS: &str = "turnprep: --since is after --until\n";
 
 const TOO_MANY: &str = "turnprep: cut takes 16 captures at the most\n";
@@ -47,10 +52,13 @@ fn with_numbers<'a>(alloc: Global, command: Command<'a>) -> Result<Command<'a>, 
     let until = "Leave out what is after, in nanoseconds since 1970";
     let lifetime =
         "The longest lifetime of an allocation from before, in seconds: 3600 unless said";
+    let released =
+        "Leave out what is relayed for a client for so long behind its Refresh of 0, up to 60000";
     command
         .arg(value(alloc, "since", "MOMENT", since))?
         .arg(value(alloc, "until", "MOMENT", until))?
-        .arg(value(alloc, "lifetime", "SECONDS", lifetime))
+        .arg(value(alloc, "lifetime", "SECONDS", lifetime))?
+        .arg(value(alloc, "released-ms", "MS", released))
 }
 
 /// Adds the switches.
@@ -103,6 +111,9 @@ fn stated_by(matches: &ArgMatches<'_>) -> Result<Stated, &'static str> {
     ) else {
         return Err(NOT_A_NUMBER);
     };
+    let Some(released_ms) = number_of(matches, "released-ms", LONGEST_RELEASED) else {
+        return Err(NOT_RELEASED);
+    };
     if let (Some(since), Some(until)) = (since, until) {
         if since > until {
             return Err(BACKWARDS);
@@ -115,6 +126,7 @@ fn stated_by(matches: &ArgMatches<'_>) -> Result<Stated, &'static str> {
         has_no_tcp: matches.get_flag("no-tcp"),
         keeps_inner: matches.get_flag("keep-inner"),
         lifetime: lifetime.unwrap_or(USUAL_LIFETIME),
+        released_ms: released_ms.unwrap_or(0),
     })
 }
 

@@ -1,0 +1,227 @@
+//! What is relayed for clients behind their releases, where the operator states for how long.
+
+use crate::inner::{is_data, wanted_of};
+use crate::pool::{Group, Grouping, Pool, Wanted};
+use crate::releases::{Released, find_released};
+use crate::sheet::Sheet;
+use crate::tenures::Tenures;
+use audit_model::{Addr, Side};
+use prep_cut::Reason;
+use prep_records::{Content, Record};
+use std::alloc::AllocError;
+
+/// The allocations of which clients let go.
+#[derive(Drop)]
+pub(crate) struct HangUps {
+    /// By client and moment.
+    all: Vec<Released>,
+    /// Their places, by relayed address and moment.
+    by_address: Vec<u32>,
+}
+
+/// A line that sets aside what is relayed behind a release.
+#[derive(Clone, Copy)]
+pub(crate) struct Allowed {
+    pub(crate) client: u32,
+    relayed: Addr,
+    reason: Reason,
+}
+
+impl Allowed {
+    /// Sets aside a departure, with the arrival that is wanted for it.
+    pub(crate) fn leave(
+        &self,
+        sheet: &mut Sheet<'_>,
+        at: usize,
+        pool: &mut Pool,
+        wanted: Wanted,
+    ) -> Result<(), AllocError> {
+        let arrival = pool.take(sheet, wanted);
+        sheet.leave(at, self.reason)?;
+        match arrival {
+            Some(arrival) => sheet.leave(arrival, self.reason),
+            None => Ok(()),
+        }
+    }
+}
+
+impl HangUps {
+    /// Those of the captures; none where the operator states no time.
+    pub(crate) fn new(sheet: &Sheet<'_>) -> Result<Self, AllocError> {
+        let mut found = HangUps {
+            all: Vec::new(sheet.alloc),
+            by_address: Vec::new(sheet.alloc),
+        };
+        if sheet.stated.released_ms > 0 {
+            found.all = find_released(sheet)?;
+            for place in 0..found.all.len() {
+                found
+                    .by_address
+                    .push(u32::try_from(place).unwrap_or(u32::MAX))?;
+            }
+            let all = found.all.as_slice();
+            found
+                .by_address
+                .sort_unstable_by_key(|place| key_at(all, *place));
+        }
+        Ok(found)
+    }
+
+    /// The last release of a client before a moment.
+    fn last_of(&self, client: u32, stamp: u64) -> Option<&Released> {
+        let behind = self
+            .all
+            .partition_point(|one| (one.client, one.moment) < (client, stamp));
+        let one = self.all.get(behind.checked_sub(1)?)?;
+        if one.client == client {
+            Some(one)
+        } else {
+            None
+        }
+    }
+
+    /// The relayed address of which a client lets go next.
+    fn next_of(&self, client: u32, stamp: u64) -> Option<Addr> {
+        let behind = self
+            .all
+            .partition_point(|one| (one.client, one.moment) < (client, stamp));
+        let one = self.all.get(behind)?;
+        if one.client == client {
+            Some(one.relayed)
+        } else {
+            None
+        }
+    }
+
+    /// The last release of a relayed address before a moment.
+    fn last_at(&self, relayed: Addr, stamp: u64) -> Option<&Released> {
+        let all = self.all.as_slice();
+        let behind = self
+            .by_address
+            .partition_point(|place| key_at(all, *place) < Some((relayed, stamp)));
+        let place = *self.by_address.get(behind.checked_sub(1)?)?;
+        let one = all.get(place as usize)?;
+        if one.relayed == relayed {
+            Some(one)
+        } else {
+            None
+        }
+    }
+
+    /// Whether a client lets go of a relayed address at some time.
+    fn has_address(&self, relayed: Addr) -> bool {
+        self.last_at(relayed, u64::MAX).is_some()
+    }
+
+    /// The line of data that leaves for a client, where it is behind a release that would have allowed it.
+    fn to_client(
+        &self,
+        sheet: &Sheet<'_>,
+        tenures: &Tenures,
+        client: u32,
+        record: &Record,
+    ) -> Option<Allowed> {
+        let one = self.last_of(client, record.stamp)?;
+        let peer = one.peer_of(record.content, record.stamp.saturating_sub(sheet.slack))?;
+        allowed_by(sheet, tenures, one, peer, record.stamp)
+    }
+
+    /// The line of data that leaves a relayed address for a peer.
+    pub(crate) fn to_peer(
+        &self,
+        sheet: &Sheet<'_>,
+        tenures: &Tenures,
+        record: &Record,
+    ) -> Option<Allowed> {
+        let one = self.last_at(record.from, record.stamp)?;
+        allowed_by(sheet, tenures, one, record.to, record.stamp)
+    }
+}
+
+fn key_at(all: &[Released], place: u32) -> Option<(Addr, u64)> {
+    let one = all.get(place as usize)?;
+    Some((one.relayed, one.moment))
+}
+
+/// The line of data from or for a peer at a moment: in the time that is stated, before the client asks for an allocation anew, and before
+/// the address is another's.
+fn allowed_by(
+    sheet: &Sheet<'_>,
+    tenures: &Tenures,
+    one: &Released,
+    peer: Addr,
+    stamp: u64,
+) -> Option<Allowed> {
+    let is_in_time = sheet.stated.is_behind(one.moment, stamp) && stamp < one.closed;
+    let is_own = match tenures.last_begun(one.relayed, stamp) {
+        Some(tenure) => tenure.pair == one.client && tenure.start <= one.moment,
+        None => false,
+    };
+    let is_told = match sheet.told_before(one.relayed, stamp.saturating_add(sheet.slack)) {
+        Some(told) => told.stamp.saturating_add(sheet.slack) >= one.moment,
+        None => false,
+    };
+    if !is_in_time || !is_own || is_told || !one.permits(peer, stamp.saturating_sub(sheet.slack)) {
+        return None;
+    }
+    let pair = sheet.pair(one.client)?;
+    Some(Allowed {
+        client: one.client,
+        relayed: one.relayed,
+        reason: Reason::Released {
+            pair,
+            relayed: one.relayed,
+            moment: one.moment,
+        },
+    })
+}
+
+/// What arrived at relayed addresses of which clients let go.
+fn arrivals_at(sheet: &Sheet<'_>, hang_ups: &HangUps) -> Result<Pool, AllocError> {
+    let mut arrivals = Vec::new(sheet.alloc);
+    for at in 0..sheet.records.len() {
+        let (Some(record), true) = (sheet.record(at), sheet.is_kept(at)) else {
+            continue;
+        };
+        let is_arrival = matches!(
+            (record.content, record.side),
+            (Content::Relayed, Side::Arrives)
+        );
+        if is_arrival && hang_ups.has_address(record.to) {
+            arrivals.push(u32::try_from(at).unwrap_or(u32::MAX))?;
+        }
+    }
+    Pool::new(sheet, Grouping::ByAddress, arrivals)
+}
+
+/// Sets aside data that leaves for clients behind their releases, with its arrivals. What left before takes its own arrivals first.
+pub(crate) fn leave_hang_ups(
+    sheet: &mut Sheet<'_>,
+    tenures: &Tenures,
+    hang_ups: &HangUps,
+) -> Result<(), AllocError> {
+    if hang_ups.all.is_empty() {
+        return Ok(());
+    }
+    let mut pool = arrivals_at(sheet, hang_ups)?;
+    for at in 0..sheet.records.len() {
+        let (Some(record), Some(client), true) = (
+            sheet.record(at),
+            sheet.pair_number(at),
+            sheet.is_kept(at),
+        ) else {
+            continue;
+        };
+        if !is_data(&record) || !matches!(record.side, Side::Leaves) {
+            continue;
+        }
+        if let Some(allowed) = hang_ups.to_client(sheet, tenures, client, &record) {
+            let wanted = wanted_of(sheet, &record, Group::At(allowed.relayed));
+            allowed.leave(sheet, at, &mut pool, wanted)?;
+        } else if let Some(relayed) = hang_ups.next_of(client, record.stamp) {
+            let wanted = wanted_of(sheet, &record, Group::At(relayed));
+            let _ = pool.take(sheet, wanted);
+        }
+    }
+    Ok(())
+}

@@ -1,0 +1,219 @@
+//! Allocations that clients let go of, by Refresh successes with LIFETIME 0, and what they allowed.
+
+use crate::before::{CHANNEL, PERMISSION};
+use crate::exchanged::Exchanged;
+use crate::sheet::Sheet;
+use audit_model::{Addr, Side};
+use audit_stun::Class;
+use audit_stun::numbers::method;
+use prep_records::{Content, Stun};
+use std::alloc::AllocError;
+use std::collections::BTreeMap;
+
+/// A peer to which a channel is bound, up to a moment.
+#[derive(Clone, Copy)]
+struct Bound {
+    peer: Addr,
+    until: u64,
+}
+
+/// An allocation that a client has, with its permissions and channels. To each end the grace is added.
+#[derive(Drop)]
+struct Held {
+    relayed: Addr,
+    /// Of the Allocate that made it.
+    tid: [u8; 12],
+    until: u64,
+    /// By the peer's address.
+    permissions: BTreeMap<u32, u64>,
+    channels: BTreeMap<u16, Bound>,
+}
+
+/// An allocation of which its client let go.
+#[derive(Drop)]
+pub(crate) struct Released {
+    /// The number of the client and its listen address.
+    pub(crate) client: u32,
+    pub(crate) relayed: Addr,
+    /// When the success left.
+    pub(crate) moment: u64,
+    /// When the client asked for an allocation the next time.
+    pub(crate) closed: u64,
+    held: Held,
+}
+
+/// What clients let go of, client by client, in the order of their moments. The cost is the number of records times its logarithm.
+pub(crate) fn find_released(sheet: &Sheet<'_>) -> Result<Vec<Released>, AllocError> {
+    let mut all = Vec::new(sheet.alloc);
+    for client in 0..sheet.pair_count() {
+        let first = all.len();
+        let mut held: Option<Held> = None;
+        for at in sheet.of_pair(client) {
+            let at = *at as usize;
+            if is_asked(sheet, at) {
+                close_last(sheet, at, first, &mut all);
+            }
+            if let Some((answer, request)) = sheet.answered(at) {
+                held = match held_behind(sheet, held, &answer, &request.stun)? {
+                    After::Held(held) => held,
+                    After::LetGo(held) => {
+                        all.push(Released {
+                            client,
+                            relayed: held.relayed,
+                            moment: answer.record.stamp,
+                            closed: u64::MAX,
+                            held,
+                        })?;
+                        None
+                    }
+                };
+            }
+        }
+    }
+    Ok(all)
+}
+
+/// Whether a record asks for an allocation.
+fn is_asked(sheet: &Sheet<'_>, at: usize) -> bool {
+    match sheet.exchanged(at) {
+        Some(exchanged) => {
+            matches!(exchanged.record.side, Side::Arrives)
+                && matches!(exchanged.stun.class, Class::Request)
+                && exchanged.stun.method == method::ALLOCATE
+        }
+        None => false,
+    }
+}
+
+/// Notes when a client asked for an allocation the next time, where it let go of one. Its own begin at a place.
+fn close_last(sheet: &Sheet<'_>, at: usize, first: usize, all: &mut Vec<Released>) {
+    let (Some(record), Some(last)) = (sheet.record(at), all.len().checked_sub(1)) else {
+        return;
+    };
+    if last < first {
+        return;
+    }
+    if let Some(released) = all.get_mut(last) {
+        released.closed = released.closed.min(record.stamp);
+    }
+}
+
+/// What a client has behind a response.
+#[derive(Drop)]
+enum After {
+    Held(Option<Held>),
+    LetGo(Held),
+}
+
+fn held_behind(
+    sheet: &Sheet<'_>,
+    held: Option<Held>,
+    answer: &Exchanged,
+    request: &Stun,
+) -> Result<After, AllocError> {
+    if answer.succeeds(method::ALLOCATE) {
+        return Ok(After::Held(allocated(sheet, held, answer)));
+    }
+    let Some(mut held) = held else {
+        return Ok(After::Held(None));
+    };
+    if answer.record.stamp > held.until {
+        return Ok(After::Held(Some(held)));
+    }
+    if answer.succeeds(method::REFRESH) {
+        return Ok(match answer.stun.lifetime {
+            Some(0) => After::LetGo(held),
+            Some(_) => {
+                held.until = answer.lease_end().saturating_add(sheet.policy.grace);
+                After::Held(Some(held))
+            }
+            None => After::Held(None),
+        });
+    }
+    let binds = answer.succeeds(method::CHANNEL_BIND);
+    if binds || answer.succeeds(method::CREATE_PERMISSION) {
+        let moment = answer.record.stamp.saturating_add(sheet.policy.grace);
+        held.permit(moment, sheet.peers_of(request))?;
+        if binds {
+            held.bind(
+                moment,
+                request.channel,
+                sheet.peers_of(request).first().copied(),
+            )?;
+        }
+    }
+    Ok(After::Held(Some(held)))
+}
+
+/// The allocation behind an Allocate success. The same success again changes nothing.
+fn allocated(sheet: &Sheet<'_>, held: Option<Held>, answer: &Exchanged) -> Option<Held> {
+    let Some(relayed) = answer.stun.relayed else {
+        return held;
+    };
+    let is_again = match &held {
+        Some(held) => held.tid == answer.stun.tid && held.relayed == relayed,
+        None => false,
+    };
+    if is_again || !sheet.policy.relays(relayed) {
+        return held;
+    }
+    Some(Held {
+        relayed,
+        tid: answer.stun.tid,
+        until: answer.lease_end().saturating_add(sheet.policy.grace),
+        permissions: BTreeMap::new(sheet.alloc),
+        channels: BTreeMap::new(sheet.alloc),
+    })
+}
+
+impl Held {
+    /// Permits peers from a moment on.
+    fn permit(&mut self, moment: u64, peers: &[Addr]) -> Result<(), AllocError> {
+        for peer in peers {
+            self.permissions
+                .insert(peer.ip, moment.saturating_add(PERMISSION))?;
+        }
+        Ok(())
+    }
+
+    /// Binds a channel from a moment on, where the request has its number and a peer.
+    fn bind(
+        &mut self,
+        moment: u64,
+        number: Option<u16>,
+        peer: Option<Addr>,
+    ) -> Result<(), AllocError> {
+        if let (Some(number), Some(peer)) = (number, peer) {
+            let until = moment.saturating_add(CHANNEL);
+            self.channels.insert(number, Bound { peer, until })?;
+        }
+        Ok(())
+    }
+}
+
+impl Released {
+    /// Whether the allocation, had it lasted, would have allowed data of a peer at a moment.
+    pub(crate) fn permits(&self, peer: Addr, moment: u64) -> bool {
+        let is_permitted = match self.held.permissions.get(&peer.ip) {
+            Some(end) => moment <= *end,
+            None => false,
+        };
+        is_permitted && moment <= self.held.until
+    }
+
+    /// The peer whose data a payload to the client carries, where a channel that it names would have been bound at a moment.
+    pub(crate) fn peer_of(&self, content: Content, moment: u64) -> Option<Addr> {
+        match content {
+            Content::Data { peer } => peer,
+            Content::Channel { number } => {
+                let bound = self.held.channels.get(&number)?;
+                if moment <= bound.until {
+                    Some(bound.peer)
+                } else {
+                    None
+                }
+            }
+            _ => None,
+        }
+    }
+}
