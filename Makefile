@@ -9,6 +9,8 @@ PREPARES = crates/turnprep/out/turnprep
 EXPLAINS = crates/turnexplain/out/turnexplain
 # The program that is installed, packed and tested. Another one is taken as it is: `make install PROGRAM=/where/it/is`.
 PROGRAM = $(PROVED)
+# Those beside it that are installed and packed with it: what `make turnprep turnexplain` has built.
+BESIDE = $(wildcard $(PREPARES) $(EXPLAINS))
 SOURCES = crates.txt $(shell find crates \( -path '*/src/*.rt' -o -path '*/specs/*.antt' -o -path '*/proofs/*.antt' \) -not -path '*/out/*')
 SECONDS = 60
 DEMO = examples/coturn-channels-two-files
@@ -35,13 +37,13 @@ $(PROVED): $(SOURCES)
 turnprep turnexplain:
 	@tools/build.py $@
 
-# Puts the program, man pages, completions and documents below PREFIX.
+# Puts the programs that are built, man pages, completions and documents below PREFIX.
 install: $(PROGRAM)
-	@tools/install.py --program '$(PROGRAM)' --prefix '$(PREFIX)' --destdir '$(DESTDIR)'
+	@tools/install.py --program '$(PROGRAM)' --beside $(BESIDE) --prefix '$(PREFIX)' --destdir '$(DESTDIR)'
 
 # Makes a Debian package of it, out/turnaudit_VERSION_ARCHITECTURE.deb.
 deb: $(PROGRAM)
-	@tools/package.py --program '$(PROGRAM)' --out '$(OUT)'
+	@tools/package.py --program '$(PROGRAM)' --beside $(BESIDE) --out '$(OUT)'
 
 # Lays out the code of every crate as the gate asks for it.
 format:
@@ -72,7 +74,7 @@ test:
 	python3 tests/skews.py $(PROGRAM)
 	python3 tests/live.py $(PROGRAM)
 	tests/no_memory.sh $(PROGRAM)
-	tests/install.sh $(PROGRAM)
+	tests/install.sh $(PROGRAM) $(PREPARES) $(EXPLAINS)
 	python3 tests/man_pages.py $(PROGRAM)
 	tests/fleet.sh $(PROGRAM)
 	python3 tests/fleet_steps.py $(PROGRAM)

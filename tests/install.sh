@@ -1,9 +1,11 @@
 #!/bin/bash
-# install.sh PROGRAM: installs the program into empty folders, once below /usr/local and once into a home folder, and makes a Debian package of it
-# twice. It asks that every file is at its place and no other one is there, that each installed program gives the verdict on a stored call, that the
+# install.sh PROGRAM TURNPREP TURNEXPLAIN: installs the programs into empty folders, once below /usr/local and once into a home folder, and makes a Debian package
+# of them twice. It asks that every file is at its place and no other one is there, that each installed program gives the verdict on a stored call, that the
 # package's has the same code, that both packages are the same, that nothing was proved for it, and that the repository's folder is as it was. What
 # lintian calls an error is a failure. Without dpkg-deb or lintian their part is left out, which is told.
 program=$(realpath "$1") || exit 1
+prepares=$(realpath "$2") || exit 1
+explains=$(realpath "$3") || exit 1
 . "$(dirname "$0")/telling.sh" || exit 1
 cd "$(dirname "$0")/.." || exit 1
 scratch=$(mktemp -d)
@@ -31,6 +33,14 @@ verdict() { # NAME PROGRAM : it gives the verdict on the stored call
     tell "$1: the verdict" "$ok"
 }
 
+beside() { # NAME FOLDER : the programs beside it start, and one of them tells that verdict, too
+    "$2/turnexplain" verdict --policy $call/policy --creds $call/creds $call/client.pcapng $call/peer.pcapng > "$scratch/answer" 2>&1
+    status=$?
+    ok=no
+    if [ "$status" = "$(cat $call/status)" ] && "$2/turnprep" --help > "$scratch/told" 2>&1; then ok=yes; fi
+    tell "$1: the programs beside it" "$ok"
+}
+
 # Whatever asks for a proof is noted.
 mkdir "$scratch/bin"
 printf '#!/bin/sh\necho "$@" >> %s\nexit 1\n' "$scratch/proved" > "$scratch/bin/rt"
@@ -40,6 +50,8 @@ tree > "$scratch/before"
 
 cat > "$scratch/wanted" << 'END'
 bin/turnaudit
+bin/turnexplain
+bin/turnprep
 share/bash-completion/completions/turnaudit
 share/doc/turnaudit/CHANGELOG.md
 share/doc/turnaudit/LICENSE
@@ -57,18 +69,19 @@ for place in "$scratch/root//usr/local" "$scratch//home folder/.local"; do
     name=${place##*//}
     before=${place%//*}
     if [ "$before" = "$scratch" ]; then
-        make -s install PROGRAM="$program" PREFIX="$before/$name" > "$scratch/told" 2>&1
+        make -s install PROGRAM="$program" BESIDE="$prepares $explains" PREFIX="$before/$name" > "$scratch/told" 2>&1
     else
-        make -s install PROGRAM="$program" DESTDIR="$before" PREFIX="/$name" > "$scratch/told" 2>&1
+        make -s install PROGRAM="$program" BESIDE="$prepares $explains" DESTDIR="$before" PREFIX="/$name" > "$scratch/told" 2>&1
     fi || { cat "$scratch/told"; tell "install in $name" no; continue; }
     files "$before/$name" > "$scratch/files"
     same "install in $name: the files" "$scratch/wanted" "$scratch/files"
     verdict "install in $name" "$before/$name/bin/turnaudit"
+    beside "install in $name" "$before/$name/bin"
 done
 
 if command -v dpkg-deb > /dev/null; then
     for number in 1 2; do
-        make -s deb PROGRAM="$program" OUT="$scratch/$number" > "$scratch/told" 2>&1 || cat "$scratch/told"
+        make -s deb PROGRAM="$program" BESIDE="$prepares $explains" OUT="$scratch/$number" > "$scratch/told" 2>&1 || cat "$scratch/told"
     done
     package=$(echo "$scratch"/1/turnaudit_*.deb)
     ok=no
@@ -81,6 +94,7 @@ if command -v dpkg-deb > /dev/null; then
     files "$scratch/unpacked/usr" > "$scratch/files"
     same "the package: the files" "$scratch/of_package" "$scratch/files"
     verdict "the package" "$scratch/unpacked/usr/bin/turnaudit"
+    beside "the package" "$scratch/unpacked/usr/bin"
     objcopy -O binary --only-section=.text "$program" "$scratch/code"
     objcopy -O binary --only-section=.text "$scratch/unpacked/usr/bin/turnaudit" "$scratch/packed_code"
     ok=no

@@ -1,7 +1,8 @@
 #!/usr/bin/env python3
-"""Installs turnaudit: the program, its man pages, its completions and its documents.
+"""Installs turnaudit: the program and those beside it, its man pages, its completions and its documents.
 
-    tools/install.py --program FILE [--prefix /usr/local] [--destdir FOLDER] [--zsh share/zsh/site-functions] [--compressed] [--strip]
+    tools/install.py --program FILE [--beside FILE..] [--prefix /usr/local] [--destdir FOLDER] [--zsh share/zsh/site-functions]
+                     [--compressed] [--strip]
 
 Everything lies below DESTDIR and the prefix: bin, share/man, share/bash-completion/completions, the folder of zsh's functions,
 share/fish/vendor_completions.d and share/doc/turnaudit. Nothing is proved or built here. With --compressed the man pages are as Debian's
@@ -55,14 +56,20 @@ def put_documents(share):
         put(TOP / name, folder / name)
 
 
-def install(program, root, zsh=ZSH, packed=False, strip=False):
-    """Installs below a folder, which stands for the prefix."""
+def put_program(program, place, strip):
     with tempfile.TemporaryDirectory(prefix="install-") as room:
-        copy = Path(room) / "turnaudit"
+        copy = Path(room) / place.name
         shutil.copyfile(program, copy)
         if strip:
             subprocess.run(["strip", "--strip-unneeded", "--remove-section=.comment", "--remove-section=.note", copy], check=True)
-        put(copy, root / "bin" / "turnaudit", 0o755)
+        put(copy, place, 0o755)
+
+
+def install(program, beside, root, zsh=ZSH, packed=False, strip=False):
+    """Installs below a folder, which stands for the prefix. Programs beside it keep the names of their files."""
+    put_program(program, root / "bin" / "turnaudit", strip)
+    for other in beside:
+        put_program(other, root / "bin" / other.name, strip)
     share = root / "share"
     put_man_pages(share, packed)
     put(TOP / "completions" / "turnaudit.bash", share / "bash-completion" / "completions" / "turnaudit")
@@ -74,6 +81,7 @@ def install(program, root, zsh=ZSH, packed=False, strip=False):
 def main():
     words = argparse.ArgumentParser(description="Installs turnaudit, which is built already.")
     words.add_argument("--program", type=Path, required=True)
+    words.add_argument("--beside", type=Path, nargs="*", default=[], help="turnprep and turnexplain, where they are built")
     words.add_argument("--prefix", default="/usr/local")
     words.add_argument("--destdir", default="")
     words.add_argument("--zsh", default=ZSH, help="where below the prefix zsh's functions are")
@@ -84,7 +92,7 @@ def main():
         words.error("the prefix has to begin with /")
     if not asked.program.is_file():
         sys.exit(f"there is no program {asked.program}: `make turnaudit` proves and builds it")
-    install(asked.program, Path(asked.destdir + asked.prefix), asked.zsh, asked.compressed, asked.strip)
+    install(asked.program, asked.beside, Path(asked.destdir + asked.prefix), asked.zsh, asked.compressed, asked.strip)
 
 
 if __name__ == "__main__":

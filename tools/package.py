@@ -1,7 +1,7 @@
 #!/usr/bin/env python3
 """Makes a Debian package of a turnaudit that is built already, and prints its name.
 
-    tools/package.py --program FILE [--out out]
+    tools/package.py --program FILE [--beside FILE..] [--out out]
 
 It takes dpkg-deb. What the package depends on is told by dpkg-shlibdeps, or, where that is missing, by the versions of the C library that
 objdump finds in the program. DEBFULLNAME and DEBEMAIL name the maintainer, as in Debian's own tools. The times in the package are those of
@@ -36,7 +36,10 @@ LONG = """\
  a client without an allocation and a permission or channel: "conforming", or
  "not shown" with the first rule that is broken and the datagram that shows it.
  .
- It judges UDP over IPv4, and long-term credentials by MD5 or SHA-256."""
+ It judges UDP over IPv4, and long-term credentials by MD5 or SHA-256.
+ .
+ turnprep makes captures of relays in use ready for it, and turnexplain tells
+ what a verdict means."""
 
 
 def maintainer():
@@ -54,25 +57,25 @@ def said_by(*words, **others):
     return subprocess.run(words, check=True, capture_output=True, text=True, **others).stdout.strip()
 
 
-def depends_by_shlibdeps(program):
+def depends_by_shlibdeps(programs):
     with tempfile.TemporaryDirectory(prefix="package-") as room:
         (Path(room) / "debian").mkdir()
         (Path(room) / "debian" / "control").write_text("Source: turnaudit\n\nPackage: turnaudit\nArchitecture: any\n")
-        return said_by("dpkg-shlibdeps", "-O", f"-e{program}", cwd=room).removeprefix("shlibs:Depends=")
+        return said_by("dpkg-shlibdeps", "-O", *(f"-e{program}" for program in programs), cwd=room).removeprefix("shlibs:Depends=")
 
 
-def depends_by_objdump(program):
+def depends_by_objdump(programs):
     """The packages of the libraries that are needed, libc6 from the newest version of its symbols on."""
-    told = said_by("objdump", "-p", program)
+    told = "\n".join(said_by("objdump", "-p", program) for program in programs)
     needed = {PACKAGES.get(name) or sys.exit(f"no package is known of {name}: install dpkg-dev") for name in re.findall(r"NEEDED\s+(\S+)", told)}
     versions = [tuple(int(part) for part in version.split(".")) for version in re.findall(r"GLIBC_([\d.]+)", told)]
     newest = f" (>= {'.'.join(map(str, max(versions)[:2]))})" if versions else ""
     return ", ".join(sorted(name + newest if name == "libc6" else name for name in needed))
 
 
-def depends(program):
+def depends(programs):
     tell = depends_by_shlibdeps if shutil.which("dpkg-shlibdeps") else depends_by_objdump
-    return tell(program.resolve())
+    return tell([program.resolve() for program in programs])
 
 
 def control(version, architecture, needs, size):
@@ -129,17 +132,17 @@ def settle(root):
         os.utime(place, (moment(), moment()))
 
 
-def make(program, out):
+def make(program, beside, out):
     """Makes the package, and returns where it is."""
     version = f"{man_pages.release()[0]}-{REVISION}"
     architecture = said_by("dpkg", "--print-architecture")
     with tempfile.TemporaryDirectory(prefix="package-") as room:
         root = Path(room) / "turnaudit"
         with contextlib.redirect_stdout(None):
-            install.install(program, root / "usr", "share/zsh/vendor-completions", packed=True, strip=True)
+            install.install(program, beside, root / "usr", "share/zsh/vendor-completions", packed=True, strip=True)
         put_debian_files(root, version)
         size = sum((file.stat().st_size + 1023) // 1024 for file in root.rglob("*") if file.is_file())
-        put_control(root, control(version, architecture, depends(program), size))
+        put_control(root, control(version, architecture, depends([program, *beside]), size))
         settle(root)
         out.mkdir(parents=True, exist_ok=True)
         package = out / f"turnaudit_{version}_{architecture}.deb"
@@ -151,6 +154,7 @@ def make(program, out):
 def main():
     words = argparse.ArgumentParser(description="Makes a Debian package of turnaudit, which is built already.")
     words.add_argument("--program", type=Path, required=True)
+    words.add_argument("--beside", type=Path, nargs="*", default=[], help="turnprep and turnexplain, where they are built")
     words.add_argument("--out", type=Path, default=man_pages.TOP / "out")
     asked = words.parse_args()
     if not asked.program.is_file():
@@ -158,7 +162,7 @@ def main():
     missing = [name for name in ("dpkg", "dpkg-deb", "strip", "objdump") if not shutil.which(name)]
     if missing:
         sys.exit(f"a package takes {', '.join(missing)}: apt-get install dpkg binutils")
-    print(make(asked.program, asked.out))
+    print(make(asked.program, asked.beside, asked.out))
 
 
 if __name__ == "__main__":
