@@ -75,7 +75,7 @@ test:
 	python3 tests/live.py $(PROGRAM)
 	tests/no_memory.sh $(PROGRAM)
 	tests/install.sh $(PROGRAM) $(PREPARES) $(EXPLAINS)
-	python3 tests/man_pages.py $(PROGRAM)
+	python3 tests/man_pages.py $(PROGRAM) $(PREPARES) $(EXPLAINS)
 	tests/fleet.sh $(PROGRAM)
 	python3 tests/fleet_steps.py $(PROGRAM)
 	python3 tests/fuzz.py $(PROGRAM) --seconds 20 --seed 1 examples/*

@@ -59,6 +59,8 @@ share/doc/turnaudit/README.md
 share/doc/turnaudit/docs/..
 share/fish/vendor_completions.d/turnaudit.fish
 share/man/man1/turnaudit.1
+share/man/man1/turnexplain.1
+share/man/man1/turnprep.1
 share/man/man5/turnaudit-certificate.5
 share/man/man5/turnaudit-policy.5
 share/man/man7/turnaudit-rules.7

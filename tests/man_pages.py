@@ -1,10 +1,10 @@
 #!/usr/bin/env python3
 """The help, the man pages and the completions name the same commands and options, and the man pages render without warnings.
 
-    python3 tests/man_pages.py PROGRAM
+    python3 tests/man_pages.py PROGRAM TURNPREP TURNEXPLAIN
 
-What PROGRAM's help says counts. It is compared with docs/man/turnaudit.1.md, and with what bash, zsh and fish offer by the files of
-completions/. turnaudit-rules(7) has to have each rule. Renderers and shells that aren't installed are left out, which is told.
+What the help of each program says counts. It is compared with its page in docs/man, and PROGRAM's with what bash, zsh and fish offer by the
+files of completions/. turnaudit-rules(7) has to have each rule. Renderers and shells that aren't installed are left out, which is told.
 """
 
 import os
@@ -98,7 +98,7 @@ def help_of(program):
     """The program's own options, its commands, and the options of each command, as help tells them."""
     own = said_by(program, "--help").stdout
     commands = {line.split()[0] for line in section_of(own, "Commands") if line.strip()}
-    statuses = {line.split()[0] for line in section_of(own, "Exit status") if line.strip()}
+    statuses = {line.split()[0] for line in section_of(own, "Exit status(?:, that of turnaudit)?") if line.strip()}
     options = {None: options_in(section_of(own, "Options"))}
     for command in commands - {"help"}:
         options[command] = options_in(section_of(said_by(program, command, "--help").stdout, "Options"))
@@ -116,19 +116,21 @@ def rows_of(blocks, title):
     return [row[0] for block in behind if isinstance(block, markdown.Table) for row in block.rows]
 
 
-def try_page(tries, commands, options, statuses):
-    """turnaudit(1) has the commands, the options of each, and the statuses of the help."""
-    blocks = man_pages.document("man/turnaudit.1.md")
-    synopsis = {}
+def try_page(tries, name, commands, options, statuses):
+    """The program's page has the commands, the options of each, and the statuses of the help."""
+    blocks = man_pages.document(f"man/{name}.1.md")
+    synopsis, command = {}, None
     for line in dict(markdown.sections(blocks, 2))["Synopsis"][0].lines:
         words = line.split()
-        if words[1] in options:
-            synopsis[words[1]] = set(OPTION.findall(line)) | {"-h", "--help"}
-    tries.same("the commands of turnaudit(1)", commands, {row.strip("`") for row in rows_of(blocks, "Commands")})
+        # A command's line may go on in the next one.
+        command = words[1] if words[0] == name else command
+        if command in options:
+            synopsis.setdefault(command, {"-h", "--help"}).update(OPTION.findall(line))
+    tries.same(f"the commands of {name}(1)", commands, {row.strip("`") for row in rows_of(blocks, "Commands")})
     for command in options.keys() - {None}:
-        tries.same(f"the synopsis of {command}", options[command], synopsis.get(command, set()))
-    tries.same("the options of turnaudit(1)", set().union(*options.values()), {name for row in rows_of(blocks, "Options") for name in OPTION.findall(row)})
-    tries.same("the statuses of turnaudit(1)", statuses, set(rows_of(blocks, "Exit status")))
+        tries.same(f"the synopsis of {name} {command}", options[command], synopsis.get(command, set()))
+    tries.same(f"the options of {name}(1)", set().union(*options.values()), {name for row in rows_of(blocks, "Options") for name in OPTION.findall(row)})
+    tries.same(f"the statuses of {name}(1)", statuses, set(rows_of(blocks, "Exit status")))
 
 
 def offered_by_bash(words):
@@ -222,12 +224,15 @@ def has_rule(text, rule):
 
 
 def main():
-    if len(sys.argv) != 2:
+    if len(sys.argv) != 4:
         sys.exit(__doc__.strip())
-    program, tries = pathlib.Path(sys.argv[1]).resolve(), Tries()
+    program, prepares, explains = (pathlib.Path(word).resolve() for word in sys.argv[1:])
+    tries = Tries()
     commands, options, statuses = help_of(program)
     tries.same("the commands of the help", set(COMMANDS) | {"help"}, commands)
-    try_page(tries, commands, options, statuses)
+    try_page(tries, "turnaudit", commands, options, statuses)
+    for name, other in (("turnprep", prepares), ("turnexplain", explains)):
+        try_page(tries, name, *help_of(other))
     for shell in SHELLS:
         if shutil.which(shell):
             try_completions(tries, shell, commands, options)

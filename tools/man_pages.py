@@ -1,9 +1,10 @@
 #!/usr/bin/env python3
 """Makes the man pages from the documents.
 
-    tools/man_pages.py FOLDER    writes turnaudit.1, turnaudit-policy.5, turnaudit-certificate.5 and turnaudit-rules.7 there
+    tools/man_pages.py FOLDER    writes turnaudit.1, turnprep.1, turnexplain.1, turnaudit-policy.5, turnaudit-certificate.5 and
+                                 turnaudit-rules.7 there
 
-turnaudit(1) is docs/man/turnaudit.1.md. The files' formats are sections of docs/FILES.md, and the rules docs/VERDICTS.md and docs/RULES.md.
+The pages of programs are those of docs/man. The files' formats are sections of docs/FILES.md, and the rules docs/VERDICTS.md and docs/RULES.md.
 A table becomes a list: the first cell of a row is the word, the others are what is said of it. The pages tell the release and date of
 CHANGELOG.md and nothing of the time and place at which they are made.
 """
@@ -48,6 +49,8 @@ class Page:
 
 PAGES = [
     Page("turnaudit", 1, "", "User commands", []),
+    Page("turnprep", 1, "", "User commands", []),
+    Page("turnexplain", 1, "", "User commands", []),
     Page("turnaudit-policy", 5, "the policy, the users and the captures that turnaudit reads", "File formats", ["turnaudit-certificate(5)"]),
     Page("turnaudit-certificate", 5, "the certificate and the report of turnaudit", "File formats", ["turnaudit-policy(5)", "turnaudit-rules(7)"]),
     Page("turnaudit-rules", 7, "the rules by which turnaudit judges, and what breaks them", "Rules", ["turnaudit-policy(5)", "turnaudit-certificate(5)"]),
@@ -235,8 +238,8 @@ def text_of(page):
     """The page as a man page's source."""
     version, date = release()
     title = f'.TH {page.name.upper()} {page.section} {date} "turnaudit {version}" "{page.manual}"'
-    if page.name == "turnaudit":
-        blocks = [block for block in document("man/turnaudit.1.md") if not (isinstance(block, Heading) and block.level == 1)]
+    if page.section == 1:
+        blocks = [block for block in document(f"man/{page.name}.1.md") if not (isinstance(block, Heading) and block.level == 1)]
         lines = roff(blocks, 2)
     else:
         related = ", ".join(f"**{name[:-3]}**{name[-3:]}" for name in ["turnaudit(1)", *page.related])
