@@ -11,6 +11,7 @@ ghost use Rattle.audit_finding.specs.Turn.{StandInside};
 use crate::finding::extension;
 use crate::turn::Turn;
 use audit_clients::Clients;
+use audit_finding::Windows;
 use audit_keys::Credentials;
 use audit_model::{Extension, Listed};
 use audit_sightings::Intake;
@@ -73,6 +74,7 @@ impl Finder {
             intake,
             credentials,
             clients: &self.clients,
+            windows: Windows::whole(),
         };
         let last = self.search.given_to;
         let portion = self.search.go(&judge, &mut self.ahead, horizon)?;

@@ -5,7 +5,7 @@ ghost use Rattle.std.specs.Prelude.{◌≡◌};
 use crate::finder::Finder;
 use crate::finding::{find, find_parallel};
 use crate::walking::{find_late, find_once};
-use audit_finding::{CertificateFinder, ExtensionFinder, FoundOnce};
+use audit_finding::{CertificateFinder, ExtensionFinder, FoundOnce, Windows};
 use audit_keys::Credentials;
 use audit_model::{Certificate, Extension};
 use audit_sightings::Intake;
@@ -40,8 +40,9 @@ impl CertificateFinder for WalkAndPasses {
         alloc: Global,
         intake: &Intake,
         credentials: &Credentials,
+        windows: Windows,
     ) -> Result<FoundOnce, AllocError> {
-        find_once(alloc, self.seed, intake, credentials)
+        find_once(alloc, self.seed, intake, credentials, windows)
     }
 
     fn find_late(

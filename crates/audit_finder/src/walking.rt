@@ -10,7 +10,7 @@ ghost use Rattle.audit_finder.specs.Departures.{LeaveOnce, IsNoted};
 
 use crate::filling::Filled;
 use crate::finding::{certificate_of, clients_in};
-use audit_finding::FoundOnce;
+use audit_finding::{FoundOnce, Windows};
 use audit_keys::Credentials;
 use audit_model::Addr;
 use audit_sightings::Intake;
@@ -32,7 +32,7 @@ fn walked(
     let alloc = judge.alloc;
     let mut filled = Filled::new(alloc, judge.intake, pairs)?;
     let mut ahead = Ahead::new(alloc);
-    ahead.begin(judge.intake)?;
+    ahead.begin(judge)?;
     search.begin(judge)?;
     let (_, sightings) = judge.intake.counts();
     // Each stretch has one at the least.
@@ -52,6 +52,7 @@ fn found_by(
     seed: RandomState,
     intake: &Intake,
     credentials: &Credentials,
+    windows: Windows,
     search: Search,
 ) -> Result<FoundOnce, AllocError>
     ensures lanes { IfOk result (λ found. map pair_of found.certificate.lanes ≡ clients_of (taken intake.now)) }
@@ -67,6 +68,7 @@ fn found_by(
         intake,
         credentials,
         clients: &clients,
+        windows,
     };
     let pairs = clients.lanes();
     let mut search = search;
@@ -85,6 +87,7 @@ pub fn find_once(
     seed: RandomState,
     intake: &Intake,
     credentials: &Credentials,
+    windows: Windows,
 ) -> Result<FoundOnce, AllocError>
     ensures lanes { IfOk result (λ found. map pair_of found.certificate.lanes ≡ clients_of (taken intake.now)) }
     ensures events { IfOk result (λ found. AllNamed (taken intake.now) found.certificate.lanes) }
@@ -93,7 +96,14 @@ pub fn find_once(
     ensures drops { IfOk result (λ found. AreThere (taken intake.now) found.certificate.drops) }
     ensures skews { IfOk result (λ found. found.certificate.skews ≡ []) }
 {
-    found_by(alloc, seed, intake, credentials, Search::new(alloc))
+    found_by(
+        alloc,
+        seed,
+        intake,
+        credentials,
+        windows,
+        Search::new(alloc),
+    )
 }
 
 /// Finds a certificate as `find_once` does, but acts on requests as their answers leave, so that leases last as long as they may.
@@ -110,5 +120,12 @@ pub fn find_late(
     ensures drops { IfOk result (λ found. AreThere (taken intake.now) found.certificate.drops) }
     ensures skews { IfOk result (λ found. found.certificate.skews ≡ []) }
 {
-    found_by(alloc, seed, intake, credentials, Search::late(alloc))
+    found_by(
+        alloc,
+        seed,
+        intake,
+        credentials,
+        Windows::whole(),
+        Search::late(alloc),
+    )
 }

@@ -7,11 +7,15 @@
 ghost use Rattle.std.specs.Prelude.{◌≡◌, None, IfOk};
 ghost use Rattle.std.specs.Thread.{IsSync};
 
+mod windows;
+
 use audit_keys::Credentials;
 use audit_model::{Certificate, Extension};
 use audit_sightings::Intake;
 use std::alloc::{AllocError, Global};
 use std::thread::Threads;
+
+pub use windows::Windows;
 
 /// What one walk over the sightings finds.
 #[derive(Drop)]
@@ -32,12 +36,13 @@ pub trait CertificateFinder {
     /// What holds of each certificate that it finds for what was captured.
     ghost finds: { Taken → Found → Type 0 };
 
-    /// Finds a certificate in the least time, by one walk over the sightings.
+    /// Finds a certificate in the least time, by one walk over the sightings that goes by so much of each window.
     fn find_once(
         &self,
         alloc: Global,
         intake: &Intake,
         credentials: &Credentials,
+        windows: Windows,
     ) -> Result<FoundOnce, AllocError>
         ensures { IfOk result (λ found. finds (taken intake.now) found.certificate) };
 

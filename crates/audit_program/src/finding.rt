@@ -8,7 +8,7 @@ ghost use Rattle.audit_program.specs.Deciding.{Decides};
 
 use crate::outlook::{Outlook, outlook_by};
 use audit_files::{Files, Workers, verdict_of};
-use audit_finding::CertificateFinder;
+use audit_finding::{CertificateFinder, Windows};
 use audit_model::{Certificate, Verdict};
 use std::alloc::{AllocError, Global};
 use std::sync::Wait;
@@ -122,7 +122,7 @@ pub fn found_either_way<R: Threads + Wait + Sync, F: CertificateFinder>(
     ensures judged { IfOk result (λ found. Judges (taken files.now.intake) (key_for files.now.users) found.certificate found.verdict) }
     ensures finds { IfOk result (λ found. F.finds (taken files.now.intake) found.certificate) }
 {
-    let once = finder.find_once(alloc, &files.intake, &files.users)?;
+    let once = finder.find_once(alloc, &files.intake, &files.users, Windows::whole())?;
     match decided(rt, alloc, finder, files, once.certificate, workers)? {
         Some(found) => Ok(found),
         None => found_at_last(rt, alloc, finder, files, workers),
@@ -139,7 +139,7 @@ pub fn certificate_for<R: Threads + Wait + Sync, F: CertificateFinder>(
 ) -> Result<Certificate, AllocError>
     ensures { IfOk result (F.finds (taken files.now.intake)) }
 {
-    let once = finder.find_once(alloc, &files.intake, &files.users)?;
+    let once = finder.find_once(alloc, &files.intake, &files.users, Windows::whole())?;
     if once.seems_conforming {
         return Ok(once.certificate);
     }

@@ -168,7 +168,8 @@ impl Search {
         if let Says::Allocated(relayed) = says {
             self.note_holder(lane, relayed)?;
             if let Some(leaves) = leaves {
-                self.allocations.remove(&(relayed, leaves.lo, answer));
+                self.allocations
+                    .remove(&(relayed, judge.first_moment(leaves), answer));
             }
         }
         let arrives = self.sighting_of(judge, number);

@@ -6,7 +6,7 @@
 use crate::heads::Heads;
 use crate::judge::Judge;
 use crate::seeing::{Seen, seen_of};
-use audit_model::{Policy, Sighting};
+use audit_model::Sighting;
 use audit_sightings::Intake;
 use std::alloc::{AllocError, Global};
 
@@ -45,13 +45,13 @@ impl Ahead {
     }
 
     /// Begins to read what the intake has gained.
-    pub fn begin(&mut self, intake: &Intake) -> Result<(), AllocError> {
-        for iface in 0..intake.interfaces() {
+    pub fn begin(&mut self, judge: &Judge<'_>) -> Result<(), AllocError> {
+        for iface in 0..judge.intake.interfaces() {
             if self.read.len() <= iface as usize {
                 self.read.push(0)?;
             }
-            if let Some(first) = self.unread(intake, iface).first() {
-                self.heads.push(first.lo, iface)?;
+            if let Some(first) = self.unread(judge.intake, iface).first() {
+                self.heads.push(judge.first_moment(first), iface)?;
             }
         }
         Ok(())
@@ -60,7 +60,7 @@ impl Ahead {
     /// Reads the next sightings: so many of the interface that has the first of them, and of all what begins before the last of these, or soon
     /// behind the first. None where all are read.
     pub fn next(&mut self, judge: &Judge<'_>) -> Result<Option<Stretch>, AllocError> {
-        let Some(until) = self.next_until(judge.intake) else {
+        let Some(until) = self.next_until(judge) else {
             return Ok(None);
         };
         let mut rows = Vec::new(self.alloc);
@@ -80,12 +80,12 @@ impl Ahead {
     }
 
     /// Up to which moment the next sightings are read.
-    fn next_until(&self, intake: &Intake) -> Option<u64> {
+    fn next_until(&self, judge: &Judge<'_>) -> Option<u64> {
         let (first, iface) = self.heads.first()?;
-        let unread = self.unread(intake, iface);
+        let unread = self.unread(judge.intake, iface);
         let some = unread.get(..AT_ONCE).unwrap_or(unread);
-        let last = some.last()?.lo;
-        Some(last.max(first.saturating_add(look_ahead(intake.policy()))))
+        let last = judge.first_moment(some.last()?);
+        Some(last.max(first.saturating_add(look_ahead(judge))))
     }
 
     /// Reads the sightings of an interface that begin up to a moment, and queues it by the next one.
@@ -96,12 +96,14 @@ impl Ahead {
         until: u64,
     ) -> Result<Vec<Seen>, AllocError> {
         let unread = self.unread(judge.intake, iface);
-        let count = match unread.iter().position(|sighting| sighting.lo > until) {
+        let count = match unread
+            .iter()
+            .position(|sighting| judge.first_moment(sighting) > until) {
             Some(count) => count,
             None => unread.len(),
         };
         if let Some(behind) = unread.get(count) {
-            self.heads.push(behind.lo, iface)?;
+            self.heads.push(judge.first_moment(behind), iface)?;
         }
         if let Some(read) = self.read.get_mut(iface as usize) {
             *read = read.saturating_add(count);
@@ -123,14 +125,9 @@ fn all_seen(
     Ok(seen)
 }
 
-/// How wide the widest window is.
-fn widest(policy: &Policy) -> u64 {
-    let own = policy.skews.as_slice().iter().map(|own| own.skew);
-    own.fold(policy.skew, |widest, skew| widest.max(skew))
-        .saturating_mul(2)
-}
-
 /// For how long ahead of a moment sightings are read.
-pub(crate) fn look_ahead(policy: &Policy) -> u64 {
-    policy.hold.min(LONGEST).saturating_add(widest(policy))
+pub(crate) fn look_ahead(judge: &Judge<'_>) -> u64 {
+    let policy = judge.intake.policy();
+    let windows = judge.windows.widest(policy);
+    policy.hold.min(LONGEST).saturating_add(windows)
 }

@@ -1,6 +1,7 @@
 //! The successes and errors that leave.
 
 use crate::causes::Cause;
+use crate::judge::Judge;
 use crate::numbers::{AnswerNumber, ArrivalNumber};
 use crate::queues::Queues;
 use crate::said::Says;
@@ -60,6 +61,7 @@ impl Answers {
     /// Adds the answer to a request, or one to a request of that transaction that isn't known yet, and gives its number.
     pub fn add(
         &mut self,
+        judge: &Judge<'_>,
         sighting: &Sighting,
         says: Says,
         arrival: Option<ArrivalNumber>,
@@ -82,7 +84,8 @@ impl Answers {
             None
         };
         let number = AnswerNumber(self.queues.add(digest)?);
-        self.queues.wait_until(number.0, sighting.hi);
+        self.queues
+            .wait_until(number.0, judge.last_moment(sighting));
         if let Some(before) = before {
             if let Some(before) = self.get_mut(before) {
                 before.behind = Some(number);

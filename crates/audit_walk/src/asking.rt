@@ -24,7 +24,7 @@ impl Search {
         let key = self.clock.tick();
         // The next key is for an act at the arrival that is only found later.
         let _spare = self.clock.tick();
-        if key.moment > sighting.hi {
+        if key.moment > judge.last_moment(sighting) {
             self.doubt();
         }
         let mut lane = None;
@@ -35,7 +35,7 @@ impl Search {
         let hold = judge.intake.policy().hold;
         self.arrivals
             .wait_until(number, key.moment.saturating_add(hold));
-        self.undecided.push(number)?;
+        self.undecided.push_back(number)?;
         self.wake(number)?;
         match lane {
             Some(lane) => self.place_of_client(judge, lane, number, sighting),
@@ -179,7 +179,7 @@ impl Search {
         };
         let answer = self.first_behind(judge, &of)?;
         let leaves = self.departure(judge, answer)?;
-        if leaves.lo > latest_answer(&self.clock, judge) {
+        if judge.first_moment(leaves) > latest_answer(&self.clock, judge) {
             return None;
         }
         self.answers.skip(&of);
@@ -192,7 +192,7 @@ impl Search {
     fn first_behind(&mut self, judge: &Judge<'_>, of: &Transaction) -> Option<AnswerNumber> {
         for _ in 0..crate::leaving::CANDIDATES {
             let answer = self.answers.first(of)?;
-            if self.departure(judge, answer)?.hi >= self.clock.moment() {
+            if judge.last_moment(self.departure(judge, answer)?) >= self.clock.moment() {
                 return Some(answer);
             }
             self.answers.skip(of);

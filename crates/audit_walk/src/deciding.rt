@@ -8,14 +8,28 @@ use audit_sightings::Intake;
 use std::alloc::AllocError;
 
 impl Search {
-    /// Gives the arrivals that nothing answered their events. At the end of all captures they are dropped; before it, a
+    /// Gives the arrivals up to the horizon that nothing answered their events. At the end of all captures they are dropped; before it, a
     /// client's stand in its lane, since they may still be answered.
     pub(crate) fn decide(&mut self, judge: &Judge<'_>, horizon: u64) -> Result<(), AllocError> {
-        let undecided = std::mem::replace(&mut self.undecided, Vec::new(self.alloc));
-        for number in undecided {
+        for _ in 0..self.undecided.len() {
+            let Some(number) = self.undecided.front().copied() else {
+                break;
+            };
+            if self.is_past(number, horizon) {
+                break;
+            }
+            let _decided = self.undecided.pop_front();
             self.decide_arrival(judge.intake, horizon == u64::MAX, number)?;
         }
         Ok(())
+    }
+
+    /// Whether an arrival stands past the horizon.
+    fn is_past(&self, number: ArrivalNumber, horizon: u64) -> bool {
+        match self.arrivals.get(number).and_then(|arrival| arrival.key) {
+            Some(key) => key.moment > horizon,
+            None => false,
+        }
     }
 
     fn decide_arrival(

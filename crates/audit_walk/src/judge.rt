@@ -4,6 +4,7 @@ ghost use Rattle.std.specs.Prelude.{◌≡◌, option_map};
 ghost use Rattle.audit_clients.specs.Clients.{lane_in};
 
 use audit_clients::Clients;
+use audit_finding::Windows;
 use audit_keys::Credentials;
 use audit_model::{Addr, At, Key, Sighting};
 use audit_rules::{ActFault, CredRow, LaneTable, act};
@@ -18,9 +19,20 @@ pub struct Judge<'a> {
     pub intake: &'a Intake,
     pub credentials: &'a Credentials,
     pub clients: &'a Clients,
+    pub windows: Windows,
 }
 
 impl<'a> Judge<'a> {
+    /// The first moment at which a datagram may stand.
+    pub(crate) fn first_moment(&self, sighting: &Sighting) -> u64 {
+        self.windows.first(sighting)
+    }
+
+    /// The last moment at which a datagram may stand.
+    pub(crate) fn last_moment(&self, sighting: &Sighting) -> u64 {
+        self.windows.last(sighting)
+    }
+
     /// The lane of a client at a listen address, if it has one.
     pub fn lane_of(&self, client: Addr, listen: Addr) -> Option<LaneNumber>
         ensures { option_map (λ lane. lane.0) result ≡ lane_in self.now.clients.now.pairs (client, listen) }

@@ -53,17 +53,18 @@ impl Search {
         if !self.may_leave(judge, answer) {
             self.doubt();
         }
-        self.leave(lane, leaves)
+        self.leave(judge, lane, leaves)
     }
 
     /// Writes that a datagram leaves.
     pub(crate) fn leave(
         &mut self,
+        judge: &Judge<'_>,
         lane: LaneNumber,
         leaves: &Sighting,
     ) -> Result<Option<Wait>, AllocError> {
         let key = self.clock.tick();
-        if key.moment > leaves.hi {
+        if key.moment > judge.last_moment(leaves) {
             self.doubt();
         }
         let sight = leaves.id;
@@ -93,7 +94,9 @@ impl Search {
         match self.arrivals.get(number) {
             Some(arrival) if arrival.key.is_none() => {
                 match judge.intake.sighting(arrival.sight) {
-                    Some(sighting) => sighting.lo <= self.latest && self.has_time(),
+                    Some(sighting) => {
+                        judge.first_moment(sighting) <= self.latest && self.has_time()
+                    }
                     None => false,
                 }
             }
@@ -183,14 +186,14 @@ impl Search {
 /// The latest moment of a departure: that of its window, or of the window of one that is close behind it on its interface.
 pub(crate) fn latest(judge: &Judge<'_>, leaves: &Sighting) -> u64 {
     let SightId { iface, index } = leaves.id;
-    let mut moment = leaves.hi;
+    let mut moment = judge.last_moment(leaves);
     for behind in 1..=LOOKED_AHEAD {
         let next = SightId {
             iface,
             index: index.saturating_add(behind),
         };
         if let Some(next) = judge.intake.sighting(next) {
-            moment = moment.min(next.hi);
+            moment = moment.min(judge.last_moment(next));
         }
     }
     moment

@@ -52,7 +52,7 @@ impl Search {
             match self.choose(judge, asked, leaves)? {
                 Choice::Acts(lane, number, key) => {
                     self.write_act(judge, lane, number, leaves.id, key)?;
-                    return self.leave(lane, leaves);
+                    return self.leave(judge, lane, leaves);
                 }
                 Choice::Waits(number, _) => return Ok(Some(Wait::Arrival(number))),
                 Choice::None => {}
@@ -73,7 +73,7 @@ impl Search {
             },
             None => return Ok(None),
         };
-        self.leave(lane, leaves)
+        self.leave(judge, lane, leaves)
     }
 
     fn choose(
@@ -112,7 +112,7 @@ impl Search {
                 return Ok(Choice::None);
             };
             if self.may_come(judge, number) {
-                return Ok(Choice::Waits(number, arrives.lo));
+                return Ok(Choice::Waits(number, judge.first_moment(arrives)));
             }
             if !self.count_try(arrives, leaves) {
                 return Ok(Choice::None);

@@ -87,24 +87,27 @@ impl Search {
         says: Says,
         of: Transaction,
     ) -> Result<AnswerNumber, AllocError> {
+        let first = judge.first_moment(sighting);
         let request = self.request_before(judge, sighting, of);
         let before = match self.lanes.get(of.lane.index()) {
             Some(lane) => lane.noted,
             None => None,
         };
-        let answer = self.answers.add(sighting, says, request, before, of)?;
+        let answer = self
+            .answers
+            .add(judge, sighting, says, request, before, of)?;
         if let Some(lane) = self.lanes.get_mut(of.lane.index()) {
             lane.noted = Some(answer);
             match says {
                 Says::Allocated(relayed) => {
                     lane.noted_allocation = Some(answer);
-                    self.allocations.insert((relayed, sighting.lo, answer))?;
+                    self.allocations.insert((relayed, first, answer))?;
                 }
                 Says::Deleted => {
                     if let Some(allocation) = lane.noted_allocation {
                         lane.noted_allocation = None;
                         if let Some(allocation) = self.answers.get_mut(allocation) {
-                            allocation.deleted_from = Some(sighting.lo);
+                            allocation.deleted_from = Some(first);
                         }
                     }
                 }
@@ -134,7 +137,8 @@ impl Search {
             return None;
         }
         let request = judge.intake.sighting(arrival.sight)?;
-        if answer.lo > request.lo.saturating_add(judge.intake.policy().hold) {
+        let hold = judge.intake.policy().hold;
+        if judge.first_moment(answer) > judge.first_moment(request).saturating_add(hold) {
             return None;
         }
         Some(number)

@@ -2,7 +2,7 @@
 
 ghost use Rattle.std.specs.Prelude.{◌≡◌, OnOk};
 
-use crate::ahead::Ahead;
+use crate::ahead::{Ahead, look_ahead};
 use crate::answers::Answers;
 use crate::arrivals::Arrivals;
 use crate::clock::Clock;
@@ -13,10 +13,10 @@ use crate::leaving::{CANDIDATES, latest};
 use crate::numbers::{AnswerNumber, ArrivalNumber};
 use crate::portion::Portion;
 use crate::rows::{Role, Row};
-use audit_model::Addr;
+use audit_model::{Addr, Event, Key};
 use audit_seen::LaneNumber;
 use std::alloc::{AllocError, Global};
-use std::collections::{BTreeMap, BTreeSet};
+use std::collections::{BTreeMap, BTreeSet, VecDeque};
 
 /// The lanes whose allocations had a relayed address: the last one, and another one before that.
 #[derive(Clone, Copy)]
@@ -43,8 +43,8 @@ pub struct Search {
     pub(crate) allocations: BTreeSet<(Addr, u64, AnswerNumber)>,
     /// Whose each relayed address is.
     pub(crate) holders: BTreeMap<Addr, Holders>,
-    /// Arrivals that have a key, and no event yet.
-    pub(crate) undecided: Vec<ArrivalNumber>,
+    /// Arrivals that have a key, and whose events may not be given yet, in the order of their keys.
+    pub(crate) undecided: VecDeque<ArrivalNumber>,
     /// The last data of a client that arrived, of all lanes.
     pub(crate) last_sent: Option<ArrivalNumber>,
     pub(crate) clock: Clock,
@@ -52,6 +52,8 @@ pub struct Search {
     pub(crate) latest: u64,
     /// The events that weren't taken out yet.
     pub(crate) portion: Portion,
+    /// The events past the last horizon that were found before it was reached, by key and lane.
+    pub(crate) later: BTreeMap<(Key, LaneNumber), Event>,
     /// Whether the server kept to its rules in all that was placed, as far as the walk can tell.
     pub seems_conforming: bool,
     /// Whether requests are acted on as their answers leave, and not as they arrive.
@@ -77,11 +79,12 @@ impl Search {
             expecting: Vec::new(alloc),
             allocations: BTreeSet::new(alloc),
             holders: BTreeMap::new(alloc),
-            undecided: Vec::new(alloc),
+            undecided: VecDeque::new(alloc),
             last_sent: None,
             clock: Clock::new(),
             latest: 0,
             portion: Portion::new(alloc),
+            later: BTreeMap::new(alloc),
             seems_conforming: true,
             is_late: false,
             given_to: None,
@@ -99,7 +102,9 @@ impl Search {
         search
     }
 
-    /// Places the sightings that are new, and those that were left, up to the horizon, and gives their events in the order of their keys.
+    /// Gives the events of the sightings that are new, and of those that were left, up to the horizon, in the order of their keys.
+    ///
+    /// Sightings are placed some way past the horizon, so that what leaves soon behind it may still be given by an act before it.
     pub fn go(
         &mut self,
         judge: &Judge<'_>,
@@ -111,12 +116,10 @@ impl Search {
         if let Some(given_to) = self.given_to {
             self.clock.reach(given_to.saturating_add(1));
         }
-        self.walk(judge, ahead, horizon)?;
+        self.walk(judge, ahead, placed_until(judge, horizon))?;
         self.decide(judge, horizon)?;
-        let mut portion = self.take_portion();
-        portion.sort();
         self.given_to = Some(horizon);
-        Ok(portion)
+        self.take_until(horizon)
     }
 
     /// Notes that a rule may be broken, whatever is found behind it.
@@ -127,6 +130,31 @@ impl Search {
     /// Takes out the events that were found since the last call.
     pub(crate) fn take_portion(&mut self) -> Portion {
         std::mem::replace(&mut self.portion, Portion::new(self.alloc))
+    }
+
+    /// Takes out the events up to the horizon, in the order of their keys. Each is kept till then in logarithmic time.
+    fn take_until(&mut self, horizon: u64) -> Result<Portion, AllocError> {
+        let found = self.take_portion();
+        let mut portion = Portion::new(self.alloc);
+        portion.drops = found.drops;
+        for (lane, event) in found.events {
+            if event.key().moment <= horizon {
+                portion.events.push((lane, event))?;
+            } else {
+                self.later.insert((event.key(), LaneNumber(lane)), event)?;
+            }
+        }
+        for _ in 0..self.later.len() {
+            match self.later.first_key_value() {
+                Some(((key, _), _)) if key.moment <= horizon => {}
+                _ => break,
+            }
+            if let Some(((_, lane), event)) = self.later.pop_first() {
+                portion.push(lane, event)?;
+            }
+        }
+        portion.sort();
+        Ok(portion)
     }
 
     /// Places sightings, the least moment first, up to the horizon.
@@ -178,9 +206,17 @@ impl Search {
                 if let Some(row) = self.rows.get_mut(iface as usize) {
                     row.advance();
                 }
-                self.queue_row(judge.intake, iface)?;
+                self.queue_row(judge, iface)?;
                 self.wake_expecting()
             }
         }
     }
+}
+
+/// Up to which moment sightings are placed where events are given up to a horizon. All that may leave by `hold` behind it is captured by then but
+/// for what the windows hide, and half of that is left to captures whose datagrams aren't in the order of their moments.
+fn placed_until(judge: &Judge<'_>, horizon: u64) -> u64 {
+    let policy = judge.intake.policy();
+    let known = policy.hold.saturating_sub(look_ahead(judge));
+    horizon.saturating_add(known.min(policy.hold / 2))
 }

@@ -1,15 +1,15 @@
 //! Interfaces that are queued by their next sightings, and those whose next departures wait.
 
+use crate::judge::Judge;
 use crate::leaving::CANDIDATES;
 use crate::numbers::ArrivalNumber;
 use crate::rows::Wait;
 use crate::search::Search;
-use audit_sightings::Intake;
 use std::alloc::AllocError;
 
 impl Search {
     /// Queues an interface by the least moment of its next sighting; now, where that waited.
-    pub(crate) fn queue_row(&mut self, intake: &Intake, iface: u32) -> Result<(), AllocError> {
+    pub(crate) fn queue_row(&mut self, judge: &Judge<'_>, iface: u32) -> Result<(), AllocError> {
         let Some(row) = self.rows.get(iface as usize) else {
             return Ok(());
         };
@@ -19,16 +19,16 @@ impl Search {
         let Some((sight, _)) = row.next(iface) else {
             return Ok(());
         };
-        let Some(sighting) = intake.sighting(sight) else {
+        let Some(sighting) = judge.intake.sighting(sight) else {
             return Ok(());
         };
-        self.queue(iface, sighting.lo)
+        self.queue(iface, judge.first_moment(sighting))
     }
 
     /// Queues an interface that isn't queued, by the least moment of its next sighting.
-    pub(crate) fn queue_unqueued(&mut self, intake: &Intake, iface: u32) -> Result<(), AllocError> {
+    pub(crate) fn queue_unqueued(&mut self, judge: &Judge<'_>, iface: u32) -> Result<(), AllocError> {
         match self.rows.get(iface as usize) {
-            Some(row) if row.queued.is_none() => self.queue_row(intake, iface),
+            Some(row) if row.queued.is_none() => self.queue_row(judge, iface),
             _ => Ok(()),
         }
     }

@@ -17,7 +17,7 @@ impl Search {
         horizon: u64,
     ) -> Result<(), AllocError> {
         self.begin(judge)?;
-        ahead.begin(judge.intake)?;
+        ahead.begin(judge)?;
         let (_, sightings) = judge.intake.counts();
         // Each stretch has one at the least.
         for _ in 0..sightings {
@@ -34,7 +34,7 @@ impl Search {
         self.add_lanes(judge.clients)?;
         for iface in 0..judge.intake.interfaces() {
             self.add_row(iface)?;
-            self.queue_row(judge.intake, iface)?;
+            self.queue_row(judge, iface)?;
         }
         Ok(())
     }
@@ -69,9 +69,9 @@ impl Search {
         }
         for (iface, row) in rows {
             self.note_row(judge, iface, row)?;
-            self.queue_unqueued(judge.intake, iface)?;
+            self.queue_unqueued(judge, iface)?;
         }
-        let placed_until = until.saturating_sub(look_ahead(judge.intake.policy()));
+        let placed_until = until.saturating_sub(look_ahead(judge));
         self.go_on(judge, horizon.min(placed_until))?;
         self.tidy(judge)
     }
