@@ -74,7 +74,7 @@ impl Finder {
             intake,
             credentials,
             clients: &self.clients,
-            windows: Windows::whole(),
+            windows: Windows::Whole,
         };
         let last = self.search.given_to;
         let portion = self.search.go(&judge, &mut self.ahead, horizon)?;

@@ -125,7 +125,7 @@ pub fn find_late(
         seed,
         intake,
         credentials,
-        Windows::whole(),
+        Windows::Whole,
         Search::late(alloc),
     )
 }

@@ -14,7 +14,6 @@ use audit_model::{Certificate, Extension};
 use audit_sightings::Intake;
 use std::alloc::{AllocError, Global};
 use std::thread::Threads;
-
 pub use windows::Windows;
 
 /// What one walk over the sightings finds.

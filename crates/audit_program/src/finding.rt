@@ -14,6 +14,9 @@ use std::alloc::{AllocError, Global};
 use std::sync::Wait;
 use std::thread::Threads;
 
+/// How wide a part of a window is at the least, in nanoseconds, so that it is worth a walk: the window of a policy that says nothing of skews.
+const LEAST_WINDOW: u64 = 1_000_000;
+
 /// A certificate that was found, and the verdict by it.
 #[derive(Drop)]
 pub struct Found {
@@ -61,6 +64,53 @@ fn found_late<R: Threads + Wait + Sync, F: CertificateFinder>(
     judged(rt, alloc, files, certificate, workers)
 }
 
+/// What a walk by a part of each window finds, if the captures conform by it.
+fn found_by_part<R: Threads + Wait + Sync, F: CertificateFinder>(
+    rt: &R,
+    alloc: Global,
+    finder: &F,
+    files: &Files,
+    windows: Windows,
+    workers: Workers,
+) -> Result<Option<Found>, AllocError>
+    ensures judged { IfOk result (λ walk. IfSome walk (λ found. Judges (taken files.now.intake) (key_for files.now.users) found.certificate found.verdict)) }
+    ensures finds { IfOk result (λ walk. IfSome walk (λ found. F.finds (taken files.now.intake) found.certificate)) }
+{
+    let once = finder.find_once(alloc, &files.intake, &files.users, windows)?;
+    if !once.seems_conforming {
+        return Ok(None);
+    }
+    let found = judged(rt, alloc, files, once.certificate, workers)?;
+    match found.verdict {
+        Verdict::Conforming { .. } => Ok(Some(found)),
+        Verdict::NotShown(_) => Ok(None),
+    }
+}
+
+/// What a walk by a part of each window finds, the widest first, if the captures conform by one. Where windows are wide, much that happened in
+/// turn stands at one moment, and a walk by all of them may take it in another order.
+fn found_by_parts<R: Threads + Wait + Sync, F: CertificateFinder>(
+    rt: &R,
+    alloc: Global,
+    finder: &F,
+    files: &Files,
+    workers: Workers,
+) -> Result<Option<Found>, AllocError>
+    ensures judged { IfOk result (λ walk. IfSome walk (λ found. Judges (taken files.now.intake) (key_for files.now.users) found.certificate found.verdict)) }
+    ensures finds { IfOk result (λ walk. IfSome walk (λ found. F.finds (taken files.now.intake) found.certificate)) }
+{
+    'parts: for windows in Windows::PARTS {
+        if windows.widest(files.intake.policy()) < LEAST_WINDOW {
+            break;
+        }
+        let found = found_by_part(rt, alloc, finder, files, windows, workers)?;
+        if found.is_some() {
+            return Ok(found);
+        }
+    }
+    Ok(None)
+}
+
 /// What is found with all that can be tried.
 fn found_at_last<R: Threads + Wait + Sync, F: CertificateFinder>(
     rt: &R,
@@ -72,6 +122,9 @@ fn found_at_last<R: Threads + Wait + Sync, F: CertificateFinder>(
     ensures judged { IfOk result (λ found. Judges (taken files.now.intake) (key_for files.now.users) found.certificate found.verdict) }
     ensures finds { IfOk result (λ found. F.finds (taken files.now.intake) found.certificate) }
 {
+    if let Some(found) = found_by_parts(rt, alloc, finder, files, workers)? {
+        return Ok(found);
+    }
     let certificate = finder.find(rt, alloc, &files.intake, &files.users, workers.count)?;
     judged(rt, alloc, files, certificate, workers)
 }
@@ -122,7 +175,7 @@ pub fn found_either_way<R: Threads + Wait + Sync, F: CertificateFinder>(
     ensures judged { IfOk result (λ found. Judges (taken files.now.intake) (key_for files.now.users) found.certificate found.verdict) }
     ensures finds { IfOk result (λ found. F.finds (taken files.now.intake) found.certificate) }
 {
-    let once = finder.find_once(alloc, &files.intake, &files.users, Windows::whole())?;
+    let once = finder.find_once(alloc, &files.intake, &files.users, Windows::Whole)?;
     match decided(rt, alloc, finder, files, once.certificate, workers)? {
         Some(found) => Ok(found),
         None => found_at_last(rt, alloc, finder, files, workers),
@@ -139,12 +192,15 @@ pub fn certificate_for<R: Threads + Wait + Sync, F: CertificateFinder>(
 ) -> Result<Certificate, AllocError>
     ensures { IfOk result (F.finds (taken files.now.intake)) }
 {
-    let once = finder.find_once(alloc, &files.intake, &files.users, Windows::whole())?;
+    let once = finder.find_once(alloc, &files.intake, &files.users, Windows::Whole)?;
     if once.seems_conforming {
         return Ok(once.certificate);
     }
     match decided(rt, alloc, finder, files, once.certificate, workers)? {
         Some(found) => Ok(found.certificate),
-        None => finder.find(rt, alloc, &files.intake, &files.users, workers.count),
+        None => match found_by_parts(rt, alloc, finder, files, workers)? {
+            Some(found) => Ok(found.certificate),
+            None => finder.find(rt, alloc, &files.intake, &files.users, workers.count),
+        },
     }
 }
