@@ -73,6 +73,7 @@ test:
 	python3 tests/sha256.py $(PROGRAM)
 	python3 tests/skews.py $(PROGRAM)
 	python3 tests/live.py $(PROGRAM)
+	python3 tests/live_beside_audit.py $(PROGRAM)
 	tests/no_memory.sh $(PROGRAM)
 	tests/install.sh $(PROGRAM) $(PREPARES) $(EXPLAINS)
 	python3 tests/man_pages.py $(PROGRAM) $(PREPARES) $(EXPLAINS)
@@ -80,7 +81,9 @@ test:
 	python3 tests/fleet_steps.py $(PROGRAM)
 	python3 tests/fuzz.py $(PROGRAM) --seconds 20 --seed 1 examples/*
 	python3 tests/random_captures.py $(PROGRAM) --count 500 --most 0
+	python3 tests/call_captures.py $(PROGRAM) --count 200 --most 0
 	python3 tests/edge_captures.py $(PROGRAM) --count 2000 --most 13
+	python3 tests/wide_skews.py $(PROGRAM)
 	python3 tests/prepare.py $(PREPARES)
 	python3 tests/prepared.py $(PREPARES) $(PROGRAM)
 	python3 tests/prepare_fails.py $(PREPARES)
