@@ -213,10 +213,10 @@ impl Search {
     }
 }
 
-/// Up to which moment sightings are placed where events are given up to a horizon. All that may leave by `hold` behind it is captured by then but
-/// for what the windows hide, and half of that is left to captures whose datagrams aren't in the order of their moments.
+/// Up to which moment sightings are placed where events are given up to a horizon: twice as far behind it as is read ahead. What leaves so much later
+/// is captured by then, but for what the windows hide; and half of that is left to captures whose datagrams aren't in the order of their moments.
 fn placed_until(judge: &Judge<'_>, horizon: u64) -> u64 {
-    let policy = judge.intake.policy();
-    let known = policy.hold.saturating_sub(look_ahead(judge));
-    horizon.saturating_add(known.min(policy.hold / 2))
+    let ahead = look_ahead(judge);
+    let known = judge.intake.policy().hold.saturating_sub(ahead);
+    horizon.saturating_add(ahead.saturating_mul(2).min(known / 2))
 }
