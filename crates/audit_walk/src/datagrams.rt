@@ -63,10 +63,10 @@ impl Datagrams {
     pub fn add_answer(
         &mut self,
         answer: Answer,
-        of: &Transaction,
+        transaction: &Transaction,
         until: u64,
     ) -> Result<AnswerNumber, AllocError> {
-        let number = self.answers.add(answer, of, until)?;
+        let number = self.answers.add(answer, transaction, until)?;
         if let Some(request) = answer.request() {
             self.arrivals.note_answer(request, number);
         }

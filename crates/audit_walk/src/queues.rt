@@ -133,7 +133,7 @@ impl Queues {
     }
 
     /// The queue of a digest, if there is one.
-    pub fn of(&self, digest: u64) -> Option<QueueNumber> {
+    pub fn queue_of(&self, digest: u64) -> Option<QueueNumber> {
         Some(QueueNumber(self.numbers.get(digest)?))
     }
 
@@ -153,7 +153,7 @@ impl Queues {
 
     /// The item that was taken out of the queue of a digest last.
     pub fn previous(&mut self, digest: u64) -> Result<Option<u32>, AllocError> {
-        let previous = match self.of(digest).and_then(|queue| self.get(queue)) {
+        let previous = match self.queue_of(digest).and_then(|queue| self.get(queue)) {
             Some(queue) => queue.previous,
             None => None,
         };

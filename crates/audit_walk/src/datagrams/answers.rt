@@ -139,12 +139,12 @@ impl Answers {
     pub fn add(
         &mut self,
         answer: Answer,
-        of: &Transaction,
+        transaction: &Transaction,
         until: u64,
     ) -> Result<AnswerNumber, AllocError> {
         self.list.push(answer)?;
         let digest = if answer.request.is_none() {
-            Some(of.digest())
+            Some(transaction.digest())
         } else {
             None
         };
@@ -245,8 +245,8 @@ impl Answers {
     }
 
     /// The first of the transaction that no request has.
-    pub fn first(&self, of: &Transaction) -> Option<AnswerNumber> {
-        let queue = self.queues.of(of.digest())?;
+    pub fn first(&self, transaction: &Transaction) -> Option<AnswerNumber> {
+        let queue = self.queues.queue_of(transaction.digest())?;
         Some(AnswerNumber::new(self.queues.first(queue)?))
     }
 
@@ -261,8 +261,8 @@ impl Answers {
     }
 
     /// Takes the first of the transaction out.
-    pub fn skip(&mut self, of: &Transaction) {
-        if let Some(queue) = self.queues.of(of.digest()) {
+    pub fn skip(&mut self, transaction: &Transaction) {
+        if let Some(queue) = self.queues.queue_of(transaction.digest()) {
             self.queues.skip(queue);
         }
     }

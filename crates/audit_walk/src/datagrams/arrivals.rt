@@ -136,7 +136,7 @@ impl Arrivals {
 
     /// Takes out those that ask for this and were acted on or came too long ago, as far as they come first, and gives the first of the others.
     pub fn skip_to_first(&mut self, cause: &Cause, earliest: u64) -> Option<ArrivalNumber> {
-        let queue = self.queues.of(cause.digest())?;
+        let queue = self.queues.queue_of(cause.digest())?;
         for _ in 0..self.list.len() {
             let first = ArrivalNumber::new(self.queues.first(queue)?);
             match self.get(first) {
@@ -171,7 +171,7 @@ impl Arrivals {
 
     /// The last that asks for this, of all that were added.
     pub fn last(&self, cause: &Cause) -> Option<ArrivalNumber> {
-        let queue = self.queues.of(cause.digest())?;
+        let queue = self.queues.queue_of(cause.digest())?;
         Some(ArrivalNumber::new(self.queues.last(queue)?))
     }
 

@@ -28,9 +28,9 @@ impl Datagrams {
         &self,
         judge: &Judge<'_>,
         answer: &Sighting,
-        of: &Transaction,
+        transaction: &Transaction,
     ) -> Option<ArrivalNumber> {
-        let number = self.arrivals.last(&of.cause())?;
+        let number = self.arrivals.last(&transaction.cause())?;
         let arrival = self.arrivals.get(number)?;
         if arrival.sight().iface != answer.id.iface || arrival.answer().is_some() {
             return None;
@@ -49,14 +49,14 @@ impl Datagrams {
         judge: &Judge<'_>,
         moment: u64,
         number: ArrivalNumber,
-        of: &Transaction,
+        transaction: &Transaction,
     ) -> Option<AnswerNumber> {
-        let answer = self.skip_to_answer(judge, moment, of)?;
+        let answer = self.skip_to_answer(judge, moment, transaction)?;
         let leaves = self.leaves(judge, answer)?;
         if judge.first_moment(leaves) > judge.latest_answer(moment) {
             return None;
         }
-        self.answers.skip(of);
+        self.answers.skip(transaction);
         self.answers.note_request(answer, number);
         self.arrivals.note_answer(number, answer);
         Some(answer)
@@ -68,14 +68,14 @@ impl Datagrams {
         &mut self,
         judge: &Judge<'_>,
         moment: u64,
-        of: &Transaction,
+        transaction: &Transaction,
     ) -> Option<AnswerNumber> {
         for _ in 0..CANDIDATES {
-            let answer = self.answers.first(of)?;
+            let answer = self.answers.first(transaction)?;
             if judge.last_moment(self.leaves(judge, answer)?) >= moment {
                 return Some(answer);
             }
-            self.answers.skip(of);
+            self.answers.skip(transaction);
         }
         None
     }
@@ -84,10 +84,10 @@ impl Datagrams {
     /// that was.
     pub fn likely_request(
         &mut self,
-        of: &Transaction,
+        transaction: &Transaction,
         earliest: u64,
     ) -> Result<Option<ArrivalNumber>, AllocError> {
-        let cause = of.cause();
+        let cause = transaction.cause();
         let first = self.arrivals.skip_to_first(&cause, earliest);
         if first.is_some() {
             return Ok(first);

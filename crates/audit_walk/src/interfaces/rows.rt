@@ -49,7 +49,7 @@ pub enum Wait {
     Next,
 }
 
-/// How often a departure waits.
+/// How often a departure is woken by whatever comes next.
 pub const WAITS: u32 = 64;
 
 /// How much may be tried for one departure: so many acts, of which each counts once more for every `UNIT` bytes of its datagrams.

@@ -99,9 +99,9 @@ impl Search {
         number: ArrivalNumber,
         sighting: &Sighting,
     ) -> Option<AnswerNumber> {
-        let of = transaction_of(lane, sighting)?;
+        let transaction = transaction_of(lane, sighting)?;
         self.datagrams
-            .reserve(judge, self.clock.moment(), number, &of)
+            .reserve(judge, self.clock.moment(), number, &transaction)
     }
 
     /// Whether an answer is best given as it leaves: the walk is late; or it leaves behind another that is kept back; or it deletes an

@@ -76,8 +76,8 @@ impl Search {
             return Ok(None);
         };
         let earliest = self.earliest(judge);
-        let of = Transaction::new(lane, id);
-        let likely = self.datagrams.likely_request(&of, earliest)?;
+        let transaction = Transaction::new(lane, id);
+        let likely = self.datagrams.likely_request(&transaction, earliest)?;
         if likely.is_some() {
             return Ok(likely);
         }

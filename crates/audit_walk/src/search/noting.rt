@@ -30,8 +30,8 @@ impl Search {
                 }
                 Role::Arrival(self.datagrams.add_arrival(sighting.id, lane, asks)?)
             }
-            Kind::Answer(of, content) => {
-                Role::Answer(self.note_answer(judge, sighting, content, &of)?)
+            Kind::Answer(transaction, content) => {
+                Role::Answer(self.note_answer(judge, sighting, content, &transaction)?)
             }
             Kind::Data(data) => Role::Data(data),
         };
@@ -53,18 +53,18 @@ impl Search {
         judge: &Judge<'_>,
         sighting: &Sighting,
         content: Content,
-        of: &Transaction,
+        transaction: &Transaction,
     ) -> Result<AnswerNumber, AllocError> {
         let first = judge.first_moment(sighting);
-        let request = self.datagrams.request_before(judge, sighting, of);
-        let before = match self.lanes.get(of.lane()) {
+        let request = self.datagrams.request_before(judge, sighting, transaction);
+        let before = match self.lanes.get(transaction.lane()) {
             Some(client) => client.last().answer(),
             None => None,
         };
-        let answer = Answer::new(sighting.id, content, of.lane(), before).to(request);
+        let answer = Answer::new(sighting.id, content, transaction.lane(), before).to(request);
         let until = judge.last_moment(sighting);
-        let number = self.datagrams.add_answer(answer, of, until)?;
-        if let Some(client) = self.lanes.get_mut(of.lane()) {
+        let number = self.datagrams.add_answer(answer, transaction, until)?;
+        if let Some(client) = self.lanes.get_mut(transaction.lane()) {
             let deleted = client.last_mut().note_answer(number, content);
             if let Some(allocation) = deleted {
                 self.datagrams.note_deletion(allocation, first);
