@@ -74,9 +74,9 @@ fn add(lanes: &mut Vec<CertLane>, lane: u32, event: Event) -> Result<(), AllocEr
 /// Lanes with the events that were added so far.
 #[derive(Drop)]
 pub(crate) struct Filled {
-    pub(crate) lanes: Vec<CertLane>,
+    lanes: Vec<CertLane>,
     /// How many events more may be added.
-    pub(crate) room: usize,
+    room: usize,
     departed: Departed,
 }
 
@@ -144,5 +144,19 @@ impl Filled {
     {
         let events = named(intake, events);
         self.distribute(events.as_slice())
+    }
+
+    /// How many events more may be added.
+    pub(crate) fn room(&self) -> usize
+        ensures { result ≡ self.now.room }
+    {
+        self.room
+    }
+
+    /// The lanes with their events.
+    pub(crate) fn into_lanes(self) -> Vec<CertLane>
+        ensures { result ≡ self.lanes }
+    {
+        self.lanes
     }
 }

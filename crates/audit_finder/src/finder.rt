@@ -69,16 +69,16 @@ impl Finder {
     {
         let known = self.clients.len();
         self.clients.take_in(self.alloc, intake)?;
-        let judge = Judge {
-            alloc: self.alloc,
+        let judge = Judge::new(
+            self.alloc,
             intake,
             credentials,
-            clients: &self.clients,
-            windows: Windows::Whole,
-        };
-        let last = self.search.given_to;
+            &self.clients,
+            Windows::Whole,
+        );
+        let last = self.search.given_to();
         let portion = self.search.go(&judge, &mut self.ahead, horizon)?;
-        let turn = Turn { last, horizon };
+        let turn = Turn::new(last, horizon);
         let lanes = self.clients.lanes_from(known);
         extension(self.alloc, intake, lanes, portion, turn)
     }

@@ -37,10 +37,11 @@ pub(crate) fn extension(
     ensures drops { IfOk result (λ found. AreThere (taken intake.now) found.drops) }
     ensures inside { IfOk result (λ found. StandInside turn.last turn.horizon found) }
 {
+    let (events, drops) = portion.into_parts();
     Ok(Extension {
         lanes: Listed::from(Vec::from_slice(alloc, lanes)?),
-        events: Listed::from(turn.events(intake, portion.events)),
-        drops: Listed::from(turn.drops(intake, portion.drops)),
+        events: Listed::from(turn.events(intake, events)),
+        drops: Listed::from(turn.drops(intake, drops)),
     })
 }
 
@@ -109,10 +110,12 @@ pub(crate) fn certificate_of(
     ensures skews { IfOk result (λ certificate. certificate.skews ≡ []) }
 {
     let mut filled = filled;
-    filled.add_all(intake, last.events)?;
-    let lanes = all_sorted(alloc, filled.lanes)?;
-    let mut drops = there(intake, last.drops);
-    drops.truncate(filled.room);
+    let (events, drops) = last.into_parts();
+    filled.add_all(intake, events)?;
+    let room = filled.room();
+    let lanes = all_sorted(alloc, filled.into_lanes())?;
+    let mut drops = there(intake, drops);
+    drops.truncate(room);
     Ok(Certificate {
         lanes: Listed::from(lanes),
         drops: Listed::from(drops),

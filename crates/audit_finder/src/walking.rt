@@ -20,6 +20,7 @@ use std::hash::RandomState;
 
 /// A lane for each pair, with the events that a walk gives but for the last ones.
 fn walked(
+    alloc: Global,
     judge: &Judge<'_>,
     pairs: &[(Addr, Addr)],
     search: &mut Search,
@@ -29,19 +30,19 @@ fn walked(
     ensures named { IfOk result (λ filled. AllNamed (taken judge.now.intake.now) filled.lanes.items) }
     ensures noted { IfOk result (λ filled. IsNoted filled.departed.rows.items filled.lanes.items) }
 {
-    let alloc = judge.alloc;
-    let mut filled = Filled::new(alloc, judge.intake, pairs)?;
+    let intake = judge.intake();
+    let mut filled = Filled::new(alloc, intake, pairs)?;
     let mut ahead = Ahead::new(alloc);
     ahead.begin(judge)?;
     search.begin(judge)?;
-    let (_, sightings) = judge.intake.counts();
+    let (_, sightings) = intake.counts();
     // Each stretch has one at the least.
     'steps: for _ in 0..sightings {
         let Some(stretch) = ahead.next(judge)? else {
             break;
         };
         let portion = search.place(judge, stretch)?;
-        filled.add_all(judge.intake, portion.events)?;
+        filled.add_all(intake, portion.into_events())?;
     }
     Ok(filled)
 }
@@ -63,20 +64,14 @@ fn found_by(
     ensures skews { IfOk result (λ found. found.certificate.skews ≡ []) }
 {
     let clients = clients_in(alloc, seed, intake)?;
-    let judge = Judge {
-        alloc,
-        intake,
-        credentials,
-        clients: &clients,
-        windows,
-    };
+    let judge = Judge::new(alloc, intake, credentials, &clients, windows);
     let pairs = clients.lanes();
     let mut search = search;
-    let filled = walked(&judge, pairs, &mut search)?;
+    let filled = walked(alloc, &judge, pairs, &mut search)?;
     let last = search.finish(&judge)?;
     Ok(FoundOnce {
         certificate: certificate_of(alloc, intake, filled, last)?,
-        seems_conforming: search.seems_conforming,
+        seems_conforming: search.seems_conforming(),
     })
 }
 

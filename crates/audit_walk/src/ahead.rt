@@ -5,7 +5,7 @@
 
 use crate::heads::Heads;
 use crate::judge::Judge;
-use crate::seeing::{Seen, seen_of};
+use crate::kinds::{Kind, kind_of};
 use audit_model::Sighting;
 use audit_sightings::Intake;
 use std::alloc::{AllocError, Global};
@@ -13,15 +13,29 @@ use std::alloc::{AllocError, Global};
 /// How many sightings of an interface are read at once: their payloads stay at hand until they are placed.
 const AT_ONCE: usize = 1_024;
 
-/// For how long ahead of a moment sightings are read, beside their windows, in nanoseconds: most requests are answered sooner.
-const LONGEST: u64 = 20_000_000;
-
 /// What the next sightings are, of all that begin up to a moment.
 #[derive(Drop)]
 pub struct Stretch {
-    pub(crate) until: u64,
+    until: u64,
     /// Interfaces, with what their next sightings are.
-    pub(crate) rows: Vec<(u32, Vec<Seen>)>,
+    rows: Vec<(u32, Vec<Kind>)>,
+}
+
+impl Stretch {
+    /// The moment up to which its sightings begin.
+    pub(crate) fn until(&self) -> u64 {
+        self.until
+    }
+
+    /// Interfaces, with what their next sightings are.
+    pub(crate) fn rows(&self) -> &[(u32, Vec<Kind>)] {
+        self.rows.as_slice()
+    }
+
+    /// The same.
+    pub(crate) fn into_rows(self) -> Vec<(u32, Vec<Kind>)> {
+        self.rows
+    }
 }
 
 /// How far the sightings were read.
@@ -46,11 +60,11 @@ impl Ahead {
 
     /// Begins to read what the intake has gained.
     pub fn begin(&mut self, judge: &Judge<'_>) -> Result<(), AllocError> {
-        for iface in 0..judge.intake.interfaces() {
+        for iface in 0..judge.intake().interfaces() {
             if self.read.len() <= iface as usize {
                 self.read.push(0)?;
             }
-            if let Some(first) = self.unread(judge.intake, iface).first() {
+            if let Some(first) = self.unread(judge.intake(), iface).first() {
                 self.heads.push(judge.first_moment(first), iface)?;
             }
         }
@@ -64,7 +78,7 @@ impl Ahead {
             return Ok(None);
         };
         let mut rows = Vec::new(self.alloc);
-        for _ in 0..judge.intake.interfaces() {
+        for _ in 0..judge.intake().interfaces() {
             let Some((_, iface)) = self.heads.pop(until) else {
                 break;
             };
@@ -82,10 +96,10 @@ impl Ahead {
     /// Up to which moment the next sightings are read.
     fn next_until(&self, judge: &Judge<'_>) -> Option<u64> {
         let (first, iface) = self.heads.first()?;
-        let unread = self.unread(judge.intake, iface);
+        let unread = self.unread(judge.intake(), iface);
         let some = unread.get(..AT_ONCE).unwrap_or(unread);
         let last = judge.first_moment(some.last()?);
-        Some(last.max(first.saturating_add(look_ahead(judge))))
+        Some(last.max(first.saturating_add(judge.look_ahead())))
     }
 
     /// Reads the sightings of an interface that begin up to a moment, and queues it by the next one.
@@ -94,11 +108,12 @@ impl Ahead {
         judge: &Judge<'_>,
         iface: u32,
         until: u64,
-    ) -> Result<Vec<Seen>, AllocError> {
-        let unread = self.unread(judge.intake, iface);
+    ) -> Result<Vec<Kind>, AllocError> {
+        let unread = self.unread(judge.intake(), iface);
         let count = match unread
             .iter()
-            .position(|sighting| judge.first_moment(sighting) > until) {
+            .position(|sighting| judge.first_moment(sighting) > until)
+        {
             Some(count) => count,
             None => unread.len(),
         };
@@ -108,26 +123,19 @@ impl Ahead {
         if let Some(read) = self.read.get_mut(iface as usize) {
             *read = read.saturating_add(count);
         }
-        all_seen(self.alloc, judge, unread.get(..count).unwrap_or(&[]))
+        all_kinds(self.alloc, judge, unread.get(..count).unwrap_or(&[]))
     }
 }
 
 /// What each sighting is.
-fn all_seen(
+fn all_kinds(
     alloc: Global,
     judge: &Judge<'_>,
     sightings: &[Sighting],
-) -> Result<Vec<Seen>, AllocError> {
-    let mut seen = Vec::with_capacity(alloc, sightings.len())?;
+) -> Result<Vec<Kind>, AllocError> {
+    let mut kinds = Vec::with_capacity(alloc, sightings.len())?;
     for sighting in sightings {
-        seen.push(seen_of(judge, sighting))?;
+        kinds.push(kind_of(judge, sighting))?;
     }
-    Ok(seen)
-}
-
-/// For how long ahead of a moment sightings are read.
-pub(crate) fn look_ahead(judge: &Judge<'_>) -> u64 {
-    let policy = judge.intake.policy();
-    let windows = judge.windows.widest(policy);
-    policy.hold.min(LONGEST).saturating_add(windows)
+    Ok(kinds)
 }

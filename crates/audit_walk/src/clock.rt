@@ -2,17 +2,23 @@
 
 use audit_model::Key;
 
-/// The last key that was given.
+/// The last key that was given, and until when the departure that is placed now can wait.
 #[derive(Clone, Copy, Debug)]
 pub struct Clock {
     moment: u64,
     /// The next tie.
     tie: u32,
+    /// The latest moment of the departure that is placed now.
+    latest: u64,
 }
 
 impl Clock {
     pub fn new() -> Clock {
-        Clock { moment: 0, tie: 0 }
+        Clock {
+            moment: 0,
+            tie: 0,
+            latest: 0,
+        }
     }
 
     /// The moment, in nanoseconds since 1970.
@@ -44,6 +50,21 @@ impl Clock {
         self.tie = self.tie.saturating_add(count);
         key
     }
+
+    /// Begins to place a departure that can wait until then.
+    pub fn begin_departure(&mut self, latest: u64) {
+        self.latest = latest;
+    }
+
+    /// The latest moment of the departure that is placed now.
+    pub fn latest(&self) -> u64 {
+        self.latest
+    }
+
+    /// Whether the departure that is placed now can still wait.
+    pub fn has_time(&self) -> bool {
+        self.moment < self.latest
+    }
 }
 
 /// The key after this one, at the same moment.
@@ -52,4 +73,9 @@ pub fn after(key: Key) -> Key {
         moment: key.moment,
         tie: key.tie.saturating_add(1),
     }
+}
+
+/// Whether events may still be given at a key, where they were given up to a horizon.
+pub fn is_open(given_to: Option<u64>, key: Key) -> bool {
+    given_to.is_none_or(|given_to| key.moment > given_to)
 }

@@ -3,10 +3,12 @@
 ghost use Rattle.std.specs.Prelude.{◌≡◌, option_map};
 ghost use Rattle.audit_clients.specs.Clients.{lane_in};
 
+mod moments;
+
 use audit_clients::Clients;
 use audit_finding::Windows;
 use audit_keys::Credentials;
-use audit_model::{Addr, At, Key, Sighting};
+use audit_model::{Addr, At, Key, Policy, SightId, Sighting};
 use audit_rules::{ActFault, CredRow, LaneTable, act};
 use audit_seen::LaneNumber;
 use audit_sightings::Intake;
@@ -15,22 +17,56 @@ use std::alloc::{AllocError, Global};
 /// What acts are judged by.
 #[derive(Clone, Copy)]
 pub struct Judge<'a> {
-    pub alloc: Global,
-    pub intake: &'a Intake,
-    pub credentials: &'a Credentials,
-    pub clients: &'a Clients,
-    pub windows: Windows,
+    alloc: Global,
+    intake: &'a Intake,
+    credentials: &'a Credentials,
+    clients: &'a Clients,
+    windows: Windows,
 }
 
 impl<'a> Judge<'a> {
-    /// The first moment at which a datagram may stand.
-    pub(crate) fn first_moment(&self, sighting: &Sighting) -> u64 {
-        self.windows.first(sighting)
+    /// Judges what was taken in of these clients, by their credentials, with so much of each window.
+    pub fn new(
+        alloc: Global,
+        intake: &'a Intake,
+        credentials: &'a Credentials,
+        clients: &'a Clients,
+        windows: Windows,
+    ) -> Judge<'a>
+        ensures intake { result.intake.now ≡ intake.now }
+        ensures clients { result.clients.now ≡ clients.now }
+    {
+        Judge {
+            alloc,
+            intake,
+            credentials,
+            clients,
+            windows,
+        }
     }
 
-    /// The last moment at which a datagram may stand.
-    pub(crate) fn last_moment(&self, sighting: &Sighting) -> u64 {
-        self.windows.last(sighting)
+    /// What was taken in.
+    pub fn intake(&self) -> &'a Intake
+        ensures { result.now ≡ self.now.intake.now }
+    {
+        self.intake
+    }
+
+    /// The clients, which have the lanes.
+    pub fn clients(&self) -> &'a Clients
+        ensures { result.now ≡ self.now.clients.now }
+    {
+        self.clients
+    }
+
+    /// The policy of the server.
+    pub(crate) fn policy(&self) -> &'a Policy {
+        self.intake.policy()
+    }
+
+    /// The sighting of a name, if it is there.
+    pub(crate) fn sighting(&self, sight: SightId) -> Option<&'a Sighting> {
+        self.intake.sighting(sight)
     }
 
     /// The lane of a client at a listen address, if it has one.

@@ -4,26 +4,52 @@ ghost use Rattle.std.specs.Prelude.{◌≡◌};
 
 /// The number of a datagram that arrives.
 #[derive(Clone, Copy, Debug, PartialEq, Eq, PartialOrd, Ord)]
-pub struct ArrivalNumber(pub u32);
+pub struct ArrivalNumber(u32);
 
 /// The number of a success or an error.
 #[derive(Clone, Copy, Debug, PartialEq, Eq, PartialOrd, Ord)]
-pub struct AnswerNumber(pub u32);
+pub struct AnswerNumber(u32);
 
 impl ArrivalNumber {
+    pub fn new(number: u32) -> ArrivalNumber
+        ensures { result.0 ≡ number }
+    {
+        ArrivalNumber(number)
+    }
+
     /// Its place among the arrivals.
     pub fn index(self) -> usize
         ensures { result ≡ self.0 }
     {
         self.0 as usize
     }
+
+    /// The number alone.
+    pub fn value(self) -> u32
+        ensures { result ≡ self.0 }
+    {
+        self.0
+    }
 }
 
 impl AnswerNumber {
+    pub fn new(number: u32) -> AnswerNumber
+        ensures { result.0 ≡ number }
+    {
+        AnswerNumber(number)
+    }
+
     /// Its place among the answers.
     pub fn index(self) -> usize
         ensures { result ≡ self.0 }
     {
         self.0 as usize
+    }
+
+    /// The number alone.
+    pub fn value(self) -> u32
+        ensures { result ≡ self.0 }
+    {
+        self.0
     }
 }

@@ -7,15 +7,21 @@ use std::alloc::{AllocError, Global};
 /// Events with the numbers of their lanes, and drops.
 #[derive(Drop)]
 pub struct Portion {
-    pub events: Vec<(u32, Event)>,
-    pub drops: Vec<CertDrop>,
+    events: Vec<(u32, Event)>,
+    drops: Vec<CertDrop>,
 }
 
 impl Portion {
+    /// No events and no drops. It takes no memory.
     pub fn new(alloc: Global) -> Portion {
+        Portion::of_drops(alloc, Vec::new(alloc))
+    }
+
+    /// These drops, and no events.
+    pub(crate) fn of_drops(alloc: Global, drops: Vec<CertDrop>) -> Portion {
         Portion {
             events: Vec::new(alloc),
-            drops: Vec::new(alloc),
+            drops,
         }
     }
 
@@ -24,11 +30,13 @@ impl Portion {
         self.events.reserve(events)
     }
 
+    /// Adds an event of a lane.
     pub fn push(&mut self, lane: LaneNumber, event: Event) -> Result<(), AllocError> {
         self.events.push((lane.0, event))?;
         Ok(())
     }
 
+    /// Adds an arrival that is dropped.
     pub fn push_drop(&mut self, sight: SightId, key: Key) -> Result<(), AllocError> {
         self.drops.push(CertDrop { sight, key })?;
         Ok(())
@@ -37,5 +45,16 @@ impl Portion {
     /// Puts the events in the order of their keys.
     pub fn sort(&mut self) {
         self.events.sort_unstable_by_key(|(_, event)| event.key());
+    }
+
+    /// The events, with the numbers of their lanes.
+    pub fn into_events(self) -> Vec<(u32, Event)> {
+        self.events
+    }
+
+    /// The events, with the numbers of their lanes, and the drops.
+    pub fn into_parts(self) -> (Vec<(u32, Event)>, Vec<CertDrop>) {
+        let Portion { events, drops } = self;
+        (events, drops)
     }
 }

@@ -18,7 +18,7 @@ struct Queue {
     first: Option<u32>,
     last: u32,
     /// The item that was taken out last.
-    past: Option<u32>,
+    previous: Option<u32>,
 }
 
 /// An item, until it is asked for no more.
@@ -109,7 +109,7 @@ impl Queues {
                 digest,
                 first: Some(number),
                 last: number,
-                past: None,
+                previous: None,
             });
         };
         if let Some(queue) = self.queues.get_mut(queue as usize) {
@@ -133,7 +133,7 @@ impl Queues {
     }
 
     /// The queue of a digest, if there is one.
-    pub fn of(&self, digest: u64) -> Option<QueueNumber> {
+    pub fn queue_of(&self, digest: u64) -> Option<QueueNumber> {
         Some(QueueNumber(self.numbers.get(digest)?))
     }
 
@@ -152,17 +152,17 @@ impl Queues {
     }
 
     /// The item that was taken out of the queue of a digest last.
-    pub fn past(&mut self, digest: u64) -> Result<Option<u32>, AllocError> {
-        let past = match self.of(digest).and_then(|queue| self.get(queue)) {
-            Some(queue) => queue.past,
+    pub fn previous(&mut self, digest: u64) -> Result<Option<u32>, AllocError> {
+        let previous = match self.queue_of(digest).and_then(|queue| self.get(queue)) {
+            Some(queue) => queue.previous,
             None => None,
         };
-        if past.is_some() {
-            return Ok(past);
+        if previous.is_some() {
+            return Ok(previous);
         }
-        let past = self.done.get(self.alloc, digest)?;
-        if past.is_some() {
-            return Ok(past);
+        let previous = self.done.get(self.alloc, digest)?;
+        if previous.is_some() {
+            return Ok(previous);
         }
         self.done_before.get(self.alloc, digest)
     }
@@ -179,7 +179,7 @@ impl Queues {
         };
         let behind = self.behind(first);
         if let Some(queue) = self.queues.get_mut(queue.0 as usize) {
-            queue.past = Some(first);
+            queue.previous = Some(first);
             queue.first = behind;
         }
     }
@@ -192,7 +192,7 @@ impl Queues {
     }
 
     /// Whether an item isn't waited for any more at a moment.
-    fn is_past(&self, number: u32, moment: u64) -> bool {
+    fn is_over(&self, number: u32, moment: u64) -> bool {
         match self.items.get(number as usize) {
             Some(item) => item.until < moment,
             None => true,
@@ -218,8 +218,8 @@ impl Queues {
         let mut queue = queue;
         for _ in 0..self.items.len() {
             match queue.first {
-                Some(first) if self.is_past(first, moment) => {
-                    queue.past = Some(first);
+                Some(first) if self.is_over(first, moment) => {
+                    queue.previous = Some(first);
                     queue.first = self.behind(first);
                 }
                 _ => break,
@@ -228,8 +228,8 @@ impl Queues {
         if queue.first.is_some() {
             return self.begin(queue);
         }
-        if let Some(past) = queue.past {
-            self.done.noted.push((queue.digest, past))?;
+        if let Some(previous) = queue.previous {
+            self.done.noted.push((queue.digest, previous))?;
         }
         Ok(())
     }

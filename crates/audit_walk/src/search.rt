@@ -2,65 +2,41 @@
 
 ghost use Rattle.std.specs.Prelude.{◌≡◌, OnOk};
 
-use crate::ahead::{Ahead, look_ahead};
-use crate::answers::Answers;
-use crate::arrivals::Arrivals;
+mod acting;
+mod asking;
+mod deciding;
+mod leaving;
+mod matching;
+mod noting;
+mod walking;
+
+use crate::ahead::Ahead;
 use crate::clock::Clock;
-use crate::heads::Heads;
+use crate::datagrams::Datagrams;
+use crate::found::Found;
+use crate::interfaces::{Interfaces, Role, WAITS};
 use crate::judge::Judge;
-use crate::lanes::FoundLane;
-use crate::leaving::{CANDIDATES, latest};
-use crate::numbers::{AnswerNumber, ArrivalNumber};
+use crate::lanes::Lanes;
 use crate::portion::Portion;
-use crate::rows::{Role, Row};
-use audit_model::{Addr, Event, Key};
-use audit_seen::LaneNumber;
 use std::alloc::{AllocError, Global};
-use std::collections::{BTreeMap, BTreeSet, VecDeque};
 
-/// The lanes whose allocations had a relayed address: the last one, and another one before that.
-#[derive(Clone, Copy)]
-pub(crate) struct Holders {
-    pub(crate) last: LaneNumber,
-    pub(crate) before: Option<LaneNumber>,
-}
-
-/// What was found so far.
+/// What was found so far, and what it takes to go on.
 #[derive(Drop)]
 pub struct Search {
-    pub(crate) lanes: Vec<FoundLane>,
-    pub(crate) rows: Vec<Row>,
-    pub(crate) arrivals: Arrivals,
-    pub(crate) answers: Answers,
-    pub(crate) heads: Heads,
-    /// When what is done was forgotten last.
-    pub(crate) renewed: u64,
-    /// Interfaces whose next departure waits for an arrival, by the arrival.
-    pub(crate) waiting: BTreeMap<ArrivalNumber, u32>,
-    /// Interfaces whose next departure waits for whatever comes next.
-    pub(crate) expecting: Vec<u32>,
-    /// Answers that make allocations and weren't given yet, by the relayed address and the least moment at which they leave.
-    pub(crate) allocations: BTreeSet<(Addr, u64, AnswerNumber)>,
-    /// Whose each relayed address is.
-    pub(crate) holders: BTreeMap<Addr, Holders>,
-    /// Arrivals that have a key, and whose events may not be given yet, in the order of their keys.
-    pub(crate) undecided: VecDeque<ArrivalNumber>,
-    /// The last data of a client that arrived, of all lanes.
-    pub(crate) last_sent: Option<ArrivalNumber>,
-    pub(crate) clock: Clock,
-    /// The latest moment of the departure that is placed now.
-    pub(crate) latest: u64,
-    /// The events that weren't taken out yet.
-    pub(crate) portion: Portion,
-    /// The events past the last horizon that were found before it was reached, by key and lane.
-    pub(crate) later: BTreeMap<(Key, LaneNumber), Event>,
-    /// Whether the server kept to its rules in all that was placed, as far as the walk can tell.
-    pub seems_conforming: bool,
+    /// How far each interface has got.
+    interfaces: Interfaces,
+    /// What came, and which answers which.
+    datagrams: Datagrams,
+    /// What each client has, and whose each relayed address is.
+    lanes: Lanes,
+    /// The events.
+    found: Found,
+    clock: Clock,
     /// Whether requests are acted on as their answers leave, and not as they arrive.
-    pub(crate) is_late: bool,
+    is_late: bool,
     /// Events are given past this moment.
-    pub given_to: Option<u64>,
-    pub(crate) alloc: Global,
+    given_to: Option<u64>,
+    alloc: Global,
 }
 
 impl Search {
@@ -69,23 +45,11 @@ impl Search {
         ensures { result.given_to ≡ None }
     {
         Search {
-            lanes: Vec::new(alloc),
-            rows: Vec::new(alloc),
-            arrivals: Arrivals::new(alloc),
-            answers: Answers::new(alloc),
-            heads: Heads::new(alloc),
-            renewed: 0,
-            waiting: BTreeMap::new(alloc),
-            expecting: Vec::new(alloc),
-            allocations: BTreeSet::new(alloc),
-            holders: BTreeMap::new(alloc),
-            undecided: VecDeque::new(alloc),
-            last_sent: None,
+            interfaces: Interfaces::new(alloc),
+            datagrams: Datagrams::new(alloc),
+            lanes: Lanes::new(alloc),
+            found: Found::new(alloc),
             clock: Clock::new(),
-            latest: 0,
-            portion: Portion::new(alloc),
-            later: BTreeMap::new(alloc),
-            seems_conforming: true,
             is_late: false,
             given_to: None,
             alloc,
@@ -102,6 +66,18 @@ impl Search {
         search
     }
 
+    /// The last horizon, past which events are given.
+    pub fn given_to(&self) -> Option<u64>
+        ensures { result ≡ self.now.given_to }
+    {
+        self.given_to
+    }
+
+    /// Whether the server kept to its rules in all that was placed, as far as the walk can tell.
+    pub fn seems_conforming(&self) -> bool {
+        self.found.seems_conforming()
+    }
+
     /// Gives the events of the sightings that are new, and of those that were left, up to the horizon, in the order of their keys.
     ///
     /// Sightings are placed some way past the horizon, so that what leaves soon behind it may still be given by an act before it.
@@ -116,56 +92,21 @@ impl Search {
         if let Some(given_to) = self.given_to {
             self.clock.reach(given_to.saturating_add(1));
         }
-        self.walk(judge, ahead, placed_until(judge, horizon))?;
+        self.walk(judge, ahead, judge.placed_until(horizon))?;
         self.decide(judge, horizon)?;
         self.given_to = Some(horizon);
-        self.take_until(horizon)
-    }
-
-    /// Notes that a rule may be broken, whatever is found behind it.
-    pub(crate) fn doubt(&mut self) {
-        self.seems_conforming = false;
-    }
-
-    /// Takes out the events that were found since the last call.
-    pub(crate) fn take_portion(&mut self) -> Portion {
-        std::mem::replace(&mut self.portion, Portion::new(self.alloc))
-    }
-
-    /// Takes out the events up to the horizon, in the order of their keys. Each is kept till then in logarithmic time.
-    fn take_until(&mut self, horizon: u64) -> Result<Portion, AllocError> {
-        let found = self.take_portion();
-        let mut portion = Portion::new(self.alloc);
-        portion.drops = found.drops;
-        for (lane, event) in found.events {
-            if event.key().moment <= horizon {
-                portion.events.push((lane, event))?;
-            } else {
-                self.later.insert((event.key(), LaneNumber(lane)), event)?;
-            }
-        }
-        for _ in 0..self.later.len() {
-            match self.later.first_key_value() {
-                Some(((key, _), _)) if key.moment <= horizon => {}
-                _ => break,
-            }
-            if let Some(((_, lane), event)) = self.later.pop_first() {
-                portion.push(lane, event)?;
-            }
-        }
-        portion.sort();
-        Ok(portion)
+        self.found.take_until(horizon)
     }
 
     /// Places sightings, the least moment first, up to the horizon.
-    pub(crate) fn go_on(&mut self, judge: &Judge<'_>, horizon: u64) -> Result<(), AllocError> {
-        let (_, sightings) = judge.intake.counts();
+    fn go_on(&mut self, judge: &Judge<'_>, horizon: u64) -> Result<(), AllocError> {
+        let (_, sightings) = judge.intake().counts();
         // Each is queued at first, and twice each time that it waits.
-        for _ in 0..(2 * CANDIDATES as u64 + 4) * (sightings as u64 + 1) {
-            let Some((moment, iface)) = self.heads.pop(horizon) else {
+        for _ in 0..(2 * WAITS as u64 + 4) * (sightings as u64 + 1) {
+            let Some((moment, iface)) = self.interfaces.pop(horizon) else {
                 return Ok(());
             };
-            if self.is_queued_at(iface, moment) {
+            if self.interfaces.is_queued_at(iface, moment) {
                 self.clock.reach(moment);
                 self.try_next(judge, iface)?;
             }
@@ -175,15 +116,10 @@ impl Search {
 
     /// Places the next sighting of an interface, or lets it wait.
     fn try_next(&mut self, judge: &Judge<'_>, iface: u32) -> Result<(), AllocError> {
-        let Some(row) = self.rows.get_mut(iface as usize) else {
+        let Some((sight, role)) = self.interfaces.start_next(iface) else {
             return Ok(());
         };
-        row.queued = None;
-        row.wait = None;
-        let Some((sight, role)) = row.next(iface) else {
-            return Ok(());
-        };
-        let Some(sighting) = judge.intake.sighting(sight) else {
+        let Some(sighting) = judge.sighting(sight) else {
             return Ok(());
         };
         let wait = match role {
@@ -192,31 +128,21 @@ impl Search {
                 None
             }
             Role::Answer(number) => {
-                self.latest = latest(judge, sighting);
+                self.clock.begin_departure(judge.latest_moment(sighting));
                 self.place_answer(judge, number, sighting)?
             }
             Role::Data(data) => {
-                self.latest = latest(judge, sighting);
+                self.clock.begin_departure(judge.latest_moment(sighting));
                 self.place_data(judge, sighting, &data)?
             }
         };
         match wait {
-            Some(wait) => self.wait(iface, wait),
+            Some(wait) => self.interfaces.wait(&self.clock, iface, wait),
             None => {
-                if let Some(row) = self.rows.get_mut(iface as usize) {
-                    row.advance();
-                }
-                self.queue_row(judge, iface)?;
-                self.wake_expecting()
+                self.interfaces.advance(iface);
+                self.interfaces.queue_next(judge, &self.clock, iface)?;
+                self.interfaces.wake_expecting(&self.clock)
             }
         }
     }
-}
-
-/// Up to which moment sightings are placed where events are given up to a horizon: twice as far behind it as is read ahead. What leaves so much later
-/// is captured by then, but for what the windows hide; and half of that is left to captures whose datagrams aren't in the order of their moments.
-fn placed_until(judge: &Judge<'_>, horizon: u64) -> u64 {
-    let ahead = look_ahead(judge);
-    let known = judge.intake.policy().hold.saturating_sub(ahead);
-    horizon.saturating_add(ahead.saturating_mul(2).min(known / 2))
 }

@@ -1,13 +1,13 @@
 //! Data that leaves, and the data that arrived for it.
 
+use super::Search;
 use crate::causes::Cause;
-use crate::clock::after;
+use crate::clock::{after, is_open};
+use crate::datagrams::CANDIDATES;
+use crate::interfaces::{Data, Wait};
 use crate::judge::Judge;
-use crate::leaving::CANDIDATES;
+use crate::lanes::Asked;
 use crate::numbers::ArrivalNumber;
-use crate::origins::Asked;
-use crate::rows::{Data, Wait};
-use crate::search::Search;
 use audit_model::{Key, Sighting};
 use audit_seen::LaneNumber;
 use std::alloc::AllocError;
@@ -41,13 +41,13 @@ impl Search {
     ///
     /// It is acted on as it leaves, so that a permission that was asked for before the data left is there; or else before the
     /// allocation was deleted, or at its arrival, before the permission ended.
-    pub(crate) fn place_data(
+    pub(super) fn place_data(
         &mut self,
         judge: &Judge<'_>,
         leaves: &Sighting,
         data: &Data,
     ) -> Result<Option<Wait>, AllocError> {
-        let asked = self.asked_by(judge, leaves, data);
+        let asked = self.lanes.asked_by(judge, leaves, data);
         if let Some(asked) = &asked {
             match self.choose(judge, asked, leaves)? {
                 Choice::Acts(lane, number, key) => {
@@ -58,22 +58,31 @@ impl Search {
                 Choice::None => {}
             }
         }
-        if self.has_time() {
+        if self.clock.has_time() {
             return Ok(Some(Wait::Next));
         }
-        self.doubt();
-        let lane = match asked.or(self.asked_by_last(judge, leaves, data.digest)) {
+        self.found.mark_suspect();
+        let lane = match asked.or(self.asked_by_last(judge, leaves, data.digest())) {
             Some(asked) => match self.likely(judge, &asked, leaves)? {
                 Some((lane, number)) => {
                     let key = self.clock.tick();
                     self.write_act(judge, lane, number, leaves.id, key)?;
                     lane
                 }
-                None => asked.lane,
+                None => asked.lane(),
             },
             None => return Ok(None),
         };
         self.leave(judge, lane, leaves)
+    }
+
+    /// What may have asked for data from an address that nobody has or had: the last client that sent data, or else the first one.
+    fn asked_by_last(&self, judge: &Judge<'_>, leaves: &Sighting, digest: u64) -> Option<Asked> {
+        if judge.policy().listens(leaves.from) {
+            return None;
+        }
+        let lane = self.datagrams.last_sender().or(self.lanes.first())?;
+        Some(self.lanes.asked_by_one(lane, leaves, digest))
     }
 
     fn choose(
@@ -83,7 +92,7 @@ impl Search {
         leaves: &Sighting,
     ) -> Result<Choice, AllocError> {
         let mut choice = Choice::None;
-        for cause in &asked.causes {
+        for cause in asked.causes() {
             if let Some((lane, cause)) = cause {
                 choice = choice.or(self.choose_of(judge, *lane, cause, leaves)?);
                 if let Choice::Acts(..) = choice {
@@ -103,15 +112,15 @@ impl Search {
         leaves: &Sighting,
     ) -> Result<Choice, AllocError> {
         let earliest = self.earliest(judge);
-        let mut next = self.arrivals.first(cause, earliest);
+        let mut next = self.datagrams.skip_to_first(cause, earliest);
         for _ in 0..CANDIDATES {
             let Some(number) = next else {
                 return Ok(Choice::None);
             };
-            let Some(arrives) = self.sighting_of(judge, number) else {
+            let Some(arrives) = self.datagrams.arrives(judge, number) else {
                 return Ok(Choice::None);
             };
-            if self.may_come(judge, number) {
+            if self.datagrams.may_come(judge, &self.clock, number) {
                 return Ok(Choice::Waits(number, judge.first_moment(arrives)));
             }
             if !self.count_try(arrives, leaves) {
@@ -120,23 +129,21 @@ impl Search {
             if let Some(key) = self.key_by(judge, lane, number, leaves)? {
                 return Ok(Choice::Acts(lane, number, key));
             }
-            next = self.arrivals.next(number);
+            next = self.datagrams.next_arrival(number);
         }
         Ok(Choice::None)
     }
 
     /// Counts an act that is tried for a departure, and tells whether it may be tried.
     fn count_try(&mut self, arrives: &Sighting, leaves: &Sighting) -> bool {
-        let is_last_moment = !self.has_time();
+        let is_last_moment = !self.clock.has_time();
         let bytes = arrives
             .payload
             .as_slice()
             .len()
             .saturating_add(leaves.payload.as_slice().len());
-        match self.rows.get_mut(leaves.id.iface as usize) {
-            Some(row) => row.count_try(is_last_moment, bytes),
-            None => false,
-        }
+        self.interfaces
+            .count_try(leaves.id.iface, is_last_moment, bytes)
     }
 
     /// The key at which the server may give the departure by that arrival.
@@ -147,53 +154,34 @@ impl Search {
         number: ArrivalNumber,
         leaves: &Sighting,
     ) -> Result<Option<Key>, AllocError> {
-        let Some(came) = self.waiting_since(number) else {
+        let Some(came) = self.datagrams.waiting_since(number) else {
             return Ok(None);
         };
-        let Some(arrives) = self.sighting_of(judge, number) else {
+        let Some(arrives) = self.datagrams.arrives(judge, number) else {
             return Ok(None);
         };
         let now = self.clock.tick();
         let given_to = self.given_to;
-        let Some(of) = self.lanes.get_mut(lane.index()) else {
+        let Some(client) = self.lanes.get_mut(lane) else {
             return Ok(None);
         };
-        if judge.relays(lane, &mut of.current.table, arrives, leaves, now)? {
+        if client.relays(judge, arrives, leaves, now)? {
             return Ok(Some(now));
         }
-        for deleted in &mut of.deleted {
-            if let Some(key) = deleted.key_behind(came) {
-                if is_open(given_to, key)
-                    && judge.relays(lane, &mut deleted.holding.table, arrives, leaves, key)?
-                {
-                    deleted.take_key();
-                    return Ok(Some(key));
-                }
-            }
+        let before = client.relay_before_deletion(judge, arrives, leaves, came, given_to)?;
+        if before.is_some() {
+            return Ok(before);
         }
         let early = after(came);
-        let was_there = match of.current.table.running() {
-            Some(tenancy) => tenancy.born.key < came,
-            None => false,
-        };
-        if was_there
+        if client.had_allocation_at(came)
             && is_open(given_to, came)
-            && judge.relays(lane, &mut of.current.table, arrives, leaves, early)?
+            && client.relays(judge, arrives, leaves, early)?
         {
             // The permission may have been given since.
-            self.doubt();
+            self.found.mark_suspect();
             return Ok(Some(early));
         }
         Ok(None)
-    }
-
-    /// The key of an arrival that wasn't acted on yet.
-    pub(crate) fn waiting_since(&self, number: ArrivalNumber) -> Option<Key> {
-        let arrival = self.arrivals.get(number)?;
-        if arrival.is_acted {
-            return None;
-        }
-        arrival.key
     }
 
     /// The arrival that a departure most likely answers although the server may not, and its lane: one that asks for it, or asked
@@ -205,14 +193,14 @@ impl Search {
         leaves: &Sighting,
     ) -> Result<Option<(LaneNumber, ArrivalNumber)>, AllocError> {
         let earliest = self.earliest(judge);
-        for cause in &asked.causes {
+        for cause in asked.causes() {
             if let Some((lane, cause)) = cause {
-                if let Some(number) = self.arrivals.first(cause, earliest) {
-                    if self.waiting_since(number).is_some() {
+                if let Some(number) = self.datagrams.skip_to_first(cause, earliest) {
+                    if self.datagrams.waiting_since(number).is_some() {
                         return Ok(Some((*lane, number)));
                     }
                 }
-                if let Some(number) = self.arrivals.past(cause, earliest)? {
+                if let Some(number) = self.datagrams.previous(cause, earliest)? {
                     return Ok(Some((*lane, number)));
                 }
             }
@@ -228,20 +216,15 @@ impl Search {
         leaves: &Sighting,
         earliest: u64,
     ) -> Option<(LaneNumber, ArrivalNumber)> {
-        let last = self.lanes.get(asked.lane.index())?.last;
-        let number = if judge.intake.policy().listens(leaves.from) {
-            last.received?
+        let last = self.lanes.get(asked.lane())?.last();
+        let number = if judge.policy().listens(leaves.from) {
+            last.received()?
         } else {
-            last.sent?
+            last.sent()?
         };
-        if self.waiting_since(number)?.moment < earliest {
+        if self.datagrams.waiting_since(number)?.moment < earliest {
             return None;
         }
-        Some((asked.lane, number))
+        Some((asked.lane(), number))
     }
-}
-
-/// Whether events may still be given at a key.
-fn is_open(given_to: Option<u64>, key: Key) -> bool {
-    given_to.is_none_or(|given_to| key.moment > given_to)
 }

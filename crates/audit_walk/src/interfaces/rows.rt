@@ -20,9 +20,24 @@ pub enum Role {
 /// Data that leaves.
 #[derive(Clone, Copy, Debug, PartialEq, Eq)]
 pub struct Data {
+    lane: Option<LaneNumber>,
+    digest: u64,
+}
+
+impl Data {
+    /// Data of that digest that leaves to a client of that lane, or to a peer.
+    pub fn new(lane: Option<LaneNumber>, digest: u64) -> Data {
+        Data { lane, digest }
+    }
+
     /// The lane of the client that is given it, if it leaves to one.
-    pub lane: Option<LaneNumber>,
-    pub digest: u64,
+    pub fn lane(&self) -> Option<LaneNumber> {
+        self.lane
+    }
+
+    pub fn digest(&self) -> u64 {
+        self.digest
+    }
 }
 
 /// What a departure waits for.
@@ -33,6 +48,9 @@ pub enum Wait {
     /// Whatever comes next on another interface.
     Next,
 }
+
+/// How often a departure is woken by whatever comes next.
+pub const WAITS: u32 = 64;
 
 /// How much may be tried for one departure: so many acts, of which each counts once more for every `UNIT` bytes of its datagrams.
 const TRIES: u32 = 64;
@@ -53,13 +71,13 @@ pub struct Row {
     /// How many of its sightings have a key.
     placed: u32,
     /// How often the next one has waited.
-    pub waits: u32,
+    waits: u32,
     /// How much was tried for the next one.
     tried: u32,
     /// The moment at which it stands among the heads.
-    pub queued: Option<u64>,
+    queued: Option<u64>,
     /// What the next one waits for.
-    pub wait: Option<Wait>,
+    wait: Option<Wait>,
 }
 
 impl Row {
@@ -73,6 +91,44 @@ impl Row {
             queued: None,
             wait: None,
         }
+    }
+
+    /// Whether it stands among the heads.
+    pub fn is_queued(&self) -> bool {
+        self.queued.is_some()
+    }
+
+    /// Whether it stands among the heads at that moment.
+    pub fn is_queued_at(&self, moment: u64) -> bool {
+        self.queued == Some(moment)
+    }
+
+    /// Notes that it stands among the heads at that moment.
+    pub fn queue_at(&mut self, moment: u64) {
+        self.queued = Some(moment);
+    }
+
+    /// Whether the next sighting waits.
+    pub fn is_waiting(&self) -> bool {
+        self.wait.is_some()
+    }
+
+    /// Whether the next sighting waits for that.
+    pub fn is_waiting_for(&self, wait: Wait) -> bool {
+        self.wait == Some(wait)
+    }
+
+    /// Lets the next sighting wait, and tells whether it is woken by whatever comes next: if it waits for that, and hasn't waited often.
+    pub fn wait_for(&mut self, wait: Wait) -> bool {
+        self.wait = Some(wait);
+        self.waits = self.waits.saturating_add(1);
+        wait == Wait::Next && self.waits < WAITS
+    }
+
+    /// Begins to place the next sighting, which is neither queued nor waits.
+    pub fn start(&mut self) {
+        self.queued = None;
+        self.wait = None;
     }
 
     /// How many sightings were noted.

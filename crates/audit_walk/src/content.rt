@@ -1,4 +1,4 @@
-//! What messages say that the finder goes by.
+//! The content of messages that the walk goes by.
 
 use audit_model::{Addr, Sighting};
 use audit_stun::numbers::attribute::{
@@ -12,7 +12,7 @@ const ALLOCATION_MISMATCH: u16 = 437;
 
 /// What a success or an error says of the allocation.
 #[derive(Clone, Copy, Debug, PartialEq, Eq)]
-pub enum Says {
+pub enum Content {
     /// There is a new allocation, of that relayed address; or the one that is there was asked for again.
     Allocated(Addr),
     /// The allocation is deleted: a success to a Refresh, of no seconds (RFC 8656, section 8.2).
@@ -25,41 +25,41 @@ pub enum Says {
     Other,
 }
 
-impl Says {
+impl Content {
     /// Whether an allocation is made or deleted.
     pub fn is_change(&self) -> bool {
-        matches!(self, Says::Allocated(_) | Says::Deleted)
+        matches!(self, Content::Allocated(_) | Content::Deleted)
     }
 }
 
 /// The transaction id of a success or an error, and what it says.
-pub fn answer_of(payload: &[u8]) -> Option<([u8; 12], Says)> {
+pub fn answer_of(payload: &[u8]) -> Option<([u8; 12], Content)> {
     let message = message(payload)?;
     match message.class() {
-        Class::Success => Some((message.tid(), success_says(&message))),
-        Class::Error => Some((message.tid(), error_says(&message))),
+        Class::Success => Some((message.tid(), success_content(&message))),
+        Class::Error => Some((message.tid(), error_content(&message))),
         _ => None,
     }
 }
 
-fn success_says(message: &Message<'_>) -> Says {
+fn success_content(message: &Message<'_>) -> Content {
     match message.method() {
         method::ALLOCATE => match relayed_address(message) {
-            Some(relayed) => Says::Allocated(relayed),
-            None => Says::Other,
+            Some(relayed) => Content::Allocated(relayed),
+            None => Content::Other,
         },
-        method::REFRESH if message.first(LIFETIME) == Some([0; 4].as_slice()) => Says::Deleted,
-        method::CHANNEL_BIND => Says::Bound,
-        _ => Says::Other,
+        method::REFRESH if message.first(LIFETIME) == Some([0; 4].as_slice()) => Content::Deleted,
+        method::CHANNEL_BIND => Content::Bound,
+        _ => Content::Other,
     }
 }
 
-fn error_says(message: &Message<'_>) -> Says {
+fn error_content(message: &Message<'_>) -> Content {
     match message.first(ERROR_CODE) {
         Some(value)
             if error_code(value) == Some(ALLOCATION_MISMATCH)
-                && message.method() != method::ALLOCATE => { Says::NoAllocation }
-        _ => Says::Other,
+                && message.method() != method::ALLOCATE => { Content::NoAllocation }
+        _ => Content::Other,
     }
 }
 

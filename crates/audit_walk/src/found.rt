@@ -1,0 +1,85 @@
+//! What was found: events, and whether the server kept to its rules by them.
+
+use crate::portion::Portion;
+use audit_model::{Event, Key, SightId};
+use audit_seen::LaneNumber;
+use std::alloc::{AllocError, Global};
+use std::collections::BTreeMap;
+
+/// What was found so far.
+#[derive(Drop)]
+pub struct Found {
+    /// The events that weren't taken out yet.
+    portion: Portion,
+    /// The events past the last horizon that were found before it was reached, by key and lane.
+    later: BTreeMap<(Key, LaneNumber), Event>,
+    /// Whether the server kept to its rules in all that was placed, as far as the walk can tell.
+    seems_conforming: bool,
+    alloc: Global,
+}
+
+impl Found {
+    pub fn new(alloc: Global) -> Found {
+        Found {
+            portion: Portion::new(alloc),
+            later: BTreeMap::new(alloc),
+            seems_conforming: true,
+            alloc,
+        }
+    }
+
+    /// Whether the server kept to its rules in all that was placed, as far as the walk can tell.
+    pub fn seems_conforming(&self) -> bool {
+        self.seems_conforming
+    }
+
+    /// Notes that a rule may be broken, whatever is found behind it.
+    pub fn mark_suspect(&mut self) {
+        self.seems_conforming = false;
+    }
+
+    /// Makes room for so many events more.
+    pub fn reserve(&mut self, events: usize) -> Result<(), AllocError> {
+        self.portion.reserve(events)
+    }
+
+    /// Adds an event of a lane.
+    pub fn push(&mut self, lane: LaneNumber, event: Event) -> Result<(), AllocError> {
+        self.portion.push(lane, event)
+    }
+
+    /// Adds an arrival that is dropped.
+    pub fn push_drop(&mut self, sight: SightId, key: Key) -> Result<(), AllocError> {
+        self.portion.push_drop(sight, key)
+    }
+
+    /// Takes out the events that were found since the last call.
+    pub fn take_portion(&mut self) -> Portion {
+        std::mem::replace(&mut self.portion, Portion::new(self.alloc))
+    }
+
+    /// Takes out the events up to the horizon, in the order of their keys. Each is kept till then in logarithmic time.
+    pub fn take_until(&mut self, horizon: u64) -> Result<Portion, AllocError> {
+        let (events, drops) = self.take_portion().into_parts();
+        let mut portion = Portion::of_drops(self.alloc, drops);
+        for (lane, event) in events {
+            let lane = LaneNumber(lane);
+            if event.key().moment <= horizon {
+                portion.push(lane, event)?;
+            } else {
+                self.later.insert((event.key(), lane), event)?;
+            }
+        }
+        for _ in 0..self.later.len() {
+            match self.later.first_key_value() {
+                Some(((key, _), _)) if key.moment <= horizon => {}
+                _ => break,
+            }
+            if let Some(((_, lane), event)) = self.later.pop_first() {
+                portion.push(lane, event)?;
+            }
+        }
+        portion.sort();
+        Ok(portion)
+    }
+}

@@ -1,0 +1,78 @@
+//! Allocations that aren't made yet, and relayed addresses that one client has after another.
+
+use crate::datagrams::{Answer, Datagrams};
+use crate::judge::Judge;
+use crate::numbers::AnswerNumber;
+use audit_model::Addr;
+use std::alloc::{AllocError, Global};
+use std::collections::BTreeSet;
+
+/// How many of them are looked at for one.
+const LOOKED_AT: usize = 8;
+
+/// Answers that make allocations and weren't given yet, by the relayed address and the least moment at which they leave.
+#[derive(Drop)]
+pub struct Allocations {
+    answers: BTreeSet<(Addr, u64, AnswerNumber)>,
+}
+
+impl Allocations {
+    pub fn new(alloc: Global) -> Allocations {
+        Allocations {
+            answers: BTreeSet::new(alloc),
+        }
+    }
+
+    pub fn insert(
+        &mut self,
+        relayed: Addr,
+        moment: u64,
+        answer: AnswerNumber,
+    ) -> Result<(), AllocError> {
+        self.answers.insert((relayed, moment, answer))?;
+        Ok(())
+    }
+
+    pub fn remove(&mut self, relayed: Addr, moment: u64, answer: AnswerNumber) {
+        self.answers.remove(&(relayed, moment, answer));
+    }
+
+    /// Whether another client has to have had an allocation's relayed address before, since it can have given it up before this
+    /// one is made, and this one isn't given up before the other one's is made.
+    pub fn has_to_follow(
+        &self,
+        judge: &Judge<'_>,
+        datagrams: &Datagrams,
+        answer: &Answer,
+        earliest: u64,
+    ) -> bool {
+        let (Some(relayed), Some(leaves)) = (answer.relayed(), judge.sighting(answer.sight()))
+        else {
+            return false;
+        };
+        let until = judge.latest_moment(leaves);
+        let from = (relayed, earliest, AnswerNumber::new(0));
+        for (address, moment, other) in self.answers.range(from..).take(LOOKED_AT) {
+            if *address != relayed || *moment >= until {
+                return false;
+            }
+            if let Some(other) = datagrams.answer(*other) {
+                if other.lane() != answer.lane()
+                    && other.is_deleted_before(until)
+                    && !may_precede(judge, answer, other)
+                {
+                    return true;
+                }
+            }
+        }
+        false
+    }
+}
+
+/// Whether an allocation can have been given up before another one is made.
+fn may_precede(judge: &Judge<'_>, answer: &Answer, other: &Answer) -> bool {
+    match judge.sighting(other.sight()) {
+        Some(leaves) => answer.is_deleted_before(judge.latest_moment(leaves)),
+        None => false,
+    }
+}

@@ -1,0 +1,165 @@
+//! The allocation of a client, as it stands, and as it stood before it was deleted.
+
+use crate::causes::Cause;
+use crate::clock::{after, is_open};
+use crate::content::Given;
+use crate::judge::Judge;
+use audit_model::{Addr, Key, Sighting, Tenancy};
+use audit_rules::LaneTable;
+use audit_seen::LaneNumber;
+use std::alloc::{AllocError, Global};
+use std::collections::BTreeMap;
+
+/// How many acts may be placed right before a deletion.
+pub const ACTS_BEFORE: u32 = 1024;
+
+/// An allocation, or none, as it stands.
+#[derive(Drop)]
+pub struct Holding {
+    /// What the server has for the client.
+    table: LaneTable,
+    /// The relayed address.
+    relayed: Option<Addr>,
+    /// The peers of its channels, and their numbers.
+    peers: BTreeMap<u16, Addr>,
+    numbers: BTreeMap<Addr, u16>,
+}
+
+impl Holding {
+    pub fn new(alloc: Global, number: LaneNumber, client: Addr, listen: Addr) -> Holding {
+        Holding {
+            table: LaneTable::new(number.0, client, listen),
+            relayed: None,
+            peers: BTreeMap::new(alloc),
+            numbers: BTreeMap::new(alloc),
+        }
+    }
+
+    /// The allocation that is there now.
+    pub fn running(&self) -> Option<Tenancy> {
+        self.table.running()
+    }
+
+    /// A copy of what the server has for the client.
+    pub fn copied_table(&self, alloc: Global) -> Result<LaneTable, AllocError> {
+        self.table.copied(alloc)
+    }
+
+    /// Answers a request, and tells whether the server may. Where it may not, nothing changes.
+    pub fn answers<'a>(
+        &mut self,
+        judge: &Judge<'a>,
+        lane: LaneNumber,
+        arrives: &'a Sighting,
+        leaves: &Sighting,
+        key: Key,
+    ) -> Result<bool, AllocError> {
+        judge.answers(lane, &mut self.table, arrives, leaves, key)
+    }
+
+    /// Relays data, and tells whether the server may.
+    pub fn relays(
+        &mut self,
+        judge: &Judge<'_>,
+        lane: LaneNumber,
+        arrives: &Sighting,
+        leaves: &Sighting,
+        key: Key,
+    ) -> Result<bool, AllocError> {
+        judge.relays(lane, &mut self.table, arrives, leaves, key)
+    }
+
+    /// The channel of a peer.
+    pub fn number_of(&self, peer: Addr) -> Option<u16> {
+        self.numbers.get(&peer).copied()
+    }
+
+    /// Notes the relayed address.
+    pub fn set_relayed(&mut self, relayed: Addr) {
+        self.relayed = Some(relayed);
+    }
+
+    /// Notes a channel's peer.
+    pub fn bind(&mut self, number: u16, peer: Addr) -> Result<(), AllocError> {
+        self.peers.insert(number, peer)?;
+        self.numbers.insert(peer, number)?;
+        Ok(())
+    }
+
+    /// What asks for data of that digest that a client with this allocation is given.
+    pub fn cause_of(&self, given: Given, digest: u64) -> Option<Cause> {
+        let peer = match given {
+            Given::Peer(peer) => peer,
+            Given::Channel(number) => self.peers.get(&number).copied()?,
+        };
+        Some(Cause::Peer {
+            relayed: self.relayed?,
+            peer,
+            digest,
+        })
+    }
+}
+
+/// An allocation that was deleted, as it stood right before that.
+#[derive(Drop)]
+pub struct Deleted {
+    holding: Holding,
+    /// The key of the next act right before the deletion.
+    next: Key,
+    /// How many more acts may be placed there.
+    left: u32,
+}
+
+impl Deleted {
+    /// Acts may be placed right before the deletion, from that key on.
+    pub fn new(holding: Holding, next: Key) -> Deleted {
+        Deleted {
+            holding,
+            next,
+            left: ACTS_BEFORE,
+        }
+    }
+
+    /// The allocation, as it stood.
+    pub fn holding(&self) -> &Holding {
+        &self.holding
+    }
+
+    /// The key of the next act right before the deletion, behind another key.
+    fn key_behind(&self, key: Key) -> Option<Key> {
+        if self.left == 0 || self.next <= key {
+            None
+        } else {
+            Some(self.next)
+        }
+    }
+
+    /// Goes on behind that key.
+    fn take_key(&mut self) {
+        self.next = after(self.next);
+        self.left = self.left.saturating_sub(1);
+    }
+
+    /// Relays data that came at a key right before the deletion, if the server may and events are still given there, and tells at which key.
+    pub fn relay(
+        &mut self,
+        judge: &Judge<'_>,
+        lane: LaneNumber,
+        arrives: &Sighting,
+        leaves: &Sighting,
+        came: Key,
+        given_to: Option<u64>,
+    ) -> Result<Option<Key>, AllocError> {
+        let Some(key) = self.key_behind(came) else {
+            return Ok(None);
+        };
+        if !is_open(given_to, key) {
+            return Ok(None);
+        }
+        if !self.holding.relays(judge, lane, arrives, leaves, key)? {
+            return Ok(None);
+        }
+        self.take_key();
+        Ok(Some(key))
+    }
+}

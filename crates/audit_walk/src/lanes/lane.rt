@@ -1,0 +1,248 @@
+//! What the walk keeps of one client at one listen address.
+
+use super::holding::{Deleted, Holding};
+use super::last::Last;
+use super::pending::Pending;
+use crate::causes::Cause;
+use crate::content::{Content, Given, asked_channel};
+use crate::datagrams::{Answer, Datagrams};
+use crate::judge::Judge;
+use crate::numbers::AnswerNumber;
+use audit_model::{Addr, Key, SightId, Sighting, Tenancy};
+use audit_rules::LaneTable;
+use audit_seen::LaneNumber;
+use std::alloc::{AllocError, Global};
+
+/// How many deleted allocations of a lane are kept.
+const DELETED_KEPT: usize = 4;
+
+/// One lane, as it stands.
+#[derive(Drop)]
+pub struct FoundLane {
+    number: LaneNumber,
+    client: Addr,
+    listen: Addr,
+    /// The allocation that is there now.
+    current: Holding,
+    /// The last ones that were deleted, in order.
+    deleted: Vec<Deleted>,
+    /// Whether a Send indication of the client was noted.
+    sends: bool,
+    /// The last of each kind of its datagrams.
+    last: Last,
+    /// The answers that are kept back.
+    pending: Pending,
+    /// Until when it holds the addresses of allocations that ran out and were replaced.
+    outlived: u64,
+}
+
+impl FoundLane {
+    pub fn new(alloc: Global, number: LaneNumber, client: Addr, listen: Addr) -> FoundLane {
+        FoundLane {
+            number,
+            client,
+            listen,
+            current: Holding::new(alloc, number, client, listen),
+            deleted: Vec::new(alloc),
+            sends: false,
+            last: Last::new(),
+            pending: Pending::new(alloc),
+            outlived: 0,
+        }
+    }
+
+    /// Answers a request now, and tells whether the server may. Where it may not, nothing changes.
+    pub fn answer<'a>(
+        &mut self,
+        judge: &Judge<'a>,
+        arrives: &'a Sighting,
+        leaves: &Sighting,
+        key: Key,
+    ) -> Result<bool, AllocError> {
+        let held = self.current.running();
+        if !self
+            .current
+            .answers(judge, self.number, arrives, leaves, key)?
+        {
+            return Ok(false);
+        }
+        self.note_replaced(held);
+        Ok(true)
+    }
+
+    /// Notes until when it holds the address of an allocation that was there before an act, if that act made another one.
+    fn note_replaced(&mut self, held: Option<Tenancy>) {
+        if let (Some(held), Some(tenancy)) = (held, self.current.running()) {
+            if held.born != tenancy.born {
+                self.outlived = self.outlived.max(held.last);
+            }
+        }
+    }
+
+    /// Relays data now, and tells whether the server may.
+    pub fn relays(
+        &mut self,
+        judge: &Judge<'_>,
+        arrives: &Sighting,
+        leaves: &Sighting,
+        key: Key,
+    ) -> Result<bool, AllocError> {
+        self.current
+            .relays(judge, self.number, arrives, leaves, key)
+    }
+
+    /// Relays data that came at a key right before one of the deletions, if the server may and events are still given there, and tells at which
+    /// key.
+    pub fn relay_before_deletion(
+        &mut self,
+        judge: &Judge<'_>,
+        arrives: &Sighting,
+        leaves: &Sighting,
+        came: Key,
+        given_to: Option<u64>,
+    ) -> Result<Option<Key>, AllocError> {
+        let lane = self.number;
+        for deleted in &mut self.deleted {
+            let key = deleted.relay(judge, lane, arrives, leaves, came, given_to)?;
+            if key.is_some() {
+                return Ok(key);
+            }
+        }
+        Ok(None)
+    }
+
+    /// Deletes the allocation, keeps what it was, and gives a copy of its table. Acts may still be placed right before the deletion, from that
+    /// key on.
+    pub fn delete(&mut self, alloc: Global, next: Key) -> Result<LaneTable, AllocError> {
+        let table = self.current.copied_table(alloc)?;
+        let empty = Holding::new(alloc, self.number, self.client, self.listen);
+        let holding = std::mem::replace(&mut self.current, empty);
+        if self.deleted.len() >= DELETED_KEPT {
+            let _oldest = self.deleted.remove(0);
+        }
+        self.deleted.push(Deleted::new(holding, next))?;
+        Ok(table)
+    }
+
+    /// Notes what an answer changes that is given, and keeps it back no more.
+    pub fn note_given(
+        &mut self,
+        number: AnswerNumber,
+        answer: &Answer,
+        arrives: Option<&Sighting>,
+    ) -> Result<(), AllocError> {
+        match answer.content() {
+            Content::Allocated(relayed) => self.current.set_relayed(relayed),
+            Content::Bound => {
+                let channel = match arrives {
+                    Some(arrives) => asked_channel(arrives),
+                    None => None,
+                };
+                if let Some((number, peer)) = channel {
+                    self.current.bind(number, peer)?;
+                }
+            }
+            _ => {}
+        }
+        self.pending.remove(answer.sight(), number);
+        Ok(())
+    }
+
+    /// Keeps an answer back, until it leaves.
+    pub fn keep_back(&mut self, number: AnswerNumber, answer: &Answer) -> Result<(), AllocError> {
+        self.pending
+            .insert(answer.sight(), number, answer.content())
+    }
+
+    /// Whether an answer is kept back that leaves before this one.
+    pub fn has_pending_before(&self, answer: SightId) -> bool {
+        self.pending.has_before(answer)
+    }
+
+    /// The first answer that is kept back and changes what allocation there is, other than this one.
+    pub fn pending_change(&self, datagrams: &Datagrams, but: AnswerNumber) -> Option<AnswerNumber> {
+        self.pending.first_change(datagrams, but)
+    }
+
+    /// The answer that is kept back and says that the allocation is deleted.
+    pub fn pending_deletion(&self) -> Option<AnswerNumber> {
+        self.pending.deletion()
+    }
+
+    /// Notes that the client sends data in indications.
+    pub fn note_sending(&mut self) {
+        self.sends = true;
+    }
+
+    /// Whether a Send indication of the client was noted.
+    pub fn sends(&self) -> bool {
+        self.sends
+    }
+
+    /// The last of each kind of its datagrams.
+    pub fn last(&self) -> &Last {
+        &self.last
+    }
+
+    pub fn last_mut(&mut self) -> &mut Last {
+        &mut self.last
+    }
+
+    /// The channel of a peer.
+    pub fn number_of(&self, peer: Addr) -> Option<u16> {
+        self.current.number_of(peer)
+    }
+
+    /// The channel of a peer in the last of the deleted allocations that had one, unless it is this one.
+    pub fn number_before(&self, peer: Addr, current: Option<u16>) -> Option<u16> {
+        for deleted in self.deleted.iter().rev() {
+            let number = deleted.holding().number_of(peer);
+            if number.is_some() && number != current {
+                return number;
+            }
+        }
+        None
+    }
+
+    /// What asks for data of that digest that the client is given.
+    pub fn cause_of(&self, given: Given, digest: u64) -> Option<Cause> {
+        self.current.cause_of(given, digest)
+    }
+
+    /// What asks for data that the client is given, by the last of its deleted allocations that had such a peer, unless it is this.
+    pub fn cause_before(&self, given: Given, digest: u64, current: Option<Cause>) -> Option<Cause> {
+        for deleted in self.deleted.iter().rev() {
+            let cause = deleted.holding().cause_of(given, digest);
+            if cause.is_some() && cause != current {
+                return cause;
+            }
+        }
+        None
+    }
+
+    /// Whether it has an allocation.
+    pub fn has_allocation(&self) -> bool {
+        self.current.running().is_some()
+    }
+
+    /// Whether it has an allocation that was made before a key.
+    pub fn had_allocation_at(&self, key: Key) -> bool {
+        match self.current.running() {
+            Some(tenancy) => tenancy.born.key < key,
+            None => false,
+        }
+    }
+
+    /// Whether it may hold that relayed address at the moment, by this allocation or by one that was replaced.
+    pub fn may_hold(&self, relayed: Addr, moment: u64) -> bool {
+        self.holds(relayed, moment) || self.outlived >= moment
+    }
+
+    /// Whether it holds that relayed address at the moment.
+    pub fn holds(&self, relayed: Addr, moment: u64) -> bool {
+        match self.current.running() {
+            Some(tenancy) => tenancy.relayed == relayed && tenancy.last >= moment,
+            None => false,
+        }
+    }
+}

@@ -1,0 +1,145 @@
+//! Arrivals, as they are placed.
+//!
+//! A request is acted on at its arrival, so that what it grants is there for the data behind it. A Refresh that deletes the allocation
+//! is acted on when its success leaves, and so is what may not be done any earlier, or is answered behind such a request.
+
+use super::Search;
+use crate::content::{Content, is_request};
+use crate::datagrams::{Answer, Transaction};
+use crate::judge::Judge;
+use crate::numbers::{AnswerNumber, ArrivalNumber};
+use audit_model::Sighting;
+use audit_seen::LaneNumber;
+use std::alloc::AllocError;
+
+impl Search {
+    /// Gives an arrival its key, and acts on it where that is best done at once.
+    pub(super) fn place_arrival(
+        &mut self,
+        judge: &Judge<'_>,
+        number: ArrivalNumber,
+        sighting: &Sighting,
+    ) -> Result<(), AllocError> {
+        let key = self.clock.tick();
+        // The next key is for an act at the arrival that is only found later.
+        let _spare = self.clock.tick();
+        if key.moment > judge.last_moment(sighting) {
+            self.found.mark_suspect();
+        }
+        let until = judge.latest_answer(key.moment);
+        self.datagrams.place(number, key, until)?;
+        self.interfaces.wake(&self.clock, number)?;
+        match self.datagrams.lane(number) {
+            Some(lane) => self.place_of_client(judge, lane, number, sighting),
+            None => {
+                self.lanes.note_received(sighting.to, number);
+                Ok(())
+            }
+        }
+    }
+
+    fn place_of_client(
+        &mut self,
+        judge: &Judge<'_>,
+        lane: LaneNumber,
+        number: ArrivalNumber,
+        sighting: &Sighting,
+    ) -> Result<(), AllocError> {
+        let asks = is_request(sighting);
+        if let Some(client) = self.lanes.get_mut(lane) {
+            if asks {
+                client.last_mut().note_request(number);
+            } else {
+                client.last_mut().note_sent(number);
+            }
+        }
+        if asks {
+            return self.ask(judge, lane, number, sighting);
+        }
+        self.datagrams.note_sent(number);
+        Ok(())
+    }
+
+    /// Answers a request, if its answer is captured and may be given at once.
+    fn ask(
+        &mut self,
+        judge: &Judge<'_>,
+        lane: LaneNumber,
+        number: ArrivalNumber,
+        sighting: &Sighting,
+    ) -> Result<(), AllocError> {
+        let noted = self.datagrams.noted_answer(number);
+        let answer = match noted {
+            Some(_) => noted,
+            None => self.reserve(judge, lane, number, sighting),
+        };
+        let Some(answer) = answer else {
+            return Ok(());
+        };
+        let Some(known) = self.datagrams.answer(answer).copied() else {
+            return Ok(());
+        };
+        let is_amid_changes = noted.is_none() && self.datagrams.is_behind_change(answer);
+        if !is_amid_changes && !self.is_kept_back(judge, lane, answer, &known) {
+            if self.act_on(judge, lane, number, answer)? {
+                return Ok(());
+            }
+        }
+        match self.lanes.get_mut(lane) {
+            Some(client) => client.keep_back(answer, &known),
+            None => Ok(()),
+        }
+    }
+
+    /// Finds the answer to a request that none was noted with.
+    fn reserve(
+        &mut self,
+        judge: &Judge<'_>,
+        lane: LaneNumber,
+        number: ArrivalNumber,
+        sighting: &Sighting,
+    ) -> Option<AnswerNumber> {
+        let transaction = transaction_of(lane, sighting)?;
+        self.datagrams
+            .reserve(judge, self.clock.moment(), number, &transaction)
+    }
+
+    /// Whether an answer is best given as it leaves: the walk is late; or it leaves behind another that is kept back; or it deletes an
+    /// allocation; or it makes one, and another client has or is to have its address, or another answer near it speaks against it. That
+    /// there is no allocation is best said at once.
+    fn is_kept_back(
+        &self,
+        judge: &Judge<'_>,
+        lane: LaneNumber,
+        number: AnswerNumber,
+        answer: &Answer,
+    ) -> bool {
+        let Some(client) = self.lanes.get(lane) else {
+            return false;
+        };
+        if answer.content() == Content::NoAllocation {
+            return false;
+        }
+        if self.is_late || client.has_pending_before(answer.sight()) {
+            return true;
+        }
+        match answer.content() {
+            Content::Deleted => {
+                client.has_allocation() || self.datagrams.is_behind_another(number)
+            }
+            Content::Allocated(relayed) => {
+                self.datagrams.is_behind_another(number)
+                    || self.datagrams.is_before_refusal(number)
+                    || self.other_holder(lane, relayed).is_some()
+                    || self.has_to_follow(judge, answer)
+            }
+            _ => false,
+        }
+    }
+}
+
+/// The transaction of a request.
+fn transaction_of(lane: LaneNumber, sighting: &Sighting) -> Option<Transaction> {
+    let request = audit_stun::message(sighting.payload.as_slice())?;
+    Some(Transaction::new(lane, request.tid()))
+}
