@@ -1,0 +1,6 @@
+//! Captures of some ten datagrams, each of which needs one constraint or one plan of the passes.
+
+mod building;
+mod constraints;
+mod datagrams;
+mod plans;
