@@ -179,9 +179,6 @@ fn packet_of(alloc: Global, datagram: &Datagram<'_>) -> Result<Packet, BuildFaul
         Datagram::Hands(client, peer, data) => {
             to_client(client, indication(alloc, method::DATA, peer, data)?)
         }
-        Datagram::SendsByChannel(client, channel, data) => {
-            from_client(client, channel_data(alloc, channel, data)?)
-        }
         Datagram::HandsByChannel(client, channel, data) => {
             to_client(client, channel_data(alloc, channel, data)?)
         }

@@ -60,8 +60,6 @@ pub(super) enum Datagram<'a> {
     Refuses(Client, u8, u16),
     /// A Send indication of a client, to a peer.
     Sends(Client, Addr, &'a [u8]),
-    /// ChannelData of a client.
-    SendsByChannel(Client, u16, &'a [u8]),
     /// Data from a relayed address, to a peer.
     Relays(Relayed, Addr, &'a [u8]),
     /// Data of a peer, to a relayed address.
