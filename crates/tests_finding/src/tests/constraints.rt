@@ -130,8 +130,8 @@ fn a_channel_is_bound_in_the_allocation_that_was_ended_before_its_success_left(
     Ok(())
 }
 
-/// `HandedOver`. The error tells that the other client has an allocation already. Its success leaves later, and so do those of the first
-/// client, whose data went out before it gave the address up.
+/// `HandedOver`. The error tells the other client that it has an allocation already. The success of that leaves later, and so do those of
+/// the first client, which had the address before.
 #[test]
 fn an_address_is_handed_over_before_a_departure_that_leaves_before_its_success(
     rt: HostRuntime,
@@ -175,7 +175,7 @@ fn a_permission_is_given_within_the_allocation_that_is_there_for_later_data(
     Ok(())
 }
 
-/// `NotHere`. The data leaves once another client has the address, which sent none.
+/// `NotHere`. The data leaves once another client has the address, and that one sent none.
 #[test]
 fn data_from_an_address_is_of_the_client_that_had_it_before(rt: HostRuntime) -> Result<(), Fail> {
     let seen = [
@@ -191,5 +191,33 @@ fn data_from_an_address_is_of_the_client_that_had_it_before(rt: HostRuntime) -> 
         (12_000, Relays(RELAYED, PEER, b"one")),
     ];
     assert_eq!(rt; verdict(rt.alloc(), 5, &[&seen])?, conforming(10, 2));
+    Ok(())
+}
+
+/// `NotHere`. Equal data came for two clients that had the address one after the other. Searched alone, both act on one of the two.
+#[test]
+fn an_arrival_is_acted_on_by_one_of_two_clients(rt: HostRuntime) -> Result<(), Fail> {
+    let of_clients = [
+        (0, Asks(CLIENT, 1, Allocate)),
+        (1_000, Gives(CLIENT, 1, Allocated(RELAYED, 600))),
+        (2_000, Asks(CLIENT, 2, Permit(PEER))),
+        (3_000, Gives(CLIENT, 2, Permitted)),
+        (5_900, Hands(CLIENT, PEER, b"one")),
+        (6_000, Asks(CLIENT, 3, Refresh(0))),
+        (6_100, Gives(CLIENT, 3, Refreshed(0))),
+        (6_200, Asks(OTHER_CLIENT, 1, Allocate)),
+        (6_300, Gives(OTHER_CLIENT, 1, Allocated(RELAYED, 600))),
+        (6_400, Asks(OTHER_CLIENT, 2, Permit(PEER))),
+        (6_500, Gives(OTHER_CLIENT, 2, Permitted)),
+        (6_600, Hands(OTHER_CLIENT, PEER, b"one")),
+    ];
+    let of_peers = [
+        (6_200, Comes(PEER, RELAYED, b"one")),
+        (6_400, Comes(PEER, RELAYED, b"one")),
+    ];
+    assert_eq!(rt;
+        verdict(rt.alloc(), 5, &[&of_clients, &of_peers])?,
+        conforming(14, 2)
+    );
     Ok(())
 }
