@@ -74,6 +74,49 @@ fn an_answer_is_acted_on_at_its_request_so_that_a_deletion_ends_its_lease(
     Ok(())
 }
 
+/// `AtRequest`. The other client's lease is over before the first client is given the address again.
+#[test]
+fn a_lease_begins_at_its_request_so_that_its_address_is_given_to_another_client(
+    rt: HostRuntime,
+) -> Result<(), Fail> {
+    let of_client = [
+        (0, Asks(CLIENT, 1, Allocate)),
+        (1_000, Gives(CLIENT, 1, Allocated(RELAYED, 30))),
+        (2_000, Asks(CLIENT, 2, Refresh(0))),
+        (3_000, Gives(CLIENT, 2, Refreshed(0))),
+        (30_000_000, Asks(CLIENT, 3, Allocate)),
+        (30_005_000, Gives(CLIENT, 3, Allocated(RELAYED, 30))),
+    ];
+    let of_other_client = [
+        (4_000, Asks(OTHER_CLIENT, 1, Allocate)),
+        (5_000, Gives(OTHER_CLIENT, 1, Allocated(RELAYED, 30))),
+    ];
+    assert_eq!(rt;
+        verdict(rt.alloc(), 5, &[&of_client, &of_other_client])?,
+        conforming(8, 2)
+    );
+    Ok(())
+}
+
+/// `AtRequest`. The error tells that the lease is over before the success of the first permission leaves.
+#[test]
+fn a_permission_is_given_at_its_request_before_the_lease_is_over(
+    rt: HostRuntime,
+) -> Result<(), Fail> {
+    let seen = [
+        (0, Asks(CLIENT, 1, Allocate)),
+        (2_000, Gives(CLIENT, 1, Allocated(RELAYED, 1))),
+        (994_000, Asks(CLIENT, 2, Bind(0x4000, PEER))),
+        (995_000, Asks(CLIENT, 3, Permit(PEER))),
+        (997_000, Asks(CLIENT, 4, Permit(PEER))),
+        (998_000, Gives(CLIENT, 4, Permitted)),
+        (1_000_000, Refuses(CLIENT, 2, CHANNEL_BIND)),
+        (1_001_000, Gives(CLIENT, 3, Permitted)),
+    ];
+    assert_eq!(rt; verdict(rt.alloc(), 10, &[&seen])?, conforming(8, 1));
+    Ok(())
+}
+
 /// `OverBefore`. As its success leaves, the lease begins too late to be over before the next one. At its request, it begins before the
 /// permission is asked for, and the error tells that it began behind that.
 #[test]
