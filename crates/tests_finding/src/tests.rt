@@ -1,0 +1,8 @@
+//! Captures of some ten datagrams, each of which needs one constraint, one plan or another part of the passes.
+
+mod building;
+mod choices;
+mod constraints;
+mod datagrams;
+mod plans;
+mod turns;
