@@ -74,9 +74,9 @@ fn add(lanes: &mut Vec<CertLane>, lane: u32, event: Event) -> Result<(), AllocEr
 /// Lanes with the events that were added so far.
 #[derive(Drop)]
 pub(crate) struct Filled {
-    lanes: Vec<CertLane>,
+    pub(crate) lanes: Vec<CertLane>,
     /// How many events more may be added.
-    room: usize,
+    pub(crate) room: usize,
     departed: Departed,
 }
 
@@ -144,19 +144,5 @@ impl Filled {
     {
         let events = named(intake, events);
         self.distribute(events.as_slice())
-    }
-
-    /// How many events more may be added.
-    pub(crate) fn room(&self) -> usize
-        ensures { result ≡ self.now.room }
-    {
-        self.room
-    }
-
-    /// The lanes with their events.
-    pub(crate) fn into_lanes(self) -> Vec<CertLane>
-        ensures { result ≡ self.lanes }
-    {
-        self.lanes
     }
 }

@@ -112,10 +112,9 @@ pub(crate) fn certificate_of(
     let mut filled = filled;
     let (events, drops) = last.into_parts();
     filled.add_all(intake, events)?;
-    let room = filled.room();
-    let lanes = all_sorted(alloc, filled.into_lanes())?;
+    let lanes = all_sorted(alloc, filled.lanes)?;
     let mut drops = there(intake, drops);
-    drops.truncate(room);
+    drops.truncate(filled.room);
     Ok(Certificate {
         lanes: Listed::from(lanes),
         drops: Listed::from(drops),

@@ -1,6 +1,6 @@
 //! What one turn of captures that grow may give.
 
-ghost use Rattle.std.specs.Prelude.{◌≡◌, ◌↔◌, All, IsTrue};
+ghost use Rattle.std.specs.Prelude.{◌↔◌, All, IsTrue};
 ghost use Rattle.audit_model.specs.Event.{key_of};
 ghost use Rattle.audit_sightings.specs.Intake.{taken, NamesWhatIsThere};
 ghost use Rattle.audit_finder.specs.Found.{AreThere};
@@ -14,19 +14,12 @@ use audit_sightings::Intake;
 #[derive(Clone, Copy, Debug)]
 pub(crate) struct Turn {
     /// The horizon of the turn before. All moments of this one are past it.
-    last: Option<u64>,
+    pub(crate) last: Option<u64>,
     /// Up to here.
-    horizon: u64,
+    pub(crate) horizon: u64,
 }
 
 impl Turn {
-    /// The turn past one horizon, up to another.
-    pub(crate) fn new(last: Option<u64>, horizon: u64) -> Turn
-        ensures { (result.last ≡ last) × (result.horizon ≡ horizon) }
-    {
-        Turn { last, horizon }
-    }
-
     fn has(self, moment: u64) -> bool
         ensures { IsTrue result ↔ IsInside self.last self.horizon moment }
     {

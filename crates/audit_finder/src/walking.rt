@@ -21,16 +21,16 @@ use std::hash::RandomState;
 /// A lane for each pair, with the events that a walk gives but for the last ones.
 fn walked(
     alloc: Global,
+    intake: &Intake,
     judge: &Judge<'_>,
     pairs: &[(Addr, Addr)],
     search: &mut Search,
 ) -> Result<Filled, AllocError>
     ensures pairs { IfOk result (λ filled. map pair_of filled.lanes.items ≡ pairs.now) }
     ensures room { IfOk result (λ filled. event_count filled.lanes.items + filled.room ≤ MAX_EVENTS) }
-    ensures named { IfOk result (λ filled. AllNamed (taken judge.now.intake.now) filled.lanes.items) }
+    ensures named { IfOk result (λ filled. AllNamed (taken intake.now) filled.lanes.items) }
     ensures noted { IfOk result (λ filled. IsNoted filled.departed.rows.items filled.lanes.items) }
 {
-    let intake = judge.intake();
     let mut filled = Filled::new(alloc, intake, pairs)?;
     let mut ahead = Ahead::new(alloc);
     ahead.begin(judge)?;
@@ -67,7 +67,7 @@ fn found_by(
     let judge = Judge::new(alloc, intake, credentials, &clients, windows);
     let pairs = clients.lanes();
     let mut search = search;
-    let filled = walked(alloc, &judge, pairs, &mut search)?;
+    let filled = walked(alloc, intake, &judge, pairs, &mut search)?;
     let last = search.finish(&judge)?;
     Ok(FoundOnce {
         certificate: certificate_of(alloc, intake, filled, last)?,

@@ -72,9 +72,10 @@ impl Search {
         lane: LaneNumber,
         leaves: &Sighting,
     ) -> Result<Option<ArrivalNumber>, AllocError> {
-        let Some((id, _)) = answer_of(leaves.payload.as_slice()) else {
+        let Some(answer) = answer_of(leaves.payload.as_slice()) else {
             return Ok(None);
         };
+        let (id, _) = answer;
         let earliest = self.earliest(judge);
         let transaction = Transaction::new(lane, id);
         let likely = self.datagrams.likely_request(&transaction, earliest)?;

@@ -9,5 +9,5 @@ use Rattle.audit_finder.proofs.walking.walked.Given as goal
 abbrev pub invariant-steps : goal.invariant-steps
 invariant-steps l = (map pair_of l.filled.lanes.items ≡ l.pairs)
     × (event_count l.filled.lanes.items + l.filled.room ≤ MAX_EVENTS)
-    × AllNamed (taken l.judge.intake.now) l.filled.lanes.items
+    × AllNamed (taken l.intake) l.filled.lanes.items
     × IsNoted l.filled.departed.rows.items l.filled.lanes.items
