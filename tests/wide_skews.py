@@ -5,6 +5,7 @@
 
 A certificate that conforms by a policy's skew conforms by each wider one, since each window is within the wider window. So a capture
 that conforms by its policy has an order by each skew up to 60 seconds, the greatest that a policy may state, and it ought to be found.
+Of one random capture it is asked that a walk by a tenth of each window finds it: nothing in its certificate comes a tenth before all stamps.
 FOLDERs have captures, a policy and users; else those of examples/ are taken. Random captures are those of tests/random_captures.py and
 tests/call_captures.py. Skews are in microseconds. Policies with skews of their own for interfaces (version 2) keep those.
 """
@@ -13,6 +14,7 @@ import argparse
 import concurrent.futures
 import os
 import pathlib
+import struct
 import subprocess
 import sys
 import tempfile
@@ -21,6 +23,9 @@ import call_captures
 import random_captures
 
 TOP = pathlib.Path(__file__).resolve().parent.parent
+MICROSECOND = 1_000
+# A random capture, and a skew by which a walk over whole windows doesn't find its order.
+FOUND_BY_PART = (70_218, 1_000_000)
 SKEWS = [1_000, 10_000, 100_000, 1_000_000, 5_000_000, 60_000_000]
 
 
@@ -60,6 +65,33 @@ def lost_of_seed(program, build, seed, skews):
         return lost_of(program, pathlib.Path(folder), skews)
 
 
+def first_stamp(capture):
+    """The least stamp of a capture's packet blocks, in nanoseconds."""
+    stamps, at = [], 0
+    while at < len(capture):
+        kind, length = struct.unpack_from("<II", capture, at)
+        if kind == 6:
+            high, low = struct.unpack_from("<II", capture, at + 12)
+            stamps.append((high << 32 | low) * MICROSECOND)
+        at += length
+    return min(stamps)
+
+
+def is_found_by_part(program):
+    """Whether the certificate of that capture is of a walk by a tenth of each window at the most."""
+    seed, skew = FOUND_BY_PART
+    with tempfile.TemporaryDirectory() as name:
+        folder = pathlib.Path(name)
+        captures = [folder / path for path in random_captures.Case(seed).write(folder)]
+        policy = folder / "policy"
+        policy.write_text(with_skew(policy.read_text(), skew))
+        words = ["--policy", policy, "--creds", folder / "creds", *captures]
+        done = subprocess.run([program, "find", *map(str, words)], capture_output=True, text=True)
+        stamp = min(first_stamp(capture.read_bytes()) for capture in captures)
+    events = [line.split() for line in done.stdout.splitlines() if line.startswith(("in ", "act ", "out ", "drop "))]
+    return bool(events) and min(int(event[-2]) for event in events) >= stamp - skew * MICROSECOND // 10
+
+
 def main():
     parser = argparse.ArgumentParser(description=__doc__, formatter_class=argparse.RawDescriptionHelpFormatter)
     parser.add_argument("program")
@@ -85,8 +117,11 @@ def main():
             missed += len(lost)
             for line in lost:
                 print(f"{name}: {line}", flush=True)
+    by_part = is_found_by_part(program)
+    if not by_part:
+        print(f"random {FOUND_BY_PART[0]} by skew-us {FOUND_BY_PART[1]}: not found by a tenth of each window")
     print(f"wide skews: {conforming} captures conform, by {len(words.skews)} wider skews each; {missed} of these not shown")
-    return 1 if missed > words.most else 0
+    return 1 if missed > words.most or not by_part else 0
 
 
 if __name__ == "__main__":
