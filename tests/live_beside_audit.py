@@ -9,12 +9,13 @@ by one walk and `audit` looks for more than that, so of random captures `--most`
 pieces of 65,536 bytes, which is one turn for each of these, may be lost packet by packet.
 
 FOLDERs have captures, a policy and users; else those of examples/ are taken that conform. Random captures are those of
-tests/random_captures.py and tests/call_captures.py. No file of the program's source is read.
+tests/random_captures.py and tests/call_captures.py.
 """
 
 import argparse
 import array
 import concurrent.futures
+import contextlib
 import fcntl
 import os
 import pathlib
@@ -25,10 +26,14 @@ import tempfile
 import termios
 import time
 
+import call_captures
+import random_captures
+
 TOP = pathlib.Path(__file__).resolve().parent.parent
 SET_PIPE_SIZE = 1031
 PIPE_SIZE = 1 << 20
 PACKET_BLOCKS = (2, 3, 6)
+CASES = {"random": random_captures.Case, "call": call_captures.CallCase}
 
 
 def packets_of(capture):
@@ -55,11 +60,13 @@ def is_read(pipe):
 
 
 def packet_pipe(path):
-    """A pipe of that name. What one write puts in, one read takes out."""
+    """A pipe of that name. What one write puts in, one read takes out; where the system has no such pipes, a turn may have several packets."""
     os.mkfifo(path)
     pipe = os.open(path, os.O_RDWR | os.O_NONBLOCK)
-    fcntl.fcntl(pipe, fcntl.F_SETFL, fcntl.fcntl(pipe, fcntl.F_GETFL) | os.O_DIRECT)
-    fcntl.fcntl(pipe, SET_PIPE_SIZE, PIPE_SIZE)
+    with contextlib.suppress(OSError):
+        fcntl.fcntl(pipe, fcntl.F_SETFL, fcntl.fcntl(pipe, fcntl.F_GETFL) | os.O_DIRECT)
+        # A larger pipe only has fewer waits.
+        fcntl.fcntl(pipe, SET_PIPE_SIZE, PIPE_SIZE)
     return pipe
 
 
@@ -110,13 +117,8 @@ def compare(program, folder):
 
 
 def compare_seed(program, kind, seed):
-    sys.path.insert(0, str(TOP / "tests"))
-    import call_captures
-    import random_captures
-
-    build = {"random": random_captures.Case, "call": call_captures.CallCase}[kind]
     with tempfile.TemporaryDirectory() as folder:
-        build(seed).write(pathlib.Path(folder))
+        CASES[kind](seed).write(pathlib.Path(folder))
         return compare(program, pathlib.Path(folder))
 
 
