@@ -1,6 +1,7 @@
 #!/bin/bash
 # no_memory.sh PROGRAM: each allocation of `audit`, `find`, `check` and `live` on a capture of a real server is refused in turn; the answer is status 3 and
-# one line each time, and nothing on standard output; with several workers that, or the answer of one, also where two lanes break a rule. Of the
+# one line each time, and nothing on standard output; with several workers that, or the answer of one, also where two lanes break a rule. So are those of `audit`
+# and `find` on a capture for which a part of each window is walked over. Of the
 # certificate for 24 clients, of which `find` makes all lines before it writes any, some allocations are refused. Of one with more lines than
 # that (16,384) the last allocations are refused, and a front of it may be out: with status 3 it is no certificate. With several workers on 24 clients the last allocations are refused in turn, and then the threads
 # from each number on: the answer is that of one thread, or status 3. It needs gcc.
@@ -42,6 +43,13 @@ refuse_each "check by two workers" check --cert certificate --workers 2
 refuse_each "audit by two workers" audit --workers 2
 refuse_each "find by two workers" find --workers 2
 refuse_each "find by four workers" find --workers 4
+
+# By a skew of a second the walk over whole windows finds no order of this random capture, and one over a tenth of each does.
+python3 ../../tests/random_captures.py --write "$scratch/wide" --first 70218
+echo "skew-us 1000000" >> "$scratch/wide/policy"
+inputs=(--policy "$scratch/wide/policy" --creds "$scratch/wide/creds" "$scratch"/wide/*.pcapng)
+refuse_each "audit by a part of the windows" audit
+refuse_each "find by a part of the windows" find
 
 # Both lanes break a rule, the second one earlier: by no refusal the first one's breach is told.
 cd ../../tests/two-lanes-broken || exit 1
