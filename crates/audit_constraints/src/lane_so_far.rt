@@ -1,27 +1,44 @@
 //! A lane whose search has come so far.
 
+mod answering;
+mod ended;
+mod leases;
+mod needed;
+mod within;
+
 use audit_search_input::Given;
 use audit_search_state::{PoolRef, State, relayed_of};
 use audit_seen::{LaneNumber, SeenNumber};
 use std::alloc::AllocError;
 
 /// How many arrivals of a pool are asked for.
-pub(crate) const EACH: usize = 2;
+const EACH: usize = 2;
 
 /// A lane whose search has come so far, of which its constraints are told.
 #[derive(Clone, Copy)]
 pub struct LaneSoFar<'a> {
-    /// What the search reads.
-    pub given: &'a Given<'a>,
-    /// The lane's number.
-    pub number: LaneNumber,
-    /// The departures that change the table, by rank.
-    pub changes: &'a [(u32, SeenNumber)],
-    /// How far its acts have come.
-    pub state: &'a State,
+    given: &'a Given<'a>,
+    number: LaneNumber,
+    changes: &'a [(u32, SeenNumber)],
+    state: &'a State,
 }
 
 impl<'a> LaneSoFar<'a> {
+    /// A lane by its number, with what its search reads, its departures that change the table, by rank, and how far its acts have come.
+    pub fn new(
+        given: &'a Given<'a>,
+        number: LaneNumber,
+        changes: &'a [(u32, SeenNumber)],
+        state: &'a State,
+    ) -> LaneSoFar<'a> {
+        LaneSoFar {
+            given,
+            number,
+            changes,
+            state,
+        }
+    }
+
     /// The departures before one that change the table, by rank.
     pub(crate) fn changes_before(&self, departure: SeenNumber) -> &'a [(u32, SeenNumber)] {
         let rank = self.given.rank(departure);
@@ -36,7 +53,7 @@ impl<'a> LaneSoFar<'a> {
 
     /// The pools that a departure may answer, by the allocation that is there, those that the lane had, or any.
     pub(crate) fn any_pools(&self, departure: SeenNumber) -> Result<Vec<PoolRef>, AllocError> {
-        let now = relayed_of(&self.state.table);
+        let now = relayed_of(self.state.table());
         self.given.any_pools(self.number, departure, now)
     }
 }

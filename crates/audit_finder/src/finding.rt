@@ -15,6 +15,7 @@ use crate::filling::{Filled, is_there};
 use crate::turn::Turn;
 use crate::writing::written;
 use audit_clients::Clients;
+use audit_finding::Windows;
 use audit_keys::Credentials;
 use audit_model::{Addr, CertDrop, CertLane, Certificate, Extension, Listed, Side};
 use audit_search::{Reading, best_round, best_round_by};
@@ -149,9 +150,9 @@ fn in_passes(
     credentials: &Credentials,
     pairs: &[(Addr, Addr)],
 ) -> Result<Portion, AllocError> {
-    let reading = Reading::new(alloc, intake, credentials, pairs)?;
-    let round = best_round(&reading)?;
-    written(alloc, &reading, &round)
+    let reading = Reading::new(alloc, intake, credentials, pairs, Windows::Whole)?;
+    let best = best_round(&reading)?;
+    written(alloc, &reading, best.round())
 }
 
 /// The same, by so many threads at the most.
@@ -163,9 +164,9 @@ fn in_passes_by<R: Threads + Sync>(
     pairs: &[(Addr, Addr)],
     workers: u32,
 ) -> Result<Portion, AllocError> {
-    let reading = Reading::new(alloc, intake, credentials, pairs)?;
-    let round = best_round_by(rt, workers, &reading)?;
-    written(alloc, &reading, &round)
+    let reading = Reading::new(alloc, intake, credentials, pairs, Windows::Whole)?;
+    let best = best_round_by(rt, workers, &reading)?;
+    written(alloc, &reading, best.round())
 }
 
 /// The clients of all captures, in a table that hashes by the seed.

@@ -11,7 +11,7 @@ const MORE: usize = 16;
 /// The mate of each departure, which is a guess, and arrivals that are asked to stand before it.
 #[derive(Drop)]
 pub struct Edges {
-    pub mates: Mates,
+    mates: Mates,
     /// Departures, and arrivals that stand before them.
     asked: BTreeSet<(SeenNumber, SeenNumber)>,
     alloc: Global,
@@ -25,6 +25,21 @@ impl Edges {
             asked: BTreeSet::new(alloc),
             alloc,
         }
+    }
+
+    /// The mate of each departure.
+    pub fn mates(&self) -> &Mates {
+        &self.mates
+    }
+
+    /// The same, and nothing else of it.
+    pub fn into_mates(self) -> Mates {
+        self.mates
+    }
+
+    /// Joins a departure to another arrival, and parts both from others.
+    pub fn join_anew(&mut self, departure: SeenNumber, arrival: SeenNumber) {
+        self.mates.join_anew(departure, arrival);
     }
 
     /// Asks for an arrival to stand before a departure.

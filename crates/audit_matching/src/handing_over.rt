@@ -36,11 +36,11 @@ impl Facts<'_> {
             None => None,
         };
         let lo = match request {
-            Some(request) => self.sights.get(request).map(|seen| seen.lo),
+            Some(request) => self.sights.get(request).map(|seen| seen.first_moment()),
             None => None,
         };
         match (lo, self.sights.get(second.maker)) {
-            (Some(lo), Some(next)) => lo <= next.hi,
+            (Some(lo), Some(next)) => lo <= next.last_moment(),
             _ => false,
         }
     }
@@ -62,12 +62,7 @@ pub fn handovers(
     for pair in holdings.windows(2) {
         if let [first, second] = pair {
             if first.relayed == second.relayed && first.lane != second.lane {
-                found.push(Handover {
-                    from: first.lane,
-                    maker: first.maker,
-                    ender: first.ender,
-                    next: second.maker,
-                })?;
+                found.push(Handover::new(first.lane, first.maker, first.ender, second.maker))?;
             }
         }
     }
@@ -83,7 +78,8 @@ fn holdings(alloc: Global, facts: Facts<'_>, times: &Times) -> Result<Vec<Holdin
         let Some(seen) = facts.sights.get(*maker) else {
             continue;
         };
-        let (Some(lane), Says::Gives(Gives::Allocated { .. }, pool)) = (seen.lane, seen.says) else {
+        let (Some(lane), Says::Gives(Gives::Allocated { .. }, pool)) = (seen.lane(), seen.says())
+        else {
             continue;
         };
         if last != Some((*relayed, pool)) {
@@ -128,14 +124,14 @@ pub fn ask_handovers(
     edges: &mut Edges,
 ) -> Result<(), AllocError> {
     for handover in handovers {
-        let request = match handover.ender {
+        let request = match handover.ender() {
             Some(ender) => mates.of(ender),
             None => None,
         };
         if let Some(request) = request {
-            if let (Some(asks), Some(next)) = (sights.get(request), sights.get(handover.next)) {
-                if asks.lo <= next.hi && !asks.is_behind(next) {
-                    edges.ask(request, handover.next)?;
+            if let (Some(asks), Some(next)) = (sights.get(request), sights.get(handover.next())) {
+                if asks.first_moment() <= next.last_moment() && !asks.is_behind(next) {
+                    edges.ask(request, handover.next())?;
                 }
             }
         }

@@ -80,12 +80,12 @@ fn raise(sights: &Sights, edges: &Edges, low: &[u64], hold: u64, raised: &mut [u
     for (departure, (mate, moment)) in sights
         .as_slice()
         .iter()
-        .zip(edges.mates.as_slice().iter().zip(low))
+        .zip(edges.mates().as_slice().iter().zip(low))
     {
         if let (false, Some(mate)) = (departure.arrives(), mate) {
             let need = moment.saturating_sub(hold);
             let has = low.get(mate.index()).copied().unwrap_or(0);
-            let hi = sights.get(*mate).map_or(0, |seen| seen.hi);
+            let hi = sights.get(*mate).map_or(0, |seen| seen.last_moment());
             if need > has && need <= hi {
                 if let Some(place) = raised.get_mut(mate.index()) {
                     *place = need;
@@ -151,14 +151,17 @@ impl LowPass<'_> {
 
     /// Whether a departure has to wait for an arrival that isn't placed.
     fn has_to_wait(&self, arrival: SeenNumber, departure: &Seen) -> bool {
-        let lo = self.sights.get(arrival).map_or(0, |arrives| arrives.lo);
-        !self.is_placed(arrival) && lo <= departure.hi
+        let lo = self
+            .sights
+            .get(arrival)
+            .map_or(0, |arrives| arrives.first_moment());
+        !self.is_placed(arrival) && lo <= departure.last_moment()
     }
 
     /// The moment of a placed arrival that stands before a departure.
     fn bound(&self, arrival: SeenNumber, departure: &Seen) -> u64 {
         let low = self.low_of(arrival);
-        if self.is_placed(arrival) && low <= departure.hi {
+        if self.is_placed(arrival) && low <= departure.last_moment() {
             low
         } else {
             0
@@ -175,15 +178,17 @@ impl LowPass<'_> {
         };
         let mut low = self.alone(number, seen);
         if !seen.arrives() {
-            if let Some(mate) = self.edges.mates.of(number) {
+            if let Some(mate) = self.edges.mates().of(number) {
                 if self.has_to_wait(mate, seen) {
-                    return self.merge.park(iface, mate, (seen.hi, false, 0));
+                    return self.merge.park(iface, mate, (seen.last_moment(), false, 0));
                 }
                 low = low.max(self.bound(mate, seen));
             }
             for arrival in self.edges.asked_of(number)? {
                 if self.has_to_wait(arrival, seen) {
-                    return self.merge.park(iface, arrival, (seen.hi, true, 0));
+                    return self
+                        .merge
+                        .park(iface, arrival, (seen.last_moment(), true, 0));
                 }
                 low = low.max(self.bound(arrival, seen));
             }
@@ -196,14 +201,18 @@ impl LowPass<'_> {
 
     /// The least moment of a sighting by its window, its interface and what it was raised to.
     fn alone(&self, number: SeenNumber, seen: &Seen) -> u64 {
-        let shift = match usize::try_from(seen.id.iface) {
+        let shift = match usize::try_from(seen.id().iface) {
             Ok(iface) => self.shifts.get(iface).copied().unwrap_or(0),
             Err(_) => 0,
         };
         let raised = self.raised.get(number.index()).copied().unwrap_or(0);
-        let low = seen.lo.saturating_add(shift).max(raised).min(seen.hi);
+        let low = seen
+            .first_moment()
+            .saturating_add(shift)
+            .max(raised)
+            .min(seen.last_moment());
         match number.0.checked_sub(1) {
-            Some(before) if seen.id.index > 0 => low.max(self.low_of(SeenNumber(before))),
+            Some(before) if seen.id().index > 0 => low.max(self.low_of(SeenNumber(before))),
             _ => low,
         }
     }

@@ -20,14 +20,14 @@ struct Matching {
 /// Joins each departure to the oldest arrival that it may answer. `lanes` has the lane of each that leaves from a relayed address, where it
 /// is known. It takes n log n.
 pub fn match_up(known: &Known<'_>, lanes: &[Option<LaneNumber>]) -> Result<Mates, AllocError> {
-    let alloc = known.alloc;
+    let alloc = known.alloc();
     let mut matching = Matching {
-        mates: Mates::none(alloc, known.sights.as_slice().len())?,
-        heads: vec![in alloc; 0; known.numbers.count()]?,
+        mates: Mates::none(alloc, known.sights().as_slice().len())?,
+        heads: vec![in alloc; 0; known.numbers().count()]?,
         owed: owed(known)?,
     };
-    for (_, number) in &departures(alloc, known.sights, known.times)? {
-        if let Some(seen) = known.sights.get(*number) {
+    for (_, number) in &departures(alloc, known.sights(), known.times())? {
+        if let Some(seen) = known.sights().get(*number) {
             let lane = lanes.get(number.index()).copied().flatten();
             matching.join_departure(known, *number, seen, lane)?;
         }
@@ -37,8 +37,9 @@ pub fn match_up(known: &Known<'_>, lanes: &[Option<LaneNumber>]) -> Result<Mates
 
 /// How many responses there are to the requests of each pool.
 fn owed(known: &Known<'_>) -> Result<Vec<usize>, AllocError> {
-    let mut owed: Vec<usize> = vec![in known.alloc; 0; known.numbers.count()]?;
-    for seen in known.sights.as_slice() {
+    let alloc = known.alloc();
+    let mut owed: Vec<usize> = vec![in alloc; 0; known.numbers().count()]?;
+    for seen in known.sights().as_slice() {
         if let Some(pool) = seen.response_pool() {
             if let Some(count) = owed.get_mut(pool.index()) {
                 *count = count.saturating_add(1);
@@ -58,7 +59,7 @@ pub(crate) fn departures(
     for (place, seen) in sights.as_slice().iter().enumerate() {
         if let (false, Ok(number)) = (seen.arrives(), u32::try_from(place)) {
             let number = SeenNumber(number);
-            found.push((times.of(number).when, number))?;
+            found.push((times.of(number).when(), number))?;
         }
     }
     found.sort_unstable();
@@ -122,9 +123,10 @@ impl Matching {
             return;
         };
         let mates = &self.mates;
-        for number in known.pools.get(pool).get(*head..).unwrap_or(&[]) {
-            let is_late = match known.sights.get(*number) {
-                Some(seen) => seen.hi.saturating_add(known.hold) < leaves.lo,
+        for number in known.pools().get(pool).get(*head..).unwrap_or(&[]) {
+            let is_late = match known.sights().get(*number) {
+                Some(seen) => seen.last_moment().saturating_add(known.hold())
+                    < leaves.first_moment(),
                 None => true,
             };
             if mates.of(*number).is_none() && !is_late {
@@ -137,7 +139,7 @@ impl Matching {
     /// Whether as many responses are left as requests of a pool are, so that none is to be left out.
     fn is_all_owed(&self, known: &Known<'_>, pool: PoolNumber, head: usize) -> bool {
         let owed = self.owed.get(pool.index()).copied().unwrap_or(0);
-        let left = known.pools.get(pool).get(head..).unwrap_or(&[]);
+        let left = known.pools().get(pool).get(head..).unwrap_or(&[]);
         let open = left
             .iter()
             .take(COPIES)
@@ -151,14 +153,15 @@ impl Matching {
         let head = self.heads.get(pool.index()).copied()?;
         let is_all_owed = self.is_all_owed(known, pool, head);
         let mut best: Option<Choice> = None;
-        for number in known.pools.get(pool).get(head..)?.iter().take(COPIES) {
-            let arrives = known.sights.get(*number)?;
-            let fits = arrives.lo <= leaves.hi && !arrives.is_behind(leaves);
+        for number in known.pools().get(pool).get(head..)?.iter().take(COPIES) {
+            let arrives = known.sights().get(*number)?;
+            let fits = arrives.first_moment() <= leaves.last_moment() && !arrives.is_behind(leaves);
             if self.mates.of(*number).is_none() && fits {
                 let choice = Choice {
                     arrival: *number,
-                    is_sure: arrives.lo.saturating_add(known.hold) >= leaves.hi,
-                    when: known.times.of(*number).when,
+                    is_sure: arrives.first_moment().saturating_add(known.hold())
+                        >= leaves.last_moment(),
+                    when: known.times().of(*number).when(),
                 };
                 if choice.is_sure || is_all_owed {
                     return Some(choice.or(best));

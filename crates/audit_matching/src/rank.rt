@@ -102,7 +102,7 @@ impl RankPass<'_> {
         let arrives = self.sights.get(number).is_none_or(|seen| seen.arrives());
         let at = moment(self.at, number);
         if may_wait && !arrives {
-            if let Some(mate) = self.edges.mates.of(number) {
+            if let Some(mate) = self.edges.mates().of(number) {
                 if self.has_to_wait(mate, at) {
                     return self.merge.park(iface, mate, (at, false, 0));
                 }

@@ -8,7 +8,7 @@ use std::alloc::AllocError;
 use std::thread;
 use std::thread::Threads;
 
-/// Searches each lane whose digest isn't that of its last search.
+/// Searches each lane whose fingerprint isn't that of its last search.
 pub(crate) fn search(searched: &mut AllSearched, given: &Given<'_>) -> Result<(), AllocError> {
     searched.make_places(given)?;
     for (number, place) in searched.places().iter_mut().enumerate() {
@@ -34,15 +34,15 @@ pub(crate) fn search_by<R: Threads + Sync>(
     searched.all_are_there()
 }
 
-/// Searches a lane, unless its digest is that of its last search.
+/// Searches a lane, unless its fingerprint is that of its last search.
 fn search_into(given: &Given<'_>, number: usize, place: &mut Option<Searched>) {
     let Ok(lane) = u32::try_from(number) else {
         return;
     };
     let lane = LaneNumber(lane);
-    let print = given.views.print(lane);
+    let fingerprint = given.views().fingerprint(lane);
     let is_known = match place {
-        Some(searched) => searched.print() == print,
+        Some(searched) => searched.fingerprint() == fingerprint,
         None => false,
     };
     if !is_known {

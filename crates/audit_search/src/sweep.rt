@@ -1,5 +1,7 @@
 //! The sweep of one lane over its departures.
 
+mod going_back;
+
 use audit_search_acts::{Lane, PAST, Plan};
 use audit_search_input::Given;
 use audit_search_state::{Constraint, Fault, Found};
@@ -8,7 +10,7 @@ use std::alloc::AllocError;
 use std::collections::{BTreeMap, VecDeque};
 
 /// How many steps are spent on one conflict.
-pub(crate) const STEPS: u64 = 8000;
+const STEPS: u64 = 8000;
 
 /// How many steps all lanes have together, whatever their departures; each has so many as one conflict takes at the most.
 const FREE_STEPS: u64 = 1_000_000;
@@ -21,60 +23,59 @@ const STACK: usize = 64;
 
 /// A choice between several ways to act on a departure.
 #[derive(Clone, Copy)]
-pub(crate) struct Choice {
-    pub(crate) place: usize,
+struct Choice {
+    /// The place of the departure.
+    place: usize,
     /// How many ways were tried.
-    pub(crate) tried: usize,
-    pub(crate) mark: usize,
+    tried: usize,
+    /// Where the acts before it end.
+    mark: usize,
     /// How many deadlines were passed.
-    pub(crate) passed: usize,
+    passed: usize,
     /// Whether one of the ways makes or ends an allocation.
-    pub(crate) is_of_end: bool,
+    is_of_end: bool,
+}
+
+/// The farthest departure that no way led past.
+#[derive(Drop)]
+struct Farthest {
+    place: usize,
+    /// The ways that led there.
+    chosen: BTreeMap<usize, usize>,
+    /// The steps when it came there.
+    steps: u64,
 }
 
 /// The sweep of a lane: where it is, and how it came there.
 #[derive(Drop)]
-pub(crate) struct Sweep<'a> {
-    pub(crate) lane: Lane<'a>,
-    pub(crate) place: usize,
+struct Sweep<'a> {
+    lane: Lane<'a>,
+    /// The place of the departure that it is at.
+    place: usize,
     /// How many deadlines were passed.
-    pub(crate) passed: usize,
+    passed: usize,
     /// How many ways were tried at the place where it went back to.
-    pub(crate) skip: usize,
-    pub(crate) stack: VecDeque<Choice>,
+    skip: usize,
+    stack: VecDeque<Choice>,
     /// Which of the ways was taken, where it wasn't the first.
-    pub(crate) chosen: BTreeMap<usize, usize>,
-    /// The farthest departure that no way led past, and the ways that led there.
-    pub(crate) far: Option<(usize, BTreeMap<usize, usize>)>,
-    /// The steps when it came there.
-    pub(crate) far_steps: u64,
+    chosen: BTreeMap<usize, usize>,
+    /// The farthest departure that no way led past.
+    far: Option<Farthest>,
     /// The ways to the farthest departure are taken again.
-    pub(crate) is_replaying: bool,
-    pub(crate) fault: Option<Fault>,
+    is_replaying: bool,
+    fault: Option<Fault>,
     /// Departures on which it couldn't act in some order, and what it would have needed.
-    pub(crate) asked: Vec<(SeenNumber, Vec<Constraint>)>,
+    asked: Vec<(SeenNumber, Vec<Constraint>)>,
 }
 
 /// Finds the acts of a lane: an order in which the server kept to its rules, where it finds one; else the farthest one.
 pub(crate) fn search_lane(given: &Given<'_>, number: LaneNumber) -> Result<Found, AllocError> {
-    let mut sweep = Sweep {
-        lane: Lane::new(given, number)?,
-        place: 0,
-        passed: 0,
-        skip: 0,
-        stack: VecDeque::new(given.alloc),
-        chosen: BTreeMap::new(given.alloc),
-        far: None,
-        far_steps: 0,
-        is_replaying: false,
-        fault: None,
-        asked: Vec::new(given.alloc),
-    };
-    let count = sweep.lane.departures.len() as u64;
-    let lanes = (given.pairs.len() as u64).max(1);
+    let mut sweep = Sweep::new(given, number)?;
+    let count = sweep.lane.departures() as u64;
+    let lanes = (given.lanes() as u64).max(1);
     let free = (FREE_STEPS / lanes).min(STEPS);
     let budget = free.saturating_add(count.saturating_mul(STEPS_EACH));
-    sweep.lane.budget = budget;
+    sweep.lane.set_budget(budget);
     // Each departure twice, and those that are swept again, each of which is a step.
     let turns = budget.saturating_add(count).saturating_mul(2);
     for _ in 0..turns.saturating_add(2) {
@@ -82,30 +83,48 @@ pub(crate) fn search_lane(given: &Given<'_>, number: LaneNumber) -> Result<Found
             break;
         }
     }
-    let mut acts = Vec::new(given.alloc);
-    for (departure, acted) in sweep.lane.state.acts() {
-        acts.push((*departure, *acted))?;
-    }
-    Ok(Found {
-        acts,
-        fault: sweep.fault,
-        constraints: sweep.constraints()?,
-    })
+    sweep.found()
 }
 
-impl Sweep<'_> {
+impl<'a> Sweep<'a> {
+    /// At the first departure of a lane.
+    fn new(given: &'a Given<'a>, number: LaneNumber) -> Result<Sweep<'a>, AllocError> {
+        let alloc = given.alloc();
+        Ok(Sweep {
+            lane: Lane::new(given, number)?,
+            place: 0,
+            passed: 0,
+            skip: 0,
+            stack: VecDeque::new(alloc),
+            chosen: BTreeMap::new(alloc),
+            far: None,
+            fault: None,
+            is_replaying: false,
+            asked: Vec::new(alloc),
+        })
+    }
+
+    /// What it found.
+    fn found(&self) -> Result<Found, AllocError> {
+        let mut acts = Vec::new(self.lane.given().alloc());
+        for (departure, acted) in self.lane.state().acts() {
+            acts.push((*departure, *acted))?;
+        }
+        Ok(Found::new(acts, self.fault, self.constraints()?))
+    }
+
     /// Goes one departure on, or back; tells whether there was one.
     fn step(&mut self, budget: u64) -> Result<bool, AllocError> {
-        let Some((_, _, departure)) = self.lane.departures.get(self.place).copied() else {
+        let Some(departure) = self.lane.departure(self.place) else {
             return Ok(false);
         };
-        self.lane.clock = self.lane.given.at(departure);
-        if self.far.as_ref().is_some_and(|far| self.place < far.0) {
-            self.lane.steps = self.lane.steps.saturating_add(1);
+        self.lane.come_to(departure);
+        if self.far.as_ref().is_some_and(|far| self.place < far.place) {
+            self.lane.add_step();
         }
         self.meet_deadlines(departure)?;
         self.lane.act_on_asked(departure)?;
-        if self.lane.state.is_acted(departure) {
+        if self.lane.state().is_acted(departure) {
             self.go_on();
             return Ok(true);
         }
@@ -129,11 +148,11 @@ impl Sweep<'_> {
 
     /// Ends the allocations that have to be over before a departure.
     fn meet_deadlines(&mut self, departure: SeenNumber) -> Result<(), AllocError> {
-        let given = self.lane.given;
+        let given = self.lane.given();
         let before = Slot::before(given.rank(departure));
-        for _ in 0..given.order.as_slice().len() {
-            match given.deadlines.get(self.lane.number, self.passed) {
-                Some(deadline) if deadline.slot < before => {
+        for _ in 0..given.in_order().len() {
+            match given.deadlines().get(self.lane.number(), self.passed) {
+                Some(deadline) if deadline.slot() < before => {
                     self.lane.meet(deadline)?;
                     self.passed = self.passed.saturating_add(1);
                 }
@@ -154,47 +173,46 @@ impl Sweep<'_> {
             self.skip = self.chosen_before();
         }
         let is_choice = !self.is_replaying
-            && self.lane.steps < budget
+            && self.lane.steps() < budget
             && self.lane.is_ambiguous(departure)?;
         self.forget_old_choices(departure, budget);
         if self.stack.is_empty() && !is_choice {
-            self.lane.state.forget();
+            self.lane.state_mut().forget();
         }
-        self.lane.state.keep_past(PAST);
+        self.lane.state_mut().keep_past(PAST);
         if self.skip == 0 && !is_choice && self.act_plainly(departure)? {
             return Ok(true);
         }
-        if self.lane.steps >= budget && !self.is_replaying {
+        if self.lane.steps() >= budget && !self.is_replaying {
             return Ok(false);
         }
-        let was_noting = self.lane.state.is_noting;
-        self.lane.state.is_noting = true;
-        let mark = self.lane.state.mark();
-        let limit = self.lane.steps.saturating_add(STEPS);
+        let was_noting = self.lane.state_mut().set_noting(true);
+        let mark = self.lane.state().mark();
+        let limit = self.lane.steps().saturating_add(STEPS);
         let plans = self.lane.plans(departure, limit)?;
         for (number, plan) in plans.iter().enumerate().skip(self.skip) {
             if self.lane.follow(departure, plan)? {
                 self.chosen.insert(self.place, number)?;
                 let is_kept = is_choice || !matches!(plan, Plan::Now);
-                if is_kept && !self.is_replaying && self.lane.steps < budget {
+                if is_kept && !self.is_replaying && self.lane.steps() < budget {
                     let is_of_end = self.lane.is_of_end(departure, &plans);
                     self.keep(number, mark, is_of_end)?;
                 }
                 return Ok(true);
             }
-            self.lane.state.undo(mark);
+            self.lane.state_mut().undo(mark);
         }
-        self.lane.state.is_noting = was_noting;
+        let _was_noting = self.lane.state_mut().set_noting(was_noting);
         Ok(false)
     }
 
     /// Acts on a departure as it leaves, without another way; tells whether it could.
     fn act_plainly(&mut self, departure: SeenNumber) -> Result<bool, AllocError> {
-        let slot = Slot::before(self.lane.given.rank(departure));
+        let slot = Slot::before(self.lane.given().rank(departure));
         if self.lane.is_rather_earlier(departure)? {
             return Ok(false);
         }
-        let moment = self.lane.given.at(departure);
+        let moment = self.lane.given().at(departure);
         Ok(self.lane.act_now(departure, slot, moment)?.is_none())
     }
 
@@ -216,7 +234,7 @@ impl Sweep<'_> {
     /// Which way was taken here on the way to the farthest departure.
     fn chosen_before(&self) -> usize {
         match &self.far {
-            Some((_, chosen)) => chosen.get(&self.place).copied().unwrap_or(0),
+            Some(far) => far.chosen.get(&self.place).copied().unwrap_or(0),
             None => 0,
         }
     }

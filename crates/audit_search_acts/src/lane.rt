@@ -1,9 +1,27 @@
 //! One lane: what it may act on.
 
+ghost use Rattle.std.specs.Prelude.{◌≡◌};
+
+mod acting;
+mod ambiguous;
+mod before_end;
+mod drawing;
+mod earlier;
+mod faults;
+mod following;
+mod grants;
+mod judging;
+mod makers;
+mod meeting;
+mod needs;
+mod plans;
+
 use audit_rules::LaneTable;
 use audit_search_input::{Given, Ranked};
 use audit_search_state::{PoolRef, Refused, State, relayed_of};
 use audit_seen::{Gives, LaneNumber, Seen, SeenNumber, Slot};
+pub use drawing::Draw;
+pub use plans::{PAST, Plan};
 use std::alloc::AllocError;
 
 /// How many arrivals of a pool are tried for one departure.
@@ -20,33 +38,32 @@ pub(crate) enum Attempt {
 #[derive(Drop)]
 pub struct Lane<'a> {
     /// What the search reads.
-    pub given: &'a Given<'a>,
-    /// The lane's number.
-    pub number: LaneNumber,
+    given: &'a Given<'a>,
+    number: LaneNumber,
     /// The departures, by rank, and those of them that change the table.
-    pub departures: &'a [Ranked],
-    pub changes: Vec<(u32, SeenNumber)>,
+    departures: &'a [Ranked],
+    changes: Vec<(u32, SeenNumber)>,
     /// How far its acts have come.
-    pub state: State,
-    /// The moment of the departure that the sweep is at.
-    pub clock: u64,
+    state: State,
+    /// The moment of the departure that the search is at.
+    clock: u64,
     /// How many acts were judged beyond one for each departure.
-    pub steps: u64,
+    steps: u64,
     /// How many steps there may be.
-    pub budget: u64,
+    budget: u64,
 }
 
 impl<'a> Lane<'a> {
     /// A lane on whose departures nothing has acted yet.
     pub fn new(given: &'a Given<'a>, number: LaneNumber) -> Result<Lane<'a>, AllocError> {
-        let departures = given.views.departures(number);
-        let mut changes = Vec::new(given.alloc);
-        for (_, rank, departure) in departures {
+        let departures = given.views().departures(number);
+        let mut changes = Vec::new(given.alloc());
+        for one in departures {
             if given
-                .gives(*departure)
+                .gives(one.number())
                 .is_some_and(|gives| gives.is_change())
             {
-                changes.push((*rank, *departure))?;
+                changes.push((one.rank(), one.number()))?;
             }
         }
         let (client, listen) = given.pair(number);
@@ -55,11 +72,76 @@ impl<'a> Lane<'a> {
             number,
             departures,
             changes,
-            state: State::new(given.alloc, number, client, listen),
+            state: State::new(given.alloc(), number, client, listen),
             clock: 0,
             steps: 0,
             budget: 0,
         })
+    }
+
+    /// What the search reads.
+    pub fn given(&self) -> &'a Given<'a> {
+        self.given
+    }
+
+    /// The lane's number.
+    pub fn number(&self) -> LaneNumber
+        ensures { result ≡ self.now.number }
+    {
+        self.number
+    }
+
+    /// The departure at a place among the lane's, which are by rank.
+    pub fn departure(&self, place: usize) -> Option<SeenNumber> {
+        Some(self.departures.get(place)?.number())
+    }
+
+    /// How many departures there are.
+    pub fn departures(&self) -> usize {
+        self.departures.len()
+    }
+
+    /// The departures that change the table, by rank.
+    pub fn changes(&self) -> &[(u32, SeenNumber)] {
+        self.changes.as_slice()
+    }
+
+    /// How far its acts have come.
+    pub fn state(&self) -> &State {
+        &self.state
+    }
+
+    /// The same, to go back in it.
+    pub fn state_mut(&mut self) -> &mut State {
+        &mut self.state
+    }
+
+    /// Begins anew, with no act.
+    pub fn start_again(&mut self) {
+        let (client, listen) = self.given.pair(self.number);
+        self.state = State::new(self.given.alloc(), self.number, client, listen);
+    }
+
+    /// Comes to a departure.
+    pub fn come_to(&mut self, departure: SeenNumber) {
+        self.clock = self.given.at(departure);
+    }
+
+    /// How many acts were judged beyond one for each departure.
+    pub fn steps(&self) -> u64
+        ensures { result ≡ self.now.steps }
+    {
+        self.steps
+    }
+
+    /// Counts a step.
+    pub fn add_step(&mut self) {
+        self.steps = self.steps.saturating_add(1);
+    }
+
+    /// Has so many steps at the most.
+    pub fn set_budget(&mut self, budget: u64) {
+        self.budget = budget;
     }
 
     /// A table with nothing in it.
@@ -76,11 +158,12 @@ impl<'a> Lane<'a> {
         pool: PoolRef,
         slot: Slot,
     ) -> Result<Vec<SeenNumber>, AllocError> {
-        let all = self.given.views.arrivals(self.number, pool);
+        let all = self.given.views().arrivals(self.number, pool);
         let first = self.state.first(pool);
         let mut place = first;
-        for (_, _, _, arrival) in all.get(first..).unwrap_or(&[]) {
-            if !self.state.is_used(*arrival) && self.given.held_until(*arrival) >= self.clock {
+        for one in all.get(first..).unwrap_or(&[]) {
+            let arrival = one.number();
+            if !self.state.is_used(arrival) && self.given.held_until(arrival) >= self.clock {
                 break;
             }
             place = place.saturating_add(1);
@@ -89,13 +172,14 @@ impl<'a> Lane<'a> {
             self.state.set_first(pool, place)?;
         }
         let moment = self.given.at(departure);
-        let mut found = Vec::new(self.given.alloc);
-        for (_, _, rank, arrival) in all.get(place..).unwrap_or(&[]).iter().take(COPIES) {
-            if Slot::behind(*rank) > slot.next() {
+        let mut found = Vec::new(self.given.alloc());
+        for one in all.get(place..).unwrap_or(&[]).iter().take(COPIES) {
+            if Slot::behind(one.rank()) > slot.next() {
                 break;
             }
-            if !self.state.is_used(*arrival) && self.given.held_until(*arrival) >= moment {
-                found.push(*arrival)?;
+            let arrival = one.number();
+            if !self.state.is_used(arrival) && self.given.held_until(arrival) >= moment {
+                found.push(arrival)?;
             }
         }
         Ok(found)
@@ -112,10 +196,7 @@ impl<'a> Lane<'a> {
         };
         match seen.response_pool() {
             Some(pool) => {
-                let pool = PoolRef {
-                    pool,
-                    is_shared: false,
-                };
+                let pool = PoolRef::own(pool);
                 Ok(self.unused(response, pool, slot)?.first().copied())
             }
             None => Ok(None),
@@ -137,7 +218,7 @@ impl<'a> Lane<'a> {
         let mut best: Option<SeenNumber> = None;
         let mut refused = Refused::NoArrival;
         for pool in self.given.pools_of(self.number, seen, relayed)? {
-            if best.is_none() || !pool.is_shared {
+            if best.is_none() || !pool.is_shared() {
                 match self.attempt_of(table, departure, seen, pool, best, slot, moment)? {
                     Attempt::Accepted(arrival) => best = Some(arrival),
                     Attempt::Refused(Refused::NoArrival) => {}

@@ -4,21 +4,6 @@
 //! are owed, and `Lane::follow` goes by one of them. Each act is judged by `audit_rules`. Nothing rests on any of it.
 #![tactic(auto)]
 
-mod acting;
-mod ambiguous;
-mod before_end;
-mod drawing;
-mod earlier;
-mod faults;
-mod following;
-mod grants;
-mod judging;
 mod lane;
-mod makers;
-mod meeting;
-mod needs;
-mod plans;
 
-pub use drawing::Draw;
-pub use lane::Lane;
-pub use plans::{PAST, Plan};
+pub use lane::{Draw, Lane, PAST, Plan};

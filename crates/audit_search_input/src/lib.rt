@@ -6,14 +6,12 @@
 
 mod deadlines;
 mod given;
-mod leases;
-mod needs;
-mod pools;
+mod ranked;
 mod shared;
 mod views;
 
 pub use deadlines::{Deadline, Deadlines};
-pub use given::Given;
-pub use needs::{AHEAD, helps, names, peer_of};
+pub use given::{AHEAD, Captured, Given, helps, names, peer_of};
+pub use ranked::{Arriving, Ranked};
 pub use shared::Shared;
-pub use views::{Arriving, Ranked, Viewed, Views};
+pub use views::{Viewed, Views};

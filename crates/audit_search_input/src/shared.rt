@@ -20,9 +20,12 @@ impl Shared {
     ) -> Result<Shared, AllocError> {
         let mut list = Vec::new(alloc);
         for handover in handovers {
-            list.push((handover.next, handover.from))?;
-            let to = known.sights.get(handover.next).and_then(|seen| seen.lane);
-            if let (Some(to), Some(ender)) = (to, handover.ender) {
+            list.push((handover.next(), handover.from()))?;
+            let to = known
+                .sights()
+                .get(handover.next())
+                .and_then(|seen| seen.lane());
+            if let (Some(to), Some(ender)) = (to, handover.ender()) {
                 list.push((ender, to))?;
                 if let Some(request) = mates.of(ender) {
                     list.push((request, to))?;

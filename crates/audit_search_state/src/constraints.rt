@@ -1,5 +1,7 @@
 //! What is asked of a round beside what the sightings say.
 
+ghost use Rattle.std.specs.Prelude.{◌≡◌};
+
 use crate::constraint::Constraint;
 use audit_seen::{LaneNumber, SeenNumber};
 use std::alloc::{AllocError, Global};
@@ -10,9 +12,9 @@ use std::collections::{BTreeSet, btree_set};
 pub struct Constraints {
     all: BTreeSet<Constraint>,
     /// Whether acts that make or keep an allocation stand at their requests.
-    pub is_early: bool,
+    is_early: bool,
     /// How far behind the starts of their windows the sightings of each interface stand.
-    pub shifts: Vec<u64>,
+    shifts: Vec<u64>,
 }
 
 impl Constraints {
@@ -23,6 +25,18 @@ impl Constraints {
             is_early: false,
             shifts,
         }
+    }
+
+    /// How far behind the starts of their windows the sightings of each interface stand, in nanoseconds.
+    pub fn shifts(&self) -> &[u64] {
+        self.shifts.as_slice()
+    }
+
+    /// Whether acts that make or keep an allocation are to stand at their requests.
+    pub fn set_early(&mut self, is_early: bool)
+        ensures { self.new.is_early ≡ is_early }
+    {
+        self.is_early = is_early;
     }
 
     /// Takes back all.

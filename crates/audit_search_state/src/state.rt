@@ -1,69 +1,37 @@
 //! What a lane's search has done so far.
 
+ghost use Rattle.std.specs.Prelude.{◌≡◌};
+
+use crate::acted::Acted;
+use crate::past::{End, Past};
 use crate::pool_ref::PoolRef;
+use crate::progress::Progress;
 use crate::trail::{Trail, Undo};
 use audit_model::Addr;
 use audit_rules::LaneTable;
-use audit_seen::{LaneNumber, SeenNumber, Slot};
+use audit_seen::{LaneNumber, SeenNumber};
 use std::alloc::{AllocError, Global};
 use std::collections::{BTreeMap, BTreeSet, VecDeque};
-
-/// The act that gives a departure.
-#[derive(Clone, Copy, Debug)]
-pub struct Acted {
-    /// Where it stands.
-    pub slot: Slot,
-    /// The order of the acts of one slot.
-    pub turn: (u32, u32),
-    /// The arrival that it answers.
-    pub arrival: SeenNumber,
-}
-
-/// The table as it was before an act that ended or made an allocation.
-#[derive(Drop)]
-pub struct Past {
-    /// That table.
-    pub table: LaneTable,
-    /// The slot, the turn and the moment of that act, and its arrival.
-    pub slot: Slot,
-    pub turn: u32,
-    pub moment: u64,
-    pub by: SeenNumber,
-    /// The slot and the moment of the last change of the table before that act.
-    pub changed: (Slot, u64),
-}
-
-/// How far the acts have come.
-#[derive(Clone, Copy)]
-pub struct Progress {
-    /// The turn of the last act.
-    pub turn: u32,
-    /// The slot and the moment of the last change of the table.
-    pub changed: (Slot, u64),
-    /// How much the table has, about.
-    pub weight: u64,
-    /// The slot and the moment of the last act in order.
-    pub last: (Slot, u64),
-}
+use std::mem;
 
 /// The table of a lane, those that ended, and the acts so far.
 #[derive(Drop)]
 pub struct State {
     /// The table as the acts so far left it.
-    pub table: LaneTable,
+    table: LaneTable,
     /// The tables that ended, but for the oldest ones, which are forgotten.
     past: VecDeque<Past>,
     /// How many of them are forgotten.
     forgotten: usize,
     /// How far the acts have come.
-    pub progress: Progress,
+    progress: Progress,
     acts: BTreeMap<SeenNumber, Acted>,
     used: BTreeSet<SeenNumber>,
     /// The place in each pool of the first arrival that may be unused.
     first: BTreeMap<PoolRef, usize>,
     trail: Trail,
     /// Whether steps are noted, so that they can be taken back.
-    pub is_noting: bool,
+    is_noting: bool,
 }
 
 impl State {
@@ -73,18 +41,56 @@ impl State {
             table: LaneTable::new(lane.0, client, listen),
             past: VecDeque::new(alloc),
             forgotten: 0,
-            progress: Progress {
-                turn: 0,
-                changed: (Slot(0), 0),
-                weight: 0,
-                last: (Slot(0), 0),
-            },
+            progress: Progress::none(),
             acts: BTreeMap::new(alloc),
             used: BTreeSet::new(alloc),
             first: BTreeMap::new(alloc),
             trail: Trail::new(alloc),
             is_noting: false,
         }
+    }
+
+    /// The table as the acts so far left it.
+    pub fn table(&self) -> &LaneTable {
+        &self.table
+    }
+
+    /// Takes the table out, and leaves another one until it is put back.
+    pub fn take_table(&mut self, other: LaneTable) -> LaneTable {
+        mem::replace(&mut self.table, other)
+    }
+
+    /// Puts the table back.
+    pub fn put_table(&mut self, table: LaneTable) {
+        self.table = table;
+    }
+
+    /// How far the acts have come.
+    pub fn progress(&self) -> Progress
+        ensures { result ≡ self.now.progress }
+    {
+        self.progress
+    }
+
+    /// The turn of the next act, which isn't taken back.
+    pub fn take_turn(&mut self) -> u32 {
+        self.progress = self.progress.with_act();
+        self.progress.turn()
+    }
+
+    /// Whether steps are noted, so that they can be taken back.
+    pub fn is_noting(&self) -> bool
+        ensures { result ≡ self.now.is_noting }
+    {
+        self.is_noting
+    }
+
+    /// Has steps be noted or not, and tells whether they were.
+    pub fn set_noting(&mut self, is_noting: bool) -> bool
+        ensures was { result ≡ self.old.is_noting }
+        ensures set { self.new.is_noting ≡ is_noting }
+    {
+        mem::replace(&mut self.is_noting, is_noting)
     }
 
     /// The acts, by their departures.
@@ -168,13 +174,13 @@ impl State {
 
     /// Notes how far the acts have come.
     pub fn set_progress(&mut self, progress: Progress) -> Result<(), AllocError> {
-        let before = std::mem::replace(&mut self.progress, progress);
+        let before = mem::replace(&mut self.progress, progress);
         self.note(Undo::Progress(before), 1)
     }
 
     /// Notes what the table was before it changed, where that was kept.
     pub fn changed_from(&mut self, before: Option<LaneTable>) -> Result<(), AllocError> {
-        let weight = self.progress.weight.saturating_add(1);
+        let weight = self.progress.weight().saturating_add(1);
         match before {
             Some(before) => self.note(Undo::Table(before), weight),
             None => Ok(()),
@@ -187,30 +193,29 @@ impl State {
         self.note(Undo::Ended, 1)
     }
 
-    /// The slot, the turn and the moment at which a table was ended.
-    pub fn end_of(&self, which: usize) -> Option<(Slot, u32, u64)> {
-        let past = self.past(which)?;
-        Some((past.slot, past.turn, past.moment))
+    /// The act that ended a table.
+    pub fn end_of(&self, which: usize) -> Option<End> {
+        Some(self.past(which)?.end())
     }
 
     /// Puts a table in the place of one that was ended, and gives that, unless it is forgotten.
     pub fn swap_past(&mut self, which: usize, table: LaneTable) -> Option<LaneTable> {
         let place = which.checked_sub(self.forgotten)?;
         let past = self.past.get_mut(place)?;
-        Some(std::mem::replace(&mut past.table, table))
+        Some(past.swap_table(table))
     }
 
     /// Notes what a table that was ended was before it changed.
     pub fn past_changed_from(&mut self, which: usize, before: LaneTable) -> Result<(), AllocError> {
-        let weight = self.progress.weight.saturating_add(1);
+        let weight = self.progress.weight().saturating_add(1);
         self.note(Undo::Past(which, before), weight)
     }
 
     /// Notes the act that gives a departure.
     pub fn act(&mut self, departure: SeenNumber, acted: Acted) -> Result<(), AllocError> {
         self.acts.insert(departure, acted)?;
-        self.used.insert(acted.arrival)?;
-        self.note(Undo::Acted(departure, acted.arrival), 1)
+        self.used.insert(acted.arrival())?;
+        self.note(Undo::Acted(departure, acted.arrival()), 1)
     }
 
     /// Goes back to a mark.
@@ -228,13 +233,13 @@ impl State {
             Undo::Table(table) => self.table = table,
             Undo::Ended => {
                 if let Some(past) = self.past.pop_back() {
-                    self.table = past.table;
+                    self.table = past.into_table();
                 }
             }
             Undo::Past(which, table) => {
                 if let Some(place) = which.checked_sub(self.forgotten) {
                     if let Some(past) = self.past.get_mut(place) {
-                        past.table = table;
+                        let _changed = past.swap_table(table);
                     }
                 }
             }

@@ -1,7 +1,7 @@
 //! The steps of a lane's search that can be taken back.
 
 use crate::pool_ref::PoolRef;
-use crate::state::Progress;
+use crate::progress::Progress;
 use audit_rules::LaneTable;
 use audit_seen::SeenNumber;
 use std::alloc::{AllocError, Global};

@@ -1,6 +1,6 @@
 //! Constraints about allocations that were ended shortly before departures.
 
-use crate::lane_so_far::LaneSoFar;
+use super::LaneSoFar;
 use audit_search_input::AHEAD;
 use audit_search_state::Constraint;
 use audit_seen::{Gives, SeenNumber};
@@ -10,7 +10,7 @@ impl LaneSoFar<'_> {
     /// The answers that end allocations and leave before a departure, no longer than the hold, the last one first.
     pub(crate) fn ends_before(&self, departure: SeenNumber) -> Result<Vec<SeenNumber>, AllocError> {
         let moment = self.given.at(departure);
-        let mut found = Vec::new(self.given.alloc);
+        let mut found = Vec::new(self.given.alloc());
         for (_, answer) in self.changes_before(departure).iter().rev().take(AHEAD) {
             let is_end = self.given.gives(*answer) == Some(Gives::Deleted);
             if is_end && self.given.held_until(*answer) >= moment {

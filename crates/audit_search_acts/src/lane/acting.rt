@@ -1,9 +1,9 @@
 //! Acts of a lane, now or in a table that was ended.
 
-use crate::lane::{Attempt, Lane};
+use super::{Attempt, Lane};
 use audit_model::Rule;
 use audit_rules::LaneTable;
-use audit_search_state::{Acted, Past, Progress, Refused};
+use audit_search_state::{Acted, End, Past, Refused, Turn};
 use audit_seen::{Gives, Seen, SeenNumber, Slot};
 use std::alloc::AllocError;
 
@@ -41,21 +41,21 @@ impl Lane<'_> {
         if self.is_before_its_maker(departure) {
             return Ok(Some(Refused::Rule(Rule::NoAllocation)));
         }
-        if self.given.constraints.is_at_request(departure)
+        if self.given.constraints().is_at_request(departure)
             && self.act_early(departure, seen, slot)?
         {
             return Ok(None);
         }
         let empty = self.empty_table();
-        let mut table = std::mem::replace(&mut self.state.table, empty);
+        let mut table = self.state.take_table(empty);
         let does = self.does(&table, seen, moment);
-        if does == Does::Ends && slot < self.given.deadlines.not_before(departure) {
-            self.state.table = table;
+        if does == Does::Ends && slot < self.given.deadlines().not_before(departure) {
+            self.state.put_table(table);
             return Ok(Some(Refused::Rule(Rule::AddressHeld)));
         }
         let before = self.kept(&table, does)?;
         let attempt = self.attempt(&mut table, departure, slot, moment)?;
-        self.state.table = table;
+        self.state.put_table(table);
         match attempt {
             Attempt::Refused(refused) => Ok(Some(refused)),
             Attempt::Accepted(arrival) => {
@@ -74,14 +74,16 @@ impl Lane<'_> {
     ) -> Result<Option<LaneTable>, AllocError> {
         let is_kept = match does {
             Does::Nothing => false,
-            Does::Changes => self.state.is_noting,
-            Does::Ends => self.state.is_noting || self.steps < self.budget,
+            Does::Changes => self.state.is_noting(),
+            Does::Ends => self.state.is_noting() || self.steps < self.budget,
         };
         if !is_kept {
             return Ok(None);
         }
-        self.steps = self.steps.saturating_add(self.state.progress.weight / 16);
-        Ok(Some(table.copied(self.given.alloc)?))
+        self.steps = self
+            .steps
+            .saturating_add(self.state.progress().weight() / 16);
+        Ok(Some(table.copied(self.given.alloc())?))
     }
 
     /// Notes an act that was accepted now.
@@ -94,41 +96,25 @@ impl Lane<'_> {
         does: Does,
         before: Option<LaneTable>,
     ) -> Result<(), AllocError> {
-        let turn = self.state.progress.turn.saturating_add(1);
-        let mut progress = Progress {
-            turn,
-            last: self.state.progress.last.max((slot, moment)),
-            ..self.state.progress
-        };
+        let mut progress = self.state.progress().with_act_at(slot, moment);
+        let turn = progress.turn();
         match (does, before) {
             (Does::Nothing, _) => {}
             (Does::Changes, before) => {
-                progress.changed = (slot, moment);
-                progress.weight = progress.weight.saturating_add(self.weight_of(arrival));
+                progress = progress.with_change(slot, moment, self.weight_of(arrival));
                 self.state.changed_from(before)?;
             }
             (Does::Ends, Some(table))
-                if table.running().is_some() || self.state.table.running().is_some() => {
-                let changed = progress.changed;
-                progress.changed = (slot, moment);
-                progress.weight = 0;
-                self.state.ended_from(Past {
-                    table,
-                    slot,
-                    turn,
-                    moment,
-                    by: arrival,
-                    changed,
-                })?;
+                if table.running().is_some() || self.state.table().running().is_some() => {
+                let end = End::new(slot, turn, moment, arrival);
+                let past = Past::new(table, end, progress.changed());
+                progress = progress.with_end(slot, moment);
+                self.state.ended_from(past)?;
             }
             (Does::Ends, _) => {}
         }
         self.state.set_progress(progress)?;
-        let acted = Acted {
-            slot,
-            turn: (turn, 0),
-            arrival,
-        };
+        let acted = Acted::new(slot, Turn::now(turn), arrival);
         self.state.act(departure, acted)
     }
 

@@ -1,8 +1,8 @@
 //! Plans in which answers that are owed grant what a departure needs, earlier than it leaves.
 
-use crate::drawing::Draw;
-use crate::lane::Lane;
-use crate::plans::Plan;
+use super::Lane;
+use super::drawing::Draw;
+use super::plans::Plan;
 use audit_model::Rule;
 use audit_search_state::Refused;
 use audit_seen::{Gives, SeenNumber};
@@ -16,7 +16,7 @@ impl Lane<'_> {
         plans: &mut Vec<Plan>,
     ) -> Result<(), AllocError> {
         let mark = self.state.mark();
-        let mut draw = Vec::new(self.given.alloc);
+        let mut draw = Vec::new(self.given.alloc());
         let mut is_found = false;
         for answer in self.owed(departure, Refused::Rule(Rule::NoPermission))? {
             if !is_found && self.act_at_arrival(answer)?.is_none() {
@@ -53,7 +53,7 @@ impl Lane<'_> {
         plans: &mut Vec<Plan>,
     ) -> Result<(), AllocError> {
         let mark = self.state.mark();
-        let mut draw = Vec::new(self.given.alloc);
+        let mut draw = Vec::new(self.given.alloc());
         let mut is_found = false;
         for answer in self.owed(departure, Refused::Rule(Rule::NoPermission))? {
             let is_grant = matches!(

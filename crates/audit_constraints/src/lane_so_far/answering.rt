@@ -1,6 +1,6 @@
 //! Constraints about which arrival a departure answers.
 
-use crate::lane_so_far::{EACH, LaneSoFar};
+use super::{EACH, LaneSoFar};
 use audit_search_input::AHEAD;
 use audit_search_state::{Constraint, PoolRef};
 use audit_seen::SeenNumber;
@@ -16,7 +16,7 @@ impl LaneSoFar<'_> {
     ) -> Result<(), AllocError> {
         let mut older: Option<SeenNumber> = None;
         for (_, arrival) in self.near_of(departure, pools)? {
-            let mate = self.given.mates.of(arrival);
+            let mate = self.given.mate_of(arrival);
             if let (Some(older), Some(mate)) = (older, mate) {
                 let constraint = Constraint::Answers {
                     arrival: older,
@@ -42,12 +42,12 @@ impl LaneSoFar<'_> {
         pools: &[PoolRef],
     ) -> Result<Vec<(u32, SeenNumber)>, AllocError> {
         let rank = self.given.rank(departure);
-        let mut found = Vec::new(self.given.alloc);
+        let mut found = Vec::new(self.given.alloc());
         for pool in pools {
-            let all = self.given.views.arrivals(self.number, *pool);
-            let behind = all.partition_point(|one| one.2 < rank);
+            let all = self.given.views().arrivals(self.number, *pool);
+            let behind = all.partition_point(|one| one.rank() < rank);
             for one in all.get(behind.saturating_sub(AHEAD)..behind).unwrap_or(&[]) {
-                found.push((one.2, one.3))?;
+                found.push((one.rank(), one.number()))?;
             }
         }
         found.sort_unstable();
@@ -60,8 +60,9 @@ impl LaneSoFar<'_> {
         else {
             return false;
         };
-        let shift = self.given.constraints.shift(leaves.id.iface);
-        arrives.hi.saturating_add(self.given.known.hold) >= leaves.lo.saturating_add(shift)
+        let shift = self.given.constraints().shift(leaves.id().iface);
+        arrives.last_moment().saturating_add(self.given.hold())
+            >= leaves.first_moment().saturating_add(shift)
     }
 
     /// Asks that the last arrivals of a pool that came too long before a departure stand later, if they may.
@@ -71,18 +72,16 @@ impl LaneSoFar<'_> {
         pool: PoolRef,
         constraints: &mut Vec<Constraint>,
     ) -> Result<(), AllocError> {
-        let all = self.given.views.arrivals(self.number, pool);
+        let all = self.given.views().arrivals(self.number, pool);
         let rank = self.given.rank(departure);
         let moment = self.given.at(departure);
-        let behind = all.partition_point(|one| one.2 < rank);
+        let behind = all.partition_point(|one| one.rank() < rank);
         let near = all.get(behind.saturating_sub(EACH)..behind).unwrap_or(&[]);
-        for (_, _, _, arrival) in near {
-            let constraint = Constraint::Answers {
-                arrival: *arrival,
-                departure,
-            };
-            let is_late = self.given.held_until(*arrival) < moment;
-            let may_stand = self.may_answer(departure, *arrival) && !self.state.is_used(*arrival);
+        for one in near {
+            let arrival = one.number();
+            let constraint = Constraint::Answers { departure, arrival };
+            let is_late = self.given.held_until(arrival) < moment;
+            let may_stand = self.may_answer(departure, arrival) && !self.state.is_used(arrival);
             if is_late && may_stand && !constraints.contains(&constraint) {
                 constraints.push(constraint)?;
             }

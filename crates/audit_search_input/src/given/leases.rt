@@ -1,6 +1,6 @@
 //! By when answers may be given whose leases are over before a departure.
 
-use crate::given::Given;
+use super::Given;
 use audit_seen::{Gives, SeenNumber, Slot};
 
 /// Nanoseconds of a second.
@@ -16,7 +16,7 @@ impl Given<'_> {
     /// The last moment at which an answer may be given whose lease is over before a departure.
     pub fn latest_before(&self, answer: SeenNumber, departure: SeenNumber) -> Option<u64> {
         let lease = lease_of(self.gives(answer)?)?;
-        let grace = self.intake.policy().grace;
+        let grace = self.policy().grace;
         let until = self.at(departure).checked_sub(lease)?;
         until.checked_sub(grace)?.checked_sub(1)
     }
@@ -24,7 +24,7 @@ impl Given<'_> {
     /// The latest slot, and its moment, at which an answer is given whose lease is over before a departure.
     pub fn slot_before(&self, answer: SeenNumber, departure: SeenNumber) -> Option<(Slot, u64)> {
         let latest = self.latest_before(answer, departure)?;
-        let order = self.order.as_slice();
+        let order = self.in_order();
         let count = order.partition_point(|one| self.at(*one) <= latest);
         let last = *order.get(count.checked_sub(1)?)?;
         Some((Slot::behind(self.rank(last)), self.at(last)))

@@ -1,10 +1,10 @@
 //! Going back to a choice, or to the farthest departure that no way leads past.
 
-use crate::sweep::{Choice, STEPS, Sweep};
+use super::{Choice, Farthest, STEPS, Sweep};
 use audit_constraints::LaneSoFar;
 use audit_model::Rule;
 use audit_search_input::AHEAD;
-use audit_search_state::{Constraint, Fault, Refused, State};
+use audit_search_state::{Constraint, Fault, Refused};
 use audit_seen::{Gives, SeenNumber};
 use std::alloc::AllocError;
 use std::collections::BTreeMap;
@@ -20,44 +20,40 @@ const CONSTRAINTS: usize = 64;
 
 impl Sweep<'_> {
     /// Forgets the choices that were made long ago, and those behind which too much is noted.
-    pub(crate) fn forget_old_choices(&mut self, departure: SeenNumber, budget: u64) {
-        if self.lane.steps >= budget {
+    pub fn forget_old_choices(&mut self, departure: SeenNumber, budget: u64) {
+        if self.lane.steps() >= budget {
             self.stack.clear();
         }
-        let given = self.lane.given;
+        let given = self.lane.given();
         let moment = given.at(departure);
         for _ in 0..self.stack.len() {
             let Some(choice) = self.stack.front().copied() else {
                 break;
             };
-            let made = match self.lane.departures.get(choice.place) {
-                Some((_, _, other)) => given.at(*other),
+            let made = match self.lane.departure(choice.place) {
+                Some(other) => given.at(other),
                 None => 0,
             };
-            let until = made.saturating_add(given.known.hold.saturating_mul(REACH));
-            if (until >= moment || choice.is_of_end) && self.lane.state.trail_weight() <= TRAIL {
+            let until = made.saturating_add(given.hold().saturating_mul(REACH));
+            if (until >= moment || choice.is_of_end) && self.lane.state().trail_weight() <= TRAIL {
                 break;
             }
             let _forgotten = self.stack.pop_front();
             let mark = self.stack.front().map_or(usize::MAX, |next| next.mark);
-            self.lane.state.forget_before(mark);
+            self.lane.state_mut().forget_before(mark);
         }
     }
 
     /// Notes what the lane would need to act on a departure.
-    pub(crate) fn ask(
-        &mut self,
-        departure: SeenNumber,
-        refused: Refused,
-    ) -> Result<(), AllocError> {
+    pub fn ask(&mut self, departure: SeenNumber, refused: Refused) -> Result<(), AllocError> {
         let is_new = self.asked.iter().all(|asked| asked.0 != departure);
         if is_new && self.asked.len() < AHEAD {
-            let so_far = LaneSoFar {
-                given: self.lane.given,
-                number: self.lane.number,
-                changes: self.lane.changes.as_slice(),
-                state: &self.lane.state,
-            };
+            let so_far = LaneSoFar::new(
+                self.lane.given(),
+                self.lane.number(),
+                self.lane.changes(),
+                self.lane.state(),
+            );
             let constraints = so_far.constraints(departure, refused)?;
             self.asked.push((departure, constraints))?;
         }
@@ -65,14 +61,14 @@ impl Sweep<'_> {
     }
 
     /// What the lane would need: for the departure where it came farthest, and then for the others.
-    pub(crate) fn constraints(&self) -> Result<Vec<Constraint>, AllocError> {
-        let mut constraints: Vec<Constraint> = Vec::new(self.lane.given.alloc);
+    pub fn constraints(&self) -> Result<Vec<Constraint>, AllocError> {
+        let mut constraints: Vec<Constraint> = Vec::new(self.lane.given().alloc());
         let Some(fault) = self.fault else {
             return Ok(constraints);
         };
         for is_fault in [true, false] {
             for (departure, asked) in &self.asked {
-                if (*departure == fault.departure) == is_fault {
+                if (*departure == fault.departure()) == is_fault {
                     for constraint in asked {
                         if constraints.len() < CONSTRAINTS && !constraints.contains(constraint) {
                             constraints.push(*constraint)?;
@@ -85,27 +81,23 @@ impl Sweep<'_> {
     }
 
     /// Goes back to the newest choice, or takes the ways to the farthest departure again.
-    pub(crate) fn go_back(&mut self, departure: SeenNumber, budget: u64) -> Result<(), AllocError> {
-        let was_noting = std::mem::replace(&mut self.lane.state.is_noting, true);
+    pub fn go_back(&mut self, departure: SeenNumber, budget: u64) -> Result<(), AllocError> {
+        let was_noting = self.lane.state_mut().set_noting(true);
         let refused = self.lane.refused_now(departure)?;
-        self.lane.state.is_noting = was_noting;
+        let _is_noting = self.lane.state_mut().set_noting(was_noting);
         let refused = refused.unwrap_or(Refused::NoArrival);
         self.ask(departure, refused)?;
-        let is_farther = self.far.as_ref().is_none_or(|far| self.place > far.0);
+        let is_farther = self.far.as_ref().is_none_or(|far| self.place > far.place);
         if is_farther {
-            let mut chosen = BTreeMap::new(self.lane.given.alloc);
-            for (place, number) in &self.chosen {
-                chosen.insert(*place, *number)?;
-            }
-            self.far = Some((self.place, chosen));
-            self.far_steps = self.lane.steps;
+            self.note_farthest()?;
         }
-        self.lane.steps = self.lane.steps.saturating_add(1);
-        let is_left = self.lane.steps < budget
-            && self.lane.steps.saturating_sub(self.far_steps) <= STEPS;
+        self.lane.add_step();
+        let since = self.far.as_ref().map_or(0, |far| far.steps);
+        let steps = self.lane.steps();
+        let is_left = steps < budget && steps.saturating_sub(since) <= STEPS;
         match self.newest_choice(refused) {
             Some(choice) if is_left && self.is_near(choice, departure) => {
-                self.lane.state.undo(choice.mark);
+                self.lane.state_mut().undo(choice.mark);
                 self.place = choice.place;
                 self.passed = choice.passed;
                 self.skip = choice.tried;
@@ -117,6 +109,20 @@ impl Sweep<'_> {
                 Ok(())
             }
         }
+    }
+
+    /// Notes that it came farthest here, and how.
+    fn note_farthest(&mut self) -> Result<(), AllocError> {
+        let mut chosen = BTreeMap::new(self.lane.given().alloc());
+        for (place, number) in &self.chosen {
+            chosen.insert(*place, *number)?;
+        }
+        self.far = Some(Farthest {
+            place: self.place,
+            chosen,
+            steps: self.lane.steps(),
+        });
+        Ok(())
     }
 
     /// Takes out the newest choice that may mend what was refused: where that is for the allocation, one that makes or ends an allocation.
@@ -138,8 +144,8 @@ impl Sweep<'_> {
 
     /// Whether a choice may have led to a departure on which the lane can't act.
     fn is_near(&self, choice: Choice, departure: SeenNumber) -> bool {
-        let given = self.lane.given;
-        let Some((_, _, other)) = self.lane.departures.get(choice.place).copied() else {
+        let given = self.lane.given();
+        let Some(other) = self.lane.departure(choice.place) else {
             return false;
         };
         if matches!(
@@ -148,14 +154,12 @@ impl Sweep<'_> {
         ) {
             return true;
         }
-        given.held_until(other).saturating_add(given.known.hold) >= given.at(departure)
+        given.held_until(other).saturating_add(given.hold()) >= given.at(departure)
     }
 
     /// Takes the ways to the farthest departure again.
     fn start_again(&mut self) {
-        let given = self.lane.given;
-        let (client, listen) = given.pair(self.lane.number);
-        self.lane.state = State::new(given.alloc, self.lane.number, client, listen);
+        self.lane.start_again();
         self.place = 0;
         self.passed = 0;
         self.skip = 0;
@@ -165,15 +169,12 @@ impl Sweep<'_> {
     }
 
     /// Notes the departure on which the lane couldn't act, and acts on it all the same.
-    pub(crate) fn blame(&mut self, departure: SeenNumber) -> Result<(), AllocError> {
+    pub fn blame(&mut self, departure: SeenNumber) -> Result<(), AllocError> {
         let refused = self.lane.act_likely(departure)?;
         self.ask(departure, refused)?;
-        self.fault = Some(Fault {
-            departure,
-            refused,
-            low: self.lane.given.low(departure),
-            is_hopeless: self.lane.is_hopeless(departure, refused),
-        });
+        let low = self.lane.given().low(departure);
+        let is_hopeless = self.lane.is_hopeless(departure, refused);
+        self.fault = Some(Fault::new(departure, refused, low, is_hopeless));
         Ok(())
     }
 }

@@ -1,10 +1,10 @@
 //! Acts of a lane before its departures leave: at their arrivals, or before a table was ended.
 
-use crate::acting::Does;
-use crate::lane::Lane;
+use super::Lane;
+use super::acting::Does;
 use audit_model::Rule;
 use audit_rules::LaneTable;
-use audit_search_state::{Acted, Progress, Refused, relayed_of};
+use audit_search_state::{Acted, Refused, Turn, relayed_of};
 use audit_seen::{Gives, Seen, SeenNumber, Slot};
 use std::alloc::AllocError;
 
@@ -24,10 +24,10 @@ impl Lane<'_> {
             )
         );
         let given = self.given;
-        let is_asked = given.constraints.is_early_itself(departure);
+        let is_asked = given.constraints().is_early_itself(departure);
         if !is_one
             || self.is_before_its_maker(departure)
-            || (given.deadlines.is_second(departure) && !is_asked)
+            || (given.deadlines().is_second(departure) && !is_asked)
         {
             return Ok(false);
         }
@@ -38,16 +38,16 @@ impl Lane<'_> {
             Slot::behind(self.given.rank(arrival)),
             self.given.at(arrival),
         );
-        let late = match given.constraints.over_before(departure) {
+        let late = match given.constraints().over_before(departure) {
             Some(by) => self.given.slot_before(departure, by),
             None => None,
         };
         let own = late.map_or(own, |late| own.max(late));
-        let (slot, moment) = own.max(self.state.progress.last);
-        if slot >= before || slot < given.deadlines.not_before(departure) {
+        let (slot, moment) = own.max(self.state.progress().last());
+        if slot >= before || slot < given.deadlines().not_before(departure) {
             return Ok(false);
         }
-        let does = self.does(&self.state.table, seen, moment);
+        let does = self.does(self.state.table(), seen, moment);
         match self.judge_here(departure, arrival, slot, moment, does)? {
             Ok(kept) => {
                 self.accept(departure, arrival, slot, moment, does, kept)?;
@@ -60,12 +60,12 @@ impl Lane<'_> {
     /// Acts at their requests on the answers that leave behind a departure, and of which that is asked.
     pub fn act_on_asked(&mut self, departure: SeenNumber) -> Result<(), AllocError> {
         let given = self.given;
-        if !given.constraints.has_early() {
+        if !given.constraints().has_early() {
             return Ok(());
         }
         let before = Slot::before(given.rank(departure));
         for answer in self.owed_behind(departure)? {
-            if given.constraints.is_early_itself(answer) {
+            if given.constraints().is_early_itself(answer) {
                 if let Some(seen) = given.seen(answer) {
                     let _is_acted = self.act_early(answer, seen, before)?;
                 }
@@ -84,10 +84,10 @@ impl Lane<'_> {
         does: Does,
     ) -> Result<Result<Option<LaneTable>, Refused>, AllocError> {
         let empty = self.empty_table();
-        let mut table = std::mem::replace(&mut self.state.table, empty);
+        let mut table = self.state.take_table(empty);
         let kept = self.kept(&table, does)?;
         let refused = self.judge(&mut table, arrival, departure, slot, moment)?;
-        self.state.table = table;
+        self.state.put_table(table);
         match refused {
             Some(refused) => Ok(Err(refused)),
             None => Ok(Ok(kept)),
@@ -105,7 +105,7 @@ impl Lane<'_> {
         if self.is_before_its_maker(departure) {
             return Ok(Some(Refused::Rule(Rule::NoAllocation)));
         }
-        let relayed = relayed_of(&self.state.table);
+        let relayed = relayed_of(self.state.table());
         for pool in self.given.pools_of(self.number, seen, relayed)? {
             let before = Slot::before(self.given.rank(departure));
             if let Some(arrival) = self.unused(departure, pool, before)?.first().copied() {
@@ -129,8 +129,11 @@ impl Lane<'_> {
             Slot::behind(self.given.rank(arrival)),
             self.given.at(arrival),
         );
-        let does = self.does(&self.state.table, seen, own.1);
-        let Progress { changed, last, .. } = self.state.progress;
+        let does = self.does(self.state.table(), seen, own.1);
+        let (changed, last) = (
+            self.state.progress().changed(),
+            self.state.progress().last(),
+        );
         let (slot, moment) = if own.0 > changed.0 {
             own
         } else if does == Does::Nothing {
@@ -145,21 +148,13 @@ impl Lane<'_> {
         let Ok(kept) = self.judge_here(departure, arrival, slot, moment, does)? else {
             return Ok(false);
         };
-        let mut progress = Progress {
-            turn: self.state.progress.turn.saturating_add(1),
-            last: self.state.progress.last.max((slot, moment)),
-            ..self.state.progress
-        };
+        let mut progress = self.state.progress().with_act_at(slot, moment);
         if does == Does::Changes {
             self.state.changed_from(kept)?;
-            progress.changed = (slot, moment);
+            progress = progress.with_change(slot, moment, 0);
         }
         self.state.set_progress(progress)?;
-        let acted = Acted {
-            slot,
-            turn: (progress.turn, 0),
-            arrival,
-        };
+        let acted = Acted::new(slot, Turn::now(progress.turn()), arrival);
         self.state.act(departure, acted)?;
         Ok(true)
     }

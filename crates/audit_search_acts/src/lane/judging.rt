@@ -1,6 +1,6 @@
 //! Acts of a lane, judged by the rules.
 
-use crate::lane::Lane;
+use super::Lane;
 use audit_model::{At, Key};
 use audit_rules::{ActFault, CredRow, LaneTable, act};
 use audit_search_state::Refused;
@@ -32,15 +32,15 @@ impl Lane<'_> {
             lane: self.number.0,
             place: 0,
         };
-        let alloc = self.given.alloc;
-        let policy = self.given.intake.policy();
+        let alloc = self.given.alloc();
+        let policy = self.given.policy();
         // Only responses are judged by users, and data isn't to be read for them.
         let is_response = self
             .given
             .seen(departure)
             .is_some_and(|seen| seen.response_pool().is_some());
         let row = if is_response {
-            CredRow::of(self.given.credentials, arrives.payload.as_slice())
+            CredRow::of(self.given.credentials(), arrives.payload.as_slice())
         } else {
             None
         };

@@ -1,8 +1,8 @@
 //! What a lane would need to act on a departure, and doesn't have.
 
-use crate::lane_so_far::{EACH, LaneSoFar};
-use crate::leases::{is_of_lease, is_of_what_is_there};
-use crate::within::is_of_what_was_granted;
+use super::leases::{is_of_lease, is_of_what_is_there};
+use super::within::is_of_what_was_granted;
+use super::{EACH, LaneSoFar};
 use audit_model::Rule;
 use audit_search_input::{AHEAD, helps};
 use audit_search_state::{Constraint, PoolRef, Refused};
@@ -17,7 +17,7 @@ impl LaneSoFar<'_> {
         departure: SeenNumber,
         refused: Refused,
     ) -> Result<Vec<Constraint>, AllocError> {
-        let mut constraints = Vec::new(self.given.alloc);
+        let mut constraints = Vec::new(self.given.alloc());
         if refused == Refused::Rule(Rule::ChannelConflict) {
             self.ask_earlier(departure, &mut constraints)?;
         }
@@ -93,8 +93,11 @@ impl LaneSoFar<'_> {
         constraints: &mut Vec<Constraint>,
     ) -> Result<(), AllocError> {
         let rank = self.given.rank(departure);
-        let hi = self.given.seen(departure).map_or(0, |seen| seen.hi);
-        let until = hi.saturating_add(self.given.known.hold);
+        let hi = self
+            .given
+            .seen(departure)
+            .map_or(0, |seen| seen.last_moment());
+        let until = hi.saturating_add(self.given.hold());
         let behind = self.changes.partition_point(|change| change.0 <= rank);
         let near = self
             .changes
@@ -122,16 +125,17 @@ impl LaneSoFar<'_> {
         count: usize,
         constraints: &mut Vec<Constraint>,
     ) -> Result<(), AllocError> {
-        let all = self.given.views.arrivals(self.number, pool);
+        let all = self.given.views().arrivals(self.number, pool);
         let rank = self.given.rank(departure);
-        let hi = self.given.seen(departure).map_or(0, |seen| seen.hi);
-        let behind = all.partition_point(|one| one.2 < rank);
-        for (_, _, _, arrival) in all.get(behind..).unwrap_or(&[]).iter().take(count) {
-            let constraint = Constraint::Before {
-                arrival: *arrival,
-                departure,
-            };
-            let may_stand = self.given.low(*arrival) <= hi && !self.state.is_used(*arrival);
+        let hi = self
+            .given
+            .seen(departure)
+            .map_or(0, |seen| seen.last_moment());
+        let behind = all.partition_point(|one| one.rank() < rank);
+        for one in all.get(behind..).unwrap_or(&[]).iter().take(count) {
+            let arrival = one.number();
+            let constraint = Constraint::Before { arrival, departure };
+            let may_stand = self.given.low(arrival) <= hi && !self.state.is_used(arrival);
             if may_stand && !constraints.contains(&constraint) {
                 constraints.push(constraint)?;
             }
@@ -145,10 +149,10 @@ impl LaneSoFar<'_> {
         let Some(Gives::Relayed { relayed, .. }) = given.gives(departure) else {
             return Ok(false);
         };
-        let tenancies = given.known.tenancies;
+        let tenancies = given.known().tenancies();
         let lane = self.number;
         let of = tenancies.of_address(relayed);
-        Ok(of.iter().any(|tenancy| tenancy.lane != lane))
+        Ok(of.iter().any(|tenancy| tenancy.lane() != lane))
     }
 }
 

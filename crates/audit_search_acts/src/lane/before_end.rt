@@ -1,10 +1,10 @@
 //! Acts of a lane in tables that were ended.
 
-use crate::acting::Does;
-use crate::lane::{Attempt, Lane};
+use super::acting::Does;
+use super::{Attempt, Lane};
 use audit_model::Rule;
 use audit_rules::LaneTable;
-use audit_search_state::{Acted, Progress, Refused, relayed_of};
+use audit_search_state::{Acted, End, Refused, Turn, relayed_of};
 use audit_seen::{Gives, Seen, SeenNumber, Slot};
 use std::alloc::AllocError;
 
@@ -27,10 +27,7 @@ impl Lane<'_> {
         which: usize,
     ) -> Result<Option<Refused>, AllocError> {
         let given = self.given;
-        let (Some(seen), Some((slot, turn, moment))) = (
-            given.seen(departure),
-            self.state.end_of(which),
-        ) else {
+        let (Some(seen), Some(end)) = (given.seen(departure), self.state.end_of(which)) else {
             return Ok(Some(Refused::NoArrival));
         };
         if self.is_behind_end(departure, which) {
@@ -40,25 +37,19 @@ impl Lane<'_> {
         let Some(mut table) = self.state.swap_past(which, empty) else {
             return Ok(Some(Refused::NoArrival));
         };
-        let attempt = self.attempt_before_end(&mut table, departure, seen, slot, moment)?;
+        let attempt = self.attempt_before_end(&mut table, departure, seen, end)?;
         let _empty = self.state.swap_past(which, table);
         let (arrival, kept) = match attempt {
             Ok(found) => found,
             Err(refused) => return Ok(Some(refused)),
         };
-        let progress = Progress {
-            turn: self.state.progress.turn.saturating_add(1),
-            ..self.state.progress
-        };
+        let progress = self.state.progress().with_act();
         self.state.set_progress(progress)?;
         if let Some(before) = kept {
             self.state.past_changed_from(which, before)?;
         }
-        let acted = Acted {
-            slot,
-            turn: (turn.saturating_sub(1), progress.turn),
-            arrival,
-        };
+        let turn = Turn::before_end(end, progress.turn());
+        let acted = Acted::new(end.slot(), turn, arrival);
         self.state.act(departure, acted)?;
         Ok(None)
     }
@@ -69,9 +60,9 @@ impl Lane<'_> {
         table: &mut LaneTable,
         departure: SeenNumber,
         seen: &Seen,
-        slot: Slot,
-        moment: u64,
+        end: End,
     ) -> Result<Result<(SeenNumber, Option<LaneTable>), Refused>, AllocError> {
+        let (slot, moment) = (end.slot(), end.moment());
         let is_usable = table
             .running()
             .is_some_and(|tenancy| moment <= tenancy.last);
@@ -98,7 +89,7 @@ impl Lane<'_> {
         let (Some(seen), Some(past)) = (given.seen(departure), self.state.past(which)) else {
             return Ok(Some(Refused::NoArrival));
         };
-        let (end, changed, relayed) = (past.slot, past.changed, relayed_of(&past.table));
+        let (end, changed, relayed) = (past.end().slot(), past.changed(), relayed_of(past.table()));
         for pool in given.pools_of(self.number, seen, relayed)? {
             if let Some(arrival) = self.unused(departure, pool, end)?.first().copied() {
                 let own = (Slot::behind(given.rank(arrival)), given.at(arrival));
@@ -121,10 +112,7 @@ impl Lane<'_> {
         moment: u64,
     ) -> Result<bool, AllocError> {
         let empty = self.empty_table();
-        let (Some(seen), Some((_, turn, _))) = (
-            self.given.seen(departure),
-            self.state.end_of(which),
-        ) else {
+        let (Some(seen), Some(end)) = (self.given.seen(departure), self.state.end_of(which)) else {
             return Ok(false);
         };
         let Some(mut table) = self.state.swap_past(which, empty) else {
@@ -139,16 +127,10 @@ impl Lane<'_> {
         if !is_right {
             return Ok(false);
         }
-        let progress = Progress {
-            turn: self.state.progress.turn.saturating_add(1),
-            ..self.state.progress
-        };
+        let progress = self.state.progress().with_act();
         self.state.set_progress(progress)?;
-        let acted = Acted {
-            slot,
-            turn: (turn.saturating_sub(1), progress.turn),
-            arrival,
-        };
+        let turn = Turn::before_end(end, progress.turn());
+        let acted = Acted::new(slot, turn, arrival);
         self.state.act(departure, acted)?;
         Ok(true)
     }

@@ -1,6 +1,6 @@
 //! Which answers may help where a rule refuses an act.
 
-use crate::given::Given;
+use super::Given;
 use audit_model::{Addr, Rule};
 use audit_search_state::{Refused, State};
 use audit_seen::{Gives, SeenNumber};
@@ -64,7 +64,7 @@ impl Given<'_> {
         let rank = self.rank(departure);
         let until = self.held_until(departure);
         let from = changes.partition_point(|change| change.0 <= rank);
-        let mut found = Vec::new(self.alloc);
+        let mut found = Vec::new(self.alloc());
         for (_, answer) in changes.get(from..).unwrap_or(&[]).iter().take(AHEAD) {
             if self.at(*answer) > until {
                 break;

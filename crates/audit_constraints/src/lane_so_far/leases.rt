@@ -1,6 +1,6 @@
 //! Constraints for acts at their requests, so that leases end as early as they may.
 
-use crate::lane_so_far::{EACH, LaneSoFar};
+use super::{EACH, LaneSoFar};
 use audit_model::Rule;
 use audit_search_input::AHEAD;
 use audit_search_state::{Constraint, Refused};
@@ -16,7 +16,7 @@ impl LaneSoFar<'_> {
         constraints: &mut Vec<Constraint>,
     ) -> Result<(), AllocError> {
         for answer in self.owed_behind(departure)? {
-            if self.given.deadlines.is_second(answer) {
+            if self.given.deadlines().is_second(answer) {
                 for constraint in [
                     Constraint::HandedOver { answer, departure },
                     Constraint::AtRequest { answer },
@@ -78,7 +78,7 @@ impl LaneSoFar<'_> {
     fn may_be_over(&self, answer: SeenNumber, departure: SeenNumber) -> bool {
         let (Some(latest), Some(request)) = (
             self.given.latest_before(answer, departure),
-            self.given.mates.of(answer),
+            self.given.mate_of(answer),
         ) else {
             return false;
         };

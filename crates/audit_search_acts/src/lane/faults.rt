@@ -1,29 +1,38 @@
 //! Departures on which a lane can't act: by which arrival they are given all the same.
 
-use crate::lane::Lane;
+use super::Lane;
 use audit_model::Rule;
-use audit_search_state::{Acted, PoolRef, Refused, relayed_of};
+use audit_search_state::{Acted, PoolRef, Refused, Turn, relayed_of};
 use audit_seen::{Gives, SeenNumber, Slot};
 use std::alloc::AllocError;
 
 /// How many arrivals of a pool are looked at.
 const LOOKED_AT: usize = 16;
 
+/// An arrival that a departure may answer: one that is unused rather than not, and one within the hold, and the last one of these.
+#[derive(Clone, Copy, Debug, PartialEq, Eq, PartialOrd, Ord)]
+struct Likely {
+    is_unused: bool,
+    is_held: bool,
+    rank: u32,
+    arrival: SeenNumber,
+}
+
 impl Lane<'_> {
     /// The pools that a departure may answer, by the allocation that is there, those that the lane had, or any.
     fn any_pools(&self, departure: SeenNumber) -> Result<Vec<PoolRef>, AllocError> {
-        let now = relayed_of(&self.state.table);
+        let now = relayed_of(self.state.table());
         self.given.any_pools(self.number, departure, now)
     }
 
     /// Acts on a departure by the arrival that it most likely answers, although it may not; tells why it may not.
     pub fn act_likely(&mut self, departure: SeenNumber) -> Result<Refused, AllocError> {
-        let mut best: Option<(bool, bool, u32, SeenNumber)> = None;
+        let mut best: Option<Likely> = None;
         for pool in self.any_pools(departure)? {
             best = best.max(self.likely(departure, pool));
         }
         let likely = match best {
-            Some((_, _, _, arrival)) => Some(arrival),
+            Some(likely) => Some(likely.arrival),
             None => self.last_sent(departure),
         };
         let Some(arrival) = likely else {
@@ -33,9 +42,9 @@ impl Lane<'_> {
         let moment = self.given.at(departure);
         let is_used = self.state.is_used(arrival);
         let empty = self.empty_table();
-        let mut table = std::mem::replace(&mut self.state.table, empty);
+        let mut table = self.state.take_table(empty);
         let refused = self.judge(&mut table, arrival, departure, slot, moment)?;
-        self.state.table = table;
+        self.state.put_table(table);
         self.give(departure, arrival, slot)?;
         if is_used {
             return Ok(Refused::Rule(Rule::ActedTwice));
@@ -44,20 +53,20 @@ impl Lane<'_> {
     }
 
     /// The arrival of a pool that a departure most likely answers: an unused one, within the hold, the last one.
-    fn likely(
-        &self,
-        departure: SeenNumber,
-        pool: PoolRef,
-    ) -> Option<(bool, bool, u32, SeenNumber)> {
-        let all = self.given.views.arrivals(self.number, pool);
+    fn likely(&self, departure: SeenNumber, pool: PoolRef) -> Option<Likely> {
+        let all = self.given.views().arrivals(self.number, pool);
         let rank = self.given.rank(departure);
         let moment = self.given.at(departure);
-        let behind = all.partition_point(|one| one.2 < rank);
+        let behind = all.partition_point(|one| one.rank() < rank);
         let mut best = None;
-        for (_, _, rank, arrival) in all.get(behind.saturating_sub(LOOKED_AT)..behind)? {
-            let is_unused = !self.state.is_used(*arrival);
-            let is_held = self.given.held_until(*arrival) >= moment;
-            best = best.max(Some((is_unused, is_held, *rank, *arrival)));
+        for one in all.get(behind.saturating_sub(LOOKED_AT)..behind)? {
+            let arrival = one.number();
+            best = best.max(Some(Likely {
+                is_unused: !self.state.is_used(arrival),
+                is_held: self.given.held_until(arrival) >= moment,
+                rank: one.rank(),
+                arrival,
+            }));
         }
         best
     }
@@ -67,17 +76,18 @@ impl Lane<'_> {
         if !matches!(self.given.gives(departure), Some(Gives::Relayed { .. })) {
             return None;
         }
-        let all = self.given.views.sent(self.number);
+        let all = self.given.views().sent(self.number);
         let rank = self.given.rank(departure);
         let moment = self.given.at(departure);
-        let behind = all.partition_point(|one| one.1 < rank);
-        for (_, _, arrival) in all
+        let behind = all.partition_point(|one| one.rank() < rank);
+        for one in all
             .get(behind.saturating_sub(LOOKED_AT)..behind)?
             .iter()
             .rev()
         {
-            if !self.state.is_used(*arrival) && self.given.held_until(*arrival) >= moment {
-                return Some(*arrival);
+            let arrival = one.number();
+            if !self.state.is_used(arrival) && self.given.held_until(arrival) >= moment {
+                return Some(arrival);
             }
         }
         None
@@ -89,13 +99,8 @@ impl Lane<'_> {
         arrival: SeenNumber,
         slot: Slot,
     ) -> Result<(), AllocError> {
-        let turn = self.state.progress.turn.saturating_add(1);
-        self.state.progress.turn = turn;
-        let acted = Acted {
-            slot,
-            turn: (turn, 0),
-            arrival,
-        };
+        let turn = Turn::now(self.state.take_turn());
+        let acted = Acted::new(slot, turn, arrival);
         self.state.act(departure, acted)
     }
 
@@ -105,7 +110,7 @@ impl Lane<'_> {
         let Some(pool) = self.given.response_ref(departure) else {
             return false;
         };
-        match self.given.views.arrivals(self.number, pool).len() {
+        match self.given.views().arrivals(self.number, pool).len() {
             0 => true,
             1 => is_of_content(refused),
             _ => false,

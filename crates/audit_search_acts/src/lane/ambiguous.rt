@@ -1,7 +1,7 @@
 //! Whether there is more than one way to act on a departure.
 
-use crate::lane::Lane;
-use crate::plans::Plan;
+use super::Lane;
+use super::plans::Plan;
 use audit_seen::{Gives, SeenNumber, Slot};
 use std::alloc::AllocError;
 
@@ -20,7 +20,7 @@ impl Lane<'_> {
             self.oldest(departure, slot)?,
             self.state.last_past(),
         ) {
-            if past.slot > Slot::behind(self.given.rank(request)) {
+            if past.end().slot() > Slot::behind(self.given.rank(request)) {
                 return Ok(true);
             }
         }

@@ -1,7 +1,7 @@
 //! Acting on a departure by a plan.
 
-use crate::lane::Lane;
-use crate::plans::Plan;
+use super::Lane;
+use super::plans::Plan;
 use audit_seen::{SeenNumber, Slot};
 use std::alloc::AllocError;
 

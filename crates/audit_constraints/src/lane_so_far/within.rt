@@ -1,6 +1,6 @@
 //! Constraints about the allocation in which permissions and channels were given.
 
-use crate::lane_so_far::{EACH, LaneSoFar};
+use super::{EACH, LaneSoFar};
 use audit_model::{Addr, Rule};
 use audit_search_input::{AHEAD, names, peer_of};
 use audit_search_state::{Constraint, Past, Refused};
@@ -41,7 +41,7 @@ impl LaneSoFar<'_> {
         for (place, (_, answer)) in self.changes.iter().enumerate().rev() {
             let is_maker = matches!(self.given.gives(*answer), Some(Gives::Allocated { .. }));
             let acted = self.state.acts().get(answer);
-            if is_maker && acted.is_some_and(|acted| acted.arrival == past.by) {
+            if is_maker && acted.is_some_and(|acted| acted.arrival() == past.end().arrival()) {
                 return Some((place, *answer));
             }
         }
@@ -53,11 +53,10 @@ impl LaneSoFar<'_> {
         let Some(acted) = self.state.acts().get(&answer) else {
             return false;
         };
-        let is_before = (acted.slot, acted.turn.0) < (past.slot, past.turn);
         let peer = peer_of(self.given.gives(departure));
-        is_before
-            && self.given.rank(answer) > self.given.rank(past.by)
-            && self.grants(answer, acted.arrival, peer)
+        acted.is_before(past.end())
+            && self.given.rank(answer) > self.given.rank(past.end().arrival())
+            && self.grants(answer, acted.arrival(), peer)
     }
 
     /// Whether an answer to a request gives a permission or a channel for a peer; a channel, where the peer isn't known.

@@ -1,6 +1,6 @@
 //! Allocations that have to be over by a deadline.
 
-use crate::lane::Lane;
+use super::Lane;
 use audit_search_input::{AHEAD, Deadline};
 use audit_search_state::relayed_of;
 use audit_seen::Gives;
@@ -9,12 +9,8 @@ use std::alloc::AllocError;
 impl Lane<'_> {
     /// Ends an allocation by its deadline, if the answer that tells of its end is owed.
     pub fn meet(&mut self, deadline: Deadline) -> Result<(), AllocError> {
-        let Deadline {
-            slot,
-            moment,
-            maker,
-        } = deadline;
-        if !self.state.is_acted(maker) && self.state.table.running().is_none() {
+        let (slot, moment, maker) = (deadline.slot(), deadline.moment(), deadline.maker());
+        if !self.state.is_acted(maker) && self.state.table().running().is_none() {
             let _refused = self.act_now(maker, slot, moment)?;
         }
         let Some(Gives::Allocated { relayed, .. }) = self.given.gives(maker) else {
@@ -22,10 +18,10 @@ impl Lane<'_> {
         };
         let is_over = self
             .state
-            .table
+            .table()
             .running()
             .is_none_or(|tenancy| tenancy.last < moment);
-        if is_over || relayed_of(&self.state.table) != Some(relayed) {
+        if is_over || relayed_of(self.state.table()) != Some(relayed) {
             return Ok(());
         }
         let rank = slot.rank();

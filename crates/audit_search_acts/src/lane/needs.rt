@@ -1,6 +1,6 @@
 //! Which answers that are owed may help where a rule refuses an act.
 
-use crate::lane::Lane;
+use super::Lane;
 use audit_search_input::{helps, names, peer_of};
 use audit_search_state::Refused;
 use audit_seen::{Gives, SeenNumber, Slot};
@@ -21,7 +21,7 @@ impl Lane<'_> {
     ) -> Result<Vec<SeenNumber>, AllocError> {
         let peer = peer_of(self.given.gives(departure));
         let slot = Slot::before(self.given.rank(departure));
-        let mut found = Vec::new(self.given.alloc);
+        let mut found = Vec::new(self.given.alloc());
         for answer in self.owed_behind(departure)? {
             let Some(gives) = self.given.gives(answer) else {
                 continue;

@@ -1,6 +1,6 @@
 //! The pools that departures of a lane may answer, whatever it has.
 
-use crate::given::Given;
+use super::Given;
 use audit_model::Addr;
 use audit_search_state::PoolRef;
 use audit_seen::{Gives, LaneNumber, SeenNumber};
@@ -9,10 +9,7 @@ use std::alloc::AllocError;
 impl Given<'_> {
     /// The pool of a response's requests.
     pub fn response_ref(&self, departure: SeenNumber) -> Option<PoolRef> {
-        Some(PoolRef {
-            pool: self.seen(departure)?.response_pool()?,
-            is_shared: false,
-        })
+        Some(PoolRef::own(self.seen(departure)?.response_pool()?))
     }
 
     /// The pools that a departure of a lane may answer, by the address that the lane has now, those that it had, or any.
@@ -23,7 +20,7 @@ impl Given<'_> {
         now: Option<Addr>,
     ) -> Result<Vec<PoolRef>, AllocError> {
         let Some(seen) = self.seen(departure) else {
-            return Ok(Vec::new(self.alloc));
+            return Ok(Vec::new(self.alloc()));
         };
         let mut pools = self.pools_of(lane, seen, now)?;
         if matches!(
@@ -31,11 +28,11 @@ impl Given<'_> {
             Some(Gives::Data { .. } | Gives::Channel { .. })
         ) {
             let known = &self.known;
-            let time = known.times.of(departure);
-            let of = known.tenancies.of_lane(lane);
-            for tenancy in known.tenancies.meeting(of, time.early, time.late)? {
-                if Some(tenancy.relayed) != now {
-                    let more = self.pools_at(lane, departure, tenancy.relayed)?;
+            let time = known.times().of(departure);
+            let of = known.tenancies().of_lane(lane);
+            for tenancy in known.tenancies().meeting(of, time.early(), time.late())? {
+                if Some(tenancy.relayed()) != now {
+                    let more = self.pools_at(lane, departure, tenancy.relayed())?;
                     for pool in more {
                         pools.push(pool)?;
                     }
@@ -53,7 +50,7 @@ impl Given<'_> {
     ) -> Result<Vec<PoolRef>, AllocError> {
         match self.seen(departure) {
             Some(seen) => self.pools_of(lane, seen, Some(relayed)),
-            None => Ok(Vec::new(self.alloc)),
+            None => Ok(Vec::new(self.alloc())),
         }
     }
 }

@@ -1,8 +1,10 @@
 //! Allocations of two lanes that hold one relayed address at a time.
 
+ghost use Rattle.std.specs.Prelude.{◌≡◌};
+
+use super::Round;
+use crate::act::Act;
 use crate::reading::Reading;
-use crate::round::Round;
-use crate::searched::Act;
 use audit_model::Addr;
 use audit_seen::{Gives, LaneNumber, SeenNumber, Slot};
 use std::alloc::AllocError;
@@ -41,14 +43,48 @@ impl Held {
 /// Two lanes that hold an address at a time.
 #[derive(Clone, Copy, Debug)]
 pub struct Overlap {
-    /// The lane that holds it when the other one begins to, and the answer that gave its last lease.
-    pub lane: LaneNumber,
-    pub answer: SeenNumber,
+    lane: LaneNumber,
+    answer: SeenNumber,
+    maker: SeenNumber,
+    next_lane: LaneNumber,
+    next: SeenNumber,
+}
+
+impl Overlap {
+    /// The lane that holds it when the other one begins to.
+    pub fn lane(&self) -> LaneNumber
+        ensures { result ≡ self.now.lane }
+    {
+        self.lane
+    }
+
+    /// The answer that gave its last lease.
+    pub fn answer(&self) -> SeenNumber
+        ensures { result ≡ self.now.answer }
+    {
+        self.answer
+    }
+
     /// The answer that tells of its allocation.
-    pub maker: SeenNumber,
-    /// The other one, and the answer that tells of its allocation.
-    pub next_lane: LaneNumber,
-    pub next: SeenNumber,
+    pub fn maker(&self) -> SeenNumber
+        ensures { result ≡ self.now.maker }
+    {
+        self.maker
+    }
+
+    /// The other lane.
+    pub fn next_lane(&self) -> LaneNumber
+        ensures { result ≡ self.now.next_lane }
+    {
+        self.next_lane
+    }
+
+    /// The answer that tells of the other lane's allocation.
+    pub fn next(&self) -> SeenNumber
+        ensures { result ≡ self.now.next }
+    {
+        self.next
+    }
 }
 
 /// What the acts tell of allocations.
@@ -71,7 +107,7 @@ impl Holding {
 
     /// Notes what an act does at a moment.
     fn note(&mut self, act: &Act, gives: Gives, moment: u64) -> Result<(), AllocError> {
-        let (slot, lane, _, _, answer) = *act;
+        let (slot, lane, answer) = (act.slot(), act.lane(), act.departure());
         match gives {
             Gives::Allocated { relayed, seconds } => self.begin(Held {
                 relayed,
@@ -138,16 +174,19 @@ impl Holding {
 impl Round {
     /// The lanes that hold an address when another one begins to. It takes n log n.
     pub fn overlaps(&self, reading: &Reading<'_>) -> Result<Vec<Overlap>, AllocError> {
-        let alloc = reading.alloc;
+        let alloc = reading.alloc();
         let mut holding = Holding {
-            grace: reading.intake.policy().grace,
-            now: vec![in alloc; None; reading.pairs.len()]?,
+            grace: reading.policy().grace,
+            now: vec![in alloc; None; reading.lanes()]?,
             over: Vec::new(alloc),
         };
         for act in &self.acts {
-            let gives = reading.sights.get(act.4).and_then(|seen| seen.gives());
+            let gives = reading
+                .sights()
+                .get(act.departure())
+                .and_then(|seen| seen.gives());
             if let Some(gives) = gives {
-                holding.note(act, gives, self.moment_of(act.0))?;
+                holding.note(act, gives, self.moment_of(act.slot()))?;
             }
         }
         let over = holding.all()?;
@@ -170,8 +209,8 @@ impl Round {
 
     /// The moment of a slot.
     fn moment_of(&self, slot: Slot) -> u64 {
-        match self.order.as_slice().get(slot.rank() as usize) {
-            Some(sighting) => self.at.get(sighting.index()).copied().unwrap_or(0),
+        match self.placed.in_order().get(slot.rank() as usize) {
+            Some(sighting) => self.placed.at(*sighting),
             None => 0,
         }
     }

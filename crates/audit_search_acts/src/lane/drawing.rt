@@ -1,6 +1,6 @@
 //! Acts that are owed, drawn forward so that a departure is accepted.
 
-use crate::lane::Lane;
+use super::Lane;
 use audit_model::Rule;
 use audit_search_state::Refused;
 use audit_seen::{SeenNumber, Slot};
@@ -33,9 +33,9 @@ impl Lane<'_> {
         refused: Refused,
         limit: u64,
     ) -> Result<Vec<Draw>, AllocError> {
-        let mut found = Vec::new(self.given.alloc);
-        let mut open: Vec<Draw> = Vec::new(self.given.alloc);
-        open.push(Vec::new(self.given.alloc))?;
+        let mut found = Vec::new(self.given.alloc());
+        let mut open: Vec<Draw> = Vec::new(self.given.alloc());
+        open.push(Vec::new(self.given.alloc()))?;
         let mut first = Some(refused);
         for _ in 0..DEPTH {
             open = self.longer(departure, open, first, limit, &mut found)?;
@@ -56,7 +56,7 @@ impl Lane<'_> {
         limit: u64,
         found: &mut Vec<Draw>,
     ) -> Result<Vec<Draw>, AllocError> {
-        let mut next = Vec::new(self.given.alloc);
+        let mut next = Vec::new(self.given.alloc());
         for draw in open {
             for longer in self.extended(departure, &draw, first)? {
                 if self.steps > limit || next.len() >= BREADTH {
@@ -78,7 +78,7 @@ impl Lane<'_> {
         draw: &Draw,
         first: Option<Refused>,
     ) -> Result<Vec<Draw>, AllocError> {
-        let mut found = Vec::new(self.given.alloc);
+        let mut found = Vec::new(self.given.alloc());
         let drawn = match first {
             Some(refused) => Drawn::Refused(refused),
             None => self.try_draw(departure, draw)?,
@@ -88,7 +88,7 @@ impl Lane<'_> {
             Drawn::Refused(refused) => {
                 for answer in self.owed(departure, refused)? {
                     if !draw.contains(&answer) {
-                        let mut longer = Vec::from_slice(self.given.alloc, draw.as_slice())?;
+                        let mut longer = Vec::from_slice(self.given.alloc(), draw.as_slice())?;
                         longer.push(answer)?;
                         found.push(longer)?;
                     }
@@ -114,7 +114,7 @@ impl Lane<'_> {
         answer: SeenNumber,
         before: SeenNumber,
     ) -> Result<Draw, AllocError> {
-        let mut longer = Vec::new(self.given.alloc);
+        let mut longer = Vec::new(self.given.alloc());
         for one in draw {
             if *one == answer {
                 longer.push(before)?;

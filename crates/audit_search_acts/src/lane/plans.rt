@@ -1,8 +1,8 @@
 //! In which ways a departure may be acted on.
 
-use crate::drawing::Draw;
-use crate::grants::is_of_grants;
-use crate::lane::Lane;
+use super::Lane;
+use super::drawing::Draw;
+use super::grants::is_of_grants;
 use audit_model::Rule;
 use audit_search_state::{Constraint, Refused};
 use audit_seen::{Gives, SeenNumber, Slot};
@@ -42,7 +42,7 @@ impl Lane<'_> {
 
     /// The ways in which a departure may be acted on, the best first.
     pub fn plans(&mut self, departure: SeenNumber, limit: u64) -> Result<Vec<Plan>, AllocError> {
-        let mut plans = Vec::new(self.given.alloc);
+        let mut plans = Vec::new(self.given.alloc());
         let gives = self.given.gives(departure).unwrap_or(Gives::Other);
         let refused = self.refused_now(departure)?;
         let is_earlier = refused.is_none() && self.is_earlier(departure, gives)?;
@@ -112,11 +112,11 @@ impl Lane<'_> {
 
     /// The last tables that were ended no longer than the hold ago, the last one first.
     fn recent(&self) -> Result<Vec<usize>, AllocError> {
-        let mut found = Vec::new(self.given.alloc);
+        let mut found = Vec::new(self.given.alloc());
         let count = self.state.ended();
         for which in count.saturating_sub(PAST)..count {
             if let Some(past) = self.state.past(which) {
-                if past.moment.saturating_add(self.given.known.hold) >= self.clock {
+                if past.end().moment().saturating_add(self.given.hold()) >= self.clock {
                     found.push(which)?;
                 }
             }
@@ -146,7 +146,7 @@ impl Lane<'_> {
         gives: Gives,
     ) -> Result<bool, AllocError> {
         let earlier = Constraint::Earlier { answer: departure };
-        if self.given.constraints.contains(earlier) {
+        if self.given.constraints().contains(earlier) {
             return Ok(true);
         }
         if !matches!(gives, Gives::Allocated { .. } | Gives::Deleted) {
@@ -166,10 +166,10 @@ impl Lane<'_> {
         let (Some(newest), Some(last)) = (newest, self.state.past(which)) else {
             return Ok(false);
         };
-        let (end, by) = (last.slot, last.by);
+        let (end, by) = (last.end().slot(), last.end().arrival());
         // An allocation that is asked to have been made early is to be over early, too.
-        let is_asked = match given.mates.of(by) {
-            Some(answer) => given.constraints.is_early_itself(answer),
+        let is_asked = match given.mate_of(by) {
+            Some(answer) => given.constraints().is_early_itself(answer),
             None => false,
         };
         if is_asked && gives == Gives::Deleted {
