@@ -2,8 +2,8 @@
 
 use crate::causes::Cause;
 use crate::clock::{after, is_open};
-use crate::content::Given;
 use crate::judge::Judge;
+use audit_content::{Channel, Given};
 use audit_model::{Addr, Key, Sighting, Tenancy};
 use audit_rules::LaneTable;
 use audit_seen::LaneNumber;
@@ -80,17 +80,18 @@ impl Holding {
     }
 
     /// Notes a channel's peer.
-    pub fn bind(&mut self, number: u16, peer: Addr) -> Result<(), AllocError> {
-        self.peers.insert(number, peer)?;
-        self.numbers.insert(peer, number)?;
+    pub fn bind(&mut self, channel: Channel) -> Result<(), AllocError> {
+        self.peers.insert(channel.number(), channel.peer())?;
+        self.numbers.insert(channel.peer(), channel.number())?;
         Ok(())
     }
 
     /// What asks for data of that digest that a client with this allocation is given.
-    pub fn cause_of(&self, given: Given, digest: u64) -> Option<Cause> {
-        let peer = match given {
-            Given::Peer(peer) => peer,
-            Given::Channel(number) => self.peers.get(&number).copied()?,
+    pub fn cause_of(&self, given: &Given<'_>, digest: u64) -> Option<Cause> {
+        let peer = match *given {
+            Given::Data { peer, .. } => peer,
+            Given::Channel { number, .. } => self.peers.get(&number).copied()?,
+            Given::Success { .. } | Given::Error { .. } => return None,
         };
         Some(Cause::Peer {
             relayed: self.relayed?,

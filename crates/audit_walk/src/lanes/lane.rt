@@ -4,10 +4,11 @@ use super::holding::{Deleted, Holding};
 use super::last::Last;
 use super::pending::Pending;
 use crate::causes::Cause;
-use crate::content::{Content, Given, asked_channel};
+use crate::content::Content;
 use crate::datagrams::{Answer, Datagrams};
 use crate::judge::Judge;
 use crate::numbers::AnswerNumber;
+use audit_content::{Given, named_channel};
 use audit_model::{Addr, Key, SightId, Sighting, Tenancy};
 use audit_rules::LaneTable;
 use audit_seen::LaneNumber;
@@ -135,11 +136,11 @@ impl FoundLane {
             Content::Allocated(relayed) => self.current.set_relayed(relayed),
             Content::Bound => {
                 let channel = match arrives {
-                    Some(arrives) => asked_channel(arrives),
+                    Some(arrives) => named_channel(arrives.payload.as_slice()),
                     None => None,
                 };
-                if let Some((number, peer)) = channel {
-                    self.current.bind(number, peer)?;
+                if let Some(channel) = channel {
+                    self.current.bind(channel)?;
                 }
             }
             _ => {}
@@ -205,12 +206,17 @@ impl FoundLane {
     }
 
     /// What asks for data of that digest that the client is given.
-    pub fn cause_of(&self, given: Given, digest: u64) -> Option<Cause> {
+    pub fn cause_of(&self, given: &Given<'_>, digest: u64) -> Option<Cause> {
         self.current.cause_of(given, digest)
     }
 
     /// What asks for data that the client is given, by the last of its deleted allocations that had such a peer, unless it is this.
-    pub fn cause_before(&self, given: Given, digest: u64, current: Option<Cause>) -> Option<Cause> {
+    pub fn cause_before(
+        &self,
+        given: &Given<'_>,
+        digest: u64,
+        current: Option<Cause>,
+    ) -> Option<Cause> {
         for deleted in self.deleted.iter().rev() {
             let cause = deleted.holding().cause_of(given, digest);
             if cause.is_some() && cause != current {

@@ -2,9 +2,9 @@
 
 use super::Lanes;
 use crate::causes::Cause;
-use crate::content::data_given;
 use crate::interfaces::Data;
 use crate::judge::Judge;
+use audit_content::given_to_client;
 use audit_model::Sighting;
 use audit_seen::LaneNumber;
 
@@ -100,11 +100,11 @@ impl Lanes {
     fn asked_by_peer(&self, lane: LaneNumber, leaves: &Sighting, digest: u64) -> Asked {
         let mut causes = [None; 6];
         if let Some(client) = self.get(lane) {
-            if let Some((given, _)) = data_given(leaves.payload.as_slice()) {
-                let current = client.cause_of(given, digest);
+            if let Some(given) = given_to_client(leaves.payload.as_slice()) {
+                let current = client.cause_of(&given, digest);
                 causes[0] = current.map(|cause| (lane, cause));
                 causes[1] = client
-                    .cause_before(given, digest, current)
+                    .cause_before(&given, digest, current)
                     .map(|cause| (lane, cause));
             }
         }
