@@ -9,9 +9,8 @@ use std::hash::{DefaultHasher, Hasher};
 /// told apart when they are judged.
 #[derive(Clone, Copy, Debug, PartialEq, Eq, PartialOrd, Ord)]
 pub struct PoolKey {
-    /// Of data; of a request the first bytes of its transaction id.
-    pub digest: u64,
-    pub asked: Asked,
+    digest: u64,
+    asked: Asked,
 }
 
 /// What arrivals of one digest ask for.
@@ -83,6 +82,8 @@ pub enum Gives {
 }
 
 impl PoolKey {
+    ghost use Rattle.std.specs.Prelude.{◌≡◌};
+
     /// A request of a lane.
     pub(crate) fn request(lane: LaneNumber, method: u16, id: [u8; 12]) -> PoolKey {
         let [a, b, c, d, e, f, g, h, _, _, _, _] = id;
@@ -114,6 +115,19 @@ impl PoolKey {
             digest,
             asked: Asked::Peer { relayed, peer },
         }
+    }
+
+    /// Of data; of a request the first bytes of its transaction id.
+    pub fn digest(&self) -> u64
+        ensures { result ≡ self.now.digest }
+    {
+        self.digest
+    }
+
+    pub fn asked(&self) -> Asked
+        ensures { result ≡ self.now.asked }
+    {
+        self.asked
     }
 
     pub(crate) fn is_request(&self) -> bool {

@@ -158,15 +158,15 @@ impl Sights {
     ) -> Result<(), AllocError> {
         let number = u32::try_from(self.list.len()).map_err(|_| AllocError)?;
         let said = said_by(policy, sighting, lanes);
-        if let Some(key) = said.key {
+        if let Some(key) = said.key() {
             asked.push((key, SeenNumber(number)))?;
         }
         self.list.push(Seen {
             lo: sighting.lo,
             hi: sighting.hi,
             stamp: sighting.stamp,
-            says: said.says,
-            lane: said.lane,
+            says: said.says(),
+            lane: said.lane(),
             id: sighting.id,
         })?;
         Ok(())
