@@ -1,7 +1,7 @@
 //! The allocation of a client, as it stands, and as it stood before it was deleted.
 
 use crate::causes::Cause;
-use crate::clock::{after, is_open};
+use crate::clock::after;
 use crate::judge::Judge;
 use audit_content::{Channel, Given};
 use audit_model::{Addr, Key, Sighting, Tenancy};
@@ -141,22 +141,18 @@ impl Deleted {
         self.left = self.left.saturating_sub(1);
     }
 
-    /// Relays data that came at a key right before the deletion, if the server may and events are still given there, and tells at which key.
+    /// Relays data right before the deletion, behind a key, if the server may, and tells at which key.
     pub fn relay(
         &mut self,
         judge: &Judge<'_>,
         lane: LaneNumber,
         arrives: &Sighting,
         leaves: &Sighting,
-        came: Key,
-        given_to: Option<u64>,
+        behind: Key,
     ) -> Result<Option<Key>, AllocError> {
-        let Some(key) = self.key_behind(came) else {
+        let Some(key) = self.key_behind(behind) else {
             return Ok(None);
         };
-        if !is_open(given_to, key) {
-            return Ok(None);
-        }
         if !self.holding.relays(judge, lane, arrives, leaves, key)? {
             return Ok(None);
         }

@@ -92,19 +92,17 @@ impl FoundLane {
             .relays(judge, self.number, arrives, leaves, key)
     }
 
-    /// Relays data that came at a key right before one of the deletions, if the server may and events are still given there, and tells at which
-    /// key.
+    /// Relays data right before one of the deletions, behind a key, if the server may, and tells at which key.
     pub fn relay_before_deletion(
         &mut self,
         judge: &Judge<'_>,
         arrives: &Sighting,
         leaves: &Sighting,
-        came: Key,
-        given_to: Option<u64>,
+        behind: Key,
     ) -> Result<Option<Key>, AllocError> {
         let lane = self.number;
         for deleted in &mut self.deleted {
-            let key = deleted.relay(judge, lane, arrives, leaves, came, given_to)?;
+            let key = deleted.relay(judge, lane, arrives, leaves, behind)?;
             if key.is_some() {
                 return Ok(key);
             }

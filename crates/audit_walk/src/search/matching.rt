@@ -2,7 +2,7 @@
 
 use super::Search;
 use crate::causes::Cause;
-use crate::clock::{after, is_open};
+use crate::clock::{after, is_open, open_behind};
 use crate::datagrams::CANDIDATES;
 use crate::interfaces::{Data, Wait};
 use crate::judge::Judge;
@@ -169,7 +169,8 @@ impl Search {
         if client.relays(judge, arrives, leaves, now)? {
             return Ok(Some(now));
         }
-        let before = client.relay_before_deletion(judge, arrives, leaves, came, given_to)?;
+        let behind = open_behind(given_to, came);
+        let before = client.relay_before_deletion(judge, arrives, leaves, behind)?;
         if before.is_some() {
             return Ok(before);
         }
