@@ -212,15 +212,15 @@ impl Sights {
     ) -> Result<(), AllocError> {
         let number = u32::try_from(self.list.len()).map_err(|_| AllocError)?;
         let said = said_by(reader.policy, sighting, reader.lanes);
-        if let Some(key) = said.key {
+        if let Some(key) = said.key() {
             asked.push((key, SeenNumber(number)))?;
         }
         self.list.push(Seen {
             first_moment: reader.windows.first(sighting),
             last_moment: reader.windows.last(sighting),
             stamp: sighting.stamp,
-            says: said.says,
-            lane: said.lane,
+            says: said.says(),
+            lane: said.lane(),
             id: sighting.id,
         })?;
         Ok(())

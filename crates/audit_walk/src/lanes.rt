@@ -12,7 +12,7 @@ use self::allocations::Allocations;
 use self::holders::Holders;
 pub use self::holding::ACTS_BEFORE;
 pub use self::lane::FoundLane;
-pub use self::origins::Asked;
+pub use self::origins::Origins;
 use crate::datagrams::{Answer, Datagrams};
 use crate::judge::Judge;
 use crate::numbers::{AnswerNumber, ArrivalNumber};

@@ -1,10 +1,10 @@
 //! Which answers may help where a rule refuses an act.
 
 use super::Given;
+use audit_content::names_peer;
 use audit_model::{Addr, Rule};
 use audit_search_state::{Refused, State};
 use audit_seen::{Gives, SeenNumber};
-use audit_stun::{address, message};
 use std::alloc::AllocError;
 
 /// How many answers are looked at that are owed.
@@ -44,13 +44,7 @@ pub fn peer_of(gives: Option<Gives>) -> Option<Addr> {
 
 /// Whether a request names a peer of that IP.
 pub fn names(payload: &[u8], ip: u32) -> bool {
-    match message(payload) {
-        Some(request) => request.peers().any(|value| match address(value) {
-            Some(peer) => peer.ip == ip,
-            None => false,
-        }),
-        None => false,
-    }
+    names_peer(payload, ip)
 }
 
 impl Given<'_> {
