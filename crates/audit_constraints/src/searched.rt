@@ -127,7 +127,7 @@ impl AllSearched {
         let mut acts = Vec::new(alloc);
         for (number, place) in self.lanes.iter().enumerate() {
             if let (Some(searched), Ok(lane)) = (place, u32::try_from(number)) {
-                searched.add_to(placed, LaneNumber(lane), &mut acts)?;
+                searched.add_to(placed, LaneNumber::new(lane), &mut acts)?;
             }
         }
         acts.sort_unstable();
@@ -141,7 +141,7 @@ impl AllSearched {
             if let (Some(searched), Ok(lane)) = (place, u32::try_from(number)) {
                 if let Some(fault) = searched.fault {
                     let constraints = Vec::from_slice(alloc, searched.constraints.as_slice())?;
-                    faults.push(LaneFault::new(LaneNumber(lane), fault, constraints))?;
+                    faults.push(LaneFault::new(LaneNumber::new(lane), fault, constraints))?;
                 }
             }
         }

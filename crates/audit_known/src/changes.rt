@@ -26,7 +26,7 @@ impl Changes {
         };
         for (place, seen) in sights.as_slice().iter().enumerate() {
             if let Ok(number) = u32::try_from(place) {
-                let number = SeenNumber(number);
+                let number = SeenNumber::new(number);
                 changes.note(seen, number, times.of(number).when())?;
             }
         }

@@ -59,7 +59,11 @@ impl Edges {
         if self.asked.is_empty() {
             return Ok(arrivals);
         }
-        for (other, arrival) in self.asked.range((departure, SeenNumber(0))..).take(MORE) {
+        for (other, arrival) in self
+            .asked
+            .range((departure, SeenNumber::new(0))..)
+            .take(MORE)
+        {
             if *other == departure {
                 arrivals.push(*arrival)?;
             }
@@ -88,7 +92,11 @@ impl Edges {
             return;
         }
         let mut given_up = None;
-        for (other, arrival) in self.asked.range((departure, SeenNumber(0))..).take(MORE) {
+        for (other, arrival) in self
+            .asked
+            .range((departure, SeenNumber::new(0))..)
+            .take(MORE)
+        {
             if *other == departure && !is_placed(*arrival) {
                 given_up = Some(*arrival);
             }

@@ -211,8 +211,8 @@ impl LowPass<'_> {
             .saturating_add(shift)
             .max(raised)
             .min(seen.last_moment());
-        match number.0.checked_sub(1) {
-            Some(before) if seen.id().index > 0 => low.max(self.low_of(SeenNumber(before))),
+        match number.value().checked_sub(1) {
+            Some(before) if seen.id().index > 0 => low.max(self.low_of(SeenNumber::new(before))),
             _ => low,
         }
     }

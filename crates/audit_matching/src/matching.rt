@@ -58,7 +58,7 @@ pub(crate) fn departures(
     let mut found = Vec::new(alloc);
     for (place, seen) in sights.as_slice().iter().enumerate() {
         if let (false, Ok(number)) = (seen.arrives(), u32::try_from(place)) {
-            let number = SeenNumber(number);
+            let number = SeenNumber::new(number);
             found.push((times.of(number).when(), number))?;
         }
     }

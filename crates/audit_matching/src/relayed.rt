@@ -76,7 +76,7 @@ impl RelayedLanes {
         }
         let lane = lane
             .or(known.numbers().first_sender(given.digest))
-            .or(Some(LaneNumber(0)));
+            .or(Some(LaneNumber::new(0)));
         if let Some(place) = self.of.get_mut(given.number.index()) {
             *place = lane;
         }

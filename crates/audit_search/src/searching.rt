@@ -39,7 +39,7 @@ fn search_into(given: &Given<'_>, number: usize, place: &mut Option<Searched>) {
     let Ok(lane) = u32::try_from(number) else {
         return;
     };
-    let lane = LaneNumber(lane);
+    let lane = LaneNumber::new(lane);
     let fingerprint = given.views().fingerprint(lane);
     let is_known = match place {
         Some(searched) => searched.fingerprint() == fingerprint,

@@ -147,7 +147,7 @@ impl<'a> Lane<'a> {
     /// A table with nothing in it.
     pub(crate) fn empty_table(&self) -> LaneTable {
         let (client, listen) = self.given.pair(self.number);
-        LaneTable::new(self.number.0, client, listen)
+        LaneTable::new(self.number.value(), client, listen)
     }
 
     /// The arrivals of a pool that stand before a slot, aren't used, and came no longer than the hold before the departure; the oldest

@@ -134,7 +134,10 @@ impl Deadlines {
 
     /// The slot before which an allocation mayn't begin.
     pub fn not_before(&self, maker: SeenNumber) -> Slot {
-        self.not_before.get(&maker).copied().unwrap_or(Slot(0))
+        self.not_before
+            .get(&maker)
+            .copied()
+            .unwrap_or(Slot::least())
     }
 
     /// Whether another client had the address of an allocation before.

@@ -206,9 +206,12 @@ impl Views {
             let mut mixed = *fingerprint;
             let is_at_request = constraints.contains(Constraint::AtRequest { answer: number });
             let is_earlier = constraints.contains(Constraint::Earlier { answer: number });
-            let mate = viewed.mates.of(number).map_or(0, |mate| u64::from(mate.0));
+            let mate = viewed
+                .mates
+                .of(number)
+                .map_or(0, |mate| u64::from(mate.value()));
             for word in [
-                u64::from(number.0),
+                u64::from(number.value()),
                 placed.low(number),
                 placed.at(number),
                 u64::from(is_at_request),

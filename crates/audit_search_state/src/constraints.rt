@@ -83,7 +83,7 @@ impl Constraints {
 
     /// The departure before which an answer is to be given, the first one by its number.
     pub fn handed_over_before(&self, answer: SeenNumber) -> Option<SeenNumber> {
-        let least = SeenNumber(0);
+        let least = SeenNumber::new(0);
         match self.first_from(Constraint::HandedOver {
             answer,
             departure: least,
@@ -100,7 +100,7 @@ impl Constraints {
 
     /// The answer of another lane that makes an allocation before which that of an answer is to be over, the first one by its number.
     pub fn next_of(&self, maker: SeenNumber) -> Option<SeenNumber> {
-        let least = SeenNumber(0);
+        let least = SeenNumber::new(0);
         match self.first_from(Constraint::Precedes { maker, next: least }) {
             Some(Constraint::Precedes { maker: other, next }) if other == maker => Some(next),
             _ => None,
@@ -109,7 +109,7 @@ impl Constraints {
 
     /// The answer that tells of the allocation in which an answer is to be given, the first one by its number.
     pub fn maker_of(&self, answer: SeenNumber) -> Option<SeenNumber> {
-        let least = SeenNumber(0);
+        let least = SeenNumber::new(0);
         match self.first_from(Constraint::Within {
             answer,
             maker: least,
@@ -126,7 +126,7 @@ impl Constraints {
 
     /// The departure before which the lease of an answer is to be over, the first one by its number.
     pub fn over_before(&self, answer: SeenNumber) -> Option<SeenNumber> {
-        let least = SeenNumber(0);
+        let least = SeenNumber::new(0);
         match self.first_from(Constraint::OverBefore {
             answer,
             departure: least,
@@ -151,7 +151,7 @@ impl Constraints {
     /// Whether there are such answers.
     pub fn has_early(&self) -> bool {
         let first = self.first_from(Constraint::AtRequest {
-            answer: SeenNumber(0),
+            answer: SeenNumber::new(0),
         });
         first.is_some_and(|constraint| constraint.is_of_early_act())
     }

@@ -19,9 +19,9 @@ impl Progress {
     pub fn none() -> Progress {
         Progress {
             turn: 0,
-            changed: (Slot(0), 0),
+            changed: (Slot::least(), 0),
             weight: 0,
-            last: (Slot(0), 0),
+            last: (Slot::least(), 0),
         }
     }
 

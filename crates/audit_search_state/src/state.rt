@@ -38,7 +38,7 @@ impl State {
     /// No acts, and a table with nothing in it.
     pub fn new(alloc: Global, lane: LaneNumber, client: Addr, listen: Addr) -> State {
         State {
-            table: LaneTable::new(lane.0, client, listen),
+            table: LaneTable::new(lane.value(), client, listen),
             past: VecDeque::new(alloc),
             forgotten: 0,
             progress: Progress::none(),

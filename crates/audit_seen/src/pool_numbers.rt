@@ -46,12 +46,12 @@ impl PoolNumbers {
         let place = near.binary_search(key).ok()?;
         u32::try_from(start.saturating_add(place))
             .ok()
-            .map(|number| PoolNumber(number))
+            .map(|number| PoolNumber::new(number))
     }
 
     /// The first lane that sent data of a digest.
     pub fn first_sender(&self, digest: u64) -> Option<LaneNumber> {
-        let least = PoolKey::send(LaneNumber(0), Addr { ip: 0, port: 0 }, digest);
+        let least = PoolKey::send(LaneNumber::new(0), Addr { ip: 0, port: 0 }, digest);
         let first = self.keys.partition_point(|key| *key < least);
         let key = self.keys.get(first)?;
         match key.asked() {
@@ -73,7 +73,7 @@ impl PoolNumbers {
             self.keys.push(key)?;
         }
         let number = u32::try_from(self.keys.len().saturating_sub(1));
-        Ok(PoolNumber(number.map_err(|_| AllocError)?))
+        Ok(PoolNumber::new(number.map_err(|_| AllocError)?))
     }
 
     /// The place of the first key whose digest begins with these bits, or with greater ones.

@@ -41,7 +41,7 @@ impl Said {
 }
 
 /// The pool of each sighting until all keys are in order.
-const NO_POOL: PoolNumber = PoolNumber(0);
+const NO_POOL: PoolNumber = PoolNumber::FIRST;
 
 /// What a sighting says.
 pub(crate) fn said_by(policy: &Policy, sighting: &Sighting, lanes: &Lanes) -> Said {

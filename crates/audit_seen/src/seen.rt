@@ -213,7 +213,7 @@ impl Sights {
         let number = u32::try_from(self.list.len()).map_err(|_| AllocError)?;
         let said = said_by(reader.policy, sighting, reader.lanes);
         if let Some(key) = said.key() {
-            asked.push((key, SeenNumber(number)))?;
+            asked.push((key, SeenNumber::new(number)))?;
         }
         self.list.push(Seen {
             first_moment: reader.windows.first(sighting),
@@ -260,7 +260,7 @@ impl Sights {
         match self.starts.get(iface.saturating_add(1)) {
             Some(end) if number >= *end => None,
             _ if number as usize >= self.list.len() => None,
-            _ => Some(SeenNumber(number)),
+            _ => Some(SeenNumber::new(number)),
         }
     }
 }

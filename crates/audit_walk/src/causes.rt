@@ -48,16 +48,16 @@ impl Cause {
                 let [a, b, c, d, e, f, g, h, i, j, k, l] = id;
                 let first = u64::from_le_bytes([a, b, c, d, e, f, g, h]);
                 let last = u32::from_le_bytes([i, j, k, l]);
-                [lane.0 as u64, first, last as u64]
+                [lane.value() as u64, first, last as u64]
             }
             Cause::Send { lane, peer, digest } => {
-                [1 << 48 | lane.0 as u64, word_of(peer), digest]
+                [1 << 48 | lane.value() as u64, word_of(peer), digest]
             }
             Cause::Channel {
                 lane,
                 number,
                 digest,
-            } => [2 << 48 | lane.0 as u64, number as u64, digest],
+            } => [2 << 48 | lane.value() as u64, number as u64, digest],
             Cause::Peer {
                 relayed,
                 peer,

@@ -63,7 +63,7 @@ impl Found {
         let (events, drops) = self.take_portion().into_parts();
         let mut portion = Portion::of_drops(self.alloc, drops);
         for (lane, event) in events {
-            let lane = LaneNumber(lane);
+            let lane = LaneNumber::new(lane);
             if event.key().moment <= horizon {
                 portion.push(lane, event)?;
             } else {

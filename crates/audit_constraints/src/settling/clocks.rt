@@ -18,7 +18,7 @@ impl Settling<'_> {
             let (false, Ok(number)) = (leaves.arrives(), u32::try_from(place)) else {
                 continue;
             };
-            let number = SeenNumber(number);
+            let number = SeenNumber::new(number);
             for arrival in round.edges().of_departure(number)? {
                 let Some(arrives) = sights.get(arrival) else {
                     continue;

@@ -27,9 +27,9 @@ impl Lane<'_> {
         let at = At {
             key: Key {
                 moment,
-                tie: slot.0,
+                tie: slot.value(),
             },
-            lane: self.number.0,
+            lane: self.number.value(),
             place: 0,
         };
         let alloc = self.given.alloc();

@@ -28,7 +28,7 @@ pub struct Holding {
 impl Holding {
     pub fn new(alloc: Global, number: LaneNumber, client: Addr, listen: Addr) -> Holding {
         Holding {
-            table: LaneTable::new(number.0, client, listen),
+            table: LaneTable::new(number.value(), client, listen),
             relayed: None,
             peers: BTreeMap::new(alloc),
             numbers: BTreeMap::new(alloc),
