@@ -1,7 +1,7 @@
 //! What the first keys tell: about when each sighting was.
 
 use crate::reading::Reading;
-use audit_known::{Known, Mates, Pools, Tenancies, Times};
+use audit_known::{Known, Matches, Pools, Tenancies, Times};
 use audit_matching::{Edges, lows, match_up, places};
 use audit_seen::{PoolNumber, SeenNumber};
 use std::alloc::AllocError;
@@ -11,7 +11,7 @@ use std::alloc::AllocError;
 pub struct FirstKeys {
     times: Times,
     pools: Pools,
-    mates: Mates,
+    matches: Matches,
 }
 
 impl FirstKeys {
@@ -21,7 +21,7 @@ impl FirstKeys {
         let contents = reading.contents();
         let sights = contents.sights();
         let policy = reading.policy();
-        let none = Mates::none(alloc, sights.as_slice().len())?;
+        let none = Matches::none(alloc, sights.as_slice().len())?;
         let times = Times::by_stamps(alloc, sights)?;
         let pools = Pools::by(alloc, sights, contents.numbers(), &times.whens(alloc)?)?;
         let tenancies = Tenancies::of(alloc, sights, &times, none.as_slice(), policy.grace)?;
@@ -34,7 +34,7 @@ impl FirstKeys {
         Ok(FirstKeys {
             times,
             pools,
-            mates: edges.into_mates(),
+            matches: edges.into_matches(),
         })
     }
 
@@ -44,8 +44,8 @@ impl FirstKeys {
     }
 
     /// Which departure answers which arrival.
-    pub fn mates(&self) -> &Mates {
-        &self.mates
+    pub fn matches(&self) -> &Matches {
+        &self.matches
     }
 
     /// The arrivals of a pool, in the order of their keys.
@@ -56,8 +56,14 @@ impl FirstKeys {
     /// Which client had which relayed address when, by these keys.
     pub fn tenancies(&self, reading: &Reading<'_>) -> Result<Tenancies, AllocError> {
         let grace = reading.policy().grace;
-        let mates = self.mates.as_slice();
-        Tenancies::of(reading.alloc(), reading.sights(), &self.times, mates, grace)
+        let matches = self.matches.as_slice();
+        Tenancies::of(
+            reading.alloc(),
+            reading.sights(),
+            &self.times,
+            matches,
+            grace,
+        )
     }
 
     /// What departures are matched by.

@@ -6,7 +6,7 @@ mod leases;
 mod needed;
 mod within;
 
-use audit_search_input::Given;
+use audit_search_input::SearchInput;
 use audit_search_state::{PoolRef, State, relayed_of};
 use audit_seen::{LaneNumber, SeenNumber};
 use std::alloc::AllocError;
@@ -17,7 +17,7 @@ const EACH: usize = 2;
 /// A lane whose search has come so far, of which its constraints are told.
 #[derive(Clone, Copy)]
 pub struct LaneSoFar<'a> {
-    given: &'a Given<'a>,
+    input: &'a SearchInput<'a>,
     number: LaneNumber,
     changes: &'a [(u32, SeenNumber)],
     state: &'a State,
@@ -26,13 +26,13 @@ pub struct LaneSoFar<'a> {
 impl<'a> LaneSoFar<'a> {
     /// A lane by its number, with what its search reads, its departures that change the table, by rank, and how far its acts have come.
     pub fn new(
-        given: &'a Given<'a>,
+        input: &'a SearchInput<'a>,
         number: LaneNumber,
         changes: &'a [(u32, SeenNumber)],
         state: &'a State,
     ) -> LaneSoFar<'a> {
         LaneSoFar {
-            given,
+            input,
             number,
             changes,
             state,
@@ -41,19 +41,23 @@ impl<'a> LaneSoFar<'a> {
 
     /// The departures before one that change the table, by rank.
     pub(crate) fn changes_before(&self, departure: SeenNumber) -> &'a [(u32, SeenNumber)] {
-        let rank = self.given.rank(departure);
+        let rank = self.input.rank(departure);
         let behind = self.changes.partition_point(|change| change.0 < rank);
         self.changes.get(..behind).unwrap_or(&[])
     }
 
     /// The answers behind a departure that change the table, aren't given yet, and leave within the hold of it.
-    pub(crate) fn owed_behind(&self, departure: SeenNumber) -> Result<Vec<SeenNumber>, AllocError> {
-        self.given.owed_behind(self.changes, self.state, departure)
+    pub(crate) fn pending_behind(
+        &self,
+        departure: SeenNumber,
+    ) -> Result<Vec<SeenNumber>, AllocError> {
+        self.input
+            .pending_behind(self.changes, self.state, departure)
     }
 
     /// The pools that a departure may answer, by the allocation that is there, those that the lane had, or any.
     pub(crate) fn any_pools(&self, departure: SeenNumber) -> Result<Vec<PoolRef>, AllocError> {
         let now = relayed_of(self.state.table());
-        self.given.any_pools(self.number, departure, now)
+        self.input.any_pools(self.number, departure, now)
     }
 }

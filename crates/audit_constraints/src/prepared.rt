@@ -8,7 +8,7 @@ use audit_known::{Known, Placed, Tenancies};
 use audit_matching::{
     Edges, RelayedLanes, ask_handovers, handovers, lows, match_up, places, ranked,
 };
-use audit_search_input::{Deadlines, Given, Shared, Viewed, Views};
+use audit_search_input::{Deadlines, SearchInput, Shared, Viewed, Views};
 use audit_search_state::{Constraint, Constraints};
 use std::alloc::{AllocError, Global};
 
@@ -34,11 +34,11 @@ impl Prepared {
         let sights = reading.sights();
         let hold = reading.policy().hold;
         let tenancies = first.tenancies(reading)?;
-        let handovers = handovers(alloc, sights, first.times(), first.mates())?;
+        let handovers = handovers(alloc, sights, first.times(), first.matches())?;
         let known = first.known(reading, &tenancies);
         let relayed = RelayedLanes::of(&known, &constraints.banned(alloc)?)?;
         let mut edges = edges_of(&known, &relayed, constraints)?;
-        ask_handovers(sights, &handovers, first.mates(), &mut edges)?;
+        ask_handovers(sights, &handovers, first.matches(), &mut edges)?;
         let low = lows(alloc, sights, &mut edges, constraints.shifts(), hold)?;
         let at = places(alloc, sights, &edges, &low, hold)?;
         let placed = Placed::new(ranked(alloc, sights, &edges, &low, &at)?, low, at);
@@ -46,16 +46,16 @@ impl Prepared {
             alloc,
             sights,
             &handovers,
-            first.mates(),
+            first.matches(),
             &placed,
             constraints,
         )?;
-        let shared = Shared::of(alloc, &known, &handovers, first.mates())?;
+        let shared = Shared::of(alloc, &known, &handovers, first.matches())?;
         let viewed = Viewed::new(
             reading.captured(),
             known,
             &placed,
-            edges.mates(),
+            edges.matches(),
             relayed.as_slice(),
             constraints,
             &shared,
@@ -72,19 +72,19 @@ impl Prepared {
     }
 
     /// What the search of each lane reads.
-    pub(crate) fn given<'a>(
+    pub(crate) fn input<'a>(
         &'a self,
         reading: &'a Reading<'_>,
         first: &'a FirstKeys,
         constraints: &'a Constraints,
-    ) -> Given<'a> {
-        Given::new(
+    ) -> SearchInput<'a> {
+        SearchInput::new(
             reading.captured(),
             first.known(reading, &self.tenancies),
             &self.placed,
             &self.views,
             &self.deadlines,
-            self.edges.mates(),
+            self.edges.matches(),
             constraints,
         )
     }

@@ -62,7 +62,7 @@ pub struct Round {
 }
 
 impl Round {
-    /// Where each sighting stands, the lane of each departure from a relayed address, the mates, the acts of all lanes, in order, and the lanes that
+    /// Where each sighting stands, the lane of each departure from a relayed address, the matches, the acts of all lanes, in order, and the lanes that
     /// fail, in order.
     pub(crate) fn new(
         placed: Placed,
@@ -90,7 +90,7 @@ impl Round {
         &self.relayed
     }
 
-    /// The mates, and the arrivals that are asked to stand before departures.
+    /// The matches, and the arrivals that are asked to stand before departures.
     pub(crate) fn edges(&self) -> &Edges {
         &self.edges
     }

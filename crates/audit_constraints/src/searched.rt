@@ -5,7 +5,7 @@ ghost use Rattle.std.specs.Prelude.{◌≡◌};
 use crate::act::Act;
 use crate::lane_fault::LaneFault;
 use audit_known::Placed;
-use audit_search_input::Given;
+use audit_search_input::SearchInput;
 use audit_search_state::{Constraint, Fault, Found, Turn};
 use audit_seen::{LaneNumber, SeenNumber, Slot};
 use std::alloc::{AllocError, Global};
@@ -33,10 +33,14 @@ pub struct Searched {
 
 impl Searched {
     /// What the search of a lane found.
-    pub fn of(given: &Given<'_>, lane: LaneNumber, found: Found) -> Result<Searched, AllocError> {
+    pub fn of(
+        input: &SearchInput<'_>,
+        lane: LaneNumber,
+        found: Found,
+    ) -> Result<Searched, AllocError> {
         Ok(Searched {
-            fingerprint: given.views().fingerprint(lane),
-            acts: acts_of(given, &found)?,
+            fingerprint: input.views().fingerprint(lane),
+            acts: acts_of(input, &found)?,
             fault: found.fault(),
             constraints: found.into_constraints(),
         })
@@ -64,11 +68,11 @@ impl Searched {
     }
 }
 
-fn acts_of(given: &Given<'_>, found: &Found) -> Result<Vec<Anchored>, AllocError> {
-    let mut acts = Vec::with_capacity(given.alloc(), found.acts().len())?;
+fn acts_of(input: &SearchInput<'_>, found: &Found) -> Result<Vec<Anchored>, AllocError> {
+    let mut acts = Vec::with_capacity(input.alloc(), found.acts().len())?;
     for (departure, acted) in found.acts() {
         let rank = acted.slot().rank() as usize;
-        if let Some(anchor) = given.in_order().get(rank) {
+        if let Some(anchor) = input.in_order().get(rank) {
             acts.push(Anchored {
                 anchor: *anchor,
                 part: acted.slot().place(),
@@ -97,8 +101,8 @@ impl AllSearched {
     }
 
     /// Makes a place for each lane.
-    pub fn make_places(&mut self, given: &Given<'_>) -> Result<(), AllocError> {
-        for _ in self.lanes.len()..given.lanes() {
+    pub fn make_places(&mut self, input: &SearchInput<'_>) -> Result<(), AllocError> {
+        for _ in self.lanes.len()..input.lanes() {
             self.lanes.push(None)?;
         }
         Ok(())

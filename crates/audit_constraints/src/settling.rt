@@ -8,7 +8,7 @@ use crate::lane_fault::LaneFault;
 use crate::prepared::Prepared;
 use crate::reading::Reading;
 use crate::round::Round;
-use audit_search_input::Given;
+use audit_search_input::SearchInput;
 use audit_search_state::{Constraint, Constraints};
 use audit_seen::{LaneNumber, SeenNumber};
 use lane_constraints::LaneConstraints;
@@ -54,8 +54,8 @@ impl<'a> Settling<'a> {
     }
 
     /// What the search of each lane reads.
-    pub fn given<'b>(&'b self, prepared: &'b Prepared) -> Given<'b> {
-        prepared.given(self.reading, &self.first, &self.constraints)
+    pub fn input<'b>(&'b self, prepared: &'b Prepared) -> SearchInput<'b> {
+        prepared.input(self.reading, &self.first, &self.constraints)
     }
 
     /// Whether acts that make or keep an allocation are asked to stand at their requests.
@@ -84,7 +84,7 @@ impl<'a> Settling<'a> {
             blamed.insert(failed.fault().departure())?;
         }
         for (lane, of_lane) in self.lanes.iter_mut() {
-            let Some(constraint) = of_lane.take_pending() else {
+            let Some(constraint) = of_lane.take_current() else {
                 continue;
             };
             let taken_away = constraint.taken_away();
@@ -194,7 +194,7 @@ impl<'a> Settling<'a> {
             };
             if self.tried.insert((lane, constraint, of_lane.digest()))? {
                 self.constraints.ask(constraint)?;
-                of_lane.set_pending(constraint);
+                of_lane.set_current(constraint);
                 return Ok(true);
             }
         }

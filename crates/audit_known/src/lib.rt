@@ -1,7 +1,7 @@
 //! What the sightings of captures tell that departures are matched by.
 //!
 //! `Pools` has the arrivals that are alike for an answer, each kind of them in its order. `Tenancies` has which client had which relayed
-//! address when, as far as the answers tell, `Bindings` the channels that were asked for, and `Contents` all that is read once. `Known` has all of it. `Mates`, `Order`,
+//! address when, as far as the answers tell, `Bindings` the channels that were asked for, and `Contents` all that is read once. `Known` has all of it. `Matches`, `Order`,
 //! `Placed` and `Handover` are what is found by it. Nothing rests on any of it: what is found is checked.
 #![tactic(auto)]
 
@@ -10,7 +10,7 @@ mod candidates;
 mod changes;
 mod contents;
 mod handover;
-mod mates;
+mod matches;
 mod order;
 mod placed;
 mod pools;
@@ -22,7 +22,7 @@ pub use candidates::Known;
 pub use changes::Changes;
 pub use contents::Contents;
 pub use handover::Handover;
-pub use mates::Mates;
+pub use matches::Matches;
 pub use order::Order;
 pub use placed::Placed;
 pub use pools::Pools;

@@ -52,12 +52,12 @@ pub struct Tenancies {
 }
 
 impl Tenancies {
-    /// Those of all answers. `mates` has the request of each that is known. It takes n log n.
+    /// Those of all answers. `matches` has the request of each that is known. It takes n log n.
     pub fn of(
         alloc: Global,
         sights: &Sights,
         times: &Times,
-        mates: &[Option<SeenNumber>],
+        matches: &[Option<SeenNumber>],
         grace: u64,
     ) -> Result<Tenancies, AllocError> {
         let changes = Changes::gather(alloc, sights, times)?;
@@ -71,7 +71,7 @@ impl Tenancies {
                 continue;
             }
             last = Some((*relayed, seen.lane(), seen.says()));
-            if let Some(tenancy) = tenancy_of(sights, times, mates, &changes, *number, grace) {
+            if let Some(tenancy) = tenancy_of(sights, times, matches, &changes, *number, grace) {
                 by_address.push(tenancy)?;
             }
         }
@@ -159,7 +159,7 @@ impl Tenancies {
 fn tenancy_of(
     sights: &Sights,
     times: &Times,
-    mates: &[Option<SeenNumber>],
+    matches: &[Option<SeenNumber>],
     changes: &Changes,
     maker: SeenNumber,
     grace: u64,
@@ -179,8 +179,8 @@ fn tenancy_of(
     };
     let first_end = over(seen, seconds, grace);
     let last_end = prolonged(sights, changes, lane, when, end, first_end, grace);
-    let start = match mates.get(maker.index()).copied().flatten() {
-        Some(mate) => when.min(times.of(mate).when()),
+    let start = match matches.get(maker.index()).copied().flatten() {
+        Some(matched) => when.min(times.of(matched).when()),
         None => when,
     };
     Some(Tenancy {

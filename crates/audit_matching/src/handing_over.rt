@@ -1,7 +1,7 @@
 //! Relayed addresses that go from one client to another.
 
 use crate::edges::Edges;
-use audit_known::{Changes, Handover, Mates, Times};
+use audit_known::{Changes, Handover, Matches, Times};
 use audit_model::Addr;
 use audit_seen::{Gives, LaneNumber, Says, SeenNumber, Sights};
 use std::alloc::{AllocError, Global};
@@ -22,7 +22,7 @@ struct Holding {
 #[derive(Clone, Copy)]
 struct Facts<'a> {
     sights: &'a Sights,
-    mates: &'a Mates,
+    matches: &'a Matches,
 }
 
 impl Facts<'_> {
@@ -32,7 +32,7 @@ impl Facts<'_> {
             return true;
         }
         let request = match first.ender {
-            Some(ender) => self.mates.of(ender),
+            Some(ender) => self.matches.of(ender),
             None => None,
         };
         let lo = match request {
@@ -51,9 +51,9 @@ pub fn handovers(
     alloc: Global,
     sights: &Sights,
     times: &Times,
-    mates: &Mates,
+    matches: &Matches,
 ) -> Result<Vec<Handover>, AllocError> {
-    let facts = Facts { sights, mates };
+    let facts = Facts { sights, matches };
     let mut holdings = holdings(alloc, facts, times)?;
     for place in 0..holdings.len() {
         settle(facts, &mut holdings, place);
@@ -88,7 +88,7 @@ fn holdings(alloc: Global, facts: Facts<'_>, times: &Times) -> Result<Vec<Holdin
                 relayed: *relayed,
                 lane,
                 maker: *maker,
-                ender: ender.filter(|ender| facts.mates.of(*ender).is_some()),
+                ender: ender.filter(|ender| facts.matches.of(*ender).is_some()),
             })?;
         }
         last = Some((*relayed, pool));
@@ -120,12 +120,12 @@ fn settle(facts: Facts<'_>, holdings: &mut [Holding], place: usize) {
 pub fn ask_handovers(
     sights: &Sights,
     handovers: &[Handover],
-    mates: &Mates,
+    matches: &Matches,
     edges: &mut Edges,
 ) -> Result<(), AllocError> {
     for handover in handovers {
         let request = match handover.ender() {
-            Some(ender) => mates.of(ender),
+            Some(ender) => matches.of(ender),
             None => None,
         };
         if let Some(request) = request {

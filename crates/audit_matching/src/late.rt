@@ -5,7 +5,7 @@ use audit_seen::{SeenNumber, Sights};
 use std::alloc::{AllocError, Global};
 
 /// The moment at which each sighting is placed: an arrival at its least one, a departure as late as its window, the next one on its
-/// interface and the hold behind its mate allow.
+/// interface and the hold behind its match allow.
 pub fn places(
     alloc: Global,
     sights: &Sights,
@@ -24,8 +24,8 @@ pub fn places(
         let moment = if seen.arrives() {
             least
         } else {
-            let mate = edges.mates().as_slice().get(place).copied().flatten();
-            let held = mate.map_or(u64::MAX, |mate| held_until(low, mate, hold));
+            let matched = edges.matches().as_slice().get(place).copied().flatten();
+            let held = matched.map_or(u64::MAX, |matched| held_until(low, matched, hold));
             seen.last_moment().min(next).min(held).max(least)
         };
         if let Some(place) = at.get_mut(place) {

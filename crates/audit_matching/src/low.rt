@@ -23,7 +23,7 @@ struct LowPass<'a> {
 }
 
 /// The least moment of each sighting: it is in its window, not before that of the one before it on its interface, not before that of an
-/// arrival that stands before it, and not longer than the hold behind its mate, as far as that can be had. Edges that form a
+/// arrival that stands before it, and not longer than the hold behind its match, as far as that can be had. Edges that form a
 /// circle are given up. `shifts` has by interface how far behind its windows' starts all stand. It takes n log n.
 pub fn lows(
     alloc: Global,
@@ -77,17 +77,17 @@ fn least(
 /// Raises arrivals to the least moments at which their departures are within the hold, and tells whether there are any.
 fn raise(sights: &Sights, edges: &Edges, low: &[u64], hold: u64, raised: &mut [u64]) -> bool {
     let mut is_any = false;
-    for (departure, (mate, moment)) in sights
+    for (departure, (matched, moment)) in sights
         .as_slice()
         .iter()
-        .zip(edges.mates().as_slice().iter().zip(low))
+        .zip(edges.matches().as_slice().iter().zip(low))
     {
-        if let (false, Some(mate)) = (departure.arrives(), mate) {
+        if let (false, Some(matched)) = (departure.arrives(), matched) {
             let need = moment.saturating_sub(hold);
-            let has = low.get(mate.index()).copied().unwrap_or(0);
-            let hi = sights.get(*mate).map_or(0, |seen| seen.last_moment());
+            let has = low.get(matched.index()).copied().unwrap_or(0);
+            let hi = sights.get(*matched).map_or(0, |seen| seen.last_moment());
             if need > has && need <= hi {
-                if let Some(place) = raised.get_mut(mate.index()) {
+                if let Some(place) = raised.get_mut(matched.index()) {
                     *place = need;
                     is_any = true;
                 }
@@ -178,11 +178,13 @@ impl LowPass<'_> {
         };
         let mut low = self.alone(number, seen);
         if !seen.arrives() {
-            if let Some(mate) = self.edges.mates().of(number) {
-                if self.has_to_wait(mate, seen) {
-                    return self.merge.park(iface, mate, (seen.last_moment(), false, 0));
+            if let Some(matched) = self.edges.matches().of(number) {
+                if self.has_to_wait(matched, seen) {
+                    return self
+                        .merge
+                        .park(iface, matched, (seen.last_moment(), false, 0));
                 }
-                low = low.max(self.bound(mate, seen));
+                low = low.max(self.bound(matched, seen));
             }
             for arrival in self.edges.asked_of(number)? {
                 if self.has_to_wait(arrival, seen) {

@@ -5,9 +5,9 @@
 //! rules, each with the departure at which it came farthest. Nothing rests on what it finds: that is checked.
 #![tactic(auto)]
 
+mod lane_search;
 mod rounds;
 mod searching;
-mod sweep;
 
 pub use audit_constraints::{Act, LaneFault, Reading, Round};
 pub use audit_search_state::{Constraint, Fault, Refused};

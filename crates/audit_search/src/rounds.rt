@@ -153,8 +153,8 @@ impl<'a> Climb<'a> {
     }
 
     fn search(&mut self, prepared: &Prepared) -> Result<(), AllocError> {
-        let given = self.settling.given(prepared);
-        search(&mut self.searched, &given)
+        let input = self.settling.input(prepared);
+        search(&mut self.searched, &input)
     }
 
     fn search_by<R: Threads + Sync>(
@@ -163,8 +163,8 @@ impl<'a> Climb<'a> {
         workers: u32,
         prepared: &Prepared,
     ) -> Result<(), AllocError> {
-        let given = self.settling.given(prepared);
-        search_by(rt, workers, &mut self.searched, &given)
+        let input = self.settling.input(prepared);
+        search_by(rt, workers, &mut self.searched, &input)
     }
 
     /// Takes in a round whose lanes are searched, and what they ask of the next one.

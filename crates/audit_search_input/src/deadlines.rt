@@ -2,7 +2,7 @@
 
 ghost use Rattle.std.specs.Prelude.{◌≡◌};
 
-use audit_known::{Handover, Mates, Placed};
+use audit_known::{Handover, Matches, Placed};
 use audit_search_state::{Constraint, Constraints};
 use audit_seen::{LaneNumber, SeenNumber, Sights, Slot};
 use std::alloc::{AllocError, Global};
@@ -54,7 +54,7 @@ impl Deadlines {
         alloc: Global,
         sights: &Sights,
         handovers: &[Handover],
-        mates: &Mates,
+        matches: &Matches,
         placed: &Placed,
         constraints: &Constraints,
     ) -> Result<Deadlines, AllocError> {
@@ -70,7 +70,7 @@ impl Deadlines {
             });
             if !is_other_way {
                 deadlines.seconds.insert(handover.next())?;
-                deadlines.add_handover(handover, mates, placed, constraints)?;
+                deadlines.add_handover(handover, matches, placed, constraints)?;
             }
         }
         for constraint in constraints.iter() {
@@ -94,7 +94,7 @@ impl Deadlines {
     fn add_handover(
         &mut self,
         handover: &Handover,
-        mates: &Mates,
+        matches: &Matches,
         placed: &Placed,
         constraints: &Constraints,
     ) -> Result<(), AllocError> {
@@ -105,7 +105,7 @@ impl Deadlines {
         let Some(ender) = handover.ender() else {
             return Ok(());
         };
-        let Some(request) = mates.of(ender) else {
+        let Some(request) = matches.of(ender) else {
             return Ok(());
         };
         if placed.rank(request) >= next {

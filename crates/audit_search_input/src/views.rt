@@ -1,9 +1,9 @@
 //! The arrivals and departures of each lane, in the order of all sightings.
 
-use crate::given::Captured;
+use crate::input::Captured;
 use crate::ranked::{Arriving, Ranked};
 use crate::shared::Shared;
-use audit_known::{Known, Mates, Placed};
+use audit_known::{Known, Matches, Placed};
 use audit_search_state::{Constraint, Constraints, PoolRef};
 use audit_seen::{LaneNumber, PoolNumber, Says, Seen, SeenNumber};
 use std::alloc::{AllocError, Global};
@@ -38,7 +38,7 @@ pub struct Viewed<'a> {
     captured: Captured<'a>,
     known: Known<'a>,
     placed: &'a Placed,
-    mates: &'a Mates,
+    matches: &'a Matches,
     relayed: &'a [Option<LaneNumber>],
     constraints: &'a Constraints,
     shared: &'a Shared,
@@ -51,7 +51,7 @@ impl<'a> Viewed<'a> {
         captured: Captured<'a>,
         known: Known<'a>,
         placed: &'a Placed,
-        mates: &'a Mates,
+        matches: &'a Matches,
         relayed: &'a [Option<LaneNumber>],
         constraints: &'a Constraints,
         shared: &'a Shared,
@@ -60,7 +60,7 @@ impl<'a> Viewed<'a> {
             captured,
             known,
             placed,
-            mates,
+            matches,
             relayed,
             constraints,
             shared,
@@ -206,10 +206,10 @@ impl Views {
             let mut mixed = *fingerprint;
             let is_at_request = constraints.contains(Constraint::AtRequest { answer: number });
             let is_earlier = constraints.contains(Constraint::Earlier { answer: number });
-            let mate = viewed
-                .mates
+            let matched = viewed
+                .matches
                 .of(number)
-                .map_or(0, |mate| u64::from(mate.value()));
+                .map_or(0, |matched| u64::from(matched.value()));
             for word in [
                 u64::from(number.value()),
                 placed.low(number),
@@ -220,7 +220,7 @@ impl Views {
                 at_of(constraints.over_before(number)),
                 at_of(constraints.next_of(number)),
                 at_of(constraints.maker_of(number)),
-                mate,
+                matched,
             ] {
                 mixed = (mixed ^ word).wrapping_mul(FACTOR).rotate_left(29);
             }

@@ -2,7 +2,7 @@
 
 ghost use Rattle.std.specs.Prelude.{◌≡◌};
 
-use crate::past::End;
+use crate::previous::End;
 use audit_seen::{SeenNumber, Slot};
 
 /// Which of the acts of one slot comes first: by the act that they stand behind, and then by their own turns.

@@ -3,8 +3,8 @@
 ghost use Rattle.std.specs.Prelude.{◌≡◌};
 
 use crate::acted::Acted;
-use crate::past::{End, Past};
 use crate::pool_ref::PoolRef;
+use crate::previous::{End, Previous};
 use crate::progress::Progress;
 use crate::trail::{Trail, Undo};
 use audit_model::Addr;
@@ -20,7 +20,7 @@ pub struct State {
     /// The table as the acts so far left it.
     table: LaneTable,
     /// The tables that ended, but for the oldest ones, which are forgotten.
-    past: VecDeque<Past>,
+    previous: VecDeque<Previous>,
     /// How many of them are forgotten.
     forgotten: usize,
     /// How far the acts have come.
@@ -39,7 +39,7 @@ impl State {
     pub fn new(alloc: Global, lane: LaneNumber, client: Addr, listen: Addr) -> State {
         State {
             table: LaneTable::new(lane.value(), client, listen),
-            past: VecDeque::new(alloc),
+            previous: VecDeque::new(alloc),
             forgotten: 0,
             progress: Progress::none(),
             acts: BTreeMap::new(alloc),
@@ -115,17 +115,17 @@ impl State {
 
     /// How many tables ended.
     pub fn ended(&self) -> usize {
-        self.forgotten.saturating_add(self.past.len())
+        self.forgotten.saturating_add(self.previous.len())
     }
 
     /// One of the tables that ended, by its number from 0, unless it is forgotten.
-    pub fn past(&self, which: usize) -> Option<&Past> {
-        self.past.get(which.checked_sub(self.forgotten)?)
+    pub fn previous(&self, which: usize) -> Option<&Previous> {
+        self.previous.get(which.checked_sub(self.forgotten)?)
     }
 
     /// The table that ended last.
-    pub fn last_past(&self) -> Option<&Past> {
-        self.past.back()
+    pub fn last_previous(&self) -> Option<&Previous> {
+        self.previous.back()
     }
 
     /// A mark to go back to.
@@ -157,10 +157,10 @@ impl State {
     }
 
     /// Forgets the oldest tables that ended, but for so many, and those that may come back.
-    pub fn keep_past(&mut self, count: usize) {
+    pub fn keep_previous(&mut self, count: usize) {
         let kept = count.saturating_add(self.trail.ends());
-        for _ in kept..self.past.len() {
-            if self.past.pop_front().is_some() {
+        for _ in kept..self.previous.len() {
+            if self.previous.pop_front().is_some() {
                 self.forgotten = self.forgotten.saturating_add(1);
             }
         }
@@ -188,27 +188,31 @@ impl State {
     }
 
     /// Notes what the table was before it was ended.
-    pub fn ended_from(&mut self, past: Past) -> Result<(), AllocError> {
-        self.past.push_back(past)?;
+    pub fn ended_from(&mut self, previous: Previous) -> Result<(), AllocError> {
+        self.previous.push_back(previous)?;
         self.note(Undo::Ended, 1)
     }
 
     /// The act that ended a table.
     pub fn end_of(&self, which: usize) -> Option<End> {
-        Some(self.past(which)?.end())
+        Some(self.previous(which)?.end())
     }
 
     /// Puts a table in the place of one that was ended, and gives that, unless it is forgotten.
-    pub fn swap_past(&mut self, which: usize, table: LaneTable) -> Option<LaneTable> {
+    pub fn swap_previous(&mut self, which: usize, table: LaneTable) -> Option<LaneTable> {
         let place = which.checked_sub(self.forgotten)?;
-        let past = self.past.get_mut(place)?;
-        Some(past.swap_table(table))
+        let previous = self.previous.get_mut(place)?;
+        Some(previous.swap_table(table))
     }
 
     /// Notes what a table that was ended was before it changed.
-    pub fn past_changed_from(&mut self, which: usize, before: LaneTable) -> Result<(), AllocError> {
+    pub fn previous_changed_from(
+        &mut self,
+        which: usize,
+        before: LaneTable,
+    ) -> Result<(), AllocError> {
         let weight = self.progress.weight().saturating_add(1);
-        self.note(Undo::Past(which, before), weight)
+        self.note(Undo::Previous(which, before), weight)
     }
 
     /// Notes the act that gives a departure.
@@ -232,14 +236,14 @@ impl State {
             Undo::Progress(progress) => self.progress = progress,
             Undo::Table(table) => self.table = table,
             Undo::Ended => {
-                if let Some(past) = self.past.pop_back() {
-                    self.table = past.into_table();
+                if let Some(previous) = self.previous.pop_back() {
+                    self.table = previous.into_table();
                 }
             }
-            Undo::Past(which, table) => {
+            Undo::Previous(which, table) => {
                 if let Some(place) = which.checked_sub(self.forgotten) {
-                    if let Some(past) = self.past.get_mut(place) {
-                        let _changed = past.swap_table(table);
+                    if let Some(previous) = self.previous.get_mut(place) {
+                        let _changed = previous.swap_table(table);
                     }
                 }
             }

@@ -17,7 +17,7 @@ pub(crate) enum Undo {
     /// The table was ended.
     Ended,
     /// What a table that had ended was.
-    Past(usize, LaneTable),
+    Previous(usize, LaneTable),
     /// A departure was acted on by an arrival.
     Acted(SeenNumber, SeenNumber),
     /// The place of the first arrival of a pool that may have been unused.

@@ -7,7 +7,7 @@ use audit_seen::SeenNumber;
 use std::alloc::AllocError;
 
 impl LaneSoFar<'_> {
-    /// Asks that an older arrival, which nothing else answers, is answered by the mate of the next one, so that this one is free.
+    /// Asks that an older arrival, which nothing else answers, is answered by the match of the next one, so that this one is free.
     pub(crate) fn ask_older(
         &self,
         departure: SeenNumber,
@@ -16,20 +16,20 @@ impl LaneSoFar<'_> {
     ) -> Result<(), AllocError> {
         let mut older: Option<SeenNumber> = None;
         for (_, arrival) in self.near_of(departure, pools)? {
-            let mate = self.given.mate_of(arrival);
-            if let (Some(older), Some(mate)) = (older, mate) {
+            let matched = self.input.matched_to(arrival);
+            if let (Some(older), Some(matched)) = (older, matched) {
                 let constraint = Constraint::Answers {
                     arrival: older,
-                    departure: mate,
+                    departure: matched,
                 };
-                if mate != departure
-                    && self.may_answer(mate, older)
+                if matched != departure
+                    && self.may_answer(matched, older)
                     && !constraints.contains(&constraint)
                 {
                     constraints.push(constraint)?;
                 }
             }
-            let is_free = mate.is_none_or(|mate| mate == departure);
+            let is_free = matched.is_none_or(|matched| matched == departure);
             older = if is_free { Some(arrival) } else { None };
         }
         Ok(())
@@ -41,10 +41,10 @@ impl LaneSoFar<'_> {
         departure: SeenNumber,
         pools: &[PoolRef],
     ) -> Result<Vec<(u32, SeenNumber)>, AllocError> {
-        let rank = self.given.rank(departure);
-        let mut found = Vec::new(self.given.alloc());
+        let rank = self.input.rank(departure);
+        let mut found = Vec::new(self.input.alloc());
         for pool in pools {
-            let all = self.given.views().arrivals(self.number, *pool);
+            let all = self.input.views().arrivals(self.number, *pool);
             let behind = all.partition_point(|one| one.rank() < rank);
             for one in all.get(behind.saturating_sub(AHEAD)..behind).unwrap_or(&[]) {
                 found.push((one.rank(), one.number()))?;
@@ -56,12 +56,12 @@ impl LaneSoFar<'_> {
 
     /// Whether an arrival may stand so late that a departure is within the hold of it, wherever what the departure answers now has it stand.
     fn may_answer(&self, departure: SeenNumber, arrival: SeenNumber) -> bool {
-        let (Some(leaves), Some(arrives)) = (self.given.seen(departure), self.given.seen(arrival))
+        let (Some(leaves), Some(arrives)) = (self.input.seen(departure), self.input.seen(arrival))
         else {
             return false;
         };
-        let shift = self.given.constraints().shift(leaves.id().iface);
-        arrives.last_moment().saturating_add(self.given.hold())
+        let shift = self.input.constraints().shift(leaves.id().iface);
+        arrives.last_moment().saturating_add(self.input.hold())
             >= leaves.first_moment().saturating_add(shift)
     }
 
@@ -72,15 +72,15 @@ impl LaneSoFar<'_> {
         pool: PoolRef,
         constraints: &mut Vec<Constraint>,
     ) -> Result<(), AllocError> {
-        let all = self.given.views().arrivals(self.number, pool);
-        let rank = self.given.rank(departure);
-        let moment = self.given.at(departure);
+        let all = self.input.views().arrivals(self.number, pool);
+        let rank = self.input.rank(departure);
+        let moment = self.input.at(departure);
         let behind = all.partition_point(|one| one.rank() < rank);
         let near = all.get(behind.saturating_sub(EACH)..behind).unwrap_or(&[]);
         for one in near {
             let arrival = one.number();
             let constraint = Constraint::Answers { departure, arrival };
-            let is_late = self.given.held_until(arrival) < moment;
+            let is_late = self.input.held_until(arrival) < moment;
             let may_stand = self.may_answer(departure, arrival) && !self.state.is_used(arrival);
             if is_late && may_stand && !constraints.contains(&constraint) {
                 constraints.push(constraint)?;

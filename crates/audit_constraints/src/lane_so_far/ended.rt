@@ -9,11 +9,11 @@ use std::alloc::AllocError;
 impl LaneSoFar<'_> {
     /// The answers that end allocations and leave before a departure, no longer than the hold, the last one first.
     pub(crate) fn ends_before(&self, departure: SeenNumber) -> Result<Vec<SeenNumber>, AllocError> {
-        let moment = self.given.at(departure);
-        let mut found = Vec::new(self.given.alloc());
+        let moment = self.input.at(departure);
+        let mut found = Vec::new(self.input.alloc());
         for (_, answer) in self.changes_before(departure).iter().rev().take(AHEAD) {
-            let is_end = self.given.gives(*answer) == Some(Gives::Deleted);
-            if is_end && self.given.held_until(*answer) >= moment {
+            let is_end = self.input.gives(*answer) == Some(Gives::Deleted);
+            if is_end && self.input.held_until(*answer) >= moment {
                 found.push(*answer)?;
             }
         }
@@ -41,7 +41,7 @@ impl LaneSoFar<'_> {
         constraints: &mut Vec<Constraint>,
     ) -> Result<(), AllocError> {
         for (_, answer) in self.changes_before(departure).iter().rev().take(AHEAD) {
-            let is_bound = self.given.gives(*answer) == Some(Gives::Bound);
+            let is_bound = self.input.gives(*answer) == Some(Gives::Bound);
             let constraint = Constraint::Earlier { answer: *answer };
             if is_bound
                 && !constraints.contains(&constraint)

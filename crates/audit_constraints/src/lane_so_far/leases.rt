@@ -15,8 +15,8 @@ impl LaneSoFar<'_> {
         departure: SeenNumber,
         constraints: &mut Vec<Constraint>,
     ) -> Result<(), AllocError> {
-        for answer in self.owed_behind(departure)? {
-            if self.given.deadlines().is_second(answer) {
+        for answer in self.pending_behind(departure)? {
+            if self.input.deadlines().is_second(answer) {
                 for constraint in [
                     Constraint::HandedOver { answer, departure },
                     Constraint::AtRequest { answer },
@@ -37,7 +37,7 @@ impl LaneSoFar<'_> {
         constraints: &mut Vec<Constraint>,
     ) -> Result<(), AllocError> {
         if let Some(Gives::Refreshed { .. } | Gives::Bound | Gives::Permitted) = self
-            .given
+            .input
             .gives(departure)
         {
             constraints.push(Constraint::AtRequest { answer: departure })?;
@@ -55,7 +55,7 @@ impl LaneSoFar<'_> {
         for is_of_allocation in [true, false] {
             let most = constraints.len().saturating_add(EACH.saturating_mul(2));
             for (_, answer) in before.iter().rev().take(AHEAD) {
-                let gives = self.given.gives(*answer);
+                let gives = self.input.gives(*answer);
                 let is_one = gives.is_some_and(|gives| is_lease(gives, is_of_allocation));
                 if is_one && self.state.is_acted(*answer) && constraints.len() < most {
                     let may_be_over = self.may_be_over(*answer, departure);
@@ -77,12 +77,12 @@ impl LaneSoFar<'_> {
     /// Whether the lease of an answer isn't over before a departure where it is given as it leaves, and is where it is given at its request.
     fn may_be_over(&self, answer: SeenNumber, departure: SeenNumber) -> bool {
         let (Some(latest), Some(request)) = (
-            self.given.latest_before(answer, departure),
-            self.given.mate_of(answer),
+            self.input.latest_before(answer, departure),
+            self.input.matched_to(answer),
         ) else {
             return false;
         };
-        self.given.at(request) <= latest && latest < self.given.at(answer)
+        self.input.at(request) <= latest && latest < self.input.at(answer)
     }
 }
 

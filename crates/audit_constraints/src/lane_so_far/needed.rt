@@ -17,7 +17,7 @@ impl LaneSoFar<'_> {
         departure: SeenNumber,
         refused: Refused,
     ) -> Result<Vec<Constraint>, AllocError> {
-        let mut constraints = Vec::new(self.given.alloc());
+        let mut constraints = Vec::new(self.input.alloc());
         if refused == Refused::Rule(Rule::ChannelConflict) {
             self.ask_earlier(departure, &mut constraints)?;
         }
@@ -92,12 +92,12 @@ impl LaneSoFar<'_> {
         reason: Refused,
         constraints: &mut Vec<Constraint>,
     ) -> Result<(), AllocError> {
-        let rank = self.given.rank(departure);
+        let rank = self.input.rank(departure);
         let hi = self
-            .given
+            .input
             .seen(departure)
             .map_or(0, |seen| seen.last_moment());
-        let until = hi.saturating_add(self.given.hold());
+        let until = hi.saturating_add(self.input.hold());
         let behind = self.changes.partition_point(|change| change.0 <= rank);
         let near = self
             .changes
@@ -105,11 +105,11 @@ impl LaneSoFar<'_> {
             .unwrap_or(&[]);
         for (_, answer) in near.iter().take(AHEAD.saturating_mul(3)) {
             let may_help = self
-                .given
+                .input
                 .gives(*answer)
                 .is_some_and(|gives| helps(reason, gives));
-            if may_help && !self.state.is_acted(*answer) && self.given.low(*answer) <= until {
-                if let Some(pool) = self.given.response_ref(*answer) {
+            if may_help && !self.state.is_acted(*answer) && self.input.low(*answer) <= until {
+                if let Some(pool) = self.input.response_ref(*answer) {
                     self.ask_behind(departure, pool, 1, constraints)?;
                 }
             }
@@ -125,17 +125,17 @@ impl LaneSoFar<'_> {
         count: usize,
         constraints: &mut Vec<Constraint>,
     ) -> Result<(), AllocError> {
-        let all = self.given.views().arrivals(self.number, pool);
-        let rank = self.given.rank(departure);
+        let all = self.input.views().arrivals(self.number, pool);
+        let rank = self.input.rank(departure);
         let hi = self
-            .given
+            .input
             .seen(departure)
             .map_or(0, |seen| seen.last_moment());
         let behind = all.partition_point(|one| one.rank() < rank);
         for one in all.get(behind..).unwrap_or(&[]).iter().take(count) {
             let arrival = one.number();
             let constraint = Constraint::Before { arrival, departure };
-            let may_stand = self.given.low(arrival) <= hi && !self.state.is_used(arrival);
+            let may_stand = self.input.low(arrival) <= hi && !self.state.is_used(arrival);
             if may_stand && !constraints.contains(&constraint) {
                 constraints.push(constraint)?;
             }
@@ -145,11 +145,11 @@ impl LaneSoFar<'_> {
 
     /// Whether a departure leaves from a relayed address that several lanes had.
     fn has_other_holders(&self, departure: SeenNumber) -> Result<bool, AllocError> {
-        let given = self.given;
-        let Some(Gives::Relayed { relayed, .. }) = given.gives(departure) else {
+        let input = self.input;
+        let Some(Gives::Relayed { relayed, .. }) = input.gives(departure) else {
             return Ok(false);
         };
-        let tenancies = given.known().tenancies();
+        let tenancies = input.known().tenancies();
         let lane = self.number;
         let of = tenancies.of_address(relayed);
         Ok(of.iter().any(|tenancy| tenancy.lane() != lane))

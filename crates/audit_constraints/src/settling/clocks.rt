@@ -23,9 +23,9 @@ impl Settling<'_> {
                 let Some(arrives) = sights.get(arrival) else {
                     continue;
                 };
-                let is_mate = round.edges().mates().of(number) == Some(arrival);
+                let is_matched = round.edges().matches().of(number) == Some(arrival);
                 let is_sure = self.helped.contains(&(arrival, number))
-                    || is_mate && self.is_alone(arrival);
+                    || is_matched && self.is_alone(arrival);
                 if arrives.id().iface != leaves.id().iface && is_sure {
                     let lo = arrives
                         .first_moment()

@@ -21,7 +21,7 @@ pub struct LaneConstraints {
     /// The least moment of the departure at which the lane failed when these were told.
     level: u64,
     /// The one that the round tries.
-    pending: Option<Constraint>,
+    current: Option<Constraint>,
     kept: Vec<Kept>,
 }
 
@@ -31,19 +31,19 @@ impl LaneConstraints {
         LaneConstraints {
             open: None,
             level: 0,
-            pending: None,
+            current: None,
             kept: Vec::new(alloc),
         }
     }
 
     /// Has the round try one.
-    pub fn set_pending(&mut self, constraint: Constraint) {
-        self.pending = Some(constraint);
+    pub fn set_current(&mut self, constraint: Constraint) {
+        self.current = Some(constraint);
     }
 
     /// The one that the round tried.
-    pub fn take_pending(&mut self) -> Option<Constraint> {
-        self.pending.take()
+    pub fn take_current(&mut self) -> Option<Constraint> {
+        self.current.take()
     }
 
     /// Keeps one that got the lane further.

@@ -3,7 +3,7 @@
 use super::{Attempt, Lane};
 use audit_model::Rule;
 use audit_rules::LaneTable;
-use audit_search_state::{Acted, End, Past, Refused, Turn};
+use audit_search_state::{Acted, End, Previous, Refused, Turn};
 use audit_seen::{Gives, Seen, SeenNumber, Slot};
 use std::alloc::AllocError;
 
@@ -35,13 +35,13 @@ impl Lane<'_> {
         slot: Slot,
         moment: u64,
     ) -> Result<Option<Refused>, AllocError> {
-        let Some(seen) = self.given.seen(departure) else {
+        let Some(seen) = self.input.seen(departure) else {
             return Ok(Some(Refused::NoArrival));
         };
         if self.is_before_its_maker(departure) {
             return Ok(Some(Refused::Rule(Rule::NoAllocation)));
         }
-        if self.given.constraints().is_at_request(departure)
+        if self.input.constraints().is_at_request(departure)
             && self.act_early(departure, seen, slot)?
         {
             return Ok(None);
@@ -49,7 +49,7 @@ impl Lane<'_> {
         let empty = self.empty_table();
         let mut table = self.state.take_table(empty);
         let does = self.does(&table, seen, moment);
-        if does == Does::Ends && slot < self.given.deadlines().not_before(departure) {
+        if does == Does::Ends && slot < self.input.deadlines().not_before(departure) {
             self.state.put_table(table);
             return Ok(Some(Refused::Rule(Rule::AddressHeld)));
         }
@@ -83,7 +83,7 @@ impl Lane<'_> {
         self.steps = self
             .steps
             .saturating_add(self.state.progress().weight() / 16);
-        Ok(Some(table.copied(self.given.alloc())?))
+        Ok(Some(table.copied(self.input.alloc())?))
     }
 
     /// Notes an act that was accepted now.
@@ -107,9 +107,9 @@ impl Lane<'_> {
             (Does::Ends, Some(table))
                 if table.running().is_some() || self.state.table().running().is_some() => {
                 let end = End::new(slot, turn, moment, arrival);
-                let past = Past::new(table, end, progress.changed());
+                let previous = Previous::new(table, end, progress.changed());
                 progress = progress.with_end(slot, moment);
-                self.state.ended_from(past)?;
+                self.state.ended_from(previous)?;
             }
             (Does::Ends, _) => {}
         }
@@ -120,7 +120,7 @@ impl Lane<'_> {
 
     /// About how many entries a request adds to the table.
     fn weight_of(&self, arrival: SeenNumber) -> u64 {
-        match self.given.sighting(arrival) {
+        match self.input.sighting(arrival) {
             Some(sighting) => (sighting.payload.as_slice().len() / 12) as u64,
             None => 0,
         }

@@ -9,24 +9,24 @@ impl Lane<'_> {
     /// Whether a departure that changes the table may have been given before the last table was ended, or behind another answer that
     /// makes or ends an allocation.
     pub fn is_ambiguous(&mut self, departure: SeenNumber) -> Result<bool, AllocError> {
-        let Some(gives) = self.given.gives(departure) else {
+        let Some(gives) = self.input.gives(departure) else {
             return Ok(false);
         };
         if !gives.is_change() {
             return Ok(false);
         }
-        let slot = Slot::before(self.given.rank(departure));
-        if let (Some(request), Some(past)) = (
+        let slot = Slot::before(self.input.rank(departure));
+        if let (Some(request), Some(previous)) = (
             self.oldest(departure, slot)?,
-            self.state.last_past(),
+            self.state.last_previous(),
         ) {
-            if past.end().slot() > Slot::behind(self.given.rank(request)) {
+            if previous.end().slot() > Slot::behind(self.input.rank(request)) {
                 return Ok(true);
             }
         }
-        for answer in self.owed_behind(departure)?.iter() {
+        for answer in self.pending_behind(departure)?.iter() {
             let is_end = matches!(
-                self.given.gives(*answer),
+                self.input.gives(*answer),
                 Some(Gives::Allocated { .. } | Gives::Deleted)
             );
             if is_end && self.oldest(*answer, slot)?.is_some() {
@@ -38,7 +38,7 @@ impl Lane<'_> {
 
     /// Whether such a departure is rather to a request before that which ended the last table.
     pub fn is_rather_earlier(&mut self, departure: SeenNumber) -> Result<bool, AllocError> {
-        match self.given.gives(departure) {
+        match self.input.gives(departure) {
             Some(gives) => self.is_earlier(departure, gives),
             None => Ok(false),
         }
@@ -47,7 +47,7 @@ impl Lane<'_> {
     /// Whether a departure makes or ends an allocation.
     fn is_end(&self, departure: SeenNumber) -> bool {
         matches!(
-            self.given.gives(departure),
+            self.input.gives(departure),
             Some(Gives::Allocated { .. } | Gives::Deleted)
         )
     }

@@ -26,19 +26,19 @@ impl Lane<'_> {
         departure: SeenNumber,
         which: usize,
     ) -> Result<Option<Refused>, AllocError> {
-        let given = self.given;
-        let (Some(seen), Some(end)) = (given.seen(departure), self.state.end_of(which)) else {
+        let input = self.input;
+        let (Some(seen), Some(end)) = (input.seen(departure), self.state.end_of(which)) else {
             return Ok(Some(Refused::NoArrival));
         };
         if self.is_behind_end(departure, which) {
             return Ok(Some(Refused::Rule(Rule::NoAllocation)));
         }
         let empty = self.empty_table();
-        let Some(mut table) = self.state.swap_past(which, empty) else {
+        let Some(mut table) = self.state.swap_previous(which, empty) else {
             return Ok(Some(Refused::NoArrival));
         };
         let attempt = self.attempt_before_end(&mut table, departure, seen, end)?;
-        let _empty = self.state.swap_past(which, table);
+        let _empty = self.state.swap_previous(which, table);
         let (arrival, kept) = match attempt {
             Ok(found) => found,
             Err(refused) => return Ok(Some(refused)),
@@ -46,7 +46,7 @@ impl Lane<'_> {
         let progress = self.state.progress().with_act();
         self.state.set_progress(progress)?;
         if let Some(before) = kept {
-            self.state.past_changed_from(which, before)?;
+            self.state.previous_changed_from(which, before)?;
         }
         let turn = Turn::before_end(end, progress.turn());
         let acted = Acted::new(end.slot(), turn, arrival);
@@ -85,14 +85,19 @@ impl Lane<'_> {
         departure: SeenNumber,
         which: usize,
     ) -> Result<Option<Refused>, AllocError> {
-        let given = self.given;
-        let (Some(seen), Some(past)) = (given.seen(departure), self.state.past(which)) else {
+        let input = self.input;
+        let (Some(seen), Some(previous)) = (input.seen(departure), self.state.previous(which))
+        else {
             return Ok(Some(Refused::NoArrival));
         };
-        let (end, changed, relayed) = (past.end().slot(), past.changed(), relayed_of(past.table()));
-        for pool in given.pools_of(self.number, seen, relayed)? {
+        let (end, changed, relayed) = (
+            previous.end().slot(),
+            previous.changed(),
+            relayed_of(previous.table()),
+        );
+        for pool in input.pools_of(self.number, seen, relayed)? {
             if let Some(arrival) = self.unused(departure, pool, end)?.first().copied() {
-                let own = (Slot::behind(given.rank(arrival)), given.at(arrival));
+                let own = (Slot::behind(input.rank(arrival)), input.at(arrival));
                 let (slot, moment) = own.max(changed);
                 if slot < end && self.judge_before_end(departure, arrival, which, slot, moment)? {
                     return Ok(None);
@@ -112,10 +117,10 @@ impl Lane<'_> {
         moment: u64,
     ) -> Result<bool, AllocError> {
         let empty = self.empty_table();
-        let (Some(seen), Some(end)) = (self.given.seen(departure), self.state.end_of(which)) else {
+        let (Some(seen), Some(end)) = (self.input.seen(departure), self.state.end_of(which)) else {
             return Ok(false);
         };
-        let Some(mut table) = self.state.swap_past(which, empty) else {
+        let Some(mut table) = self.state.swap_previous(which, empty) else {
             return Ok(false);
         };
         let does = self.does(&table, seen, moment);
@@ -123,7 +128,7 @@ impl Lane<'_> {
             && self
                 .judge(&mut table, arrival, departure, slot, moment)?
                 .is_none();
-        let _empty = self.state.swap_past(which, table);
+        let _empty = self.state.swap_previous(which, table);
         if !is_right {
             return Ok(false);
         }

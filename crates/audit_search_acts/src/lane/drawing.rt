@@ -1,4 +1,4 @@
-//! Acts that are owed, drawn forward so that a departure is accepted.
+//! Acts that are pending, drawn forward so that a departure is accepted.
 
 use super::Lane;
 use audit_model::Rule;
@@ -33,9 +33,9 @@ impl Lane<'_> {
         refused: Refused,
         limit: u64,
     ) -> Result<Vec<Draw>, AllocError> {
-        let mut found = Vec::new(self.given.alloc());
-        let mut open: Vec<Draw> = Vec::new(self.given.alloc());
-        open.push(Vec::new(self.given.alloc()))?;
+        let mut found = Vec::new(self.input.alloc());
+        let mut open: Vec<Draw> = Vec::new(self.input.alloc());
+        open.push(Vec::new(self.input.alloc()))?;
         let mut first = Some(refused);
         for _ in 0..DEPTH {
             open = self.longer(departure, open, first, limit, &mut found)?;
@@ -56,7 +56,7 @@ impl Lane<'_> {
         limit: u64,
         found: &mut Vec<Draw>,
     ) -> Result<Vec<Draw>, AllocError> {
-        let mut next = Vec::new(self.given.alloc());
+        let mut next = Vec::new(self.input.alloc());
         for draw in open {
             for longer in self.extended(departure, &draw, first)? {
                 if self.steps > limit || next.len() >= BREADTH {
@@ -78,7 +78,7 @@ impl Lane<'_> {
         draw: &Draw,
         first: Option<Refused>,
     ) -> Result<Vec<Draw>, AllocError> {
-        let mut found = Vec::new(self.given.alloc());
+        let mut found = Vec::new(self.input.alloc());
         let drawn = match first {
             Some(refused) => Drawn::Refused(refused),
             None => self.try_draw(departure, draw)?,
@@ -86,9 +86,9 @@ impl Lane<'_> {
         match drawn {
             Drawn::Accepted => {}
             Drawn::Refused(refused) => {
-                for answer in self.owed(departure, refused)? {
+                for answer in self.pending(departure, refused)? {
                     if !draw.contains(&answer) {
-                        let mut longer = Vec::from_slice(self.given.alloc(), draw.as_slice())?;
+                        let mut longer = Vec::from_slice(self.input.alloc(), draw.as_slice())?;
                         longer.push(answer)?;
                         found.push(longer)?;
                     }
@@ -96,7 +96,7 @@ impl Lane<'_> {
             }
             // Only an answer that waits for another one is worth that one.
             Drawn::Stuck(answer, refused) if is_waiting(refused) => {
-                for before in self.owed(departure, refused)? {
+                for before in self.pending(departure, refused)? {
                     if !draw.contains(&before) {
                         found.push(self.with_before(draw, answer, before)?)?;
                     }
@@ -114,7 +114,7 @@ impl Lane<'_> {
         answer: SeenNumber,
         before: SeenNumber,
     ) -> Result<Draw, AllocError> {
-        let mut longer = Vec::new(self.given.alloc());
+        let mut longer = Vec::new(self.input.alloc());
         for one in draw {
             if *one == answer {
                 longer.push(before)?;
@@ -133,8 +133,8 @@ impl Lane<'_> {
     }
 
     fn give_all(&mut self, departure: SeenNumber, draw: &Draw) -> Result<Drawn, AllocError> {
-        let slot = Slot::before(self.given.rank(departure));
-        let moment = self.given.at(departure);
+        let slot = Slot::before(self.input.rank(departure));
+        let moment = self.input.at(departure);
         for answer in draw {
             if let Some(refused) = self.act_now(*answer, slot, moment)? {
                 return Ok(Drawn::Stuck(*answer, refused));

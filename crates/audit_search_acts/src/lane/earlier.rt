@@ -23,11 +23,11 @@ impl Lane<'_> {
                 Gives::Allocated { .. } | Gives::Refreshed { .. } | Gives::Bound | Gives::Permitted
             )
         );
-        let given = self.given;
-        let is_asked = given.constraints().is_early_itself(departure);
+        let input = self.input;
+        let is_asked = input.constraints().is_early_itself(departure);
         if !is_one
             || self.is_before_its_maker(departure)
-            || (given.deadlines().is_second(departure) && !is_asked)
+            || (input.deadlines().is_second(departure) && !is_asked)
         {
             return Ok(false);
         }
@@ -35,16 +35,16 @@ impl Lane<'_> {
             return Ok(false);
         };
         let own = (
-            Slot::behind(self.given.rank(arrival)),
-            self.given.at(arrival),
+            Slot::behind(self.input.rank(arrival)),
+            self.input.at(arrival),
         );
-        let late = match given.constraints().over_before(departure) {
-            Some(by) => self.given.slot_before(departure, by),
+        let late = match input.constraints().over_before(departure) {
+            Some(by) => self.input.slot_before(departure, by),
             None => None,
         };
         let own = late.map_or(own, |late| own.max(late));
         let (slot, moment) = own.max(self.state.progress().last());
-        if slot >= before || slot < given.deadlines().not_before(departure) {
+        if slot >= before || slot < input.deadlines().not_before(departure) {
             return Ok(false);
         }
         let does = self.does(self.state.table(), seen, moment);
@@ -59,14 +59,14 @@ impl Lane<'_> {
 
     /// Acts at their requests on the answers that leave behind a departure, and of which that is asked.
     pub fn act_on_asked(&mut self, departure: SeenNumber) -> Result<(), AllocError> {
-        let given = self.given;
-        if !given.constraints().has_early() {
+        let input = self.input;
+        if !input.constraints().has_early() {
             return Ok(());
         }
-        let before = Slot::before(given.rank(departure));
-        for answer in self.owed_behind(departure)? {
-            if given.constraints().is_early_itself(answer) {
-                if let Some(seen) = given.seen(answer) {
+        let before = Slot::before(input.rank(departure));
+        for answer in self.pending_behind(departure)? {
+            if input.constraints().is_early_itself(answer) {
+                if let Some(seen) = input.seen(answer) {
                     let _is_acted = self.act_early(answer, seen, before)?;
                 }
             }
@@ -99,15 +99,15 @@ impl Lane<'_> {
         &mut self,
         departure: SeenNumber,
     ) -> Result<Option<Refused>, AllocError> {
-        let Some(seen) = self.given.seen(departure) else {
+        let Some(seen) = self.input.seen(departure) else {
             return Ok(Some(Refused::NoArrival));
         };
         if self.is_before_its_maker(departure) {
             return Ok(Some(Refused::Rule(Rule::NoAllocation)));
         }
         let relayed = relayed_of(self.state.table());
-        for pool in self.given.pools_of(self.number, seen, relayed)? {
-            let before = Slot::before(self.given.rank(departure));
+        for pool in self.input.pools_of(self.number, seen, relayed)? {
+            let before = Slot::before(self.input.rank(departure));
             if let Some(arrival) = self.unused(departure, pool, before)?.first().copied() {
                 if self.act_at(departure, seen, arrival)? {
                     return Ok(None);
@@ -126,8 +126,8 @@ impl Lane<'_> {
         arrival: SeenNumber,
     ) -> Result<bool, AllocError> {
         let own = (
-            Slot::behind(self.given.rank(arrival)),
-            self.given.at(arrival),
+            Slot::behind(self.input.rank(arrival)),
+            self.input.at(arrival),
         );
         let does = self.does(self.state.table(), seen, own.1);
         let (changed, last) = (
@@ -141,7 +141,7 @@ impl Lane<'_> {
         } else {
             own.max(last)
         };
-        let is_late = slot >= Slot::before(self.given.rank(departure));
+        let is_late = slot >= Slot::before(self.input.rank(departure));
         if is_late || does == Does::Ends {
             return Ok(false);
         }

@@ -22,7 +22,7 @@ impl Lane<'_> {
     /// The pools that a departure may answer, by the allocation that is there, those that the lane had, or any.
     fn any_pools(&self, departure: SeenNumber) -> Result<Vec<PoolRef>, AllocError> {
         let now = relayed_of(self.state.table());
-        self.given.any_pools(self.number, departure, now)
+        self.input.any_pools(self.number, departure, now)
     }
 
     /// Acts on a departure by the arrival that it most likely answers, although it may not; tells why it may not.
@@ -38,8 +38,8 @@ impl Lane<'_> {
         let Some(arrival) = likely else {
             return Ok(Refused::NoArrival);
         };
-        let slot = Slot::before(self.given.rank(departure));
-        let moment = self.given.at(departure);
+        let slot = Slot::before(self.input.rank(departure));
+        let moment = self.input.at(departure);
         let is_used = self.state.is_used(arrival);
         let empty = self.empty_table();
         let mut table = self.state.take_table(empty);
@@ -54,16 +54,16 @@ impl Lane<'_> {
 
     /// The arrival of a pool that a departure most likely answers: an unused one, within the hold, the last one.
     fn likely(&self, departure: SeenNumber, pool: PoolRef) -> Option<Likely> {
-        let all = self.given.views().arrivals(self.number, pool);
-        let rank = self.given.rank(departure);
-        let moment = self.given.at(departure);
+        let all = self.input.views().arrivals(self.number, pool);
+        let rank = self.input.rank(departure);
+        let moment = self.input.at(departure);
         let behind = all.partition_point(|one| one.rank() < rank);
         let mut best = None;
         for one in all.get(behind.saturating_sub(LOOKED_AT)..behind)? {
             let arrival = one.number();
             best = best.max(Some(Likely {
                 is_unused: !self.state.is_used(arrival),
-                is_held: self.given.held_until(arrival) >= moment,
+                is_held: self.input.held_until(arrival) >= moment,
                 rank: one.rank(),
                 arrival,
             }));
@@ -73,12 +73,12 @@ impl Lane<'_> {
 
     /// The last data of the client, for what leaves from a relayed address.
     fn last_sent(&self, departure: SeenNumber) -> Option<SeenNumber> {
-        if !matches!(self.given.gives(departure), Some(Gives::Relayed { .. })) {
+        if !matches!(self.input.gives(departure), Some(Gives::Relayed { .. })) {
             return None;
         }
-        let all = self.given.views().sent(self.number);
-        let rank = self.given.rank(departure);
-        let moment = self.given.at(departure);
+        let all = self.input.views().sent(self.number);
+        let rank = self.input.rank(departure);
+        let moment = self.input.at(departure);
         let behind = all.partition_point(|one| one.rank() < rank);
         for one in all
             .get(behind.saturating_sub(LOOKED_AT)..behind)?
@@ -86,7 +86,7 @@ impl Lane<'_> {
             .rev()
         {
             let arrival = one.number();
-            if !self.state.is_used(arrival) && self.given.held_until(arrival) >= moment {
+            if !self.state.is_used(arrival) && self.input.held_until(arrival) >= moment {
                 return Some(arrival);
             }
         }
@@ -107,10 +107,10 @@ impl Lane<'_> {
     /// Whether no order helps a departure that is refused: a response that nobody asked for, or one that doesn't answer its only request for what
     /// the two say, whatever the server has.
     pub fn is_hopeless(&self, departure: SeenNumber, refused: Refused) -> bool {
-        let Some(pool) = self.given.response_ref(departure) else {
+        let Some(pool) = self.input.response_ref(departure) else {
             return false;
         };
-        match self.given.views().arrivals(self.number, pool).len() {
+        match self.input.views().arrivals(self.number, pool).len() {
             0 => true,
             1 => is_of_content(refused),
             _ => false,
@@ -119,8 +119,8 @@ impl Lane<'_> {
 
     /// Acts on a departure behind the lane's fault: by the rules where they allow it, else by any arrival.
     pub fn act_anyhow(&mut self, departure: SeenNumber) -> Result<(), AllocError> {
-        let slot = Slot::before(self.given.rank(departure));
-        let moment = self.given.at(departure);
+        let slot = Slot::before(self.input.rank(departure));
+        let moment = self.input.at(departure);
         if self.act_now(departure, slot, moment)?.is_none() {
             return Ok(());
         }

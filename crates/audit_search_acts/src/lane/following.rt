@@ -26,8 +26,8 @@ impl Lane<'_> {
         departure: SeenNumber,
         draw: &[SeenNumber],
     ) -> Result<bool, AllocError> {
-        let slot = Slot::before(self.given.rank(departure));
-        let moment = self.given.at(departure);
+        let slot = Slot::before(self.input.rank(departure));
+        let moment = self.input.at(departure);
         for answer in draw {
             if self.act_now(*answer, slot, moment)?.is_some() {
                 return Ok(false);

@@ -1,4 +1,4 @@
-//! Plans in which answers that are owed grant what a departure needs, earlier than it leaves.
+//! Plans in which answers that are pending grant what a departure needs, earlier than it leaves.
 
 use super::Lane;
 use super::drawing::Draw;
@@ -9,16 +9,16 @@ use audit_seen::{Gives, SeenNumber};
 use std::alloc::AllocError;
 
 impl Lane<'_> {
-    /// Adds that answers which are owed are given at their requests, and the departure at its arrival behind them, before a lease was over.
+    /// Adds that answers which are pending are given at their requests, and the departure at its arrival behind them, before a lease was over.
     pub(crate) fn add_at_arrivals(
         &mut self,
         departure: SeenNumber,
         plans: &mut Vec<Plan>,
     ) -> Result<(), AllocError> {
         let mark = self.state.mark();
-        let mut draw = Vec::new(self.given.alloc());
+        let mut draw = Vec::new(self.input.alloc());
         let mut is_found = false;
-        for answer in self.owed(departure, Refused::Rule(Rule::NoPermission))? {
+        for answer in self.pending(departure, Refused::Rule(Rule::NoPermission))? {
             if !is_found && self.act_at_arrival(answer)?.is_none() {
                 draw.push(answer)?;
                 is_found = self.act_at_arrival(departure)?.is_none();
@@ -45,7 +45,7 @@ impl Lane<'_> {
         Ok(self.act_at_arrival(departure)?.is_none())
     }
 
-    /// Adds that answers which are owed are given before a table was ended, and the departure behind them.
+    /// Adds that answers which are pending are given before a table was ended, and the departure behind them.
     pub(crate) fn add_grants_before_end(
         &mut self,
         departure: SeenNumber,
@@ -53,11 +53,11 @@ impl Lane<'_> {
         plans: &mut Vec<Plan>,
     ) -> Result<(), AllocError> {
         let mark = self.state.mark();
-        let mut draw = Vec::new(self.given.alloc());
+        let mut draw = Vec::new(self.input.alloc());
         let mut is_found = false;
-        for answer in self.owed(departure, Refused::Rule(Rule::NoPermission))? {
+        for answer in self.pending(departure, Refused::Rule(Rule::NoPermission))? {
             let is_grant = matches!(
-                self.given.gives(answer),
+                self.input.gives(answer),
                 Some(Gives::Permitted | Gives::Bound)
             );
             if is_grant && !is_found && self.act_before_end(answer, which)?.is_none() {

@@ -18,8 +18,8 @@ impl Lane<'_> {
         moment: u64,
     ) -> Result<Option<Refused>, AllocError> {
         let (Some(arrives), Some(leaves)) = (
-            self.given.sighting(arrival),
-            self.given.sighting(departure),
+            self.input.sighting(arrival),
+            self.input.sighting(departure),
         ) else {
             return Ok(Some(Refused::NoArrival));
         };
@@ -32,15 +32,15 @@ impl Lane<'_> {
             lane: self.number.value(),
             place: 0,
         };
-        let alloc = self.given.alloc();
-        let policy = self.given.policy();
+        let alloc = self.input.alloc();
+        let policy = self.input.policy();
         // Only responses are judged by users, and data isn't to be read for them.
         let is_response = self
-            .given
+            .input
             .seen(departure)
             .is_some_and(|seen| seen.response_pool().is_some());
         let row = if is_response {
-            CredRow::of(self.given.credentials(), arrives.payload.as_slice())
+            CredRow::of(self.input.credentials(), arrives.payload.as_slice())
         } else {
             None
         };

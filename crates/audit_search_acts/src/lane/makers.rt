@@ -6,7 +6,7 @@ use audit_seen::SeenNumber;
 impl Lane<'_> {
     /// Whether an answer is to be given in an allocation that isn't made yet.
     pub(crate) fn is_before_its_maker(&self, answer: SeenNumber) -> bool {
-        match self.given.constraints().maker_of(answer) {
+        match self.input.constraints().maker_of(answer) {
             Some(maker) => !self.state.is_acted(maker),
             None => false,
         }
@@ -14,7 +14,7 @@ impl Lane<'_> {
 
     /// Whether an answer is to be given in an allocation that was made when a table was ended, or later.
     pub(crate) fn is_behind_end(&self, answer: SeenNumber, which: usize) -> bool {
-        let Some(maker) = self.given.constraints().maker_of(answer) else {
+        let Some(maker) = self.input.constraints().maker_of(answer) else {
             return false;
         };
         let (Some(acted), Some(end)) = (self.state.acts().get(&maker), self.state.end_of(which))

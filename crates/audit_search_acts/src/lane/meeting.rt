@@ -7,13 +7,13 @@ use audit_seen::Gives;
 use std::alloc::AllocError;
 
 impl Lane<'_> {
-    /// Ends an allocation by its deadline, if the answer that tells of its end is owed.
+    /// Ends an allocation by its deadline, if the answer that tells of its end is pending.
     pub fn meet(&mut self, deadline: Deadline) -> Result<(), AllocError> {
         let (slot, moment, maker) = (deadline.slot(), deadline.moment(), deadline.maker());
         if !self.state.is_acted(maker) && self.state.table().running().is_none() {
             let _refused = self.act_now(maker, slot, moment)?;
         }
-        let Some(Gives::Allocated { relayed, .. }) = self.given.gives(maker) else {
+        let Some(Gives::Allocated { relayed, .. }) = self.input.gives(maker) else {
             return Ok(());
         };
         let is_over = self
@@ -31,7 +31,7 @@ impl Lane<'_> {
             let Some((_, answer)) = change else {
                 return Ok(());
             };
-            let is_end = self.given.gives(answer) == Some(Gives::Deleted);
+            let is_end = self.input.gives(answer) == Some(Gives::Deleted);
             if is_end && !self.state.is_acted(answer) {
                 if self.act_now(answer, slot, moment)?.is_none() {
                     return Ok(());

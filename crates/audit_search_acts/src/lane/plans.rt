@@ -9,7 +9,7 @@ use audit_seen::{Gives, SeenNumber, Slot};
 use std::alloc::AllocError;
 
 /// How many tables that were ended are looked at.
-pub const PAST: usize = 16;
+pub const PREVIOUS: usize = 16;
 
 /// One way to act on a departure.
 #[derive(Debug, Drop)]
@@ -18,15 +18,15 @@ pub enum Plan {
     Now,
     /// At its arrival.
     AtArrival,
-    /// At its arrival, behind others that are owed, at theirs.
+    /// At its arrival, behind others that are pending, at theirs.
     BehindAtArrivals(Draw),
     /// Right before a table was ended.
     BeforeEnd(usize),
     /// At its arrival, in a table that was ended since.
     AtArrivalBeforeEnd(usize),
-    /// Right before a table was ended, behind others that are owed.
+    /// Right before a table was ended, behind others that are pending.
     BehindBeforeEnd(Draw, usize),
-    /// Right before it leaves, behind others that are owed.
+    /// Right before it leaves, behind others that are pending.
     Behind(Draw),
 }
 
@@ -34,16 +34,16 @@ impl Lane<'_> {
     /// Why a departure can't be acted on now, if it can't.
     pub fn refused_now(&mut self, departure: SeenNumber) -> Result<Option<Refused>, AllocError> {
         let mark = self.state.mark();
-        let slot = Slot::before(self.given.rank(departure));
-        let refused = self.act_now(departure, slot, self.given.at(departure))?;
+        let slot = Slot::before(self.input.rank(departure));
+        let refused = self.act_now(departure, slot, self.input.at(departure))?;
         self.state.undo(mark);
         Ok(refused)
     }
 
     /// The ways in which a departure may be acted on, the best first.
     pub fn plans(&mut self, departure: SeenNumber, limit: u64) -> Result<Vec<Plan>, AllocError> {
-        let mut plans = Vec::new(self.given.alloc());
-        let gives = self.given.gives(departure).unwrap_or(Gives::Other);
+        let mut plans = Vec::new(self.input.alloc());
+        let gives = self.input.gives(departure).unwrap_or(Gives::Other);
         let refused = self.refused_now(departure)?;
         let is_earlier = refused.is_none() && self.is_earlier(departure, gives)?;
         if refused.is_none() && !is_earlier {
@@ -66,7 +66,7 @@ impl Lane<'_> {
                 self.add_at_arrivals(departure, &mut plans)?;
             }
         }
-        self.add_past(departure, gives, &mut plans)?;
+        self.add_previous(departure, gives, &mut plans)?;
         if refused.is_none() && is_earlier {
             plans.push(Plan::Now)?;
         }
@@ -77,7 +77,7 @@ impl Lane<'_> {
     }
 
     /// Adds the tables that were ended and in which the departure may be acted on, the last one first.
-    fn add_past(
+    fn add_previous(
         &mut self,
         departure: SeenNumber,
         gives: Gives,
@@ -112,11 +112,11 @@ impl Lane<'_> {
 
     /// The last tables that were ended no longer than the hold ago, the last one first.
     fn recent(&self) -> Result<Vec<usize>, AllocError> {
-        let mut found = Vec::new(self.given.alloc());
+        let mut found = Vec::new(self.input.alloc());
         let count = self.state.ended();
-        for which in count.saturating_sub(PAST)..count {
-            if let Some(past) = self.state.past(which) {
-                if past.end().moment().saturating_add(self.given.hold()) >= self.clock {
+        for which in count.saturating_sub(PREVIOUS)..count {
+            if let Some(previous) = self.state.previous(which) {
+                if previous.end().moment().saturating_add(self.input.hold()) >= self.clock {
                     found.push(which)?;
                 }
             }
@@ -146,40 +146,40 @@ impl Lane<'_> {
         gives: Gives,
     ) -> Result<bool, AllocError> {
         let earlier = Constraint::Earlier { answer: departure };
-        if self.given.constraints().contains(earlier) {
+        if self.input.constraints().contains(earlier) {
             return Ok(true);
         }
         if !matches!(gives, Gives::Allocated { .. } | Gives::Deleted) {
             return Ok(false);
         }
-        let Some(pool) = self.given.response_ref(departure) else {
+        let Some(pool) = self.input.response_ref(departure) else {
             return Ok(false);
         };
         let (Some(which), slot) = (
             self.recent()?.first().copied(),
-            Slot::before(self.given.rank(departure)),
+            Slot::before(self.input.rank(departure)),
         ) else {
             return Ok(false);
         };
         let newest = self.unused(departure, pool, slot)?.last().copied();
-        let given = self.given;
-        let (Some(newest), Some(last)) = (newest, self.state.past(which)) else {
+        let input = self.input;
+        let (Some(newest), Some(last)) = (newest, self.state.previous(which)) else {
             return Ok(false);
         };
         let (end, by) = (last.end().slot(), last.end().arrival());
         // An allocation that is asked to have been made early is to be over early, too.
-        let is_asked = match given.mate_of(by) {
-            Some(answer) => given.constraints().is_early_itself(answer),
+        let is_asked = match input.matched_to(by) {
+            Some(answer) => input.constraints().is_early_itself(answer),
             None => false,
         };
         if is_asked && gives == Gives::Deleted {
             return Ok(false);
         }
-        let rank = given.rank(newest);
-        Ok(Slot::behind(rank) < end && rank < given.rank(by))
+        let rank = input.rank(newest);
+        Ok(Slot::behind(rank) < end && rank < input.rank(by))
     }
 
-    /// Whether the requests of answers that are owed stand before that of an answer that is refused.
+    /// Whether the requests of answers that are pending stand before that of an answer that is refused.
     fn draws_first(
         &mut self,
         departure: SeenNumber,
@@ -190,16 +190,16 @@ impl Lane<'_> {
             gives,
             Gives::Permitted | Gives::Bound | Gives::Refreshed { .. }
         );
-        let slot = Slot::before(self.given.rank(departure));
+        let slot = Slot::before(self.input.rank(departure));
         let (true, Some(refused)) = (is_one, refused) else {
             return Ok(false);
         };
         let Some(own) = self.oldest(departure, slot)? else {
             return Ok(false);
         };
-        for answer in self.owed(departure, refused)? {
+        for answer in self.pending(departure, refused)? {
             if let Some(request) = self.oldest(answer, slot)? {
-                if self.given.rank(request) < self.given.rank(own) {
+                if self.input.rank(request) < self.input.rank(own) {
                     return Ok(true);
                 }
             }

@@ -1,13 +1,13 @@
 //! Which answers may help where a rule refuses an act.
 
-use super::Given;
+use super::SearchInput;
 use audit_content::names_peer;
 use audit_model::{Addr, Rule};
 use audit_search_state::{Refused, State};
 use audit_seen::{Gives, SeenNumber};
 use std::alloc::AllocError;
 
-/// How many answers are looked at that are owed.
+/// How many answers are looked at that are pending.
 pub const AHEAD: usize = 16;
 
 /// Whether an answer that changes the table may help where an act was refused.
@@ -47,9 +47,9 @@ pub fn names(payload: &[u8], ip: u32) -> bool {
     names_peer(payload, ip)
 }
 
-impl Given<'_> {
+impl SearchInput<'_> {
     /// Those of a lane's answers that change its table which stand behind a departure, aren't given yet, and leave within the hold of it.
-    pub fn owed_behind(
+    pub fn pending_behind(
         &self,
         changes: &[(u32, SeenNumber)],
         state: &State,

@@ -1,6 +1,6 @@
-//! Going back to a choice, or to the farthest departure that no way leads past.
+//! Backtracking to a choice, or to the farthest departure that no way leads past.
 
-use super::{Choice, Farthest, STEPS, Sweep};
+use super::{Choice, Farthest, LaneSearch, STEPS};
 use audit_constraints::LaneSoFar;
 use audit_model::Rule;
 use audit_search_input::AHEAD;
@@ -12,29 +12,29 @@ use std::collections::BTreeMap;
 /// How many times the hold a choice is kept.
 const REACH: u64 = 64;
 
-/// About how many steps and entries of tables are kept for going back.
+/// About how many steps and entries of tables are kept for backtracking.
 const TRAIL: u64 = 65_536;
 
 /// How many constraints a lane has at the most.
 const CONSTRAINTS: usize = 64;
 
-impl Sweep<'_> {
+impl LaneSearch<'_> {
     /// Forgets the choices that were made long ago, and those behind which too much is noted.
     pub fn forget_old_choices(&mut self, departure: SeenNumber, budget: u64) {
         if self.lane.steps() >= budget {
             self.stack.clear();
         }
-        let given = self.lane.given();
-        let moment = given.at(departure);
+        let input = self.lane.input();
+        let moment = input.at(departure);
         for _ in 0..self.stack.len() {
             let Some(choice) = self.stack.front().copied() else {
                 break;
             };
             let made = match self.lane.departure(choice.place) {
-                Some(other) => given.at(other),
+                Some(other) => input.at(other),
                 None => 0,
             };
-            let until = made.saturating_add(given.hold().saturating_mul(REACH));
+            let until = made.saturating_add(input.hold().saturating_mul(REACH));
             if (until >= moment || choice.is_of_end) && self.lane.state().trail_weight() <= TRAIL {
                 break;
             }
@@ -49,7 +49,7 @@ impl Sweep<'_> {
         let is_new = self.asked.iter().all(|asked| asked.0 != departure);
         if is_new && self.asked.len() < AHEAD {
             let so_far = LaneSoFar::new(
-                self.lane.given(),
+                self.lane.input(),
                 self.lane.number(),
                 self.lane.changes(),
                 self.lane.state(),
@@ -62,7 +62,7 @@ impl Sweep<'_> {
 
     /// What the lane would need: for the departure where it came farthest, and then for the others.
     pub fn constraints(&self) -> Result<Vec<Constraint>, AllocError> {
-        let mut constraints: Vec<Constraint> = Vec::new(self.lane.given().alloc());
+        let mut constraints: Vec<Constraint> = Vec::new(self.lane.input().alloc());
         let Some(fault) = self.fault else {
             return Ok(constraints);
         };
@@ -81,7 +81,7 @@ impl Sweep<'_> {
     }
 
     /// Goes back to the newest choice, or takes the ways to the farthest departure again.
-    pub fn go_back(&mut self, departure: SeenNumber, budget: u64) -> Result<(), AllocError> {
+    pub fn backtrack(&mut self, departure: SeenNumber, budget: u64) -> Result<(), AllocError> {
         let was_noting = self.lane.state_mut().set_noting(true);
         let refused = self.lane.refused_now(departure)?;
         let _is_noting = self.lane.state_mut().set_noting(was_noting);
@@ -113,7 +113,7 @@ impl Sweep<'_> {
 
     /// Notes that it came farthest here, and how.
     fn note_farthest(&mut self) -> Result<(), AllocError> {
-        let mut chosen = BTreeMap::new(self.lane.given().alloc());
+        let mut chosen = BTreeMap::new(self.lane.input().alloc());
         for (place, number) in &self.chosen {
             chosen.insert(*place, *number)?;
         }
@@ -144,17 +144,17 @@ impl Sweep<'_> {
 
     /// Whether a choice may have led to a departure on which the lane can't act.
     fn is_near(&self, choice: Choice, departure: SeenNumber) -> bool {
-        let given = self.lane.given();
+        let input = self.lane.input();
         let Some(other) = self.lane.departure(choice.place) else {
             return false;
         };
         if matches!(
-            given.gives(other),
+            input.gives(other),
             Some(Gives::Allocated { .. } | Gives::Deleted)
         ) {
             return true;
         }
-        given.held_until(other).saturating_add(given.hold()) >= given.at(departure)
+        input.held_until(other).saturating_add(input.hold()) >= input.at(departure)
     }
 
     /// Takes the ways to the farthest departure again.
@@ -172,7 +172,7 @@ impl Sweep<'_> {
     pub fn blame(&mut self, departure: SeenNumber) -> Result<(), AllocError> {
         let refused = self.lane.act_likely(departure)?;
         self.ask(departure, refused)?;
-        let low = self.lane.given().low(departure);
+        let low = self.lane.input().low(departure);
         let is_hopeless = self.lane.is_hopeless(departure, refused);
         self.fault = Some(Fault::new(departure, refused, low, is_hopeless));
         Ok(())

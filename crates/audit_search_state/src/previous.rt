@@ -57,17 +57,17 @@ impl End {
 
 /// The table as it was before an act that ended or made an allocation.
 #[derive(Drop)]
-pub struct Past {
+pub struct Previous {
     table: LaneTable,
     end: End,
     /// The slot and the moment of the last change of the table before that act.
     changed: (Slot, u64),
 }
 
-impl Past {
+impl Previous {
     /// This table before an act, which had changed last at a slot and a moment.
-    pub fn new(table: LaneTable, end: End, changed: (Slot, u64)) -> Past {
-        Past {
+    pub fn new(table: LaneTable, end: End, changed: (Slot, u64)) -> Previous {
+        Previous {
             table,
             end,
             changed,

@@ -1,9 +1,9 @@
-//! The sweep of one lane over its departures.
+//! The depth-first search of one lane, departure by departure.
 
-mod going_back;
+mod backtracking;
 
-use audit_search_acts::{Lane, PAST, Plan};
-use audit_search_input::Given;
+use audit_search_acts::{Lane, PREVIOUS, Plan};
+use audit_search_input::SearchInput;
 use audit_search_state::{Constraint, Fault, Found};
 use audit_seen::{LaneNumber, SeenNumber, Slot};
 use std::alloc::AllocError;
@@ -18,7 +18,7 @@ const FREE_STEPS: u64 = 1_000_000;
 /// How many steps a lane has for each departure, beside those.
 const STEPS_EACH: u64 = 64;
 
-/// How many choices are kept for going back.
+/// How many choices are kept for backtracking.
 const STACK: usize = 64;
 
 /// A choice between several ways to act on a departure.
@@ -46,9 +46,9 @@ struct Farthest {
     steps: u64,
 }
 
-/// The sweep of a lane: where it is, and how it came there.
+/// The search of a lane: where it is, and how it came there.
 #[derive(Drop)]
-struct Sweep<'a> {
+struct LaneSearch<'a> {
     lane: Lane<'a>,
     /// The place of the departure that it is at.
     place: usize,
@@ -69,29 +69,32 @@ struct Sweep<'a> {
 }
 
 /// Finds the acts of a lane: an order in which the server kept to its rules, where it finds one; else the farthest one.
-pub(crate) fn search_lane(given: &Given<'_>, number: LaneNumber) -> Result<Found, AllocError> {
-    let mut sweep = Sweep::new(given, number)?;
-    let count = sweep.lane.departures() as u64;
-    let lanes = (given.lanes() as u64).max(1);
+pub(crate) fn search_lane(
+    input: &SearchInput<'_>,
+    number: LaneNumber,
+) -> Result<Found, AllocError> {
+    let mut search = LaneSearch::new(input, number)?;
+    let count = search.lane.departures() as u64;
+    let lanes = (input.lanes() as u64).max(1);
     let free = (FREE_STEPS / lanes).min(STEPS);
     let budget = free.saturating_add(count.saturating_mul(STEPS_EACH));
-    sweep.lane.set_budget(budget);
+    search.lane.set_budget(budget);
     // Each departure twice, and those that are swept again, each of which is a step.
     let turns = budget.saturating_add(count).saturating_mul(2);
     for _ in 0..turns.saturating_add(2) {
-        if !sweep.step(budget)? {
+        if !search.step(budget)? {
             break;
         }
     }
-    sweep.found()
+    search.found()
 }
 
-impl<'a> Sweep<'a> {
+impl<'a> LaneSearch<'a> {
     /// At the first departure of a lane.
-    fn new(given: &'a Given<'a>, number: LaneNumber) -> Result<Sweep<'a>, AllocError> {
-        let alloc = given.alloc();
-        Ok(Sweep {
-            lane: Lane::new(given, number)?,
+    fn new(input: &'a SearchInput<'a>, number: LaneNumber) -> Result<LaneSearch<'a>, AllocError> {
+        let alloc = input.alloc();
+        Ok(LaneSearch {
+            lane: Lane::new(input, number)?,
             place: 0,
             passed: 0,
             skip: 0,
@@ -106,7 +109,7 @@ impl<'a> Sweep<'a> {
 
     /// What it found.
     fn found(&self) -> Result<Found, AllocError> {
-        let mut acts = Vec::new(self.lane.given().alloc());
+        let mut acts = Vec::new(self.lane.input().alloc());
         for (departure, acted) in self.lane.state().acts() {
             acts.push((*departure, *acted))?;
         }
@@ -142,16 +145,16 @@ impl<'a> Sweep<'a> {
             self.go_on();
             return Ok(true);
         }
-        self.go_back(departure, budget)?;
+        self.backtrack(departure, budget)?;
         Ok(true)
     }
 
     /// Ends the allocations that have to be over before a departure.
     fn meet_deadlines(&mut self, departure: SeenNumber) -> Result<(), AllocError> {
-        let given = self.lane.given();
-        let before = Slot::before(given.rank(departure));
-        for _ in 0..given.in_order().len() {
-            match given.deadlines().get(self.lane.number(), self.passed) {
+        let input = self.lane.input();
+        let before = Slot::before(input.rank(departure));
+        for _ in 0..input.in_order().len() {
+            match input.deadlines().get(self.lane.number(), self.passed) {
                 Some(deadline) if deadline.slot() < before => {
                     self.lane.meet(deadline)?;
                     self.passed = self.passed.saturating_add(1);
@@ -179,7 +182,7 @@ impl<'a> Sweep<'a> {
         if self.stack.is_empty() && !is_choice {
             self.lane.state_mut().forget();
         }
-        self.lane.state_mut().keep_past(PAST);
+        self.lane.state_mut().keep_previous(PREVIOUS);
         if self.skip == 0 && !is_choice && self.act_plainly(departure)? {
             return Ok(true);
         }
@@ -208,11 +211,11 @@ impl<'a> Sweep<'a> {
 
     /// Acts on a departure as it leaves, without another way; tells whether it could.
     fn act_plainly(&mut self, departure: SeenNumber) -> Result<bool, AllocError> {
-        let slot = Slot::before(self.lane.given().rank(departure));
+        let slot = Slot::before(self.lane.input().rank(departure));
         if self.lane.is_rather_earlier(departure)? {
             return Ok(false);
         }
-        let moment = self.lane.given().at(departure);
+        let moment = self.lane.input().at(departure);
         Ok(self.lane.act_now(departure, slot, moment)?.is_none())
     }
 

@@ -7,7 +7,7 @@ mod pools;
 use crate::deadlines::Deadlines;
 use crate::views::Views;
 use audit_keys::Credentials;
-use audit_known::{Known, Mates, Placed};
+use audit_known::{Known, Matches, Placed};
 use audit_model::{Addr, Policy, SightId, Sighting};
 use audit_search_state::{Constraints, PoolRef};
 use audit_seen::{Gives, LaneNumber, PoolKey, Says, Seen, SeenNumber};
@@ -55,18 +55,18 @@ impl<'a> Captured<'a> {
 
 /// What the searches of all lanes read.
 #[derive(Clone, Copy)]
-pub struct Given<'a> {
+pub struct SearchInput<'a> {
     captured: Captured<'a>,
     known: Known<'a>,
     placed: &'a Placed,
     views: &'a Views,
     deadlines: &'a Deadlines,
     /// The arrival that each departure most likely answers.
-    mates: &'a Mates,
+    matches: &'a Matches,
     constraints: &'a Constraints,
 }
 
-impl<'a> Given<'a> {
+impl<'a> SearchInput<'a> {
     /// The captures, what is known of their sightings, where each stands, the arrivals and departures of each lane, when addresses change
     /// hands, the arrival that each departure most likely answers, and what is asked for beside what the sightings say.
     pub fn new(
@@ -75,16 +75,16 @@ impl<'a> Given<'a> {
         placed: &'a Placed,
         views: &'a Views,
         deadlines: &'a Deadlines,
-        mates: &'a Mates,
+        matches: &'a Matches,
         constraints: &'a Constraints,
-    ) -> Given<'a> {
-        Given {
+    ) -> SearchInput<'a> {
+        SearchInput {
             captured,
             known,
             placed,
             views,
             deadlines,
-            mates,
+            matches,
             constraints,
         }
     }
@@ -135,8 +135,8 @@ impl<'a> Given<'a> {
     }
 
     /// The arrival that a departure most likely answers, or the departure that most likely answers an arrival.
-    pub fn mate_of(&self, number: SeenNumber) -> Option<SeenNumber> {
-        self.mates.of(number)
+    pub fn matched_to(&self, number: SeenNumber) -> Option<SeenNumber> {
+        self.matches.of(number)
     }
 
     /// How long an arrival may wait for its answer, in nanoseconds.

@@ -5,19 +5,19 @@ use std::alloc::{AllocError, Global};
 
 /// A departure and an arrival for each other. It bounds their keys; a lane's search chooses anew.
 #[derive(Drop)]
-pub struct Mates {
+pub struct Matches {
     of: Vec<Option<SeenNumber>>,
 }
 
-impl Mates {
-    /// The mate of each of so many sightings: none.
-    pub fn none(alloc: Global, count: usize) -> Result<Mates, AllocError> {
-        Ok(Mates {
+impl Matches {
+    /// The match of each of so many sightings: none.
+    pub fn none(alloc: Global, count: usize) -> Result<Matches, AllocError> {
+        Ok(Matches {
             of: vec![in alloc; None; count]?,
         })
     }
 
-    /// The mate of each sighting.
+    /// The match of each sighting.
     pub fn as_slice(&self) -> &[Option<SeenNumber>] {
         self.of.as_slice()
     }
@@ -37,21 +37,21 @@ impl Mates {
 
     /// Parts a departure from its arrival.
     pub fn part(&mut self, departure: SeenNumber) {
-        if let Some(mate) = self.of(departure) {
-            self.set(mate, None);
+        if let Some(matched) = self.of(departure) {
+            self.set(matched, None);
         }
         self.set(departure, None);
     }
 
-    /// Joins a departure to an arrival, neither of which has a mate.
+    /// Joins a departure to an arrival, neither of which has a match.
     pub fn join(&mut self, departure: SeenNumber, arrival: SeenNumber) {
         self.set(departure, Some(arrival));
         self.set(arrival, Some(departure));
     }
 
-    fn set(&mut self, number: SeenNumber, mate: Option<SeenNumber>) {
+    fn set(&mut self, number: SeenNumber, matched: Option<SeenNumber>) {
         if let Some(place) = self.of.get_mut(number.index()) {
-            *place = mate;
+            *place = matched;
         }
     }
 }

@@ -1,12 +1,12 @@
 //! The pools that departures of a lane may answer, whatever it has.
 
-use super::Given;
+use super::SearchInput;
 use audit_model::Addr;
 use audit_search_state::PoolRef;
 use audit_seen::{Gives, LaneNumber, SeenNumber};
 use std::alloc::AllocError;
 
-impl Given<'_> {
+impl SearchInput<'_> {
     /// The pool of a response's requests.
     pub fn response_ref(&self, departure: SeenNumber) -> Option<PoolRef> {
         Some(PoolRef::own(self.seen(departure)?.response_pool()?))

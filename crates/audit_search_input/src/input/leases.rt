@@ -1,6 +1,6 @@
 //! By when answers may be given whose leases are over before a departure.
 
-use super::Given;
+use super::SearchInput;
 use audit_seen::{Gives, SeenNumber, Slot};
 
 /// Nanoseconds of a second.
@@ -12,7 +12,7 @@ const PERMISSION: u64 = 300;
 /// How long a channel lasts, in seconds (RFC 8656, section 12).
 const CHANNEL: u64 = 600;
 
-impl Given<'_> {
+impl SearchInput<'_> {
     /// The last moment at which an answer may be given whose lease is over before a departure.
     pub fn latest_before(&self, answer: SeenNumber, departure: SeenNumber) -> Option<u64> {
         let lease = lease_of(self.gives(answer)?)?;
