@@ -5,7 +5,7 @@ ghost use Rattle.audit_model.specs.EventCount.{event_count};
 ghost use Rattle.audit_model.specs.declared.certificate.TheConstants.{MAX_EVENTS};
 ghost use Rattle.audit_sightings.specs.Intake.{Taken, taken, IsThere, NamesWhatIsThere};
 ghost use Rattle.audit_finder.specs.Found.{pair_of, empty_lane, AllNamed};
-ghost use Rattle.audit_finder.specs.Departures.{out_of, out_count, IsNoted};
+ghost use Rattle.audit_finder.specs.Departures.{out_of, out_count, LeaveOnce, IsNoted};
 
 use crate::departed::Departed;
 use audit_model::{Addr, CertLane, Event, Listed, MAX_EVENTS, Side, SightId};
@@ -74,9 +74,9 @@ fn add(lanes: &mut Vec<CertLane>, lane: u32, event: Event) -> Result<(), AllocEr
 /// Lanes with the events that were added so far.
 #[derive(Drop)]
 pub(crate) struct Filled {
-    pub(crate) lanes: Vec<CertLane>,
+    lanes: Vec<CertLane>,
     /// How many events more may be added.
-    pub(crate) room: usize,
+    room: usize,
     departed: Departed,
 }
 
@@ -144,5 +144,22 @@ impl Filled {
     {
         let events = named(intake, events);
         self.distribute(events.as_slice())
+    }
+
+    /// The lanes with the last events that name what is there, too, and how many events more might be added.
+    pub(crate) fn finish(
+        self,
+        intake: &Intake,
+        last: Vec<(u32, Event)>,
+    ) -> Result<(Vec<CertLane>, usize), AllocError>
+        ensures pairs { IfOk result (λ full. map pair_of full.0.items ≡ map pair_of self.lanes.items) }
+        ensures room { IfOk result (λ full. event_count full.0.items + full.1 ≤ event_count self.lanes.items + self.room) }
+        ensures named { AllNamed (taken intake.now) self.lanes.items → IfOk result (λ full. AllNamed (taken intake.now) full.0.items) }
+        ensures once { IsNoted self.departed.rows.items self.lanes.items → IfOk result (λ full. LeaveOnce full.0.items) }
+    {
+        let mut filled = self;
+        filled.add_all(intake, last)?;
+        let Filled { lanes, room, .. } = filled;
+        Ok((lanes, room))
     }
 }

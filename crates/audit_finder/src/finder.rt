@@ -78,7 +78,7 @@ impl Finder {
         );
         let last = self.search.given_to();
         let portion = self.search.go(&judge, &mut self.ahead, horizon)?;
-        let turn = Turn { last, horizon };
+        let turn = Turn::new(last, horizon);
         let lanes = self.clients.lanes_from(known);
         extension(self.alloc, intake, lanes, portion, turn)
     }

@@ -15,10 +15,10 @@ use crate::filling::{Filled, is_there};
 use crate::turn::Turn;
 use crate::writing::written;
 use audit_clients::Clients;
-use audit_finding::Windows;
+use audit_finding::{FoundCertificate, Windows};
 use audit_keys::Credentials;
 use audit_model::{Addr, CertDrop, CertLane, Certificate, Extension, Listed, Side};
-use audit_search::{Reading, best_round, best_round_by};
+use audit_search::{BestRound, Reading, best_round, best_round_by};
 use audit_sightings::Intake;
 use audit_walk::Portion;
 use std::alloc::{AllocError, Global};
@@ -110,12 +110,11 @@ pub(crate) fn certificate_of(
     ensures drops { IfOk result (λ certificate. AreThere (taken intake.now) certificate.drops) }
     ensures skews { IfOk result (λ certificate. certificate.skews ≡ []) }
 {
-    let mut filled = filled;
     let (events, drops) = last.into_parts();
-    filled.add_all(intake, events)?;
-    let lanes = all_sorted(alloc, filled.lanes)?;
+    let (lanes, room) = filled.finish(intake, events)?;
+    let lanes = all_sorted(alloc, lanes)?;
     let mut drops = there(intake, drops);
-    drops.truncate(filled.room);
+    drops.truncate(room);
     Ok(Certificate {
         lanes: Listed::from(lanes),
         drops: Listed::from(drops),
@@ -143,30 +142,26 @@ fn certificate_with(
     certificate_of(alloc, intake, filled, portion)
 }
 
-/// The events that are found of these clients' lanes.
-fn in_passes(
+/// What the best of the rounds comes to, with lanes for these pairs.
+fn found_in_rounds(
     alloc: Global,
     intake: &Intake,
-    credentials: &Credentials,
     pairs: &[(Addr, Addr)],
-) -> Result<Portion, AllocError> {
-    let reading = Reading::new(alloc, intake, credentials, pairs, Windows::Whole)?;
-    let best = best_round(&reading)?;
-    written(alloc, &reading, best.round())
-}
-
-/// The same, by so many threads at the most.
-fn in_passes_by<R: Threads + Sync>(
-    rt: &R,
-    alloc: Global,
-    intake: &Intake,
-    credentials: &Credentials,
-    pairs: &[(Addr, Addr)],
-    workers: u32,
-) -> Result<Portion, AllocError> {
-    let reading = Reading::new(alloc, intake, credentials, pairs, Windows::Whole)?;
-    let best = best_round_by(rt, workers, &reading)?;
-    written(alloc, &reading, best.round())
+    reading: &Reading<'_>,
+    best: &BestRound,
+) -> Result<FoundCertificate, AllocError>
+    requires apart { IsDistinct same pairs.now }
+    requires few { length pairs.now ≤ MAX_LANES }
+    ensures lanes { IfOk result (λ found. map pair_of found.certificate.lanes ≡ pairs.now) }
+    ensures events { IfOk result (λ found. AllNamed (taken intake.now) found.certificate.lanes) }
+    ensures once { IfOk result (λ found. LeaveOnce found.certificate.lanes) }
+    ensures order { IfOk result (λ found. All KeysRise found.certificate.lanes) }
+    ensures drops { IfOk result (λ found. AreThere (taken intake.now) found.certificate.drops) }
+    ensures skews { IfOk result (λ found. found.certificate.skews ≡ []) }
+{
+    let portion = written(alloc, reading, best.round())?;
+    let certificate = certificate_with(alloc, intake, pairs, portion)?;
+    Ok(FoundCertificate::new(certificate, best.is_whole()))
 }
 
 /// The clients of all captures, in a table that hashes by the seed.
@@ -192,18 +187,20 @@ pub fn find(
     seed: RandomState,
     intake: &Intake,
     credentials: &Credentials,
-) -> Result<Certificate, AllocError>
-    ensures lanes { IfOk result (λ certificate. map pair_of certificate.lanes ≡ clients_of (taken intake.now)) }
-    ensures events { IfOk result (λ certificate. AllNamed (taken intake.now) certificate.lanes) }
-    ensures once { IfOk result (λ certificate. LeaveOnce certificate.lanes) }
-    ensures order { IfOk result (λ certificate. All KeysRise certificate.lanes) }
-    ensures drops { IfOk result (λ certificate. AreThere (taken intake.now) certificate.drops) }
-    ensures skews { IfOk result (λ certificate. certificate.skews ≡ []) }
+    windows: Windows,
+) -> Result<FoundCertificate, AllocError>
+    ensures lanes { IfOk result (λ found. map pair_of found.certificate.lanes ≡ clients_of (taken intake.now)) }
+    ensures events { IfOk result (λ found. AllNamed (taken intake.now) found.certificate.lanes) }
+    ensures once { IfOk result (λ found. LeaveOnce found.certificate.lanes) }
+    ensures order { IfOk result (λ found. All KeysRise found.certificate.lanes) }
+    ensures drops { IfOk result (λ found. AreThere (taken intake.now) found.certificate.drops) }
+    ensures skews { IfOk result (λ found. found.certificate.skews ≡ []) }
 {
     let clients = clients_in(alloc, seed, intake)?;
     let lanes = clients.lanes();
-    let portion = in_passes(alloc, intake, credentials, lanes)?;
-    certificate_with(alloc, intake, lanes, portion)
+    let reading = Reading::new(alloc, intake, credentials, lanes, windows)?;
+    let best = best_round(&reading)?;
+    found_in_rounds(alloc, intake, lanes, &reading, &best)
 }
 
 /// Finds the certificate that `find` finds, by so many threads at the most: each searches lanes of its own.
@@ -213,17 +210,19 @@ pub fn find_parallel<R: Threads + Sync>(
     seed: RandomState,
     intake: &Intake,
     credentials: &Credentials,
+    windows: Windows,
     workers: u32,
-) -> Result<Certificate, AllocError>
-    ensures lanes { IfOk result (λ certificate. map pair_of certificate.lanes ≡ clients_of (taken intake.now)) }
-    ensures events { IfOk result (λ certificate. AllNamed (taken intake.now) certificate.lanes) }
-    ensures once { IfOk result (λ certificate. LeaveOnce certificate.lanes) }
-    ensures order { IfOk result (λ certificate. All KeysRise certificate.lanes) }
-    ensures drops { IfOk result (λ certificate. AreThere (taken intake.now) certificate.drops) }
-    ensures skews { IfOk result (λ certificate. certificate.skews ≡ []) }
+) -> Result<FoundCertificate, AllocError>
+    ensures lanes { IfOk result (λ found. map pair_of found.certificate.lanes ≡ clients_of (taken intake.now)) }
+    ensures events { IfOk result (λ found. AllNamed (taken intake.now) found.certificate.lanes) }
+    ensures once { IfOk result (λ found. LeaveOnce found.certificate.lanes) }
+    ensures order { IfOk result (λ found. All KeysRise found.certificate.lanes) }
+    ensures drops { IfOk result (λ found. AreThere (taken intake.now) found.certificate.drops) }
+    ensures skews { IfOk result (λ found. found.certificate.skews ≡ []) }
 {
     let clients = clients_in(alloc, seed, intake)?;
     let lanes = clients.lanes();
-    let found = in_passes_by(rt, alloc, intake, credentials, lanes, workers)?;
-    certificate_with(alloc, intake, lanes, found)
+    let reading = Reading::new(alloc, intake, credentials, lanes, windows)?;
+    let best = best_round_by(rt, workers, &reading)?;
+    found_in_rounds(alloc, intake, lanes, &reading, &best)
 }

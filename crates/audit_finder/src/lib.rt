@@ -12,7 +12,6 @@ mod walk_and_passes;
 mod walking;
 mod writing;
 
-pub use audit_finding::FoundOnce;
 pub use finder::Finder;
 pub use finding::{find, find_parallel};
 pub use walk_and_passes::WalkAndPasses;

@@ -1,6 +1,6 @@
 //! What one turn of captures that grow may give.
 
-ghost use Rattle.std.specs.Prelude.{◌↔◌, All, IsTrue};
+ghost use Rattle.std.specs.Prelude.{◌≡◌, ◌↔◌, All, IsTrue};
 ghost use Rattle.audit_model.specs.Event.{key_of};
 ghost use Rattle.audit_sightings.specs.Intake.{taken, NamesWhatIsThere};
 ghost use Rattle.audit_finder.specs.Found.{AreThere};
@@ -14,12 +14,20 @@ use audit_sightings::Intake;
 #[derive(Clone, Copy, Debug)]
 pub(crate) struct Turn {
     /// The horizon of the turn before. All moments of this one are past it.
-    pub(crate) last: Option<u64>,
+    last: Option<u64>,
     /// Up to here.
-    pub(crate) horizon: u64,
+    horizon: u64,
 }
 
 impl Turn {
+    /// The turn past the last horizon, if there was one, up to this one.
+    pub(crate) fn new(last: Option<u64>, horizon: u64) -> Turn
+        ensures last { result.last ≡ last }
+        ensures horizon { result.horizon ≡ horizon }
+    {
+        Turn { last, horizon }
+    }
+
     fn has(self, moment: u64) -> bool
         ensures { IsTrue result ↔ IsInside self.last self.horizon moment }
     {

@@ -5,7 +5,7 @@ ghost use Rattle.std.specs.Prelude.{◌≡◌};
 use crate::finder::Finder;
 use crate::finding::{find, find_parallel};
 use crate::walking::{find_late, find_once};
-use audit_finding::{CertificateFinder, ExtensionFinder, FoundOnce, Windows};
+use audit_finding::{CertificateFinder, ExtensionFinder, FoundCertificate, Windows};
 use audit_keys::Credentials;
 use audit_model::{Certificate, Extension};
 use audit_sightings::Intake;
@@ -41,7 +41,7 @@ impl CertificateFinder for WalkAndPasses {
         intake: &Intake,
         credentials: &Credentials,
         windows: Windows,
-    ) -> Result<FoundOnce, AllocError> {
+    ) -> Result<FoundCertificate, AllocError> {
         find_once(alloc, self.seed, intake, credentials, windows)
     }
 
@@ -51,7 +51,7 @@ impl CertificateFinder for WalkAndPasses {
         intake: &Intake,
         credentials: &Credentials,
     ) -> Result<Certificate, AllocError> {
-        Ok(find_late(alloc, self.seed, intake, credentials)?.certificate)
+        Ok(find_late(alloc, self.seed, intake, credentials)?.into_certificate())
     }
 
     /// With one worker on the caller's thread alone.
@@ -61,12 +61,13 @@ impl CertificateFinder for WalkAndPasses {
         alloc: Global,
         intake: &Intake,
         credentials: &Credentials,
+        windows: Windows,
         workers: u32,
-    ) -> Result<Certificate, AllocError> {
+    ) -> Result<FoundCertificate, AllocError> {
         if workers == 1 {
-            return find(alloc, self.seed, intake, credentials);
+            return find(alloc, self.seed, intake, credentials, windows);
         }
-        find_parallel(rt, alloc, self.seed, intake, credentials, workers)
+        find_parallel(rt, alloc, self.seed, intake, credentials, windows, workers)
     }
 
     fn extending(&self, alloc: Global) -> Finder {

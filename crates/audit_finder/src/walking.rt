@@ -10,7 +10,7 @@ ghost use Rattle.audit_finder.specs.Departures.{LeaveOnce, IsNoted};
 
 use crate::filling::Filled;
 use crate::finding::{certificate_of, clients_in};
-use audit_finding::{FoundOnce, Windows};
+use audit_finding::{FoundCertificate, Windows};
 use audit_keys::Credentials;
 use audit_model::Addr;
 use audit_sightings::Intake;
@@ -55,7 +55,7 @@ fn found_by(
     credentials: &Credentials,
     windows: Windows,
     search: Search,
-) -> Result<FoundOnce, AllocError>
+) -> Result<FoundCertificate, AllocError>
     ensures lanes { IfOk result (λ found. map pair_of found.certificate.lanes ≡ clients_of (taken intake.now)) }
     ensures events { IfOk result (λ found. AllNamed (taken intake.now) found.certificate.lanes) }
     ensures once { IfOk result (λ found. LeaveOnce found.certificate.lanes) }
@@ -69,10 +69,8 @@ fn found_by(
     let mut search = search;
     let filled = walked(alloc, intake, &judge, pairs, &mut search)?;
     let last = search.finish(&judge)?;
-    Ok(FoundOnce {
-        certificate: certificate_of(alloc, intake, filled, last)?,
-        seems_conforming: search.seems_conforming(),
-    })
+    let certificate = certificate_of(alloc, intake, filled, last)?;
+    Ok(FoundCertificate::new(certificate, search.seems_conforming()))
 }
 
 /// Finds a certificate as `find` does, with the same lanes, but by one walk over the sightings in which nothing is taken back: it takes less
@@ -83,7 +81,7 @@ pub fn find_once(
     intake: &Intake,
     credentials: &Credentials,
     windows: Windows,
-) -> Result<FoundOnce, AllocError>
+) -> Result<FoundCertificate, AllocError>
     ensures lanes { IfOk result (λ found. map pair_of found.certificate.lanes ≡ clients_of (taken intake.now)) }
     ensures events { IfOk result (λ found. AllNamed (taken intake.now) found.certificate.lanes) }
     ensures once { IfOk result (λ found. LeaveOnce found.certificate.lanes) }
@@ -107,7 +105,7 @@ pub fn find_late(
     seed: RandomState,
     intake: &Intake,
     credentials: &Credentials,
-) -> Result<FoundOnce, AllocError>
+) -> Result<FoundCertificate, AllocError>
     ensures lanes { IfOk result (λ found. map pair_of found.certificate.lanes ≡ clients_of (taken intake.now)) }
     ensures events { IfOk result (λ found. AllNamed (taken intake.now) found.certificate.lanes) }
     ensures once { IfOk result (λ found. LeaveOnce found.certificate.lanes) }

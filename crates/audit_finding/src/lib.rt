@@ -7,22 +7,16 @@
 ghost use Rattle.std.specs.Prelude.{◌≡◌, None, IfOk};
 ghost use Rattle.std.specs.Thread.{IsSync};
 
+mod found_certificate;
 mod windows;
 
 use audit_keys::Credentials;
 use audit_model::{Certificate, Extension};
 use audit_sightings::Intake;
+pub use found_certificate::FoundCertificate;
 use std::alloc::{AllocError, Global};
 use std::thread::Threads;
 pub use windows::Windows;
-
-/// What one walk over the sightings finds.
-#[derive(Drop)]
-pub struct FoundOnce {
-    pub certificate: Certificate,
-    /// Whether the server kept to its rules by that, as far as the walk can tell. Nothing rests on it.
-    pub seems_conforming: bool,
-}
 
 /// Finds certificates for what was captured.
 pub trait CertificateFinder {
@@ -42,7 +36,7 @@ pub trait CertificateFinder {
         intake: &Intake,
         credentials: &Credentials,
         windows: Windows,
-    ) -> Result<FoundOnce, AllocError>
+    ) -> Result<FoundCertificate, AllocError>
         ensures { IfOk result (λ found. finds (taken intake.now) found.certificate) };
 
     /// Finds a certificate by one walk in which leases last as long as they may: each request is acted on as its answer leaves.
@@ -54,17 +48,18 @@ pub trait CertificateFinder {
     ) -> Result<Certificate, AllocError>
         ensures { IfOk result (finds (taken intake.now)) };
 
-    /// Finds a certificate with all that can be tried, by so many threads at the most.
+    /// Finds a certificate with all that can be tried by so much of each window, by so many threads at the most.
     fn find<R: Threads + Sync>(
         &self,
         rt: &R,
         alloc: Global,
         intake: &Intake,
         credentials: &Credentials,
+        windows: Windows,
         workers: u32,
-    ) -> Result<Certificate, AllocError>
+    ) -> Result<FoundCertificate, AllocError>
         requires { IsSync R.row }
-        ensures { IfOk result (finds (taken intake.now)) };
+        ensures { IfOk result (λ found. finds (taken intake.now) found.certificate) };
 
     /// What finds the certificate of captures that grow, of which nothing was found yet.
     fn extending(&self, alloc: Global) -> Self::Extending

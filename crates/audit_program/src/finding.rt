@@ -8,13 +8,13 @@ ghost use Rattle.audit_program.specs.Deciding.{Decides};
 
 use crate::outlook::{Outlook, outlook_by};
 use audit_files::{Files, Workers, verdict_of};
-use audit_finding::{CertificateFinder, Windows};
+use audit_finding::{CertificateFinder, FoundCertificate, Windows};
 use audit_model::{Certificate, Verdict};
 use std::alloc::{AllocError, Global};
 use std::sync::Wait;
 use std::thread::Threads;
 
-/// How wide a part of a window is at the least, in nanoseconds, so that it is worth a walk: the window of a policy that says nothing of skews.
+/// How wide a part of a window is at the least, in nanoseconds, so that it is worth a search: the window of a policy that says nothing of skews.
 const LEAST_WINDOW: u64 = 1_000_000;
 
 /// A certificate that was found, and the verdict by it.
@@ -22,6 +22,13 @@ const LEAST_WINDOW: u64 = 1_000_000;
 pub struct Found {
     pub certificate: Certificate,
     pub verdict: Verdict,
+}
+
+/// A way to look for a certificate: by one walk over the sightings, or in passes over all of them.
+#[derive(Clone, Copy, Debug, PartialEq, Eq)]
+enum Way {
+    Walk,
+    Passes,
 }
 
 /// The certificate with the verdict by it.
@@ -64,46 +71,67 @@ fn found_late<R: Threads + Wait + Sync, F: CertificateFinder>(
     judged(rt, alloc, files, certificate, workers)
 }
 
-/// What a walk by a part of each window finds, if the captures conform by it.
+/// What is found in this way by so much of each window.
+fn found_in<R: Threads + Wait + Sync, F: CertificateFinder>(
+    rt: &R,
+    alloc: Global,
+    finder: &F,
+    files: &Files,
+    way: Way,
+    windows: Windows,
+    workers: Workers,
+) -> Result<FoundCertificate, AllocError>
+    ensures { IfOk result (λ found. F.finds (taken files.now.intake) found.certificate) }
+{
+    let (intake, users) = (&files.intake, &files.users);
+    match way {
+        Way::Walk => finder.find_once(alloc, intake, users, windows),
+        Way::Passes => finder.find(rt, alloc, intake, users, windows, workers.count),
+    }
+}
+
+/// What is found by a part of each window, if the captures conform by it.
 fn found_by_part<R: Threads + Wait + Sync, F: CertificateFinder>(
     rt: &R,
     alloc: Global,
     finder: &F,
     files: &Files,
+    way: Way,
     windows: Windows,
     workers: Workers,
 ) -> Result<Option<Found>, AllocError>
-    ensures judged { IfOk result (λ walk. IfSome walk (λ found. Judges (taken files.now.intake) (key_for files.now.users) found.certificate found.verdict)) }
-    ensures finds { IfOk result (λ walk. IfSome walk (λ found. F.finds (taken files.now.intake) found.certificate)) }
+    ensures judged { IfOk result (λ part. IfSome part (λ found. Judges (taken files.now.intake) (key_for files.now.users) found.certificate found.verdict)) }
+    ensures finds { IfOk result (λ part. IfSome part (λ found. F.finds (taken files.now.intake) found.certificate)) }
 {
-    let once = finder.find_once(alloc, &files.intake, &files.users, windows)?;
-    if !once.seems_conforming {
+    let part = found_in(rt, alloc, finder, files, way, windows, workers)?;
+    if !part.seems_conforming() {
         return Ok(None);
     }
-    let found = judged(rt, alloc, files, once.certificate, workers)?;
+    let found = judged(rt, alloc, files, part.into_certificate(), workers)?;
     match found.verdict {
         Verdict::Conforming { .. } => Ok(Some(found)),
         Verdict::NotShown(_) => Ok(None),
     }
 }
 
-/// What a walk by a part of each window finds, the widest first, if the captures conform by one. Where windows are wide, much that happened in
-/// turn stands at one moment, and a walk by all of them may take it in another order.
+/// What is found by a part of each window, the widest first, if the captures conform by one. Where windows are wide, much that happened in
+/// turn stands at one moment, and a search by all of them may take it in another order.
 fn found_by_parts<R: Threads + Wait + Sync, F: CertificateFinder>(
     rt: &R,
     alloc: Global,
     finder: &F,
     files: &Files,
+    way: Way,
     workers: Workers,
 ) -> Result<Option<Found>, AllocError>
-    ensures judged { IfOk result (λ walk. IfSome walk (λ found. Judges (taken files.now.intake) (key_for files.now.users) found.certificate found.verdict)) }
-    ensures finds { IfOk result (λ walk. IfSome walk (λ found. F.finds (taken files.now.intake) found.certificate)) }
+    ensures judged { IfOk result (λ part. IfSome part (λ found. Judges (taken files.now.intake) (key_for files.now.users) found.certificate found.verdict)) }
+    ensures finds { IfOk result (λ part. IfSome part (λ found. F.finds (taken files.now.intake) found.certificate)) }
 {
     'parts: for windows in Windows::PARTS {
         if windows.widest(files.intake.policy()) < LEAST_WINDOW {
             break;
         }
-        let found = found_by_part(rt, alloc, finder, files, windows, workers)?;
+        let found = found_by_part(rt, alloc, finder, files, way, windows, workers)?;
         if found.is_some() {
             return Ok(found);
         }
@@ -111,7 +139,7 @@ fn found_by_parts<R: Threads + Wait + Sync, F: CertificateFinder>(
     Ok(None)
 }
 
-/// What is found with all that can be tried.
+/// What is found with all that can be tried: by a part of each window where the captures conform by that, else by the passes over whole windows.
 fn found_at_last<R: Threads + Wait + Sync, F: CertificateFinder>(
     rt: &R,
     alloc: Global,
@@ -122,11 +150,43 @@ fn found_at_last<R: Threads + Wait + Sync, F: CertificateFinder>(
     ensures judged { IfOk result (λ found. Judges (taken files.now.intake) (key_for files.now.users) found.certificate found.verdict) }
     ensures finds { IfOk result (λ found. F.finds (taken files.now.intake) found.certificate) }
 {
-    if let Some(found) = found_by_parts(rt, alloc, finder, files, workers)? {
+    if let Some(found) = found_by_parts(rt, alloc, finder, files, Way::Walk, workers)? {
         return Ok(found);
     }
-    let certificate = finder.find(rt, alloc, &files.intake, &files.users, workers.count)?;
-    judged(rt, alloc, files, certificate, workers)
+    let way = Way::Passes;
+    let whole = found_in(rt, alloc, finder, files, way, Windows::Whole, workers)?;
+    let whole = judged(rt, alloc, files, whole.into_certificate(), workers)?;
+    if let Verdict::Conforming { .. } = whole.verdict {
+        return Ok(whole);
+    }
+    match found_by_parts(rt, alloc, finder, files, way, workers)? {
+        Some(part) => Ok(part),
+        None => Ok(whole),
+    }
+}
+
+/// The certificate by which `found_at_last` judges. What the passes find by whole windows isn't judged: it is taken for what it seems.
+fn certificate_at_last<R: Threads + Wait + Sync, F: CertificateFinder>(
+    rt: &R,
+    alloc: Global,
+    finder: &F,
+    files: &Files,
+    workers: Workers,
+) -> Result<Certificate, AllocError>
+    ensures { IfOk result (F.finds (taken files.now.intake)) }
+{
+    if let Some(found) = found_by_parts(rt, alloc, finder, files, Way::Walk, workers)? {
+        return Ok(found.certificate);
+    }
+    let way = Way::Passes;
+    let whole = found_in(rt, alloc, finder, files, way, Windows::Whole, workers)?;
+    if whole.seems_conforming() {
+        return Ok(whole.into_certificate());
+    }
+    match found_by_parts(rt, alloc, finder, files, way, workers)? {
+        Some(part) => Ok(part.certificate),
+        None => Ok(whole.into_certificate()),
+    }
 }
 
 /// The walk's certificate with the verdict by it, or that of a late walk, where no other certificate has to be looked for: it conforms, or
@@ -176,7 +236,7 @@ pub fn found_either_way<R: Threads + Wait + Sync, F: CertificateFinder>(
     ensures finds { IfOk result (λ found. F.finds (taken files.now.intake) found.certificate) }
 {
     let once = finder.find_once(alloc, &files.intake, &files.users, Windows::Whole)?;
-    match decided(rt, alloc, finder, files, once.certificate, workers)? {
+    match decided(rt, alloc, finder, files, once.into_certificate(), workers)? {
         Some(found) => Ok(found),
         None => found_at_last(rt, alloc, finder, files, workers),
     }
@@ -193,14 +253,11 @@ pub fn certificate_for<R: Threads + Wait + Sync, F: CertificateFinder>(
     ensures { IfOk result (F.finds (taken files.now.intake)) }
 {
     let once = finder.find_once(alloc, &files.intake, &files.users, Windows::Whole)?;
-    if once.seems_conforming {
-        return Ok(once.certificate);
+    if once.seems_conforming() {
+        return Ok(once.into_certificate());
     }
-    match decided(rt, alloc, finder, files, once.certificate, workers)? {
+    match decided(rt, alloc, finder, files, once.into_certificate(), workers)? {
         Some(found) => Ok(found.certificate),
-        None => match found_by_parts(rt, alloc, finder, files, workers)? {
-            Some(found) => Ok(found.certificate),
-            None => finder.find(rt, alloc, &files.intake, &files.users, workers.count),
-        },
+        None => certificate_at_last(rt, alloc, finder, files, workers),
     }
 }

@@ -2,6 +2,7 @@
 
 use super::datagrams::{Client, Datagram, Relayed, Request, Seen, Success};
 use audit_finder::find;
+use audit_finding::Windows;
 use audit_glue::check;
 use audit_keys::{Credentials, long_term_key};
 use audit_model::{Addr, Side, Verdict, read_policy};
@@ -238,7 +239,7 @@ pub(super) fn verdict(alloc: Global, hold: u32, captures: &[&[Seen<'_>]]) -> Res
         intake.feed(file, captured.bytes())?;
     }
     let users = Credentials::read(alloc, CREDENTIALS)?;
-    let certificate = find(alloc, seed()?, &intake, &users)?;
+    let certificate = find(alloc, seed()?, &intake, &users, Windows::Whole)?.into_certificate();
     Ok(check(alloc, &intake, &users, &certificate)?)
 }
 
