@@ -4,25 +4,21 @@
 //! what a round's searches go by under them, and `Round` what they found. Nothing rests on any of it.
 #![tactic(auto)]
 
-mod answering;
-mod clocks;
-mod ended;
-mod lane_constraints;
+mod act;
+mod first_keys;
+mod lane_fault;
 mod lane_so_far;
-mod leases;
-mod needed;
-mod overlaps;
 mod prepared;
 mod reading;
 mod round;
 mod searched;
 mod settling;
-mod within;
 
+pub use act::Act;
+pub use lane_fault::LaneFault;
 pub use lane_so_far::LaneSoFar;
-pub use overlaps::Overlap;
 pub use prepared::Prepared;
 pub use reading::Reading;
-pub use round::Round;
-pub use searched::{Act, AllSearched, Searched};
+pub use round::{Double, Overlap, Round};
+pub use searched::{AllSearched, Searched};
 pub use settling::Settling;

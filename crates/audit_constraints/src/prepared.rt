@@ -1,13 +1,14 @@
 //! What the searches of one round go by: the matches, the keys, and an order of all sightings.
 
-use crate::reading::{FirstKeys, Reading};
+use crate::first_keys::FirstKeys;
+use crate::reading::Reading;
 use crate::round::Round;
 use crate::searched::AllSearched;
-use audit_known::{Known, Order, Tenancies};
+use audit_known::{Known, Placed, Tenancies};
 use audit_matching::{
     Edges, RelayedLanes, ask_handovers, handovers, lows, match_up, places, ranked,
 };
-use audit_search_input::{Deadlines, Given, Shared, Viewed, Views};
+use audit_search_input::{Deadlines, SearchInput, Shared, Viewed, Views};
 use audit_search_state::{Constraint, Constraints};
 use std::alloc::{AllocError, Global};
 
@@ -17,10 +18,7 @@ pub struct Prepared {
     tenancies: Tenancies,
     relayed: RelayedLanes,
     edges: Edges,
-    /// The least moment of each sighting, and the one at which it is placed.
-    low: Vec<u64>,
-    at: Vec<u64>,
-    order: Order,
+    placed: Placed,
     views: Views,
     deadlines: Deadlines,
 }
@@ -32,87 +30,70 @@ impl Prepared {
         first: &FirstKeys,
         constraints: &Constraints,
     ) -> Result<Prepared, AllocError> {
-        let alloc = reading.alloc;
-        let sights = &reading.sights;
-        let hold = reading.intake.policy().hold;
+        let alloc = reading.alloc();
+        let sights = reading.sights();
+        let hold = reading.policy().hold;
         let tenancies = first.tenancies(reading)?;
-        let handovers = handovers(alloc, sights, &first.times, &first.mates)?;
+        let handovers = handovers(alloc, sights, first.times(), first.matches())?;
         let known = first.known(reading, &tenancies);
         let relayed = RelayedLanes::of(&known, &constraints.banned(alloc)?)?;
         let mut edges = edges_of(&known, &relayed, constraints)?;
-        ask_handovers(sights, &handovers, &first.mates, &mut edges)?;
-        let low = lows(alloc, sights, &mut edges, &constraints.shifts, hold)?;
+        ask_handovers(sights, &handovers, first.matches(), &mut edges)?;
+        let low = lows(alloc, sights, &mut edges, constraints.shifts(), hold)?;
         let at = places(alloc, sights, &edges, &low, hold)?;
-        let order = ranked(alloc, sights, &edges, &low, &at)?;
+        let placed = Placed::new(ranked(alloc, sights, &edges, &low, &at)?, low, at);
         let deadlines = Deadlines::of(
             alloc,
             sights,
             &handovers,
-            &first.mates,
-            &order,
-            &at,
+            first.matches(),
+            &placed,
             constraints,
         )?;
-        let shared = Shared::of(alloc, &known, &handovers, &first.mates)?;
-        let viewed = Viewed {
-            intake: reading.intake,
+        let shared = Shared::of(alloc, &known, &handovers, first.matches())?;
+        let viewed = Viewed::new(
+            reading.captured(),
             known,
-            order: &order,
-            low: &low,
-            at: &at,
-            mates: &edges.mates,
-            relayed: relayed.as_slice(),
+            &placed,
+            edges.matches(),
+            relayed.as_slice(),
             constraints,
-            shared: &shared,
-        };
-        let views = Views::of(alloc, &viewed, reading.pairs.len())?;
+            &shared,
+        );
+        let views = Views::of(alloc, &viewed)?;
         Ok(Prepared {
             tenancies,
             relayed,
             edges,
-            low,
-            at,
-            order,
+            placed,
             views,
             deadlines,
         })
     }
 
     /// What the search of each lane reads.
-    pub(crate) fn given<'a>(
+    pub(crate) fn input<'a>(
         &'a self,
         reading: &'a Reading<'_>,
         first: &'a FirstKeys,
         constraints: &'a Constraints,
-    ) -> Given<'a> {
-        Given {
-            alloc: reading.alloc,
-            intake: reading.intake,
-            credentials: reading.credentials,
-            known: first.known(reading, &self.tenancies),
-            views: &self.views,
-            order: &self.order,
-            low: &self.low,
-            at: &self.at,
-            deadlines: &self.deadlines,
-            mates: &self.edges.mates,
+    ) -> SearchInput<'a> {
+        SearchInput::new(
+            reading.captured(),
+            first.known(reading, &self.tenancies),
+            &self.placed,
+            &self.views,
+            &self.deadlines,
+            self.edges.matches(),
             constraints,
-            pairs: reading.pairs,
-        }
+        )
     }
 
     /// The round, once all lanes are searched.
     pub fn round(self, alloc: Global, searched: &AllSearched) -> Result<Round, AllocError> {
-        let acts = searched.acts(alloc, &self.order)?;
+        let acts = searched.acts(alloc, &self.placed)?;
         let faults = searched.faults(alloc)?;
-        Ok(Round {
-            order: self.order,
-            at: self.at,
-            relayed: self.relayed,
-            edges: self.edges,
-            acts,
-            faults,
-        })
+        Ok(Round::new(self.placed, self.relayed, self.edges, acts, faults))
     }
 }
 
@@ -122,11 +103,11 @@ fn edges_of(
     relayed: &RelayedLanes,
     constraints: &Constraints,
 ) -> Result<Edges, AllocError> {
-    let mut edges = Edges::of(known.alloc, match_up(known, relayed.as_slice())?);
+    let mut edges = Edges::of(known.alloc(), match_up(known, relayed.as_slice())?);
     for constraint in constraints.iter() {
         match constraint {
             Constraint::Answers { departure, arrival } => {
-                edges.mates.join_anew(*departure, *arrival);
+                edges.join_anew(*departure, *arrival);
             }
             Constraint::Before { arrival, departure } => edges.ask(*arrival, *departure)?,
             _ => {}

@@ -1,45 +1,130 @@
 //! What one round found.
 
-use crate::searched::Act;
-use audit_known::Order;
+ghost use Rattle.std.specs.Prelude.{◌≡◌};
+
+mod overlaps;
+
+use crate::act::Act;
+use crate::lane_fault::LaneFault;
+use audit_known::Placed;
 use audit_matching::{Edges, RelayedLanes};
-use audit_search_state::{Constraint, Fault};
 use audit_seen::{LaneNumber, SeenNumber, Slot};
+pub use overlaps::Overlap;
 use std::alloc::{AllocError, Global};
+
+/// An arrival that two lanes act on.
+#[derive(Clone, Copy, Debug)]
+pub struct Double {
+    arrival: SeenNumber,
+    later: LaneNumber,
+    earlier: LaneNumber,
+}
+
+impl Double {
+    /// The arrival.
+    pub fn arrival(&self) -> SeenNumber
+        ensures { result ≡ self.now.arrival }
+    {
+        self.arrival
+    }
+
+    /// The lane of the later act.
+    pub fn later(&self) -> LaneNumber
+        ensures { result ≡ self.now.later }
+    {
+        self.later
+    }
+
+    /// The lane of the earlier act.
+    pub fn earlier(&self) -> LaneNumber
+        ensures { result ≡ self.now.earlier }
+    {
+        self.earlier
+    }
+}
+
+/// An act by its arrival, of one arrival by its slot.
+#[derive(Clone, Copy, PartialEq, Eq, PartialOrd, Ord)]
+struct ByArrival {
+    arrival: SeenNumber,
+    slot: Slot,
+    lane: LaneNumber,
+}
 
 /// What one round found.
 #[derive(Drop)]
 pub struct Round {
-    pub order: Order,
-    pub at: Vec<u64>,
-    /// The lane of each departure from a relayed address.
-    pub relayed: RelayedLanes,
-    pub(crate) edges: Edges,
-    /// The acts of all lanes, in order.
-    pub acts: Vec<Act>,
-    /// The lanes that can't act on a departure, and what they would need.
-    pub faults: Vec<(LaneNumber, Fault, Vec<Constraint>)>,
+    placed: Placed,
+    relayed: RelayedLanes,
+    edges: Edges,
+    acts: Vec<Act>,
+    faults: Vec<LaneFault>,
 }
 
 impl Round {
-    /// The arrivals that two lanes act on: the arrival, the lane of the later act, and that of the earlier one.
-    pub fn doubles(
-        &self,
-        alloc: Global,
-    ) -> Result<Vec<(SeenNumber, LaneNumber, LaneNumber)>, AllocError> {
-        let mut by_arrival: Vec<(SeenNumber, Slot, LaneNumber)> = Vec::with_capacity(
-            alloc,
-            self.acts.len(),
-        )?;
-        for (slot, lane, _, arrival, _) in &self.acts {
-            by_arrival.push((*arrival, *slot, *lane))?;
+    /// Where each sighting stands, the lane of each departure from a relayed address, the matches, the acts of all lanes, in order, and the lanes that
+    /// fail, in order.
+    pub(crate) fn new(
+        placed: Placed,
+        relayed: RelayedLanes,
+        edges: Edges,
+        acts: Vec<Act>,
+        faults: Vec<LaneFault>,
+    ) -> Round {
+        Round {
+            placed,
+            relayed,
+            edges,
+            acts,
+            faults,
+        }
+    }
+
+    /// Where each sighting stands.
+    pub fn placed(&self) -> &Placed {
+        &self.placed
+    }
+
+    /// The lane of each departure from a relayed address.
+    pub fn relayed(&self) -> &RelayedLanes {
+        &self.relayed
+    }
+
+    /// The matches, and the arrivals that are asked to stand before departures.
+    pub(crate) fn edges(&self) -> &Edges {
+        &self.edges
+    }
+
+    /// The acts of all lanes, in order.
+    pub fn acts(&self) -> &[Act] {
+        self.acts.as_slice()
+    }
+
+    /// The lanes that can't act on a departure, in order.
+    pub fn faults(&self) -> &[LaneFault] {
+        self.faults.as_slice()
+    }
+
+    /// The arrivals that two lanes act on. It takes n log n.
+    pub fn doubles(&self, alloc: Global) -> Result<Vec<Double>, AllocError> {
+        let mut by_arrival: Vec<ByArrival> = Vec::with_capacity(alloc, self.acts.len())?;
+        for act in &self.acts {
+            by_arrival.push(ByArrival {
+                arrival: act.arrival(),
+                slot: act.slot(),
+                lane: act.lane(),
+            })?;
         }
         by_arrival.sort_unstable();
         let mut found = Vec::new(alloc);
         for pair in by_arrival.windows(2) {
             if let [first, second] = pair {
-                if first.0 == second.0 && first.2 != second.2 {
-                    found.push((first.0, second.2, first.2))?;
+                if first.arrival == second.arrival && first.lane != second.lane {
+                    found.push(Double {
+                        arrival: first.arrival,
+                        later: second.lane,
+                        earlier: first.lane,
+                    })?;
                 }
             }
         }

@@ -1,13 +1,14 @@
 //! What was found of each lane, kept as long as all that its search goes by stays.
 
-use audit_known::Order;
-use audit_search_input::Given;
-use audit_search_state::{Constraint, Fault, Found};
+ghost use Rattle.std.specs.Prelude.{◌≡◌};
+
+use crate::act::Act;
+use crate::lane_fault::LaneFault;
+use audit_known::Placed;
+use audit_search_input::SearchInput;
+use audit_search_state::{Constraint, Fault, Found, Turn};
 use audit_seen::{LaneNumber, SeenNumber, Slot};
 use std::alloc::{AllocError, Global};
-
-/// An act, by its slot, its lane and its turn: the arrival and the departure.
-pub type Act = (Slot, LaneNumber, (u32, u32), SeenNumber, SeenNumber);
 
 /// An act at a sighting, wherever that stands in the order of all.
 #[derive(Clone, Copy)]
@@ -15,7 +16,7 @@ struct Anchored {
     anchor: SeenNumber,
     /// Which of the slots round the sighting.
     part: u32,
-    turn: (u32, u32),
+    turn: Turn,
     arrival: SeenNumber,
     departure: SeenNumber,
 }
@@ -23,8 +24,8 @@ struct Anchored {
 /// What was found of a lane.
 #[derive(Drop)]
 pub struct Searched {
-    /// The digest of what the search went by.
-    print: u64,
+    /// Of what the search went by.
+    fingerprint: u64,
     acts: Vec<Anchored>,
     fault: Option<Fault>,
     constraints: Vec<Constraint>,
@@ -32,46 +33,51 @@ pub struct Searched {
 
 impl Searched {
     /// What the search of a lane found.
-    pub fn of(given: &Given<'_>, lane: LaneNumber, found: Found) -> Result<Searched, AllocError> {
-        let acts = acts_of(given, &found)?;
+    pub fn of(
+        input: &SearchInput<'_>,
+        lane: LaneNumber,
+        found: Found,
+    ) -> Result<Searched, AllocError> {
         Ok(Searched {
-            print: given.views.print(lane),
-            acts,
-            fault: found.fault,
-            constraints: found.constraints,
+            fingerprint: input.views().fingerprint(lane),
+            acts: acts_of(input, &found)?,
+            fault: found.fault(),
+            constraints: found.into_constraints(),
         })
     }
 
-    /// The digest of what the search went by.
-    pub fn print(&self) -> u64 {
-        self.print
+    /// A digest of what the search went by.
+    pub fn fingerprint(&self) -> u64
+        ensures { result ≡ self.now.fingerprint }
+    {
+        self.fingerprint
     }
 
     /// Adds its acts to those of all lanes.
     fn add_to(
         &self,
-        order: &Order,
+        placed: &Placed,
         lane: LaneNumber,
         acts: &mut Vec<Act>,
     ) -> Result<(), AllocError> {
         for act in &self.acts {
-            let slot = Slot::part(order.rank(act.anchor), act.part);
-            acts.push((slot, lane, act.turn, act.arrival, act.departure))?;
+            let slot = Slot::part(placed.rank(act.anchor), act.part);
+            acts.push(Act::new(slot, lane, act.turn, act.arrival, act.departure))?;
         }
         Ok(())
     }
 }
 
-fn acts_of(given: &Given<'_>, found: &Found) -> Result<Vec<Anchored>, AllocError> {
-    let mut acts = Vec::with_capacity(given.alloc, found.acts.len())?;
-    for (departure, acted) in &found.acts {
-        let rank = acted.slot.rank() as usize;
-        if let Some(anchor) = given.order.as_slice().get(rank) {
+fn acts_of(input: &SearchInput<'_>, found: &Found) -> Result<Vec<Anchored>, AllocError> {
+    let mut acts = Vec::with_capacity(input.alloc(), found.acts().len())?;
+    for (departure, acted) in found.acts() {
+        let rank = acted.slot().rank() as usize;
+        if let Some(anchor) = input.in_order().get(rank) {
             acts.push(Anchored {
                 anchor: *anchor,
-                part: acted.slot.place(),
-                turn: acted.turn,
-                arrival: acted.arrival,
+                part: acted.slot().place(),
+                turn: acted.turn(),
+                arrival: acted.arrival(),
                 departure: *departure,
             })?;
         }
@@ -95,8 +101,8 @@ impl AllSearched {
     }
 
     /// Makes a place for each lane.
-    pub fn make_places(&mut self, given: &Given<'_>) -> Result<(), AllocError> {
-        for _ in self.lanes.len()..given.pairs.len() {
+    pub fn make_places(&mut self, input: &SearchInput<'_>) -> Result<(), AllocError> {
+        for _ in self.lanes.len()..input.lanes() {
             self.lanes.push(None)?;
         }
         Ok(())
@@ -121,11 +127,11 @@ impl AllSearched {
     }
 
     /// The acts of all lanes, in order.
-    pub fn acts(&self, alloc: Global, order: &Order) -> Result<Vec<Act>, AllocError> {
+    pub fn acts(&self, alloc: Global, placed: &Placed) -> Result<Vec<Act>, AllocError> {
         let mut acts = Vec::new(alloc);
         for (number, place) in self.lanes.iter().enumerate() {
             if let (Some(searched), Ok(lane)) = (place, u32::try_from(number)) {
-                searched.add_to(order, LaneNumber(lane), &mut acts)?;
+                searched.add_to(placed, LaneNumber::new(lane), &mut acts)?;
             }
         }
         acts.sort_unstable();
@@ -133,16 +139,13 @@ impl AllSearched {
     }
 
     /// The lanes that can't act on a departure, in order, and what they would need.
-    pub fn faults(
-        &self,
-        alloc: Global,
-    ) -> Result<Vec<(LaneNumber, Fault, Vec<Constraint>)>, AllocError> {
+    pub fn faults(&self, alloc: Global) -> Result<Vec<LaneFault>, AllocError> {
         let mut faults = Vec::new(alloc);
         for (number, place) in self.lanes.iter().enumerate() {
             if let (Some(searched), Ok(lane)) = (place, u32::try_from(number)) {
                 if let Some(fault) = searched.fault {
                     let constraints = Vec::from_slice(alloc, searched.constraints.as_slice())?;
-                    faults.push((LaneNumber(lane), fault, constraints))?;
+                    faults.push(LaneFault::new(LaneNumber::new(lane), fault, constraints))?;
                 }
             }
         }

@@ -1,12 +1,17 @@
 //! Which constraints of lanes are kept, taken back and tried next.
 
-use crate::lane_constraints::{Kept, LaneConstraints};
+mod clocks;
+mod lane_constraints;
+
+use crate::first_keys::FirstKeys;
+use crate::lane_fault::LaneFault;
 use crate::prepared::Prepared;
-use crate::reading::{FirstKeys, Reading};
+use crate::reading::Reading;
 use crate::round::Round;
-use audit_search_input::Given;
-use audit_search_state::{Constraint, Constraints, Fault};
+use audit_search_input::SearchInput;
+use audit_search_state::{Constraint, Constraints};
 use audit_seen::{LaneNumber, SeenNumber};
+use lane_constraints::LaneConstraints;
 use std::alloc::AllocError;
 use std::collections::{BTreeMap, BTreeSet};
 
@@ -16,13 +21,13 @@ const LOOKED_AT: u32 = 1024;
 /// What is asked of the next round, and what became of it so far.
 #[derive(Drop)]
 pub struct Settling<'a> {
-    pub(crate) reading: &'a Reading<'a>,
-    pub(crate) first: FirstKeys,
-    pub(crate) constraints: Constraints,
+    reading: &'a Reading<'a>,
+    first: FirstKeys,
+    constraints: Constraints,
     lanes: BTreeMap<LaneNumber, LaneConstraints>,
     tried: BTreeSet<(LaneNumber, Constraint, u64)>,
     /// Arrivals that were asked to stand before departures, and helped.
-    pub(crate) helped: BTreeSet<(SeenNumber, SeenNumber)>,
+    helped: BTreeSet<(SeenNumber, SeenNumber)>,
     /// The lanes that had faults in the round before.
     faulty: BTreeSet<LaneNumber>,
 }
@@ -30,8 +35,8 @@ pub struct Settling<'a> {
 impl<'a> Settling<'a> {
     /// Nothing is asked for.
     pub fn new(reading: &'a Reading<'a>) -> Result<Settling<'a>, AllocError> {
-        let alloc = reading.alloc;
-        let shifts: Vec<u64> = vec![in alloc; 0; reading.sights.interfaces()]?;
+        let alloc = reading.alloc();
+        let shifts: Vec<u64> = vec![in alloc; 0; reading.sights().interfaces()]?;
         Ok(Settling {
             reading,
             first: FirstKeys::of(reading, &shifts)?,
@@ -49,13 +54,13 @@ impl<'a> Settling<'a> {
     }
 
     /// What the search of each lane reads.
-    pub fn given<'b>(&'b self, prepared: &'b Prepared) -> Given<'b> {
-        prepared.given(self.reading, &self.first, &self.constraints)
+    pub fn input<'b>(&'b self, prepared: &'b Prepared) -> SearchInput<'b> {
+        prepared.input(self.reading, &self.first, &self.constraints)
     }
 
     /// Whether acts that make or keep an allocation are asked to stand at their requests.
     pub fn set_early(&mut self, is_early: bool) {
-        self.constraints.is_early = is_early;
+        self.constraints.set_early(is_early);
     }
 
     /// Forgets what is asked for, and tells the keys anew.
@@ -64,41 +69,36 @@ impl<'a> Settling<'a> {
         self.lanes.clear();
         self.tried.clear();
         self.faulty.clear();
-        self.first = FirstKeys::of(self.reading, &self.constraints.shifts)?;
+        self.first = FirstKeys::of(self.reading, self.constraints.shifts())?;
         Ok(())
     }
 
     /// Keeps the constraints that got their lanes further, and takes the others back.
     pub fn settle(&mut self, round: &Round) -> Result<(), AllocError> {
         let is_new = round
-            .faults
+            .faults()
             .iter()
-            .any(|fault| !self.faulty.contains(&fault.0));
-        let mut blamed = BTreeSet::new(self.reading.alloc);
-        for (_, fault, _) in &round.faults {
-            blamed.insert(fault.departure)?;
+            .any(|failed| !self.faulty.contains(&failed.lane()));
+        let mut blamed = BTreeSet::new(self.reading.alloc());
+        for failed in round.faults() {
+            blamed.insert(failed.fault().departure())?;
         }
         for (lane, of_lane) in self.lanes.iter_mut() {
-            let Some(constraint) = of_lane.pending.take() else {
+            let Some(constraint) = of_lane.take_current() else {
                 continue;
             };
-            let (fault, told) = fault_of(round, *lane);
             let taken_away = constraint.taken_away();
             let is_worse = taken_away.is_some_and(|sighting| is_new || blamed.contains(&sighting));
-            let is_stuck = fault.is_some_and(|fault| fault.low <= of_lane.level)
-                && !of_lane.is_half(constraint, told);
+            let is_stuck = fault_of(round, *lane).is_some_and(|failed| {
+                of_lane.is_stuck(constraint, failed)
+            });
             if is_worse || is_stuck {
                 self.constraints.take_back(constraint);
             } else {
                 if let Constraint::Before { arrival, departure } = constraint {
                     self.helped.insert((arrival, departure))?;
                 }
-                let alloc = self.reading.alloc;
-                of_lane.kept.push(Kept {
-                    constraint,
-                    open: of_lane.open.take().unwrap_or(Vec::new(alloc)),
-                    level: of_lane.level,
-                })?;
+                of_lane.keep(self.reading.alloc(), constraint)?;
             }
         }
         Ok(())
@@ -107,15 +107,15 @@ impl<'a> Settling<'a> {
     /// Asks for what the lanes need; tells whether there was anything new.
     pub fn ask(&mut self, round: &Round) -> Result<bool, AllocError> {
         self.faulty.clear();
-        for (lane, _, _) in &round.faults {
-            self.faulty.insert(*lane)?;
+        for failed in round.faults() {
+            self.faulty.insert(failed.lane())?;
         }
         let mut is_more = self.ask_doubles(round)?;
         if self.ask_overlaps(round)? {
             is_more = true;
         }
-        for (lane, fault, constraints) in &round.faults {
-            if self.ask_lane(*lane, fault, constraints)? {
+        for failed in round.faults() {
+            if self.ask_lane(failed)? {
                 is_more = true;
             }
         }
@@ -125,9 +125,10 @@ impl<'a> Settling<'a> {
     /// Asks that of two lanes that act on one arrival the later one does without it, or else the earlier one.
     fn ask_doubles(&mut self, round: &Round) -> Result<bool, AllocError> {
         let mut is_more = false;
-        for (arrival, later, earlier) in round.doubles(self.reading.alloc)? {
+        for double in round.doubles(self.reading.alloc())? {
+            let (later, earlier) = (double.later(), double.earlier());
             let not_of = |lane| Constraint::NotHere {
-                sighting: arrival,
+                sighting: double.arrival(),
                 lane,
             };
             for lane in [later, earlier] {
@@ -150,23 +151,23 @@ impl<'a> Settling<'a> {
         let mut is_more = false;
         for overlap in round.overlaps(self.reading)? {
             let first = Constraint::AtRequest {
-                answer: overlap.answer,
+                answer: overlap.answer(),
             };
             let over = Constraint::Precedes {
-                maker: overlap.maker,
-                next: overlap.next,
+                maker: overlap.maker(),
+                next: overlap.next(),
             };
             let second = Constraint::Precedes {
-                maker: overlap.next,
-                next: overlap.maker,
+                maker: overlap.next(),
+                next: overlap.maker(),
             };
-            if self.tried.insert((overlap.lane, first, 0))? {
+            if self.tried.insert((overlap.lane(), first, 0))? {
                 self.constraints.ask(first)?;
                 is_more = true;
-            } else if self.tried.insert((overlap.lane, over, 0))? {
+            } else if self.tried.insert((overlap.lane(), over, 0))? {
                 self.constraints.ask(over)?;
                 is_more = true;
-            } else if self.tried.insert((overlap.next_lane, second, 0))? {
+            } else if self.tried.insert((overlap.next_lane(), second, 0))? {
                 self.constraints.take_back(first);
                 self.constraints.take_back(over);
                 self.constraints.ask(second)?;
@@ -177,38 +178,23 @@ impl<'a> Settling<'a> {
     }
 
     /// Asks for the next constraint of a lane; tells whether there was one.
-    fn ask_lane(
-        &mut self,
-        lane: LaneNumber,
-        fault: &Fault,
-        told: &[Constraint],
-    ) -> Result<bool, AllocError> {
-        let alloc = self.reading.alloc;
+    fn ask_lane(&mut self, failed: &LaneFault) -> Result<bool, AllocError> {
+        let alloc = self.reading.alloc();
+        let lane = failed.lane();
         if !self.lanes.contains_key(&lane) {
-            let none = LaneConstraints {
-                open: None,
-                level: 0,
-                pending: None,
-                kept: Vec::new(alloc),
-            };
-            self.lanes.insert(lane, none)?;
+            self.lanes.insert(lane, LaneConstraints::none(alloc))?;
         }
         let Some(of_lane) = self.lanes.get_mut(&lane) else {
             return Ok(false);
         };
-        if of_lane.open.is_none() {
-            let mut open = Vec::from_slice(alloc, told)?;
-            open.reverse();
-            of_lane.open = Some(open);
-            of_lane.level = fault.low;
-        }
+        of_lane.open(alloc, failed)?;
         for _ in 0..LOOKED_AT {
             let Some(constraint) = of_lane.next(&mut self.constraints) else {
                 return Ok(false);
             };
             if self.tried.insert((lane, constraint, of_lane.digest()))? {
                 self.constraints.ask(constraint)?;
-                of_lane.pending = Some(constraint);
+                of_lane.set_current(constraint);
                 return Ok(true);
             }
         }
@@ -216,11 +202,13 @@ impl<'a> Settling<'a> {
     }
 }
 
-/// The fault of a lane, and what it would need.
-fn fault_of(round: &Round, lane: LaneNumber) -> (Option<Fault>, &[Constraint]) {
-    let place = round.faults.partition_point(|fault| fault.0 < lane);
-    match round.faults.get(place) {
-        Some((other, fault, told)) if *other == lane => (Some(*fault), told.as_slice()),
-        _ => (None, &[]),
-    }
+/// Where a lane failed in a round, if it did.
+fn fault_of(round: &Round, lane: LaneNumber) -> Option<&LaneFault> {
+    let place = round
+        .faults()
+        .partition_point(|failed| failed.lane() < lane);
+    round
+        .faults()
+        .get(place)
+        .filter(|failed| failed.lane() == lane)
 }

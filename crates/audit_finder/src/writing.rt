@@ -27,26 +27,31 @@ pub(crate) fn written(
     round: &Round,
 ) -> Result<Portion, AllocError> {
     let mut writing = Writing {
-        sights: &reading.sights,
+        sights: reading.sights(),
         round,
         written: 0,
         key: Key { moment: 0, tie: 0 },
-        acted: acted(alloc, round)?,
+        acted: acted(alloc, reading, round)?,
         portion: Portion::new(alloc),
     };
-    for number in round.order.as_slice() {
+    for number in round.placed().in_order() {
         writing.write(*number)?;
     }
     Ok(writing.portion)
 }
 
 /// The lane of each arrival that is acted on: of two that act on it the one whose act comes first.
-fn acted(alloc: Global, round: &Round) -> Result<Vec<Option<LaneNumber>>, AllocError> {
-    let mut acted: Vec<Option<LaneNumber>> = vec![in alloc; None; round.at.len()]?;
-    for (_, lane, _, arrival, _) in &round.acts {
-        if let Some(place) = acted.get_mut(arrival.index()) {
+fn acted(
+    alloc: Global,
+    reading: &Reading<'_>,
+    round: &Round,
+) -> Result<Vec<Option<LaneNumber>>, AllocError> {
+    let count = reading.sights().as_slice().len();
+    let mut acted: Vec<Option<LaneNumber>> = vec![in alloc; None; count]?;
+    for act in round.acts() {
+        if let Some(place) = acted.get_mut(act.arrival().index()) {
             if place.is_none() {
-                *place = Some(*lane);
+                *place = Some(act.lane());
             }
         }
     }
@@ -57,9 +62,8 @@ impl Writing<'_> {
     /// Writes a sighting, and the acts right before it and right behind it.
     fn write(&mut self, number: SeenNumber) -> Result<(), AllocError> {
         let round = self.round;
-        let moment = round.at.get(number.index()).copied();
-        self.go_to(moment.unwrap_or(0));
-        let rank = round.order.rank(number);
+        self.go_to(round.placed().at(number));
+        let rank = round.placed().rank(number);
         self.write_acts(Slot::own(rank))?;
         self.write_own(number)?;
         self.write_acts(Slot::first(rank.saturating_add(1)))
@@ -82,8 +86,8 @@ impl Writing<'_> {
     /// Writes the acts before a slot.
     fn write_acts(&mut self, before: Slot) -> Result<(), AllocError> {
         let round = self.round;
-        for act in round.acts.get(self.written..).unwrap_or(&[]) {
-            if act.0 >= before {
+        for act in round.acts().get(self.written..).unwrap_or(&[]) {
+            if act.slot() >= before {
                 return Ok(());
             }
             self.written = self.written.saturating_add(1);
@@ -93,13 +97,13 @@ impl Writing<'_> {
     }
 
     fn write_act(&mut self, act: &Act) -> Result<(), AllocError> {
-        let (_, lane, _, arrival, departure) = act;
         let sights = self.sights;
-        if let (Some(arrives), Some(leaves)) = (sights.get(*arrival), sights.get(*departure)) {
-            let (sight, gives) = (arrives.id, leaves.id);
+        let seen = (sights.get(act.arrival()), sights.get(act.departure()));
+        if let (Some(arrives), Some(leaves)) = seen {
+            let (sight, gives) = (arrives.id(), leaves.id());
             let key = self.tick();
             let event = Event::Act { sight, gives, key };
-            self.portion.push(*lane, event)?;
+            self.portion.push(act.lane(), event)?;
         }
         Ok(())
     }
@@ -110,7 +114,7 @@ impl Writing<'_> {
         let Some(seen) = sights.get(number) else {
             return Ok(());
         };
-        let sight = seen.id;
+        let sight = seen.id();
         if seen.arrives() {
             let lane = self.acted.get(number.index()).copied().flatten();
             let key = self.tick();
@@ -120,8 +124,8 @@ impl Writing<'_> {
             };
         }
         let round = self.round;
-        let relayed = round.relayed.as_slice().get(number.index());
-        if let Some(lane) = seen.lane.or(relayed.copied().flatten()) {
+        let relayed = round.relayed().as_slice().get(number.index());
+        if let Some(lane) = seen.lane().or(relayed.copied().flatten()) {
             let key = self.tick();
             let event = Event::Out { sight, key };
             self.portion.push(lane, event)?;

@@ -1,6 +1,6 @@
 //! The moments at which a walk may place what was captured.
 
-ghost use Rattle.std.specs.Prelude.{◌≤◌, ◌<◌};
+ghost use Rattle.std.specs.Prelude.{◌≤◌, ◌<◌, ◌+◌, ◌-◌, ◌/◌};
 
 use audit_model::{Policy, Sighting};
 
@@ -27,16 +27,19 @@ impl Windows {
         Windows::HundredThousandth,
     ];
 
-    /// The first moment at which a datagram may stand, in nanoseconds since 1970.
+    /// The first moment at which a datagram may stand, in nanoseconds since 1970: none before its window, or behind the middle of that.
     pub fn first(self, sighting: &Sighting) -> u64
-        ensures { sighting.now.lo ≤ result }
+        ensures inside { sighting.now.lo ≤ result }
+        ensures middle { result ≤ sighting.now.lo + (sighting.now.hi - sighting.now.lo) / 2 }
     {
         sighting.lo.saturating_add(self.left_out(sighting))
     }
 
-    /// The last moment at which a datagram may stand, in nanoseconds since 1970.
+    /// The last moment at which a datagram may stand, in nanoseconds since 1970: none behind its window, or before the middle of that.
     pub fn last(self, sighting: &Sighting) -> u64
-        ensures { result ≤ sighting.now.hi }
+        ensures inside { result ≤ sighting.now.hi }
+        ensures middle { sighting.now.lo ≤ sighting.now.hi
+            → sighting.now.lo + (sighting.now.hi - sighting.now.lo) / 2 ≤ result }
     {
         sighting.hi.saturating_sub(self.left_out(sighting))
     }
@@ -49,7 +52,13 @@ impl Windows {
     }
 
     /// How much of a window is left out at either end.
-    fn left_out(self, sighting: &Sighting) -> u64 {
+    fn left_out(self, sighting: &Sighting) -> u64
+        ensures { result ≤ (sighting.now.hi - sighting.now.lo) / 2 }
+    {
+        // Most are asked of whole windows, and it takes no division then.
+        if self == Windows::Whole {
+            return 0;
+        }
         let half = sighting.hi.saturating_sub(sighting.lo) / 2;
         half.saturating_sub(half / self.parts())
     }

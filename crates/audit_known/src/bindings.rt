@@ -26,8 +26,8 @@ impl Bindings {
             alloc,
         };
         for seen in sights.as_slice() {
-            if let (Says::Request(_), Some(lane)) = (seen.says, seen.lane) {
-                if let Some(sighting) = intake.sighting(seen.id) {
+            if let (Says::Request(_), Some(lane)) = (seen.says(), seen.lane()) {
+                if let Some(sighting) = intake.sighting(seen.id()) {
                     bindings.note(lane, sighting.payload.as_slice())?;
                 }
             }

@@ -1,6 +1,9 @@
 //! The pools whose arrivals a departure may answer.
 
+ghost use Rattle.std.specs.Prelude.{◌≡◌};
+
 use crate::bindings::Bindings;
+use crate::contents::Contents;
 use crate::pools::Pools;
 use crate::tenancies::{Tenancies, Tenancy};
 use crate::times::Times;
@@ -13,18 +16,78 @@ use std::alloc::{AllocError, Global};
 /// What departures are matched by.
 #[derive(Clone, Copy)]
 pub struct Known<'a> {
-    pub sights: &'a Sights,
-    pub numbers: &'a PoolNumbers,
-    pub bindings: &'a Bindings,
-    pub pools: &'a Pools,
-    pub tenancies: &'a Tenancies,
-    pub times: &'a Times,
-    /// How long an arrival may wait for its answer.
-    pub hold: u64,
-    pub alloc: Global,
+    contents: &'a Contents,
+    times: &'a Times,
+    pools: &'a Pools,
+    tenancies: &'a Tenancies,
+    /// How long an arrival may wait for its answer, in nanoseconds.
+    hold: u64,
+    alloc: Global,
 }
 
 impl<'a> Known<'a> {
+    /// What the sightings say, about when each was, the arrivals of each pool by that, and who had which address when. An arrival may wait so many
+    /// nanoseconds for its answer.
+    pub fn new(
+        alloc: Global,
+        contents: &'a Contents,
+        times: &'a Times,
+        pools: &'a Pools,
+        tenancies: &'a Tenancies,
+        hold: u64,
+    ) -> Known<'a> {
+        Known {
+            contents,
+            times,
+            pools,
+            tenancies,
+            hold,
+            alloc,
+        }
+    }
+
+    /// The sightings.
+    pub fn sights(&self) -> &'a Sights {
+        self.contents.sights()
+    }
+
+    /// The number of each pool.
+    pub fn numbers(&self) -> &'a PoolNumbers {
+        self.contents.numbers()
+    }
+
+    /// The channels that were asked for.
+    pub fn bindings(&self) -> &'a Bindings {
+        self.contents.bindings()
+    }
+
+    /// About when each sighting was.
+    pub fn times(&self) -> &'a Times {
+        self.times
+    }
+
+    /// The arrivals of each pool.
+    pub fn pools(&self) -> &'a Pools {
+        self.pools
+    }
+
+    /// Which client had which relayed address when.
+    pub fn tenancies(&self) -> &'a Tenancies {
+        self.tenancies
+    }
+
+    /// How long an arrival may wait for its answer, in nanoseconds.
+    pub fn hold(&self) -> u64
+        ensures { result ≡ self.now.hold }
+    {
+        self.hold
+    }
+
+    /// The memory of the search.
+    pub fn alloc(&self) -> Global {
+        self.alloc
+    }
+
     /// The pools whose arrivals a departure may answer, the likeliest first. `lane` is the lane of what leaves from a relayed
     /// address, where it is known; else it is that of any client that may have had the address.
     pub fn candidates(
@@ -34,7 +97,7 @@ impl<'a> Known<'a> {
         lane: Option<LaneNumber>,
     ) -> Result<Vec<PoolNumber>, AllocError> {
         let mut found = Vec::new(self.alloc);
-        match seen.says {
+        match seen.says() {
             Says::Gives(_, Some(pool)) => found.push(pool)?,
             Says::Gives(
                 Gives::Relayed {
@@ -83,9 +146,9 @@ impl<'a> Known<'a> {
         }
         let time = self.times.of(number);
         let of = self.tenancies.of_address(relayed);
-        for tenancy in self.tenancies.meeting(of, time.early, time.late)? {
-            if !lanes.contains(&tenancy.lane) {
-                lanes.push(tenancy.lane)?;
+        for tenancy in self.tenancies.meeting(of, time.early(), time.late())? {
+            if !lanes.contains(&tenancy.lane()) {
+                lanes.push(tenancy.lane())?;
             }
         }
         Ok(lanes)
@@ -93,12 +156,12 @@ impl<'a> Known<'a> {
 
     /// The tenancies of a departure's lane about its time.
     fn owned(&self, number: SeenNumber, seen: &Seen) -> Result<Vec<Tenancy>, AllocError> {
-        let Some(lane) = seen.lane else {
+        let Some(lane) = seen.lane() else {
             return Ok(Vec::new(self.alloc));
         };
         let time = self.times.of(number);
         let of = self.tenancies.of_lane(lane);
-        self.tenancies.meeting(of, time.early, time.late)
+        self.tenancies.meeting(of, time.early(), time.late())
     }
 
     /// Adds the pools of what a lane sent to a peer.
@@ -110,7 +173,7 @@ impl<'a> Known<'a> {
         found: &mut Vec<PoolNumber>,
     ) -> Result<(), AllocError> {
         self.add(PoolKey::send(lane, peer, digest), found)?;
-        for number in self.bindings.numbers_of(lane, peer)? {
+        for number in self.bindings().numbers_of(lane, peer)? {
             self.add(PoolKey::channel(lane, number, digest), found)?;
         }
         Ok(())
@@ -124,7 +187,7 @@ impl<'a> Known<'a> {
         digest: u64,
         found: &mut Vec<PoolNumber>,
     ) -> Result<(), AllocError> {
-        self.add(PoolKey::peer(tenancy.relayed, peer, digest), found)
+        self.add(PoolKey::peer(tenancy.relayed(), peer, digest), found)
     }
 
     /// Adds the pools of what the peers of a channel sent to a tenancy's address.
@@ -135,14 +198,14 @@ impl<'a> Known<'a> {
         digest: u64,
         found: &mut Vec<PoolNumber>,
     ) -> Result<(), AllocError> {
-        for peer in self.bindings.peers_of(tenancy.lane, channel)? {
+        for peer in self.bindings().peers_of(tenancy.lane(), channel)? {
             self.add_received(tenancy, peer, digest, found)?;
         }
         Ok(())
     }
 
     fn add(&self, key: PoolKey, found: &mut Vec<PoolNumber>) -> Result<(), AllocError> {
-        if let Some(pool) = self.numbers.get(&key) {
+        if let Some(pool) = self.numbers().get(&key) {
             if !found.contains(&pool) {
                 found.push(pool)?;
             }

@@ -26,8 +26,8 @@ impl Changes {
         };
         for (place, seen) in sights.as_slice().iter().enumerate() {
             if let Ok(number) = u32::try_from(place) {
-                let number = SeenNumber(number);
-                changes.note(seen, number, times.of(number).when)?;
+                let number = SeenNumber::new(number);
+                changes.note(seen, number, times.of(number).when())?;
             }
         }
         changes.made.sort_unstable();
@@ -37,7 +37,7 @@ impl Changes {
     }
 
     fn note(&mut self, seen: &Seen, number: SeenNumber, when: u64) -> Result<(), AllocError> {
-        let Some(lane) = seen.lane else {
+        let Some(lane) = seen.lane() else {
             return Ok(());
         };
         match seen.gives() {

@@ -71,7 +71,7 @@ fn sorted_entries(
     let mut entries = Vec::new(alloc);
     for (place, (seen, moment)) in sights.as_slice().iter().zip(moments).enumerate() {
         if let (Some(pool), Ok(number)) = (seen.pool(), u32::try_from(place)) {
-            entries.push((pool, *moment, SeenNumber(number)))?;
+            entries.push((pool, *moment, SeenNumber::new(number)))?;
         }
     }
     entries.sort_unstable();

@@ -1,5 +1,7 @@
 //! Which client had which relayed address when, as far as the answers tell.
 
+ghost use Rattle.std.specs.Prelude.{◌≡◌};
+
 use crate::changes::Changes;
 use crate::times::Times;
 use audit_model::Addr;
@@ -17,12 +19,28 @@ const NEIGHBOURS: usize = 8;
 /// The time in which a client may have had a relayed address.
 #[derive(Clone, Copy, Debug)]
 pub struct Tenancy {
-    pub start: u64,
-    pub end: u64,
-    pub relayed: Addr,
-    pub lane: LaneNumber,
+    start: u64,
+    end: u64,
+    relayed: Addr,
+    lane: LaneNumber,
     /// The answer that tells of it.
-    pub maker: SeenNumber,
+    maker: SeenNumber,
+}
+
+impl Tenancy {
+    /// The relayed address.
+    pub fn relayed(&self) -> Addr
+        ensures { result ≡ self.now.relayed }
+    {
+        self.relayed
+    }
+
+    /// The lane of the client.
+    pub fn lane(&self) -> LaneNumber
+        ensures { result ≡ self.now.lane }
+    {
+        self.lane
+    }
 }
 
 /// The tenancies that answers tell of.
@@ -34,12 +52,12 @@ pub struct Tenancies {
 }
 
 impl Tenancies {
-    /// Those of all answers. `mates` has the request of each that is known. It takes n log n.
+    /// Those of all answers. `matches` has the request of each that is known. It takes n log n.
     pub fn of(
         alloc: Global,
         sights: &Sights,
         times: &Times,
-        mates: &[Option<SeenNumber>],
+        matches: &[Option<SeenNumber>],
         grace: u64,
     ) -> Result<Tenancies, AllocError> {
         let changes = Changes::gather(alloc, sights, times)?;
@@ -49,11 +67,11 @@ impl Tenancies {
             let Some(seen) = sights.get(*number) else {
                 continue;
             };
-            if last == Some((*relayed, seen.lane, seen.says)) {
+            if last == Some((*relayed, seen.lane(), seen.says())) {
                 continue;
             }
-            last = Some((*relayed, seen.lane, seen.says));
-            if let Some(tenancy) = tenancy_of(sights, times, mates, &changes, *number, grace) {
+            last = Some((*relayed, seen.lane(), seen.says()));
+            if let Some(tenancy) = tenancy_of(sights, times, matches, &changes, *number, grace) {
                 by_address.push(tenancy)?;
             }
         }
@@ -141,28 +159,28 @@ impl Tenancies {
 fn tenancy_of(
     sights: &Sights,
     times: &Times,
-    mates: &[Option<SeenNumber>],
+    matches: &[Option<SeenNumber>],
     changes: &Changes,
     maker: SeenNumber,
     grace: u64,
 ) -> Option<Tenancy> {
     let seen = sights.get(maker)?;
-    let lane = seen.lane?;
+    let lane = seen.lane()?;
     let Gives::Allocated { relayed, seconds } = seen.gives()? else {
         return None;
     };
-    let when = times.of(maker).when;
+    let when = times.of(maker).when();
     let end = match changes.end_behind(lane, when) {
         Some(number) => times
             .of(number)
-            .when
-            .max(sights.get(number).map_or(0, |seen| seen.hi)),
+            .when()
+            .max(sights.get(number).map_or(0, |seen| seen.last_moment())),
         None => u64::MAX,
     };
     let first_end = over(seen, seconds, grace);
     let last_end = prolonged(sights, changes, lane, when, end, first_end, grace);
-    let start = match mates.get(maker.index()).copied().flatten() {
-        Some(mate) => when.min(times.of(mate).when),
+    let start = match matches.get(maker.index()).copied().flatten() {
+        Some(matched) => when.min(times.of(matched).when()),
         None => when,
     };
     Some(Tenancy {
@@ -176,7 +194,7 @@ fn tenancy_of(
 
 /// The last moment of what an answer gives for so many seconds.
 fn over(seen: &Seen, seconds: u32, grace: u64) -> u64 {
-    seen.hi
+    seen.last_moment()
         .saturating_add(u64::from(seconds).saturating_mul(NANOSECONDS))
         .saturating_add(grace)
 }
@@ -196,13 +214,13 @@ fn prolonged(
         let Some(seen) = sights.get(*number) else {
             return last;
         };
-        if *other != lane || *when > end || seen.lo > last {
+        if *other != lane || *when > end || seen.first_moment() > last {
             return last;
         }
         if place >= PROLONGED {
             return u64::MAX;
         }
-        if let Says::Gives(Gives::Refreshed { seconds }, _) = seen.says {
+        if let Says::Gives(Gives::Refreshed { seconds }, _) = seen.says() {
             last = over(seen, seconds, grace);
         }
     }

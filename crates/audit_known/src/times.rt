@@ -1,16 +1,39 @@
 //! When sightings may have been.
 
+ghost use Rattle.std.specs.Prelude.{◌≡◌};
+
 use audit_seen::{SeenNumber, Sights};
 use std::alloc::{AllocError, Global};
 
 /// About when a sighting was.
 #[derive(Clone, Copy, Debug)]
 pub struct Time {
-    /// What it is ordered by.
-    pub when: u64,
-    /// The earliest and the latest moment that it may have.
-    pub early: u64,
-    pub late: u64,
+    when: u64,
+    early: u64,
+    late: u64,
+}
+
+impl Time {
+    /// What it is ordered by, in nanoseconds since 1970.
+    pub fn when(&self) -> u64
+        ensures { result ≡ self.now.when }
+    {
+        self.when
+    }
+
+    /// The earliest moment that it may have.
+    pub fn early(&self) -> u64
+        ensures { result ≡ self.now.early }
+    {
+        self.early
+    }
+
+    /// The latest moment that it may have.
+    pub fn late(&self) -> u64
+        ensures { result ≡ self.now.late }
+    {
+        self.late
+    }
 }
 
 /// About when each sighting was, by their numbers.
@@ -25,9 +48,9 @@ impl Times {
         let mut list = Vec::with_capacity(alloc, sights.as_slice().len())?;
         for seen in sights.as_slice() {
             list.push(Time {
-                when: seen.stamp,
-                early: seen.lo,
-                late: seen.hi,
+                when: seen.stamp(),
+                early: seen.first_moment(),
+                late: seen.last_moment(),
             })?;
         }
         Ok(Times { list })

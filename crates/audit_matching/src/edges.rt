@@ -1,30 +1,45 @@
 //! Which arrivals have to stand before which departures.
 
-use audit_known::Mates;
+use audit_known::Matches;
 use audit_seen::SeenNumber;
 use std::alloc::{AllocError, Global};
 use std::collections::BTreeSet;
 
-/// How many arrivals beside its mate have to stand before a departure, at the most.
+/// How many arrivals beside its match have to stand before a departure, at the most.
 const MORE: usize = 16;
 
-/// The mate of each departure, which is a guess, and arrivals that are asked to stand before it.
+/// The match of each departure, which is a guess, and arrivals that are asked to stand before it.
 #[derive(Drop)]
 pub struct Edges {
-    pub mates: Mates,
+    matches: Matches,
     /// Departures, and arrivals that stand before them.
     asked: BTreeSet<(SeenNumber, SeenNumber)>,
     alloc: Global,
 }
 
 impl Edges {
-    /// The mates, and nothing else.
-    pub fn of(alloc: Global, mates: Mates) -> Edges {
+    /// The matches, and nothing else.
+    pub fn of(alloc: Global, matches: Matches) -> Edges {
         Edges {
-            mates,
+            matches,
             asked: BTreeSet::new(alloc),
             alloc,
         }
+    }
+
+    /// The match of each departure.
+    pub fn matches(&self) -> &Matches {
+        &self.matches
+    }
+
+    /// The same, and nothing else of it.
+    pub fn into_matches(self) -> Matches {
+        self.matches
+    }
+
+    /// Joins a departure to another arrival, and parts both from others.
+    pub fn join_anew(&mut self, departure: SeenNumber, arrival: SeenNumber) {
+        self.matches.join_anew(departure, arrival);
     }
 
     /// Asks for an arrival to stand before a departure.
@@ -44,7 +59,11 @@ impl Edges {
         if self.asked.is_empty() {
             return Ok(arrivals);
         }
-        for (other, arrival) in self.asked.range((departure, SeenNumber(0))..).take(MORE) {
+        for (other, arrival) in self
+            .asked
+            .range((departure, SeenNumber::new(0))..)
+            .take(MORE)
+        {
             if *other == departure {
                 arrivals.push(*arrival)?;
             }
@@ -52,28 +71,32 @@ impl Edges {
         Ok(arrivals)
     }
 
-    /// The arrivals that stand before a departure, its mate first.
+    /// The arrivals that stand before a departure, its match first.
     pub fn of_departure(&self, departure: SeenNumber) -> Result<Vec<SeenNumber>, AllocError> {
         let mut arrivals = self.asked_of(departure)?;
-        if let Some(mate) = self.mates.of(departure) {
-            arrivals.insert(0, mate)?;
+        if let Some(matched) = self.matches.of(departure) {
+            arrivals.insert(0, matched)?;
         }
         Ok(arrivals)
     }
 
-    /// Gives up a departure's mate where that wasn't placed; or else one that was asked for, and wasn't.
+    /// Gives up a departure's match where that wasn't placed; or else one that was asked for, and wasn't.
     pub fn give_up(&mut self, departure: SeenNumber, placed: &[bool]) {
         let is_placed = |number: SeenNumber| placed.get(number.index()).copied().unwrap_or(false);
         if self
-            .mates
+            .matches
             .of(departure)
-            .is_some_and(|mate| !is_placed(mate))
+            .is_some_and(|matched| !is_placed(matched))
         {
-            self.mates.part(departure);
+            self.matches.part(departure);
             return;
         }
         let mut given_up = None;
-        for (other, arrival) in self.asked.range((departure, SeenNumber(0))..).take(MORE) {
+        for (other, arrival) in self
+            .asked
+            .range((departure, SeenNumber::new(0))..)
+            .take(MORE)
+        {
             if *other == departure && !is_placed(*arrival) {
                 given_up = Some(*arrival);
             }

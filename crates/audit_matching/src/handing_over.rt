@@ -1,7 +1,7 @@
 //! Relayed addresses that go from one client to another.
 
 use crate::edges::Edges;
-use audit_known::{Changes, Handover, Mates, Times};
+use audit_known::{Changes, Handover, Matches, Times};
 use audit_model::Addr;
 use audit_seen::{Gives, LaneNumber, Says, SeenNumber, Sights};
 use std::alloc::{AllocError, Global};
@@ -22,7 +22,7 @@ struct Holding {
 #[derive(Clone, Copy)]
 struct Facts<'a> {
     sights: &'a Sights,
-    mates: &'a Mates,
+    matches: &'a Matches,
 }
 
 impl Facts<'_> {
@@ -32,15 +32,15 @@ impl Facts<'_> {
             return true;
         }
         let request = match first.ender {
-            Some(ender) => self.mates.of(ender),
+            Some(ender) => self.matches.of(ender),
             None => None,
         };
         let lo = match request {
-            Some(request) => self.sights.get(request).map(|seen| seen.lo),
+            Some(request) => self.sights.get(request).map(|seen| seen.first_moment()),
             None => None,
         };
         match (lo, self.sights.get(second.maker)) {
-            (Some(lo), Some(next)) => lo <= next.hi,
+            (Some(lo), Some(next)) => lo <= next.last_moment(),
             _ => false,
         }
     }
@@ -51,9 +51,9 @@ pub fn handovers(
     alloc: Global,
     sights: &Sights,
     times: &Times,
-    mates: &Mates,
+    matches: &Matches,
 ) -> Result<Vec<Handover>, AllocError> {
-    let facts = Facts { sights, mates };
+    let facts = Facts { sights, matches };
     let mut holdings = holdings(alloc, facts, times)?;
     for place in 0..holdings.len() {
         settle(facts, &mut holdings, place);
@@ -62,12 +62,7 @@ pub fn handovers(
     for pair in holdings.windows(2) {
         if let [first, second] = pair {
             if first.relayed == second.relayed && first.lane != second.lane {
-                found.push(Handover {
-                    from: first.lane,
-                    maker: first.maker,
-                    ender: first.ender,
-                    next: second.maker,
-                })?;
+                found.push(Handover::new(first.lane, first.maker, first.ender, second.maker))?;
             }
         }
     }
@@ -83,7 +78,8 @@ fn holdings(alloc: Global, facts: Facts<'_>, times: &Times) -> Result<Vec<Holdin
         let Some(seen) = facts.sights.get(*maker) else {
             continue;
         };
-        let (Some(lane), Says::Gives(Gives::Allocated { .. }, pool)) = (seen.lane, seen.says) else {
+        let (Some(lane), Says::Gives(Gives::Allocated { .. }, pool)) = (seen.lane(), seen.says())
+        else {
             continue;
         };
         if last != Some((*relayed, pool)) {
@@ -92,7 +88,7 @@ fn holdings(alloc: Global, facts: Facts<'_>, times: &Times) -> Result<Vec<Holdin
                 relayed: *relayed,
                 lane,
                 maker: *maker,
-                ender: ender.filter(|ender| facts.mates.of(*ender).is_some()),
+                ender: ender.filter(|ender| facts.matches.of(*ender).is_some()),
             })?;
         }
         last = Some((*relayed, pool));
@@ -124,18 +120,18 @@ fn settle(facts: Facts<'_>, holdings: &mut [Holding], place: usize) {
 pub fn ask_handovers(
     sights: &Sights,
     handovers: &[Handover],
-    mates: &Mates,
+    matches: &Matches,
     edges: &mut Edges,
 ) -> Result<(), AllocError> {
     for handover in handovers {
-        let request = match handover.ender {
-            Some(ender) => mates.of(ender),
+        let request = match handover.ender() {
+            Some(ender) => matches.of(ender),
             None => None,
         };
         if let Some(request) = request {
-            if let (Some(asks), Some(next)) = (sights.get(request), sights.get(handover.next)) {
-                if asks.lo <= next.hi && !asks.is_behind(next) {
-                    edges.ask(request, handover.next)?;
+            if let (Some(asks), Some(next)) = (sights.get(request), sights.get(handover.next())) {
+                if asks.first_moment() <= next.last_moment() && !asks.is_behind(next) {
+                    edges.ask(request, handover.next())?;
                 }
             }
         }

@@ -5,7 +5,7 @@ use audit_seen::{SeenNumber, Sights};
 use std::alloc::{AllocError, Global};
 
 /// The moment at which each sighting is placed: an arrival at its least one, a departure as late as its window, the next one on its
-/// interface and the hold behind its mate allow.
+/// interface and the hold behind its match allow.
 pub fn places(
     alloc: Global,
     sights: &Sights,
@@ -18,20 +18,20 @@ pub fn places(
     for (place, seen) in sights.as_slice().iter().enumerate().rev() {
         let least = low.get(place).copied().unwrap_or(0);
         let next = match behind {
-            Some((iface, next)) if iface == seen.id.iface => next,
+            Some((iface, next)) if iface == seen.id().iface => next,
             _ => u64::MAX,
         };
         let moment = if seen.arrives() {
             least
         } else {
-            let mate = edges.mates.as_slice().get(place).copied().flatten();
-            let held = mate.map_or(u64::MAX, |mate| held_until(low, mate, hold));
-            seen.hi.min(next).min(held).max(least)
+            let matched = edges.matches().as_slice().get(place).copied().flatten();
+            let held = matched.map_or(u64::MAX, |matched| held_until(low, matched, hold));
+            seen.last_moment().min(next).min(held).max(least)
         };
         if let Some(place) = at.get_mut(place) {
             *place = moment;
         }
-        behind = Some((seen.id.iface, moment));
+        behind = Some((seen.id().iface, moment));
     }
     Ok(at)
 }

@@ -23,7 +23,7 @@ struct LowPass<'a> {
 }
 
 /// The least moment of each sighting: it is in its window, not before that of the one before it on its interface, not before that of an
-/// arrival that stands before it, and not longer than the hold behind its mate, as far as that can be had. Edges that form a
+/// arrival that stands before it, and not longer than the hold behind its match, as far as that can be had. Edges that form a
 /// circle are given up. `shifts` has by interface how far behind its windows' starts all stand. It takes n log n.
 pub fn lows(
     alloc: Global,
@@ -77,17 +77,17 @@ fn least(
 /// Raises arrivals to the least moments at which their departures are within the hold, and tells whether there are any.
 fn raise(sights: &Sights, edges: &Edges, low: &[u64], hold: u64, raised: &mut [u64]) -> bool {
     let mut is_any = false;
-    for (departure, (mate, moment)) in sights
+    for (departure, (matched, moment)) in sights
         .as_slice()
         .iter()
-        .zip(edges.mates.as_slice().iter().zip(low))
+        .zip(edges.matches().as_slice().iter().zip(low))
     {
-        if let (false, Some(mate)) = (departure.arrives(), mate) {
+        if let (false, Some(matched)) = (departure.arrives(), matched) {
             let need = moment.saturating_sub(hold);
-            let has = low.get(mate.index()).copied().unwrap_or(0);
-            let hi = sights.get(*mate).map_or(0, |seen| seen.hi);
+            let has = low.get(matched.index()).copied().unwrap_or(0);
+            let hi = sights.get(*matched).map_or(0, |seen| seen.last_moment());
             if need > has && need <= hi {
-                if let Some(place) = raised.get_mut(mate.index()) {
+                if let Some(place) = raised.get_mut(matched.index()) {
                     *place = need;
                     is_any = true;
                 }
@@ -151,14 +151,17 @@ impl LowPass<'_> {
 
     /// Whether a departure has to wait for an arrival that isn't placed.
     fn has_to_wait(&self, arrival: SeenNumber, departure: &Seen) -> bool {
-        let lo = self.sights.get(arrival).map_or(0, |arrives| arrives.lo);
-        !self.is_placed(arrival) && lo <= departure.hi
+        let lo = self
+            .sights
+            .get(arrival)
+            .map_or(0, |arrives| arrives.first_moment());
+        !self.is_placed(arrival) && lo <= departure.last_moment()
     }
 
     /// The moment of a placed arrival that stands before a departure.
     fn bound(&self, arrival: SeenNumber, departure: &Seen) -> u64 {
         let low = self.low_of(arrival);
-        if self.is_placed(arrival) && low <= departure.hi {
+        if self.is_placed(arrival) && low <= departure.last_moment() {
             low
         } else {
             0
@@ -175,15 +178,19 @@ impl LowPass<'_> {
         };
         let mut low = self.alone(number, seen);
         if !seen.arrives() {
-            if let Some(mate) = self.edges.mates.of(number) {
-                if self.has_to_wait(mate, seen) {
-                    return self.merge.park(iface, mate, (seen.hi, false, 0));
+            if let Some(matched) = self.edges.matches().of(number) {
+                if self.has_to_wait(matched, seen) {
+                    return self
+                        .merge
+                        .park(iface, matched, (seen.last_moment(), false, 0));
                 }
-                low = low.max(self.bound(mate, seen));
+                low = low.max(self.bound(matched, seen));
             }
             for arrival in self.edges.asked_of(number)? {
                 if self.has_to_wait(arrival, seen) {
-                    return self.merge.park(iface, arrival, (seen.hi, true, 0));
+                    return self
+                        .merge
+                        .park(iface, arrival, (seen.last_moment(), true, 0));
                 }
                 low = low.max(self.bound(arrival, seen));
             }
@@ -196,14 +203,18 @@ impl LowPass<'_> {
 
     /// The least moment of a sighting by its window, its interface and what it was raised to.
     fn alone(&self, number: SeenNumber, seen: &Seen) -> u64 {
-        let shift = match usize::try_from(seen.id.iface) {
+        let shift = match usize::try_from(seen.id().iface) {
             Ok(iface) => self.shifts.get(iface).copied().unwrap_or(0),
             Err(_) => 0,
         };
         let raised = self.raised.get(number.index()).copied().unwrap_or(0);
-        let low = seen.lo.saturating_add(shift).max(raised).min(seen.hi);
-        match number.0.checked_sub(1) {
-            Some(before) if seen.id.index > 0 => low.max(self.low_of(SeenNumber(before))),
+        let low = seen
+            .first_moment()
+            .saturating_add(shift)
+            .max(raised)
+            .min(seen.last_moment());
+        match number.value().checked_sub(1) {
+            Some(before) if seen.id().index > 0 => low.max(self.low_of(SeenNumber::new(before))),
             _ => low,
         }
     }

@@ -1,6 +1,6 @@
 //! Which arrival each departure most likely answers.
 
-use audit_known::{Known, Mates, Times};
+use audit_known::{Known, Matches, Times};
 use audit_seen::{LaneNumber, PoolNumber, Seen, SeenNumber, Sights};
 use std::alloc::{AllocError, Global};
 
@@ -10,42 +10,43 @@ pub(crate) const COPIES: usize = 16;
 /// Joins departures to arrivals, the oldest first.
 #[derive(Drop)]
 struct Matching {
-    mates: Mates,
+    matches: Matches,
     /// The place in each pool of the first arrival that may still be joined.
     heads: Vec<usize>,
     /// How many responses of each pool's requests are left.
-    owed: Vec<usize>,
+    pending: Vec<usize>,
 }
 
 /// Joins each departure to the oldest arrival that it may answer. `lanes` has the lane of each that leaves from a relayed address, where it
 /// is known. It takes n log n.
-pub fn match_up(known: &Known<'_>, lanes: &[Option<LaneNumber>]) -> Result<Mates, AllocError> {
-    let alloc = known.alloc;
+pub fn match_up(known: &Known<'_>, lanes: &[Option<LaneNumber>]) -> Result<Matches, AllocError> {
+    let alloc = known.alloc();
     let mut matching = Matching {
-        mates: Mates::none(alloc, known.sights.as_slice().len())?,
-        heads: vec![in alloc; 0; known.numbers.count()]?,
-        owed: owed(known)?,
+        matches: Matches::none(alloc, known.sights().as_slice().len())?,
+        heads: vec![in alloc; 0; known.numbers().count()]?,
+        pending: pending(known)?,
     };
-    for (_, number) in &departures(alloc, known.sights, known.times)? {
-        if let Some(seen) = known.sights.get(*number) {
+    for (_, number) in &departures(alloc, known.sights(), known.times())? {
+        if let Some(seen) = known.sights().get(*number) {
             let lane = lanes.get(number.index()).copied().flatten();
             matching.join_departure(known, *number, seen, lane)?;
         }
     }
-    Ok(matching.mates)
+    Ok(matching.matches)
 }
 
 /// How many responses there are to the requests of each pool.
-fn owed(known: &Known<'_>) -> Result<Vec<usize>, AllocError> {
-    let mut owed: Vec<usize> = vec![in known.alloc; 0; known.numbers.count()]?;
-    for seen in known.sights.as_slice() {
+fn pending(known: &Known<'_>) -> Result<Vec<usize>, AllocError> {
+    let alloc = known.alloc();
+    let mut pending: Vec<usize> = vec![in alloc; 0; known.numbers().count()]?;
+    for seen in known.sights().as_slice() {
         if let Some(pool) = seen.response_pool() {
-            if let Some(count) = owed.get_mut(pool.index()) {
+            if let Some(count) = pending.get_mut(pool.index()) {
                 *count = count.saturating_add(1);
             }
         }
     }
-    Ok(owed)
+    Ok(pending)
 }
 
 /// The departures by their times.
@@ -57,8 +58,8 @@ pub(crate) fn departures(
     let mut found = Vec::new(alloc);
     for (place, seen) in sights.as_slice().iter().enumerate() {
         if let (false, Ok(number)) = (seen.arrives(), u32::try_from(place)) {
-            let number = SeenNumber(number);
-            found.push((times.of(number).when, number))?;
+            let number = SeenNumber::new(number);
+            found.push((times.of(number).when(), number))?;
         }
     }
     found.sort_unstable();
@@ -106,11 +107,11 @@ impl Matching {
             }
         }
         if let Some(best) = best {
-            self.mates.join(number, best.arrival);
+            self.matches.join(number, best.arrival);
         }
         if let Some(pool) = seen.response_pool() {
-            if let Some(owed) = self.owed.get_mut(pool.index()) {
-                *owed = owed.saturating_sub(1);
+            if let Some(pending) = self.pending.get_mut(pool.index()) {
+                *pending = pending.saturating_sub(1);
             }
         }
         Ok(())
@@ -121,13 +122,14 @@ impl Matching {
         let Some(head) = self.heads.get_mut(pool.index()) else {
             return;
         };
-        let mates = &self.mates;
-        for number in known.pools.get(pool).get(*head..).unwrap_or(&[]) {
-            let is_late = match known.sights.get(*number) {
-                Some(seen) => seen.hi.saturating_add(known.hold) < leaves.lo,
+        let matches = &self.matches;
+        for number in known.pools().get(pool).get(*head..).unwrap_or(&[]) {
+            let is_late = match known.sights().get(*number) {
+                Some(seen) => seen.last_moment().saturating_add(known.hold())
+                    < leaves.first_moment(),
                 None => true,
             };
-            if mates.of(*number).is_none() && !is_late {
+            if matches.of(*number).is_none() && !is_late {
                 return;
             }
             *head = head.saturating_add(1);
@@ -135,32 +137,33 @@ impl Matching {
     }
 
     /// Whether as many responses are left as requests of a pool are, so that none is to be left out.
-    fn is_all_owed(&self, known: &Known<'_>, pool: PoolNumber, head: usize) -> bool {
-        let owed = self.owed.get(pool.index()).copied().unwrap_or(0);
-        let left = known.pools.get(pool).get(head..).unwrap_or(&[]);
+    fn is_all_pending(&self, known: &Known<'_>, pool: PoolNumber, head: usize) -> bool {
+        let pending = self.pending.get(pool.index()).copied().unwrap_or(0);
+        let left = known.pools().get(pool).get(head..).unwrap_or(&[]);
         let open = left
             .iter()
             .take(COPIES)
-            .filter(|number| self.mates.of(**number).is_none())
+            .filter(|number| self.matches.of(**number).is_none())
             .count();
-        left.len() <= COPIES && open <= owed
+        left.len() <= COPIES && open <= pending
     }
 
     /// The first arrival of a pool that fits well, or else the first that fits.
     fn first_of(&self, known: &Known<'_>, pool: PoolNumber, leaves: &Seen) -> Option<Choice> {
         let head = self.heads.get(pool.index()).copied()?;
-        let is_all_owed = self.is_all_owed(known, pool, head);
+        let is_all_pending = self.is_all_pending(known, pool, head);
         let mut best: Option<Choice> = None;
-        for number in known.pools.get(pool).get(head..)?.iter().take(COPIES) {
-            let arrives = known.sights.get(*number)?;
-            let fits = arrives.lo <= leaves.hi && !arrives.is_behind(leaves);
-            if self.mates.of(*number).is_none() && fits {
+        for number in known.pools().get(pool).get(head..)?.iter().take(COPIES) {
+            let arrives = known.sights().get(*number)?;
+            let fits = arrives.first_moment() <= leaves.last_moment() && !arrives.is_behind(leaves);
+            if self.matches.of(*number).is_none() && fits {
                 let choice = Choice {
                     arrival: *number,
-                    is_sure: arrives.lo.saturating_add(known.hold) >= leaves.hi,
-                    when: known.times.of(*number).when,
+                    is_sure: arrives.first_moment().saturating_add(known.hold())
+                        >= leaves.last_moment(),
+                    when: known.times().of(*number).when(),
                 };
-                if choice.is_sure || is_all_owed {
+                if choice.is_sure || is_all_pending {
                     return Some(choice.or(best));
                 }
                 best = best.or(Some(choice));

@@ -102,9 +102,9 @@ impl RankPass<'_> {
         let arrives = self.sights.get(number).is_none_or(|seen| seen.arrives());
         let at = moment(self.at, number);
         if may_wait && !arrives {
-            if let Some(mate) = self.edges.mates.of(number) {
-                if self.has_to_wait(mate, at) {
-                    return self.merge.park(iface, mate, (at, false, 0));
+            if let Some(matched) = self.edges.matches().of(number) {
+                if self.has_to_wait(matched, at) {
+                    return self.merge.park(iface, matched, (at, false, 0));
                 }
             }
             for arrival in self.edges.asked_of(number)? {

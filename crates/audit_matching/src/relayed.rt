@@ -30,13 +30,13 @@ pub type Banned = BTreeSet<(SeenNumber, LaneNumber)>;
 impl RelayedLanes {
     /// Of the clients that may have had the address then, the one whose datagram of that content came last. It takes n log n.
     pub fn of(known: &Known<'_>, banned: &Banned) -> Result<RelayedLanes, AllocError> {
-        let alloc = known.alloc;
-        let count = known.sights.as_slice().len();
+        let alloc = known.alloc();
+        let count = known.sights().as_slice().len();
         let mut lanes = RelayedLanes {
             of: vec![in alloc; None; count]?,
             taken: vec![in alloc; false; count]?,
         };
-        for (_, number) in &departures(alloc, known.sights, known.times)? {
+        for (_, number) in &departures(alloc, known.sights(), known.times())? {
             if let Some(relayed) = relayed_of(known, *number) {
                 lanes.find(known, banned, relayed)?;
             }
@@ -55,28 +55,28 @@ impl RelayedLanes {
         banned: &Banned,
         given: Relayed,
     ) -> Result<(), AllocError> {
-        let time = known.times.of(given.number);
-        let of = known.tenancies.of_address(given.relayed);
+        let time = known.times().of(given.number);
+        let of = known.tenancies().of_address(given.relayed);
         let hi = known
-            .sights
+            .sights()
             .get(given.number)
-            .map_or(time.late, |seen| seen.hi);
-        let met = known.tenancies.meeting(of, time.early, time.late)?;
+            .map_or(time.late(), |seen| seen.last_moment());
+        let met = known.tenancies().meeting(of, time.early(), time.late())?;
         let near = known
-            .tenancies
-            .meeting(of, time.early.saturating_sub(known.hold), hi)?;
-        let mut lane = self.sender(known, banned, given, &met, time.late)?;
+            .tenancies()
+            .meeting(of, time.early().saturating_sub(known.hold()), hi)?;
+        let mut lane = self.sender(known, banned, given, &met, time.late())?;
         if lane.is_none() {
             lane = self.sender(known, banned, given, &near, hi)?;
         }
         if lane.is_none() {
-            let is_free = |one: &&Tenancy| !banned.contains(&(given.number, one.lane));
+            let is_free = |one: &&Tenancy| !banned.contains(&(given.number, one.lane()));
             let first = met.iter().chain(near.iter()).find(is_free);
-            lane = first.map(|one| one.lane);
+            lane = first.map(|one| one.lane());
         }
         let lane = lane
-            .or(known.numbers.first_sender(given.digest))
-            .or(Some(LaneNumber(0)));
+            .or(known.numbers().first_sender(given.digest))
+            .or(Some(LaneNumber::new(0)));
         if let Some(place) = self.of.get_mut(given.number.index()) {
             *place = lane;
         }
@@ -94,10 +94,10 @@ impl RelayedLanes {
     ) -> Result<Option<LaneNumber>, AllocError> {
         let mut best: Option<(u64, SeenNumber, LaneNumber)> = None;
         for tenancy in tenancies {
-            if !banned.contains(&(given.number, tenancy.lane)) {
-                if let Some((when, number)) = self.last_sent(known, given, tenancy.lane, until)? {
+            if !banned.contains(&(given.number, tenancy.lane())) {
+                if let Some((when, number)) = self.last_sent(known, given, tenancy.lane(), until)? {
                     if best.is_none_or(|best| when > best.0) {
-                        best = Some((when, number, tenancy.lane));
+                        best = Some((when, number, tenancy.lane()));
                     }
                 }
             }
@@ -119,9 +119,9 @@ impl RelayedLanes {
         lane: LaneNumber,
         until: u64,
     ) -> Result<Option<(u64, SeenNumber)>, AllocError> {
-        let mut pools = Vec::new(known.alloc);
+        let mut pools = Vec::new(known.alloc());
         known.add_sent(lane, given.peer, given.digest, &mut pools)?;
-        let from = known.times.of(given.number).early;
+        let from = known.times().of(given.number).early();
         let mut best: Option<(u64, SeenNumber)> = None;
         for pool in pools {
             best = best.max(self.last_of(known, pool, from, until));
@@ -137,13 +137,13 @@ impl RelayedLanes {
         from: u64,
         until: u64,
     ) -> Option<(u64, SeenNumber)> {
-        let members = known.pools.get(pool);
-        let behind = members.partition_point(|number| known.times.of(*number).when <= until);
+        let members = known.pools().get(pool);
+        let behind = members.partition_point(|number| known.times().of(*number).when() <= until);
         let near = members.get(behind.saturating_sub(COPIES)..behind)?;
         for number in near.iter().rev() {
-            let when = known.times.of(*number).when;
+            let when = known.times().of(*number).when();
             let is_taken = self.taken.get(number.index()).copied().unwrap_or(false);
-            if !is_taken && when.saturating_add(known.hold) >= from {
+            if !is_taken && when.saturating_add(known.hold()) >= from {
                 return Some((when, *number));
             }
         }
@@ -153,7 +153,7 @@ impl RelayedLanes {
 
 /// What a departure gives, if it leaves from a relayed address.
 fn relayed_of(known: &Known<'_>, number: SeenNumber) -> Option<Relayed> {
-    match known.sights.get(number)?.says {
+    match known.sights().get(number)?.says() {
         Says::Gives(
             Gives::Relayed {
                 relayed,

@@ -5,11 +5,10 @@
 //! rules, each with the departure at which it came farthest. Nothing rests on what it finds: that is checked.
 #![tactic(auto)]
 
-mod going_back;
+mod lane_search;
 mod rounds;
 mod searching;
-mod sweep;
 
-pub use audit_constraints::{Act, Reading, Round};
+pub use audit_constraints::{Act, LaneFault, Reading, Round};
 pub use audit_search_state::{Constraint, Fault, Refused};
-pub use rounds::{best_round, best_round_by};
+pub use rounds::{BestRound, best_round, best_round_by};

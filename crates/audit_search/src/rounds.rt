@@ -3,6 +3,7 @@
 use crate::searching::{search, search_by};
 use audit_constraints::{AllSearched, Prepared, Reading, Round, Settling};
 use std::alloc::AllocError;
+use std::cmp::Reverse;
 use std::thread::Threads;
 
 /// How many rounds there are at the most, each time that the clocks are told anew.
@@ -17,12 +18,20 @@ const SIGHTINGS: usize = 100_000;
 /// How often the clocks are told anew.
 const TURNS: u32 = 3;
 
-/// How good a round is: by its faults, by the arrivals that two lanes act on and the addresses that two hold, by how far it came.
-type Score = (usize, usize, u64);
+/// How good a round is.
+#[derive(Clone, Copy, PartialEq, Eq, PartialOrd, Ord)]
+struct Score {
+    /// The lanes that fail: the fewer, the better.
+    faults: Reverse<usize>,
+    /// The arrivals that two lanes act on and the addresses that two hold: the fewer, the better.
+    shared: Reverse<usize>,
+    /// The least moment at which a lane fails: the later, the better.
+    low: u64,
+}
 
-/// A round, and how good it is.
+/// The best of some rounds.
 #[derive(Drop)]
-struct Scored {
+pub struct BestRound {
     round: Round,
     score: Score,
 }
@@ -33,7 +42,7 @@ struct Climb<'a> {
     reading: &'a Reading<'a>,
     settling: Settling<'a>,
     searched: AllSearched,
-    best: Option<Scored>,
+    best: Option<BestRound>,
     /// How often the clocks were told anew.
     turn: u32,
     /// How many rounds this turn has left behind its first one, and whether that is to come.
@@ -43,7 +52,7 @@ struct Climb<'a> {
 }
 
 /// The best of the rounds.
-pub fn best_round(reading: &Reading<'_>) -> Result<Round, AllocError> {
+pub fn best_round(reading: &Reading<'_>) -> Result<BestRound, AllocError> {
     let mut climb = Climb::new(reading)?;
     for _ in 0..climb.most() {
         if climb.is_over {
@@ -61,7 +70,7 @@ pub fn best_round_by<R: Threads + Sync>(
     rt: &R,
     workers: u32,
     reading: &Reading<'_>,
-) -> Result<Round, AllocError> {
+) -> Result<BestRound, AllocError> {
     let mut climb = Climb::new(reading)?;
     for _ in 0..climb.most() {
         if climb.is_over {
@@ -74,31 +83,43 @@ pub fn best_round_by<R: Threads + Sync>(
     climb.end()
 }
 
-impl Scored {
-    fn of(round: Round, reading: &Reading<'_>) -> Result<Scored, AllocError> {
-        let doubles = round.doubles(reading.alloc)?.len();
+impl BestRound {
+    fn of(round: Round, reading: &Reading<'_>) -> Result<BestRound, AllocError> {
+        let doubles = round.doubles(reading.alloc())?.len();
         let overlaps = round.overlaps(reading)?.len();
-        let low = round.faults.iter().map(|fault| fault.1.low).min();
-        let score = (
-            usize::MAX.saturating_sub(round.faults.len()),
-            usize::MAX.saturating_sub(doubles).saturating_sub(overlaps),
-            low.unwrap_or(u64::MAX),
-        );
-        Ok(Scored { round, score })
+        let faults = round.faults();
+        let low = faults.iter().map(|failed| failed.fault().low()).min();
+        let score = Score {
+            faults: Reverse(faults.len()),
+            shared: Reverse(doubles.saturating_add(overlaps)),
+            low: low.unwrap_or(u64::MAX),
+        };
+        Ok(BestRound { round, score })
     }
 
-    /// Whether there are no faults.
-    fn is_whole(&self) -> bool {
-        self.score.0 == usize::MAX && self.score.1 == usize::MAX
+    /// The round.
+    pub fn round(&self) -> &Round {
+        &self.round
     }
 
-    /// Whether no order helps any of its faults, and nothing else is wrong.
+    /// Whether no lane fails, and no two lanes act on an arrival or hold an address at a time.
+    pub fn is_whole(&self) -> bool {
+        self.score.faults == Reverse(0) && self.score.shared == Reverse(0)
+    }
+
+    /// Whether no order helps any of its lanes that fail, and nothing else is wrong.
     fn is_hopeless(&self) -> bool {
-        self.score.1 == usize::MAX && self.round.faults.iter().all(|fault| fault.1.is_hopeless)
+        let is_shared = self.score.shared != Reverse(0);
+        !is_shared
+            && self
+                .round
+                .faults()
+                .iter()
+                .all(|failed| failed.fault().is_hopeless())
     }
 
     /// The better one of the two, the older one of two that are alike.
-    fn or_older(self, older: Option<Scored>) -> Scored {
+    fn or_older(self, older: Option<BestRound>) -> BestRound {
         match older {
             Some(older) if older.score >= self.score => older,
             _ => self,
@@ -111,7 +132,7 @@ impl<'a> Climb<'a> {
         Ok(Climb {
             reading,
             settling: Settling::new(reading)?,
-            searched: AllSearched::new(reading.alloc),
+            searched: AllSearched::new(reading.alloc()),
             best: None,
             turn: 0,
             left: rounds_of(reading),
@@ -132,8 +153,8 @@ impl<'a> Climb<'a> {
     }
 
     fn search(&mut self, prepared: &Prepared) -> Result<(), AllocError> {
-        let given = self.settling.given(prepared);
-        search(&mut self.searched, &given)
+        let input = self.settling.input(prepared);
+        search(&mut self.searched, &input)
     }
 
     fn search_by<R: Threads + Sync>(
@@ -142,27 +163,27 @@ impl<'a> Climb<'a> {
         workers: u32,
         prepared: &Prepared,
     ) -> Result<(), AllocError> {
-        let given = self.settling.given(prepared);
-        search_by(rt, workers, &mut self.searched, &given)
+        let input = self.settling.input(prepared);
+        search_by(rt, workers, &mut self.searched, &input)
     }
 
     /// Takes in a round whose lanes are searched, and what they ask of the next one.
     fn take(&mut self, prepared: Prepared) -> Result<(), AllocError> {
-        let alloc = self.reading.alloc;
+        let alloc = self.reading.alloc();
         let round = prepared.round(alloc, &self.searched)?;
         if !self.is_first {
             self.settling.settle(&round)?;
         }
         self.is_first = false;
         let is_more = self.settling.ask(&round)?;
-        let best = Scored::of(round, self.reading)?.or_older(self.best.take());
+        let best = BestRound::of(round, self.reading)?.or_older(self.best.take());
         self.go_on(&best, is_more)?;
         self.best = Some(best);
         Ok(())
     }
 
     /// Goes to the next round, or to the next turn where lanes ask for nothing more; ends where nothing is wrong, or nothing that an order helps.
-    fn go_on(&mut self, best: &Scored, is_more: bool) -> Result<(), AllocError> {
+    fn go_on(&mut self, best: &BestRound, is_more: bool) -> Result<(), AllocError> {
         if best.is_whole() || best.is_hopeless() {
             self.is_over = true;
         } else if is_more && self.left > 0 {
@@ -198,16 +219,14 @@ impl<'a> Climb<'a> {
     }
 
     /// The best of the rounds; no memory, if there was none.
-    fn end(self) -> Result<Round, AllocError> {
-        let Climb { best, .. } = self;
-        let Scored { round, .. } = best.ok_or(AllocError)?;
-        Ok(round)
+    fn end(self) -> Result<BestRound, AllocError> {
+        self.best.ok_or(AllocError)
     }
 }
 
 /// How many rounds a turn has behind its first one: fewer, where there are many sightings.
 fn rounds_of(reading: &Reading<'_>) -> u32 {
-    let count = reading.sights.as_slice().len();
+    let count = reading.sights().as_slice().len();
     let rounds = SIGHTINGS / count.max(1);
     u32::try_from(rounds)
         .unwrap_or(ROUNDS)

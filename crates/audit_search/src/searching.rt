@@ -1,18 +1,21 @@
 //! The search of each lane of which something changed, one by one or by threads.
 
-use crate::sweep::search_lane;
+use crate::lane_search::search_lane;
 use audit_constraints::{AllSearched, Searched};
-use audit_search_input::Given;
+use audit_search_input::SearchInput;
 use audit_seen::LaneNumber;
 use std::alloc::AllocError;
 use std::thread;
 use std::thread::Threads;
 
-/// Searches each lane whose digest isn't that of its last search.
-pub(crate) fn search(searched: &mut AllSearched, given: &Given<'_>) -> Result<(), AllocError> {
-    searched.make_places(given)?;
+/// Searches each lane whose fingerprint isn't that of its last search.
+pub(crate) fn search(
+    searched: &mut AllSearched,
+    input: &SearchInput<'_>,
+) -> Result<(), AllocError> {
+    searched.make_places(input)?;
     for (number, place) in searched.places().iter_mut().enumerate() {
-        search_into(given, number, place);
+        search_into(input, number, place);
     }
     searched.all_are_there()
 }
@@ -22,38 +25,38 @@ pub(crate) fn search_by<R: Threads + Sync>(
     rt: &R,
     workers: u32,
     searched: &mut AllSearched,
-    given: &Given<'_>,
+    input: &SearchInput<'_>,
 ) -> Result<(), AllocError> {
-    searched.make_places(given)?;
+    searched.make_places(input)?;
     thread::for_each_mut(
         rt,
         searched.places(),
         workers.max(1) as usize,
-        &|number, place| search_into(given, number, place),
+        &|number, place| search_into(input, number, place),
     );
     searched.all_are_there()
 }
 
-/// Searches a lane, unless its digest is that of its last search.
-fn search_into(given: &Given<'_>, number: usize, place: &mut Option<Searched>) {
+/// Searches a lane, unless its fingerprint is that of its last search.
+fn search_into(input: &SearchInput<'_>, number: usize, place: &mut Option<Searched>) {
     let Ok(lane) = u32::try_from(number) else {
         return;
     };
-    let lane = LaneNumber(lane);
-    let print = given.views.print(lane);
+    let lane = LaneNumber::new(lane);
+    let fingerprint = input.views().fingerprint(lane);
     let is_known = match place {
-        Some(searched) => searched.print() == print,
+        Some(searched) => searched.fingerprint() == fingerprint,
         None => false,
     };
     if !is_known {
-        *place = match searched_of(given, lane) {
+        *place = match searched_of(input, lane) {
             Ok(searched) => Some(searched),
             Err(_) => None,
         };
     }
 }
 
-fn searched_of(given: &Given<'_>, lane: LaneNumber) -> Result<Searched, AllocError> {
-    let found = search_lane(given, lane)?;
-    Searched::of(given, lane, found)
+fn searched_of(input: &SearchInput<'_>, lane: LaneNumber) -> Result<Searched, AllocError> {
+    let found = search_lane(input, lane)?;
+    Searched::of(input, lane, found)
 }

@@ -1,9 +1,27 @@
 //! One lane: what it may act on.
 
+ghost use Rattle.std.specs.Prelude.{◌≡◌};
+
+mod acting;
+mod ambiguous;
+mod before_end;
+mod drawing;
+mod earlier;
+mod faults;
+mod following;
+mod grants;
+mod judging;
+mod makers;
+mod meeting;
+mod needs;
+mod plans;
+
 use audit_rules::LaneTable;
-use audit_search_input::{Given, Ranked};
+use audit_search_input::{Ranked, SearchInput};
 use audit_search_state::{PoolRef, Refused, State, relayed_of};
 use audit_seen::{Gives, LaneNumber, Seen, SeenNumber, Slot};
+pub use drawing::Draw;
+pub use plans::{PREVIOUS, Plan};
 use std::alloc::AllocError;
 
 /// How many arrivals of a pool are tried for one departure.
@@ -11,76 +29,150 @@ const COPIES: usize = 16;
 
 /// What came of trying to act on a departure.
 #[derive(Clone, Copy, Debug)]
-pub(crate) enum Attempt {
+enum Attempt {
     Accepted(SeenNumber),
     Refused(Refused),
+}
+
+/// A departure that is acted on at a slot and its moment, whichever arrival it answers.
+#[derive(Clone, Copy)]
+struct Trial {
+    departure: SeenNumber,
+    slot: Slot,
+    moment: u64,
+    is_response: bool,
 }
 
 /// The search of one lane.
 #[derive(Drop)]
 pub struct Lane<'a> {
     /// What the search reads.
-    pub given: &'a Given<'a>,
-    /// The lane's number.
-    pub number: LaneNumber,
+    input: &'a SearchInput<'a>,
+    number: LaneNumber,
     /// The departures, by rank, and those of them that change the table.
-    pub departures: &'a [Ranked],
-    pub changes: Vec<(u32, SeenNumber)>,
+    departures: &'a [Ranked],
+    changes: Vec<(u32, SeenNumber)>,
     /// How far its acts have come.
-    pub state: State,
-    /// The moment of the departure that the sweep is at.
-    pub clock: u64,
+    state: State,
+    /// The moment of the departure that the search is at.
+    clock: u64,
     /// How many acts were judged beyond one for each departure.
-    pub steps: u64,
+    steps: u64,
     /// How many steps there may be.
-    pub budget: u64,
+    budget: u64,
 }
 
 impl<'a> Lane<'a> {
     /// A lane on whose departures nothing has acted yet.
-    pub fn new(given: &'a Given<'a>, number: LaneNumber) -> Result<Lane<'a>, AllocError> {
-        let departures = given.views.departures(number);
-        let mut changes = Vec::new(given.alloc);
-        for (_, rank, departure) in departures {
-            if given
-                .gives(*departure)
+    pub fn new(input: &'a SearchInput<'a>, number: LaneNumber) -> Result<Lane<'a>, AllocError> {
+        let departures = input.views().departures(number);
+        let mut changes = Vec::new(input.alloc());
+        for one in departures {
+            if input
+                .gives(one.number())
                 .is_some_and(|gives| gives.is_change())
             {
-                changes.push((*rank, *departure))?;
+                changes.push((one.rank(), one.number()))?;
             }
         }
-        let (client, listen) = given.pair(number);
+        let (client, listen) = input.pair(number);
         Ok(Lane {
-            given,
+            input,
             number,
             departures,
             changes,
-            state: State::new(given.alloc, number, client, listen),
+            state: State::new(input.alloc(), number, client, listen),
             clock: 0,
             steps: 0,
             budget: 0,
         })
     }
 
+    /// What the search reads.
+    pub fn input(&self) -> &'a SearchInput<'a> {
+        self.input
+    }
+
+    /// The lane's number.
+    pub fn number(&self) -> LaneNumber
+        ensures { result ≡ self.now.number }
+    {
+        self.number
+    }
+
+    /// The departure at a place among the lane's, which are by rank.
+    pub fn departure(&self, place: usize) -> Option<SeenNumber> {
+        Some(self.departures.get(place)?.number())
+    }
+
+    /// How many departures there are.
+    pub fn departures(&self) -> usize {
+        self.departures.len()
+    }
+
+    /// The departures that change the table, by rank.
+    pub fn changes(&self) -> &[(u32, SeenNumber)] {
+        self.changes.as_slice()
+    }
+
+    /// How far its acts have come.
+    pub fn state(&self) -> &State {
+        &self.state
+    }
+
+    /// The same, to go back in it.
+    pub fn state_mut(&mut self) -> &mut State {
+        &mut self.state
+    }
+
+    /// Begins anew, with no act.
+    pub fn start_again(&mut self) {
+        let (client, listen) = self.input.pair(self.number);
+        self.state = State::new(self.input.alloc(), self.number, client, listen);
+    }
+
+    /// Comes to a departure.
+    pub fn come_to(&mut self, departure: SeenNumber) {
+        self.clock = self.input.at(departure);
+    }
+
+    /// How many acts were judged beyond one for each departure.
+    pub fn steps(&self) -> u64
+        ensures { result ≡ self.now.steps }
+    {
+        self.steps
+    }
+
+    /// Counts a step.
+    pub fn add_step(&mut self) {
+        self.steps = self.steps.saturating_add(1);
+    }
+
+    /// Has so many steps at the most.
+    pub fn set_budget(&mut self, budget: u64) {
+        self.budget = budget;
+    }
+
     /// A table with nothing in it.
-    pub(crate) fn empty_table(&self) -> LaneTable {
-        let (client, listen) = self.given.pair(self.number);
-        LaneTable::new(self.number.0, client, listen)
+    fn empty_table(&self) -> LaneTable {
+        let (client, listen) = self.input.pair(self.number);
+        LaneTable::new(self.number.value(), client, listen)
     }
 
     /// The arrivals of a pool that stand before a slot, aren't used, and came no longer than the hold before the departure; the oldest
     /// first, so many at the most.
-    pub(crate) fn unused(
+    fn unused(
         &mut self,
         departure: SeenNumber,
         pool: PoolRef,
         slot: Slot,
     ) -> Result<Vec<SeenNumber>, AllocError> {
-        let all = self.given.views.arrivals(self.number, pool);
+        let all = self.input.views().arrivals(self.number, pool);
         let first = self.state.first(pool);
         let mut place = first;
-        for (_, _, _, arrival) in all.get(first..).unwrap_or(&[]) {
-            if !self.state.is_used(*arrival) && self.given.held_until(*arrival) >= self.clock {
+        for one in all.get(first..).unwrap_or(&[]) {
+            let arrival = one.number();
+            if !self.state.is_used(arrival) && self.input.held_until(arrival) >= self.clock {
                 break;
             }
             place = place.saturating_add(1);
@@ -88,34 +180,32 @@ impl<'a> Lane<'a> {
         if place > first {
             self.state.set_first(pool, place)?;
         }
-        let moment = self.given.at(departure);
-        let mut found = Vec::new(self.given.alloc);
-        for (_, _, rank, arrival) in all.get(place..).unwrap_or(&[]).iter().take(COPIES) {
-            if Slot::behind(*rank) > slot.next() {
+        let moment = self.input.at(departure);
+        let mut found = Vec::new(self.input.alloc());
+        for one in all.get(place..).unwrap_or(&[]).iter().take(COPIES) {
+            if Slot::behind(one.rank()) > slot.next() {
                 break;
             }
-            if !self.state.is_used(*arrival) && self.given.held_until(*arrival) >= moment {
-                found.push(*arrival)?;
+            let arrival = one.number();
+            if !self.state.is_used(arrival) && self.input.held_until(arrival) >= moment {
+                found.push(arrival)?;
             }
         }
         Ok(found)
     }
 
     /// The oldest request before a slot that a response may answer.
-    pub(crate) fn oldest(
+    fn oldest(
         &mut self,
         response: SeenNumber,
         slot: Slot,
     ) -> Result<Option<SeenNumber>, AllocError> {
-        let Some(seen) = self.given.seen(response) else {
+        let Some(seen) = self.input.seen(response) else {
             return Ok(None);
         };
         match seen.response_pool() {
             Some(pool) => {
-                let pool = PoolRef {
-                    pool,
-                    is_shared: false,
-                };
+                let pool = PoolRef::own(pool);
                 Ok(self.unused(response, pool, slot)?.first().copied())
             }
             None => Ok(None),
@@ -123,22 +213,28 @@ impl<'a> Lane<'a> {
     }
 
     /// Acts on a departure in a table by the oldest arrival that the rules accept. Data of one pool is alike: its first one is tried alone.
-    pub(crate) fn attempt(
+    fn attempt(
         &mut self,
         table: &mut LaneTable,
         departure: SeenNumber,
         slot: Slot,
         moment: u64,
     ) -> Result<Attempt, AllocError> {
-        let Some(seen) = self.given.seen(departure) else {
+        let Some(seen) = self.input.seen(departure) else {
             return Ok(Attempt::Refused(Refused::NoArrival));
+        };
+        let trial = Trial {
+            departure,
+            slot,
+            moment,
+            is_response: seen.response_pool().is_some(),
         };
         let relayed = relayed_of(table);
         let mut best: Option<SeenNumber> = None;
         let mut refused = Refused::NoArrival;
-        for pool in self.given.pools_of(self.number, seen, relayed)? {
-            if best.is_none() || !pool.is_shared {
-                match self.attempt_of(table, departure, seen, pool, best, slot, moment)? {
+        for pool in self.input.pools_of(self.number, seen, relayed)? {
+            if best.is_none() || !pool.is_shared() {
+                match self.attempt_of(table, trial, pool, best)? {
                     Attempt::Accepted(arrival) => best = Some(arrival),
                     Attempt::Refused(Refused::NoArrival) => {}
                     Attempt::Refused(rule) => refused = refused.or(rule),
@@ -155,24 +251,20 @@ impl<'a> Lane<'a> {
     fn attempt_of(
         &mut self,
         table: &mut LaneTable,
-        departure: SeenNumber,
-        seen: &Seen,
+        trial: Trial,
         pool: PoolRef,
         best: Option<SeenNumber>,
-        slot: Slot,
-        moment: u64,
     ) -> Result<Attempt, AllocError> {
-        let is_response = seen.response_pool().is_some();
         let mut refused = Refused::NoArrival;
-        for arrival in self.unused(departure, pool, slot)? {
-            if best.is_some_and(|best| self.given.rank(arrival) > self.given.rank(best)) {
+        for arrival in self.unused(trial.departure, pool, trial.slot)? {
+            if best.is_some_and(|best| self.input.rank(arrival) > self.input.rank(best)) {
                 break;
             }
-            match self.judge(table, arrival, departure, slot, moment)? {
+            match self.judge(table, arrival, trial.departure, trial.slot, trial.moment)? {
                 None => return Ok(Attempt::Accepted(arrival)),
                 Some(rule) => refused = rule,
             }
-            if !is_response {
+            if !trial.is_response {
                 break;
             }
         }
@@ -180,14 +272,14 @@ impl<'a> Lane<'a> {
     }
 
     /// Whether a departure tells again of the allocation that a table has.
-    pub(crate) fn is_repeated(&self, table: &LaneTable, departure: &Seen, moment: u64) -> bool {
+    fn is_repeated(&self, table: &LaneTable, departure: &Seen, moment: u64) -> bool {
         let (Some(Gives::Allocated { .. }), Some(tenancy)) = (departure.gives(), table.running())
         else {
             return false;
         };
-        let made_by = self.given.number_of(tenancy.sight);
+        let made_by = self.input.number_of(tenancy.sight);
         let pool = match made_by {
-            Some(number) => self.given.seen(number).and_then(|seen| seen.pool()),
+            Some(number) => self.input.seen(number).and_then(|seen| seen.pool()),
             None => None,
         };
         moment <= tenancy.last && pool.is_some() && pool == departure.response_pool()

@@ -1,39 +1,61 @@
 //! When addresses change hands: by when a lane's allocation has to be over, and when one may begin.
 
-use audit_known::{Handover, Mates, Order};
+ghost use Rattle.std.specs.Prelude.{◌≡◌};
+
+use audit_known::{Handover, Matches, Placed};
 use audit_search_state::{Constraint, Constraints};
 use audit_seen::{LaneNumber, SeenNumber, Sights, Slot};
 use std::alloc::{AllocError, Global};
 use std::collections::{BTreeMap, BTreeSet};
 
 /// By when an allocation has to be over.
-#[derive(Clone, Copy, Debug)]
+#[derive(Clone, Copy, Debug, PartialEq, Eq, PartialOrd, Ord)]
 pub struct Deadline {
-    /// The slot and the moment by which it has to be over.
-    pub slot: Slot,
-    pub moment: u64,
+    slot: Slot,
+    maker: SeenNumber,
+    moment: u64,
+}
+
+impl Deadline {
+    /// The slot by which it has to be over.
+    pub fn slot(&self) -> Slot
+        ensures { result ≡ self.now.slot }
+    {
+        self.slot
+    }
+
     /// The answer that tells of the allocation.
-    pub maker: SeenNumber,
+    pub fn maker(&self) -> SeenNumber
+        ensures { result ≡ self.now.maker }
+    {
+        self.maker
+    }
+
+    /// The moment by which it has to be over, in nanoseconds since 1970.
+    pub fn moment(&self) -> u64
+        ensures { result ≡ self.now.moment }
+    {
+        self.moment
+    }
 }
 
 /// The deadlines of each lane, in order, and the slots before which allocations mayn't begin.
 #[derive(Drop)]
 pub struct Deadlines {
-    list: Vec<(LaneNumber, Slot, SeenNumber, u64)>,
+    list: Vec<(LaneNumber, Deadline)>,
     not_before: BTreeMap<SeenNumber, Slot>,
     /// The answers that tell of the second allocation of an address.
     seconds: BTreeSet<SeenNumber>,
 }
 
 impl Deadlines {
-    /// Those of handovers.
+    /// Those of handovers, and of allocations that are asked to be over before others.
     pub fn of(
         alloc: Global,
         sights: &Sights,
         handovers: &[Handover],
-        mates: &Mates,
-        order: &Order,
-        at: &[u64],
+        matches: &Matches,
+        placed: &Placed,
         constraints: &Constraints,
     ) -> Result<Deadlines, AllocError> {
         let mut deadlines = Deadlines {
@@ -43,62 +65,79 @@ impl Deadlines {
         };
         for handover in handovers {
             let is_other_way = constraints.contains(Constraint::Precedes {
-                maker: handover.next,
-                next: handover.maker,
+                maker: handover.next(),
+                next: handover.maker(),
             });
-            if is_other_way {
-                continue;
-            }
-            deadlines.seconds.insert(handover.next)?;
-            // A handover stands before the answer, or before a departure where that is asked.
-            let by = constraints
-                .handed_over_before(handover.next)
-                .unwrap_or(handover.next);
-            let next = order.rank(by).min(order.rank(handover.next));
-            let Some(ender) = handover.ender else {
-                continue;
-            };
-            let Some(request) = mates.of(ender) else {
-                continue;
-            };
-            if order.rank(request) < next {
-                let is_soon = constraints.contains(Constraint::AtRequest {
-                    answer: handover.next,
-                });
-                let (slot, last) = if is_soon {
-                    (Slot::behind(order.rank(request)), request)
-                } else {
-                    (Slot::first(next), by)
-                };
-                let moment = at.get(last.index()).copied().unwrap_or(0);
-                deadlines
-                    .list
-                    .push((handover.from, slot, handover.maker, moment))?;
-                let behind = if is_soon {
-                    slot.next()
-                } else {
-                    slot.min(Slot::before(order.rank(ender)).next())
-                };
-                deadlines.not_before.insert(handover.next, behind)?;
+            if !is_other_way {
+                deadlines.seconds.insert(handover.next())?;
+                deadlines.add_handover(handover, matches, placed, constraints)?;
             }
         }
         for constraint in constraints.iter() {
             let Constraint::Precedes { maker, next } = constraint else {
                 continue;
             };
-            if let Some(lane) = sights.get(*maker).and_then(|seen| seen.lane) {
-                let slot = Slot::first(order.rank(*next));
-                let moment = at.get(next.index()).copied().unwrap_or(0);
-                deadlines.list.push((lane, slot, *maker, moment))?;
+            if let Some(lane) = sights.get(*maker).and_then(|seen| seen.lane()) {
+                let deadline = Deadline {
+                    slot: Slot::first(placed.rank(*next)),
+                    maker: *maker,
+                    moment: placed.at(*next),
+                };
+                deadlines.list.push((lane, deadline))?;
             }
         }
         deadlines.list.sort_unstable();
         Ok(deadlines)
     }
 
+    /// Adds the deadline of a handover whose first allocation is deleted by a request before the second one's answer.
+    fn add_handover(
+        &mut self,
+        handover: &Handover,
+        matches: &Matches,
+        placed: &Placed,
+        constraints: &Constraints,
+    ) -> Result<(), AllocError> {
+        let answer = handover.next();
+        // A handover stands before the answer, or before a departure where that is asked.
+        let by = constraints.handed_over_before(answer).unwrap_or(answer);
+        let next = placed.rank(by).min(placed.rank(answer));
+        let Some(ender) = handover.ender() else {
+            return Ok(());
+        };
+        let Some(request) = matches.of(ender) else {
+            return Ok(());
+        };
+        if placed.rank(request) >= next {
+            return Ok(());
+        }
+        let is_soon = constraints.contains(Constraint::AtRequest { answer });
+        let (slot, last) = if is_soon {
+            (Slot::behind(placed.rank(request)), request)
+        } else {
+            (Slot::first(next), by)
+        };
+        let deadline = Deadline {
+            slot,
+            maker: handover.maker(),
+            moment: placed.at(last),
+        };
+        self.list.push((handover.from(), deadline))?;
+        let behind = if is_soon {
+            slot.next()
+        } else {
+            slot.min(Slot::before(placed.rank(ender)).next())
+        };
+        self.not_before.insert(answer, behind)?;
+        Ok(())
+    }
+
     /// The slot before which an allocation mayn't begin.
     pub fn not_before(&self, maker: SeenNumber) -> Slot {
-        self.not_before.get(&maker).copied().unwrap_or(Slot(0))
+        self.not_before
+            .get(&maker)
+            .copied()
+            .unwrap_or(Slot::least())
     }
 
     /// Whether another client had the address of an allocation before.
@@ -109,14 +148,10 @@ impl Deadlines {
     /// The deadline of a lane at a place among them.
     pub fn get(&self, lane: LaneNumber, place: usize) -> Option<Deadline> {
         let start = self.list.partition_point(|one| one.0 < lane);
-        let (of, slot, maker, moment) = self.list.get(start.checked_add(place)?)?;
+        let (of, deadline) = self.list.get(start.checked_add(place)?)?;
         if *of != lane {
             return None;
         }
-        Some(Deadline {
-            slot: *slot,
-            moment: *moment,
-            maker: *maker,
-        })
+        Some(*deadline)
     }
 }

@@ -1,6 +1,6 @@
 //! Sightings of one lane by which another one goes, too.
 
-use audit_known::{Handover, Known, Mates};
+use audit_known::{Handover, Known, Matches};
 use audit_seen::{LaneNumber, SeenNumber};
 use std::alloc::{AllocError, Global};
 
@@ -16,15 +16,18 @@ impl Shared {
         alloc: Global,
         known: &Known<'_>,
         handovers: &[Handover],
-        mates: &Mates,
+        matches: &Matches,
     ) -> Result<Shared, AllocError> {
         let mut list = Vec::new(alloc);
         for handover in handovers {
-            list.push((handover.next, handover.from))?;
-            let to = known.sights.get(handover.next).and_then(|seen| seen.lane);
-            if let (Some(to), Some(ender)) = (to, handover.ender) {
+            list.push((handover.next(), handover.from()))?;
+            let to = known
+                .sights()
+                .get(handover.next())
+                .and_then(|seen| seen.lane());
+            if let (Some(to), Some(ender)) = (to, handover.ender()) {
                 list.push((ender, to))?;
-                if let Some(request) = mates.of(ender) {
+                if let Some(request) = matches.of(ender) {
                     list.push((request, to))?;
                 }
             }

@@ -1,20 +1,15 @@
 //! The arrivals and departures of each lane, in the order of all sightings.
 
+use crate::input::Captured;
+use crate::ranked::{Arriving, Ranked};
 use crate::shared::Shared;
-use audit_known::{Known, Mates, Order};
+use audit_known::{Known, Matches, Placed};
 use audit_search_state::{Constraint, Constraints, PoolRef};
 use audit_seen::{LaneNumber, PoolNumber, Says, Seen, SeenNumber};
-use audit_sightings::Intake;
 use std::alloc::{AllocError, Global};
 
 /// An odd number whose bits look random.
 const FACTOR: u64 = 0x9E37_79B9_7F4A_7C15;
-
-/// An arrival of a lane's pool, by its rank.
-pub type Arriving = (LaneNumber, PoolRef, u32, SeenNumber);
-
-/// A sighting of a lane, by its rank.
-pub type Ranked = (LaneNumber, u32, SeenNumber);
 
 /// Where the arrivals of a lane begin, and its departures, and its data.
 #[derive(Clone, Copy)]
@@ -34,40 +29,58 @@ pub struct Views {
     /// Where each lane begins, and what is behind the last one.
     starts: Vec<Start>,
     /// A digest of all that the search of each lane goes by.
-    prints: Vec<u64>,
+    fingerprints: Vec<u64>,
 }
 
 /// What the views of lanes are made of.
 #[derive(Clone, Copy)]
 pub struct Viewed<'a> {
-    /// The sightings, and what is known of them.
-    pub intake: &'a Intake,
-    pub known: Known<'a>,
-    /// The order of all, the least moment of each, and the one at which it is placed.
-    pub order: &'a Order,
-    pub low: &'a [u64],
-    pub at: &'a [u64],
-    /// The arrival that each departure most likely answers.
-    pub mates: &'a Mates,
-    /// The lane of each departure from a relayed address.
-    pub relayed: &'a [Option<LaneNumber>],
-    /// What is asked for, and sightings by which other lanes go, too.
-    pub constraints: &'a Constraints,
-    pub shared: &'a Shared,
+    captured: Captured<'a>,
+    known: Known<'a>,
+    placed: &'a Placed,
+    matches: &'a Matches,
+    relayed: &'a [Option<LaneNumber>],
+    constraints: &'a Constraints,
+    shared: &'a Shared,
+}
+
+impl<'a> Viewed<'a> {
+    /// The captures, what is known of their sightings, where each stands, the arrival that each departure most likely answers, the lane of each
+    /// departure from a relayed address, what is asked for, and sightings by which other lanes go, too.
+    pub fn new(
+        captured: Captured<'a>,
+        known: Known<'a>,
+        placed: &'a Placed,
+        matches: &'a Matches,
+        relayed: &'a [Option<LaneNumber>],
+        constraints: &'a Constraints,
+        shared: &'a Shared,
+    ) -> Viewed<'a> {
+        Viewed {
+            captured,
+            known,
+            placed,
+            matches,
+            relayed,
+            constraints,
+            shared,
+        }
+    }
 }
 
 impl Views {
-    /// Those of so many lanes. It takes n log n.
-    pub fn of(alloc: Global, viewed: &Viewed<'_>, lanes: usize) -> Result<Views, AllocError> {
+    /// Those of all lanes. It takes n log n.
+    pub fn of(alloc: Global, viewed: &Viewed<'_>) -> Result<Views, AllocError> {
+        let lanes = viewed.captured.pairs().len();
         let mut views = Views {
             arrivals: Vec::new(alloc),
             departures: Vec::new(alloc),
             sent: Vec::new(alloc),
             starts: Vec::with_capacity(alloc, lanes)?,
-            prints: vec![in alloc; 0; lanes]?,
+            fingerprints: vec![in alloc; 0; lanes]?,
         };
-        for number in viewed.order.as_slice() {
-            if let Some(seen) = viewed.known.sights.get(*number) {
+        for number in viewed.placed.in_order() {
+            if let Some(seen) = viewed.known.sights().get(*number) {
                 views.add(viewed, seen, *number)?;
             }
         }
@@ -82,9 +95,13 @@ impl Views {
 
     /// Notes where a lane begins.
     fn start(&mut self, lane: usize) -> Result<(), AllocError> {
-        let arrivals = self.arrivals.partition_point(|one| one.0.index() < lane);
-        let departures = self.departures.partition_point(|one| one.0.index() < lane);
-        let sent = self.sent.partition_point(|one| one.0.index() < lane);
+        let arrivals = self
+            .arrivals
+            .partition_point(|one| one.lane().index() < lane);
+        let departures = self
+            .departures
+            .partition_point(|one| one.lane().index() < lane);
+        let sent = self.sent.partition_point(|one| one.lane().index() < lane);
         self.starts.push(Start {
             arrivals,
             departures,
@@ -106,16 +123,16 @@ impl Views {
         seen: &Seen,
         number: SeenNumber,
     ) -> Result<(), AllocError> {
-        let rank = viewed.order.rank(number);
+        let rank = viewed.placed.rank(number);
         for (_, lane) in viewed.shared.of_sighting(number) {
             self.mix(viewed, *lane, number);
         }
-        match seen.says {
+        match seen.says() {
             Says::Received(pool) => self.add_received(viewed, seen, pool, rank, number),
             Says::Gives(..) => {
                 let relayed = viewed.relayed.get(number.index()).copied().flatten();
-                if let Some(lane) = seen.lane.or(relayed) {
-                    self.departures.push((lane, rank, number))?;
+                if let Some(lane) = seen.lane().or(relayed) {
+                    self.departures.push(Ranked::new(lane, rank, number))?;
                     self.mix(viewed, lane, number);
                 }
                 Ok(())
@@ -132,15 +149,12 @@ impl Views {
         rank: u32,
         number: SeenNumber,
     ) -> Result<(), AllocError> {
-        if let (Some(lane), Some(pool)) = (seen.lane, seen.pool()) {
-            let pool = PoolRef {
-                pool,
-                is_shared: false,
-            };
-            self.arrivals.push((lane, pool, rank, number))?;
+        if let (Some(lane), Some(pool)) = (seen.lane(), seen.pool()) {
+            let pool = PoolRef::own(pool);
+            self.arrivals.push(Arriving::new(lane, pool, rank, number))?;
             self.mix(viewed, lane, number);
-            if let Says::Sent(_) = seen.says {
-                self.sent.push((lane, rank, number))?;
+            if let Says::Sent(_) = seen.says() {
+                self.sent.push(Ranked::new(lane, rank, number))?;
             }
         }
         Ok(())
@@ -156,19 +170,26 @@ impl Views {
         number: SeenNumber,
     ) -> Result<(), AllocError> {
         let known = &viewed.known;
-        let Some(sighting) = viewed.intake.sighting(seen.id) else {
+        let Some(sighting) = viewed.captured.intake().sighting(seen.id()) else {
             return Ok(());
         };
-        let moment = known.times.of(number).early;
+        let moment = known.times().of(number).early();
         let mut is_shared = false;
-        for lane in known.tenancies.lanes_at(sighting.to, moment, known.hold)? {
+        for lane in known
+            .tenancies()
+            .lanes_at(sighting.to, moment, known.hold())?
+        {
             let not_here = Constraint::NotHere {
                 sighting: number,
                 lane,
             };
             if !viewed.constraints.contains(not_here) {
-                self.arrivals
-                    .push((lane, PoolRef { pool, is_shared }, rank, number))?;
+                let pool = if is_shared {
+                    PoolRef::shared(pool)
+                } else {
+                    PoolRef::own(pool)
+                };
+                self.arrivals.push(Arriving::new(lane, pool, rank, number))?;
                 self.mix(viewed, lane, number);
                 is_shared = true;
             }
@@ -178,39 +199,38 @@ impl Views {
 
     /// Adds a sighting, and its moments, to the digest of a lane.
     fn mix(&mut self, viewed: &Viewed<'_>, lane: LaneNumber, number: SeenNumber) {
-        let low = viewed.low.get(number.index()).copied().unwrap_or(0);
-        let at = viewed.at.get(number.index()).copied().unwrap_or(0);
+        let placed = viewed.placed;
         let constraints = viewed.constraints;
-        let at_of = |other: Option<SeenNumber>| {
-            let other = other.and_then(|other| viewed.at.get(other.index()).copied());
-            other.unwrap_or(0)
-        };
-        if let Some(print) = self.prints.get_mut(lane.index()) {
-            let mut mixed = *print;
+        let at_of = |other: Option<SeenNumber>| other.map_or(0, |other| placed.at(other));
+        if let Some(fingerprint) = self.fingerprints.get_mut(lane.index()) {
+            let mut mixed = *fingerprint;
             let is_at_request = constraints.contains(Constraint::AtRequest { answer: number });
             let is_earlier = constraints.contains(Constraint::Earlier { answer: number });
-            let mate = viewed.mates.of(number).map_or(0, |mate| u64::from(mate.0));
+            let matched = viewed
+                .matches
+                .of(number)
+                .map_or(0, |matched| u64::from(matched.value()));
             for word in [
-                u64::from(number.0),
-                low,
-                at,
+                u64::from(number.value()),
+                placed.low(number),
+                placed.at(number),
                 u64::from(is_at_request),
                 u64::from(is_earlier),
                 at_of(constraints.handed_over_before(number)),
                 at_of(constraints.over_before(number)),
                 at_of(constraints.next_of(number)),
                 at_of(constraints.maker_of(number)),
-                mate,
+                matched,
             ] {
                 mixed = (mixed ^ word).wrapping_mul(FACTOR).rotate_left(29);
             }
-            *print = mixed;
+            *fingerprint = mixed;
         }
     }
 
     /// A digest of all that the search of a lane goes by.
-    pub fn print(&self, lane: LaneNumber) -> u64 {
-        self.prints.get(lane.index()).copied().unwrap_or(0)
+    pub fn fingerprint(&self, lane: LaneNumber) -> u64 {
+        self.fingerprints.get(lane.index()).copied().unwrap_or(0)
     }
 
     /// The arrivals of a lane's pool, by rank. The cost is the logarithm of the number of the lane's arrivals.
@@ -222,9 +242,9 @@ impl Views {
             .arrivals
             .get(start.arrivals..end.arrivals)
             .unwrap_or(&[]);
-        let first = of_lane.partition_point(|one| one.1 < pool);
+        let first = of_lane.partition_point(|one| one.pool() < pool);
         let rest = of_lane.get(first..).unwrap_or(&[]);
-        let count = rest.partition_point(|one| one.1 <= pool);
+        let count = rest.partition_point(|one| one.pool() <= pool);
         rest.get(..count).unwrap_or(&[])
     }
 

@@ -1,5 +1,7 @@
 //! What is asked of a round beside what the sightings say.
 
+ghost use Rattle.std.specs.Prelude.{◌≡◌};
+
 use crate::constraint::Constraint;
 use audit_seen::{LaneNumber, SeenNumber};
 use std::alloc::{AllocError, Global};
@@ -10,9 +12,9 @@ use std::collections::{BTreeSet, btree_set};
 pub struct Constraints {
     all: BTreeSet<Constraint>,
     /// Whether acts that make or keep an allocation stand at their requests.
-    pub is_early: bool,
+    is_early: bool,
     /// How far behind the starts of their windows the sightings of each interface stand.
-    pub shifts: Vec<u64>,
+    shifts: Vec<u64>,
 }
 
 impl Constraints {
@@ -23,6 +25,18 @@ impl Constraints {
             is_early: false,
             shifts,
         }
+    }
+
+    /// How far behind the starts of their windows the sightings of each interface stand, in nanoseconds.
+    pub fn shifts(&self) -> &[u64] {
+        self.shifts.as_slice()
+    }
+
+    /// Whether acts that make or keep an allocation are to stand at their requests.
+    pub fn set_early(&mut self, is_early: bool)
+        ensures { self.new.is_early ≡ is_early }
+    {
+        self.is_early = is_early;
     }
 
     /// Takes back all.
@@ -69,7 +83,7 @@ impl Constraints {
 
     /// The departure before which an answer is to be given, the first one by its number.
     pub fn handed_over_before(&self, answer: SeenNumber) -> Option<SeenNumber> {
-        let least = SeenNumber(0);
+        let least = SeenNumber::new(0);
         match self.first_from(Constraint::HandedOver {
             answer,
             departure: least,
@@ -86,7 +100,7 @@ impl Constraints {
 
     /// The answer of another lane that makes an allocation before which that of an answer is to be over, the first one by its number.
     pub fn next_of(&self, maker: SeenNumber) -> Option<SeenNumber> {
-        let least = SeenNumber(0);
+        let least = SeenNumber::new(0);
         match self.first_from(Constraint::Precedes { maker, next: least }) {
             Some(Constraint::Precedes { maker: other, next }) if other == maker => Some(next),
             _ => None,
@@ -95,7 +109,7 @@ impl Constraints {
 
     /// The answer that tells of the allocation in which an answer is to be given, the first one by its number.
     pub fn maker_of(&self, answer: SeenNumber) -> Option<SeenNumber> {
-        let least = SeenNumber(0);
+        let least = SeenNumber::new(0);
         match self.first_from(Constraint::Within {
             answer,
             maker: least,
@@ -112,7 +126,7 @@ impl Constraints {
 
     /// The departure before which the lease of an answer is to be over, the first one by its number.
     pub fn over_before(&self, answer: SeenNumber) -> Option<SeenNumber> {
-        let least = SeenNumber(0);
+        let least = SeenNumber::new(0);
         match self.first_from(Constraint::OverBefore {
             answer,
             departure: least,
@@ -137,7 +151,7 @@ impl Constraints {
     /// Whether there are such answers.
     pub fn has_early(&self) -> bool {
         let first = self.first_from(Constraint::AtRequest {
-            answer: SeenNumber(0),
+            answer: SeenNumber::new(0),
         });
         first.is_some_and(|constraint| constraint.is_of_early_act())
     }

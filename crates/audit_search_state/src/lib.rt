@@ -4,17 +4,23 @@
 //! asked of all lanes, and `Found` what the search of a lane came to. Nothing rests on any of it.
 #![tactic(auto)]
 
+mod acted;
 mod constraint;
 mod constraints;
 mod found;
 mod pool_ref;
+mod previous;
+mod progress;
 mod refused;
 mod state;
 mod trail;
 
+pub use acted::{Acted, Turn};
 pub use constraint::Constraint;
 pub use constraints::Constraints;
 pub use found::{Fault, Found};
 pub use pool_ref::PoolRef;
+pub use previous::{End, Previous};
+pub use progress::Progress;
 pub use refused::Refused;
-pub use state::{Acted, Past, Progress, State, relayed_of};
+pub use state::{State, relayed_of};

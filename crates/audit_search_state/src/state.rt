@@ -1,90 +1,96 @@
 //! What a lane's search has done so far.
 
+ghost use Rattle.std.specs.Prelude.{◌≡◌};
+
+use crate::acted::Acted;
 use crate::pool_ref::PoolRef;
+use crate::previous::{End, Previous};
+use crate::progress::Progress;
 use crate::trail::{Trail, Undo};
 use audit_model::Addr;
 use audit_rules::LaneTable;
-use audit_seen::{LaneNumber, SeenNumber, Slot};
+use audit_seen::{LaneNumber, SeenNumber};
 use std::alloc::{AllocError, Global};
 use std::collections::{BTreeMap, BTreeSet, VecDeque};
-
-/// The act that gives a departure.
-#[derive(Clone, Copy, Debug)]
-pub struct Acted {
-    /// Where it stands.
-    pub slot: Slot,
-    /// The order of the acts of one slot.
-    pub turn: (u32, u32),
-    /// The arrival that it answers.
-    pub arrival: SeenNumber,
-}
-
-/// The table as it was before an act that ended or made an allocation.
-#[derive(Drop)]
-pub struct Past {
-    /// That table.
-    pub table: LaneTable,
-    /// The slot, the turn and the moment of that act, and its arrival.
-    pub slot: Slot,
-    pub turn: u32,
-    pub moment: u64,
-    pub by: SeenNumber,
-    /// The slot and the moment of the last change of the table before that act.
-    pub changed: (Slot, u64),
-}
-
-/// How far the acts have come.
-#[derive(Clone, Copy)]
-pub struct Progress {
-    /// The turn of the last act.
-    pub turn: u32,
-    /// The slot and the moment of the last change of the table.
-    pub changed: (Slot, u64),
-    /// How much the table has, about.
-    pub weight: u64,
-    /// The slot and the moment of the last act in order.
-    pub last: (Slot, u64),
-}
+use std::mem;
 
 /// The table of a lane, those that ended, and the acts so far.
 #[derive(Drop)]
 pub struct State {
     /// The table as the acts so far left it.
-    pub table: LaneTable,
+    table: LaneTable,
     /// The tables that ended, but for the oldest ones, which are forgotten.
-    past: VecDeque<Past>,
+    previous: VecDeque<Previous>,
     /// How many of them are forgotten.
     forgotten: usize,
     /// How far the acts have come.
-    pub progress: Progress,
+    progress: Progress,
     acts: BTreeMap<SeenNumber, Acted>,
     used: BTreeSet<SeenNumber>,
     /// The place in each pool of the first arrival that may be unused.
     first: BTreeMap<PoolRef, usize>,
     trail: Trail,
     /// Whether steps are noted, so that they can be taken back.
-    pub is_noting: bool,
+    is_noting: bool,
 }
 
 impl State {
     /// No acts, and a table with nothing in it.
     pub fn new(alloc: Global, lane: LaneNumber, client: Addr, listen: Addr) -> State {
         State {
-            table: LaneTable::new(lane.0, client, listen),
-            past: VecDeque::new(alloc),
+            table: LaneTable::new(lane.value(), client, listen),
+            previous: VecDeque::new(alloc),
             forgotten: 0,
-            progress: Progress {
-                turn: 0,
-                changed: (Slot(0), 0),
-                weight: 0,
-                last: (Slot(0), 0),
-            },
+            progress: Progress::none(),
             acts: BTreeMap::new(alloc),
             used: BTreeSet::new(alloc),
             first: BTreeMap::new(alloc),
             trail: Trail::new(alloc),
             is_noting: false,
         }
+    }
+
+    /// The table as the acts so far left it.
+    pub fn table(&self) -> &LaneTable {
+        &self.table
+    }
+
+    /// Takes the table out, and leaves another one until it is put back.
+    pub fn take_table(&mut self, other: LaneTable) -> LaneTable {
+        mem::replace(&mut self.table, other)
+    }
+
+    /// Puts the table back.
+    pub fn put_table(&mut self, table: LaneTable) {
+        self.table = table;
+    }
+
+    /// How far the acts have come.
+    pub fn progress(&self) -> Progress
+        ensures { result ≡ self.now.progress }
+    {
+        self.progress
+    }
+
+    /// The turn of the next act, which isn't taken back.
+    pub fn take_turn(&mut self) -> u32 {
+        self.progress = self.progress.with_act();
+        self.progress.turn()
+    }
+
+    /// Whether steps are noted, so that they can be taken back.
+    pub fn is_noting(&self) -> bool
+        ensures { result ≡ self.now.is_noting }
+    {
+        self.is_noting
+    }
+
+    /// Has steps be noted or not, and tells whether they were.
+    pub fn set_noting(&mut self, is_noting: bool) -> bool
+        ensures was { result ≡ self.old.is_noting }
+        ensures set { self.new.is_noting ≡ is_noting }
+    {
+        mem::replace(&mut self.is_noting, is_noting)
     }
 
     /// The acts, by their departures.
@@ -109,17 +115,17 @@ impl State {
 
     /// How many tables ended.
     pub fn ended(&self) -> usize {
-        self.forgotten.saturating_add(self.past.len())
+        self.forgotten.saturating_add(self.previous.len())
     }
 
     /// One of the tables that ended, by its number from 0, unless it is forgotten.
-    pub fn past(&self, which: usize) -> Option<&Past> {
-        self.past.get(which.checked_sub(self.forgotten)?)
+    pub fn previous(&self, which: usize) -> Option<&Previous> {
+        self.previous.get(which.checked_sub(self.forgotten)?)
     }
 
     /// The table that ended last.
-    pub fn last_past(&self) -> Option<&Past> {
-        self.past.back()
+    pub fn last_previous(&self) -> Option<&Previous> {
+        self.previous.back()
     }
 
     /// A mark to go back to.
@@ -151,10 +157,10 @@ impl State {
     }
 
     /// Forgets the oldest tables that ended, but for so many, and those that may come back.
-    pub fn keep_past(&mut self, count: usize) {
+    pub fn keep_previous(&mut self, count: usize) {
         let kept = count.saturating_add(self.trail.ends());
-        for _ in kept..self.past.len() {
-            if self.past.pop_front().is_some() {
+        for _ in kept..self.previous.len() {
+            if self.previous.pop_front().is_some() {
                 self.forgotten = self.forgotten.saturating_add(1);
             }
         }
@@ -168,13 +174,13 @@ impl State {
 
     /// Notes how far the acts have come.
     pub fn set_progress(&mut self, progress: Progress) -> Result<(), AllocError> {
-        let before = std::mem::replace(&mut self.progress, progress);
+        let before = mem::replace(&mut self.progress, progress);
         self.note(Undo::Progress(before), 1)
     }
 
     /// Notes what the table was before it changed, where that was kept.
     pub fn changed_from(&mut self, before: Option<LaneTable>) -> Result<(), AllocError> {
-        let weight = self.progress.weight.saturating_add(1);
+        let weight = self.progress.weight().saturating_add(1);
         match before {
             Some(before) => self.note(Undo::Table(before), weight),
             None => Ok(()),
@@ -182,35 +188,38 @@ impl State {
     }
 
     /// Notes what the table was before it was ended.
-    pub fn ended_from(&mut self, past: Past) -> Result<(), AllocError> {
-        self.past.push_back(past)?;
+    pub fn ended_from(&mut self, previous: Previous) -> Result<(), AllocError> {
+        self.previous.push_back(previous)?;
         self.note(Undo::Ended, 1)
     }
 
-    /// The slot, the turn and the moment at which a table was ended.
-    pub fn end_of(&self, which: usize) -> Option<(Slot, u32, u64)> {
-        let past = self.past(which)?;
-        Some((past.slot, past.turn, past.moment))
+    /// The act that ended a table.
+    pub fn end_of(&self, which: usize) -> Option<End> {
+        Some(self.previous(which)?.end())
     }
 
     /// Puts a table in the place of one that was ended, and gives that, unless it is forgotten.
-    pub fn swap_past(&mut self, which: usize, table: LaneTable) -> Option<LaneTable> {
+    pub fn swap_previous(&mut self, which: usize, table: LaneTable) -> Option<LaneTable> {
         let place = which.checked_sub(self.forgotten)?;
-        let past = self.past.get_mut(place)?;
-        Some(std::mem::replace(&mut past.table, table))
+        let previous = self.previous.get_mut(place)?;
+        Some(previous.swap_table(table))
     }
 
     /// Notes what a table that was ended was before it changed.
-    pub fn past_changed_from(&mut self, which: usize, before: LaneTable) -> Result<(), AllocError> {
-        let weight = self.progress.weight.saturating_add(1);
-        self.note(Undo::Past(which, before), weight)
+    pub fn previous_changed_from(
+        &mut self,
+        which: usize,
+        before: LaneTable,
+    ) -> Result<(), AllocError> {
+        let weight = self.progress.weight().saturating_add(1);
+        self.note(Undo::Previous(which, before), weight)
     }
 
     /// Notes the act that gives a departure.
     pub fn act(&mut self, departure: SeenNumber, acted: Acted) -> Result<(), AllocError> {
         self.acts.insert(departure, acted)?;
-        self.used.insert(acted.arrival)?;
-        self.note(Undo::Acted(departure, acted.arrival), 1)
+        self.used.insert(acted.arrival())?;
+        self.note(Undo::Acted(departure, acted.arrival()), 1)
     }
 
     /// Goes back to a mark.
@@ -227,14 +236,14 @@ impl State {
             Undo::Progress(progress) => self.progress = progress,
             Undo::Table(table) => self.table = table,
             Undo::Ended => {
-                if let Some(past) = self.past.pop_back() {
-                    self.table = past.table;
+                if let Some(previous) = self.previous.pop_back() {
+                    self.table = previous.into_table();
                 }
             }
-            Undo::Past(which, table) => {
+            Undo::Previous(which, table) => {
                 if let Some(place) = which.checked_sub(self.forgotten) {
-                    if let Some(past) = self.past.get_mut(place) {
-                        past.table = table;
+                    if let Some(previous) = self.previous.get_mut(place) {
+                        let _changed = previous.swap_table(table);
                     }
                 }
             }

@@ -1,7 +1,7 @@
 //! The steps of a lane's search that can be taken back.
 
 use crate::pool_ref::PoolRef;
-use crate::state::Progress;
+use crate::progress::Progress;
 use audit_rules::LaneTable;
 use audit_seen::SeenNumber;
 use std::alloc::{AllocError, Global};
@@ -17,7 +17,7 @@ pub(crate) enum Undo {
     /// The table was ended.
     Ended,
     /// What a table that had ended was.
-    Past(usize, LaneTable),
+    Previous(usize, LaneTable),
     /// A departure was acted on by an arrival.
     Acted(SeenNumber, SeenNumber),
     /// The place of the first arrival of a pool that may have been unused.

@@ -1,21 +1,16 @@
 //! What a datagram asks for, or gives.
 
 use crate::numbers::LaneNumber;
+use audit_content::{Given, Success};
 use audit_model::{Addr, Sighting};
-use audit_stun::numbers::attribute::{
-    CHANNEL_NUMBER, DATA, LIFETIME, XOR_PEER_ADDRESS, XOR_RELAYED_ADDRESS,
-};
-use audit_stun::numbers::method;
-use audit_stun::{Class, Message, address, channel_data, message};
 use std::hash::{DefaultHasher, Hasher};
 
 /// What arrivals ask for: those that ask for the same are alike for an answer. Data stands by its digest; two that have one are
 /// told apart when they are judged.
 #[derive(Clone, Copy, Debug, PartialEq, Eq, PartialOrd, Ord)]
 pub struct PoolKey {
-    /// Of data; of a request the first bytes of its transaction id.
-    pub digest: u64,
-    pub asked: Asked,
+    digest: u64,
+    asked: Asked,
 }
 
 /// What arrivals of one digest ask for.
@@ -87,6 +82,8 @@ pub enum Gives {
 }
 
 impl PoolKey {
+    ghost use Rattle.std.specs.Prelude.{◌≡◌};
+
     /// A request of a lane.
     pub(crate) fn request(lane: LaneNumber, method: u16, id: [u8; 12]) -> PoolKey {
         let [a, b, c, d, e, f, g, h, _, _, _, _] = id;
@@ -120,6 +117,19 @@ impl PoolKey {
         }
     }
 
+    /// Of data; of a request the first bytes of its transaction id.
+    pub fn digest(&self) -> u64
+        ensures { result ≡ self.now.digest }
+    {
+        self.digest
+    }
+
+    pub fn asked(&self) -> Asked
+        ensures { result ≡ self.now.asked }
+    {
+        self.asked
+    }
+
     pub(crate) fn is_request(&self) -> bool {
         matches!(self.asked, Asked::Request { .. })
     }
@@ -139,7 +149,7 @@ impl Gives {
     }
 }
 
-/// A digest of data, by which equal data is found.
+/// A digest of data, by which equal data is found: by SipHash, since arrivals of one digest are taken as alike.
 pub(crate) fn digest_of(data: &[u8]) -> u64 {
     let mut hasher = DefaultHasher::new();
     hasher.write(data);
@@ -148,18 +158,14 @@ pub(crate) fn digest_of(data: &[u8]) -> u64 {
 
 /// What a client's datagram asks for, if anything is answered to it.
 pub(crate) fn asked_by_client(lane: LaneNumber, payload: &[u8]) -> Option<PoolKey> {
-    if let Some((number, data, _)) = channel_data(payload) {
-        return Some(PoolKey::channel(lane, number, digest_of(data)));
-    }
-    let message = message(payload)?;
-    match message.class() {
-        Class::Request => Some(PoolKey::request(lane, message.method(), message.tid())),
-        Class::Indication if message.method() == method::SEND => {
-            let peer = address(message.first(XOR_PEER_ADDRESS)?)?;
-            let digest = digest_of(message.first(DATA)?);
-            Some(PoolKey::send(lane, peer, digest))
+    match audit_content::asked_by_client(payload)? {
+        audit_content::Asked::Request { method, id } => Some(PoolKey::request(lane, method, id)),
+        audit_content::Asked::Send { peer, data } => {
+            Some(PoolKey::send(lane, peer, digest_of(data)))
         }
-        _ => None,
+        audit_content::Asked::Channel { number, data } => {
+            Some(PoolKey::channel(lane, number, digest_of(data)))
+        }
     }
 }
 
@@ -171,15 +177,8 @@ pub(crate) fn asked_by_peer(arrives: &Sighting) -> PoolKey {
 
 /// The channel that a ChannelBind asks for, and its peer.
 pub fn asked_channel(payload: &[u8]) -> Option<(u16, Addr)> {
-    let request = message(payload)?;
-    if request.method() != method::CHANNEL_BIND {
-        return None;
-    }
-    let [high, low, _, _] = request.first(CHANNEL_NUMBER)? else {
-        return None;
-    };
-    let peer = address(request.first(XOR_PEER_ADDRESS)?)?;
-    Some((u16::from_be_bytes([*high, *low]), peer))
+    let channel = audit_content::asked_channel(payload)?;
+    Some((channel.number(), channel.peer()))
 }
 
 /// What leaves from a relayed address.
@@ -193,57 +192,44 @@ pub(crate) fn given_to_peer(leaves: &Sighting) -> Gives {
 
 /// What a client is given; of a response also which requests it answers.
 pub(crate) fn given_to_client(lane: LaneNumber, payload: &[u8]) -> (Gives, Option<PoolKey>) {
-    if let Some((number, data, _)) = channel_data(payload) {
-        let digest = digest_of(data);
-        return (Gives::Channel { number, digest }, None);
-    }
-    let Some(message) = message(payload) else {
-        return (Gives::Other, None);
-    };
-    let asked = PoolKey::request(lane, message.method(), message.tid());
-    match message.class() {
-        Class::Success => (given_by_success(&message), Some(asked)),
-        Class::Error => (Gives::Error, Some(asked)),
-        _ => (given_by_indication(&message).unwrap_or(Gives::Other), None),
+    match audit_content::given_to_client(payload) {
+        Some(
+            Given::Success {
+                method,
+                id,
+                success,
+            },
+        ) => {
+            let asked = PoolKey::request(lane, method, id);
+            (given_by_success(success), Some(asked))
+        }
+        Some(Given::Error { method, id, .. }) => {
+            (Gives::Error, Some(PoolKey::request(lane, method, id)))
+        }
+        Some(Given::Data { peer, data }) => {
+            let digest = digest_of(data);
+            (Gives::Data { peer, digest }, None)
+        }
+        Some(Given::Channel { number, data }) => {
+            let digest = digest_of(data);
+            (Gives::Channel { number, digest }, None)
+        }
+        None => (Gives::Other, None),
     }
 }
 
-fn given_by_success(message: &Message<'_>) -> Gives {
-    let seconds = seconds_of(message);
-    match message.method() {
-        method::ALLOCATE => match relayed_address(message) {
-            Some(relayed) => Gives::Allocated {
-                relayed,
-                seconds: seconds.unwrap_or(0),
-            },
-            None => Gives::Answered,
-        },
-        method::REFRESH if seconds == Some(0) => Gives::Deleted,
-        method::REFRESH => Gives::Refreshed {
+fn given_by_success(success: Success) -> Gives {
+    match success {
+        Success::Allocated { relayed, seconds } => Gives::Allocated {
+            relayed,
             seconds: seconds.unwrap_or(0),
         },
-        method::CREATE_PERMISSION => Gives::Permitted,
-        method::CHANNEL_BIND => Gives::Bound,
-        _ => Gives::Answered,
+        Success::Refreshed { seconds } => Gives::Refreshed {
+            seconds: seconds.unwrap_or(0),
+        },
+        Success::Deleted => Gives::Deleted,
+        Success::Permitted => Gives::Permitted,
+        Success::Bound => Gives::Bound,
+        Success::Other => Gives::Answered,
     }
-}
-
-fn given_by_indication(message: &Message<'_>) -> Option<Gives> {
-    if message.class() != Class::Indication || message.method() != method::DATA {
-        return None;
-    }
-    let peer = address(message.first(XOR_PEER_ADDRESS)?)?;
-    let digest = digest_of(message.first(DATA)?);
-    Some(Gives::Data { peer, digest })
-}
-
-fn relayed_address(message: &Message<'_>) -> Option<Addr> {
-    address(message.first(XOR_RELAYED_ADDRESS)?)
-}
-
-fn seconds_of(message: &Message<'_>) -> Option<u32> {
-    let [a, b, c, d] = message.first(LIFETIME)? else {
-        return None;
-    };
-    Some(u32::from_be_bytes([*a, *b, *c, *d]))
 }

@@ -17,7 +17,7 @@ impl Lanes {
         let mut numbers = BTreeMap::new(alloc);
         for (place, pair) in pairs.iter().enumerate() {
             if let Ok(number) = u32::try_from(place) {
-                numbers.insert(*pair, LaneNumber(number))?;
+                numbers.insert(*pair, LaneNumber::new(number))?;
             }
         }
         Ok(Lanes { numbers })

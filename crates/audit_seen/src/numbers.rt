@@ -4,17 +4,31 @@ ghost use Rattle.std.specs.Prelude.{◌≡◌};
 
 /// The number of a lane, as certificates have it.
 #[derive(Clone, Copy, Debug, PartialEq, Eq, PartialOrd, Ord, Hash)]
-pub struct LaneNumber(pub u32);
+pub struct LaneNumber(u32);
 
 /// The number of a sighting among all of them, interface by interface.
 #[derive(Clone, Copy, Debug, PartialEq, Eq, PartialOrd, Ord, Hash)]
-pub struct SeenNumber(pub u32);
+pub struct SeenNumber(u32);
 
 /// The number of a pool.
 #[derive(Clone, Copy, Debug, PartialEq, Eq, PartialOrd, Ord)]
-pub struct PoolNumber(pub u32);
+pub struct PoolNumber(u32);
 
 impl LaneNumber {
+    /// That number.
+    pub fn new(number: u32) -> LaneNumber
+        ensures { result.0 ≡ number }
+    {
+        LaneNumber(number)
+    }
+
+    /// It as a number.
+    pub fn value(self) -> u32
+        ensures { result ≡ self.0 }
+    {
+        self.0
+    }
+
     /// Its place among the lanes.
     pub fn index(self) -> usize
         ensures { result ≡ self.0 }
@@ -25,6 +39,20 @@ impl LaneNumber {
 }
 
 impl SeenNumber {
+    /// That number.
+    pub fn new(number: u32) -> SeenNumber
+        ensures { result.0 ≡ number }
+    {
+        SeenNumber(number)
+    }
+
+    /// It as a number.
+    pub fn value(self) -> u32
+        ensures { result ≡ self.0 }
+    {
+        self.0
+    }
+
     /// Its place among the sightings.
     pub fn index(self) -> usize
         ensures { result ≡ self.0 }
@@ -35,6 +63,23 @@ impl SeenNumber {
 }
 
 impl PoolNumber {
+    /// That of the first pool.
+    pub(crate) const FIRST: PoolNumber = PoolNumber(0);
+
+    /// That number.
+    pub fn new(number: u32) -> PoolNumber
+        ensures { result.0 ≡ number }
+    {
+        PoolNumber(number)
+    }
+
+    /// It as a number.
+    pub fn value(self) -> u32
+        ensures { result ≡ self.0 }
+    {
+        self.0
+    }
+
     /// Its place among the pools.
     pub fn index(self) -> usize
         ensures { result ≡ self.0 }

@@ -40,22 +40,22 @@ impl PoolNumbers {
 
     /// The pool of what is asked for. The cost is the logarithm of their number.
     pub fn get(&self, key: &PoolKey) -> Option<PoolNumber> {
-        let bits = first_bits(key.digest);
+        let bits = first_bits(key.digest());
         let start = self.start(bits);
         let near = self.keys.get(start..self.start(bits.saturating_add(1)))?;
         let place = near.binary_search(key).ok()?;
         u32::try_from(start.saturating_add(place))
             .ok()
-            .map(|number| PoolNumber(number))
+            .map(|number| PoolNumber::new(number))
     }
 
     /// The first lane that sent data of a digest.
     pub fn first_sender(&self, digest: u64) -> Option<LaneNumber> {
-        let least = PoolKey::send(LaneNumber(0), Addr { ip: 0, port: 0 }, digest);
+        let least = PoolKey::send(LaneNumber::new(0), Addr { ip: 0, port: 0 }, digest);
         let first = self.keys.partition_point(|key| *key < least);
         let key = self.keys.get(first)?;
-        match key.asked {
-            Asked::Send { lane, .. } | Asked::Channel { lane, .. } if key.digest == digest => {
+        match key.asked() {
+            Asked::Send { lane, .. } | Asked::Channel { lane, .. } if key.digest() == digest => {
                 Some(lane)
             }
             _ => None,
@@ -66,14 +66,14 @@ impl PoolNumbers {
     pub(crate) fn take(&mut self, key: PoolKey) -> Result<PoolNumber, AllocError> {
         if self.keys.last() != Some(&key) {
             let place = self.keys.len();
-            let count = first_bits(key.digest).saturating_add(1);
+            let count = first_bits(key.digest()).saturating_add(1);
             if self.starts.len() < count {
                 self.starts.resize(count, place)?;
             }
             self.keys.push(key)?;
         }
         let number = u32::try_from(self.keys.len().saturating_sub(1));
-        Ok(PoolNumber(number.map_err(|_| AllocError)?))
+        Ok(PoolNumber::new(number.map_err(|_| AllocError)?))
     }
 
     /// The place of the first key whose digest begins with these bits, or with greater ones.

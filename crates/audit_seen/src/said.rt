@@ -11,15 +11,37 @@ use audit_model::{Policy, Side, Sighting};
 /// What a sighting says, while pools have no numbers yet.
 #[derive(Clone, Copy)]
 pub(crate) struct Said {
-    pub says: Says,
+    says: Says,
+    lane: Option<LaneNumber>,
+    key: Option<PoolKey>,
+}
+
+impl Said {
+    ghost use Rattle.std.specs.Prelude.{◌≡◌};
+
+    pub(crate) fn says(&self) -> Says
+        ensures { result ≡ self.now.says }
+    {
+        self.says
+    }
+
     /// The lane of what goes between a client and its listen address.
-    pub lane: Option<LaneNumber>,
+    pub(crate) fn lane(&self) -> Option<LaneNumber>
+        ensures { result ≡ self.now.lane }
+    {
+        self.lane
+    }
+
     /// What it asks for, or what the requests that it answers ask for.
-    pub key: Option<PoolKey>,
+    pub(crate) fn key(&self) -> Option<PoolKey>
+        ensures { result ≡ self.now.key }
+    {
+        self.key
+    }
 }
 
 /// The pool of each sighting until all keys are in order.
-const NO_POOL: PoolNumber = PoolNumber(0);
+const NO_POOL: PoolNumber = PoolNumber::FIRST;
 
 /// What a sighting says.
 pub(crate) fn said_by(policy: &Policy, sighting: &Sighting, lanes: &Lanes) -> Said {

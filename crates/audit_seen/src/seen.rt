@@ -5,6 +5,7 @@ use crate::lanes::Lanes;
 use crate::numbers::{LaneNumber, PoolNumber, SeenNumber};
 use crate::pool_numbers::PoolNumbers;
 use crate::said::said_by;
+use audit_finding::Windows;
 use audit_model::{Policy, SightId, Sighting};
 use audit_sightings::Intake;
 use std::alloc::{AllocError, Global};
@@ -27,14 +28,12 @@ pub enum Says {
 /// A sighting, as far as its order goes by it.
 #[derive(Clone, Copy, Debug)]
 pub struct Seen {
-    /// The first and the last moment of its window, and when the capture says that it was seen.
-    pub lo: u64,
-    pub hi: u64,
-    pub stamp: u64,
-    pub says: Says,
-    /// The lane, of what goes between a client and its listen address.
-    pub lane: Option<LaneNumber>,
-    pub id: SightId,
+    first_moment: u64,
+    last_moment: u64,
+    stamp: u64,
+    says: Says,
+    lane: Option<LaneNumber>,
+    id: SightId,
 }
 
 impl Says {
@@ -54,6 +53,49 @@ impl Seen {
     ghost use Rattle.std.specs.Prelude.{◌≡◌};
     ghost use Rattle.audit_seen.specs.Says.{is_arrival, pool_in, answered_pool, given_by};
 
+    /// The first moment at which it may stand, in nanoseconds since 1970.
+    pub fn first_moment(&self) -> u64
+        ensures { result ≡ self.now.first_moment }
+    {
+        self.first_moment
+    }
+
+    /// The last moment at which it may stand, in nanoseconds since 1970.
+    pub fn last_moment(&self) -> u64
+        ensures { result ≡ self.now.last_moment }
+    {
+        self.last_moment
+    }
+
+    /// When the capture says that it was seen, in nanoseconds since 1970.
+    pub fn stamp(&self) -> u64
+        ensures { result ≡ self.now.stamp }
+    {
+        self.stamp
+    }
+
+    /// What it says.
+    pub fn says(&self) -> Says
+        ensures { result ≡ self.now.says }
+    {
+        self.says
+    }
+
+    /// The lane, of what goes between a client and its listen address.
+    pub fn lane(&self) -> Option<LaneNumber>
+        ensures { result ≡ self.now.lane }
+    {
+        self.lane
+    }
+
+    /// Its interface, and its place there.
+    pub fn id(&self) -> SightId
+        ensures { result ≡ self.now.id }
+    {
+        self.id
+    }
+
+    /// Whether it arrives.
     pub fn arrives(&self) -> bool
         ensures { result ≡ is_arrival self.now.says }
     {
@@ -99,6 +141,14 @@ impl Seen {
     }
 }
 
+/// What sightings are read by.
+#[derive(Clone, Copy)]
+struct Reader<'a> {
+    policy: &'a Policy,
+    lanes: &'a Lanes,
+    windows: Windows,
+}
+
 /// All sightings, interface by interface, by their numbers.
 #[derive(Drop)]
 pub struct Sights {
@@ -110,19 +160,25 @@ pub struct Sights {
 impl Sights {
     ghost use Rattle.std.specs.Prelude.{◌≡◌, ◌<◌, IfSome, vec_len, length};
 
-    /// Reads each sighting. It takes n log n, and for each sighting as many steps as it has bytes.
+    /// Reads each sighting, which may stand in so much of its window. It takes n log n, and for each sighting as many steps as it has bytes.
     pub fn read(
         alloc: Global,
         intake: &Intake,
         lanes: &Lanes,
+        windows: Windows,
     ) -> Result<(Sights, PoolNumbers), AllocError> {
+        let reader = Reader {
+            policy: intake.policy(),
+            lanes,
+            windows,
+        };
         let mut sights = Sights {
             list: Vec::new(alloc),
             starts: Vec::new(alloc),
         };
         let mut asked = Vec::new(alloc);
         for iface in 0..intake.interfaces() {
-            sights.read_row(intake.policy(), intake.interface(iface), lanes, &mut asked)?;
+            sights.read_row(reader, intake.interface(iface), &mut asked)?;
         }
         asked.sort_unstable();
         let mut numbers = PoolNumbers::new(alloc);
@@ -136,37 +192,35 @@ impl Sights {
     /// Reads the sightings of an interface, and notes what each asks for or answers. The numbers of pools come later.
     fn read_row(
         &mut self,
-        policy: &Policy,
+        reader: Reader<'_>,
         row: &[Sighting],
-        lanes: &Lanes,
         asked: &mut Vec<(PoolKey, SeenNumber)>,
     ) -> Result<(), AllocError> {
         let start = u32::try_from(self.list.len()).map_err(|_| AllocError)?;
         self.starts.push(start)?;
         for sighting in row {
-            self.read_one(policy, sighting, lanes, asked)?;
+            self.read_one(reader, sighting, asked)?;
         }
         Ok(())
     }
 
     fn read_one(
         &mut self,
-        policy: &Policy,
+        reader: Reader<'_>,
         sighting: &Sighting,
-        lanes: &Lanes,
         asked: &mut Vec<(PoolKey, SeenNumber)>,
     ) -> Result<(), AllocError> {
         let number = u32::try_from(self.list.len()).map_err(|_| AllocError)?;
-        let said = said_by(policy, sighting, lanes);
-        if let Some(key) = said.key {
-            asked.push((key, SeenNumber(number)))?;
+        let said = said_by(reader.policy, sighting, reader.lanes);
+        if let Some(key) = said.key() {
+            asked.push((key, SeenNumber::new(number)))?;
         }
         self.list.push(Seen {
-            lo: sighting.lo,
-            hi: sighting.hi,
+            first_moment: reader.windows.first(sighting),
+            last_moment: reader.windows.last(sighting),
             stamp: sighting.stamp,
-            says: said.says,
-            lane: said.lane,
+            says: said.says(),
+            lane: said.lane(),
             id: sighting.id,
         })?;
         Ok(())
@@ -179,6 +233,7 @@ impl Sights {
         }
     }
 
+    /// One of them, by its number.
     pub fn get(&self, number: SeenNumber) -> Option<&Seen> {
         self.list.get(number.index())
     }
@@ -205,7 +260,7 @@ impl Sights {
         match self.starts.get(iface.saturating_add(1)) {
             Some(end) if number >= *end => None,
             _ if number as usize >= self.list.len() => None,
-            _ => Some(SeenNumber(number)),
+            _ => Some(SeenNumber::new(number)),
         }
     }
 }

@@ -4,9 +4,23 @@ ghost use Rattle.std.specs.Prelude.{◌≡◌, ◌/◌, ◌%◌, ◌<◌};
 
 /// A place right before or right behind a sighting, in the order of all: four for each sighting.
 #[derive(Clone, Copy, Debug, PartialEq, Eq, PartialOrd, Ord)]
-pub struct Slot(pub u32);
+pub struct Slot(u32);
 
 impl Slot {
+    /// Before all sightings.
+    pub fn least() -> Slot
+        ensures { result.0 ≡ 0 }
+    {
+        Slot(0)
+    }
+
+    /// Its place among all slots.
+    pub fn value(self) -> u32
+        ensures { result ≡ self.0 }
+    {
+        self.0
+    }
+
     /// One of the four slots of a rank: two before the sighting, its own, and one behind it.
     pub fn part(rank: u32, place: u32) -> Slot {
         Slot(rank.saturating_mul(4).saturating_add(place))

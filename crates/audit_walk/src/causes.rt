@@ -1,10 +1,8 @@
 //! What a datagram that arrives asks for, by which the departure that answers it is found.
 
+use audit_content::{Asked, asked_by_client};
 use audit_model::{Addr, Sighting};
 use audit_seen::LaneNumber;
-use audit_stun::numbers::attribute::{DATA, XOR_PEER_ADDRESS};
-use audit_stun::numbers::method;
-use audit_stun::{Class, address, channel_data, message};
 
 /// What an arrival asks for. Data stands by its digest: two that have one are told apart when they are judged.
 #[derive(Clone, Copy, Debug, PartialEq, Eq)]
@@ -50,16 +48,16 @@ impl Cause {
                 let [a, b, c, d, e, f, g, h, i, j, k, l] = id;
                 let first = u64::from_le_bytes([a, b, c, d, e, f, g, h]);
                 let last = u32::from_le_bytes([i, j, k, l]);
-                [lane.0 as u64, first, last as u64]
+                [lane.value() as u64, first, last as u64]
             }
             Cause::Send { lane, peer, digest } => {
-                [1 << 48 | lane.0 as u64, word_of(peer), digest]
+                [1 << 48 | lane.value() as u64, word_of(peer), digest]
             }
             Cause::Channel {
                 lane,
                 number,
                 digest,
-            } => [2 << 48 | lane.0 as u64, number as u64, digest],
+            } => [2 << 48 | lane.value() as u64, number as u64, digest],
             Cause::Peer {
                 relayed,
                 peer,
@@ -74,7 +72,8 @@ fn word_of(address: Addr) -> u64 {
     (address.ip as u64) << 16 | address.port as u64
 }
 
-/// A digest of data, by which equal data is found. Others may choose data of one digest: it is tried as often as equal data would be.
+/// A digest of data, by which equal data is found: a fast one, of which others may choose data, since what it finds is judged each time, and is
+/// tried as often as equal data would be.
 pub fn digest_of(data: &[u8]) -> u64 {
     let (words, rest) = data.as_chunks::<8>();
     let mut digest = data.len() as u64;
@@ -94,25 +93,18 @@ fn mixed(digest: u64, word: u64) -> u64 {
 
 /// What a client's datagram asks for, if anything is answered to it.
 pub fn cause_of_client(lane: LaneNumber, payload: &[u8]) -> Option<Cause> {
-    if let Some((number, data, _)) = channel_data(payload) {
-        return Some(Cause::Channel {
+    match asked_by_client(payload)? {
+        Asked::Request { id, .. } => Some(Cause::Request { lane, id }),
+        Asked::Send { peer, data } => Some(Cause::Send {
+            lane,
+            peer,
+            digest: digest_of(data),
+        }),
+        Asked::Channel { number, data } => Some(Cause::Channel {
             lane,
             number,
             digest: digest_of(data),
-        });
-    }
-    let message = message(payload)?;
-    match message.class() {
-        Class::Request => Some(Cause::Request {
-            lane,
-            id: message.tid(),
         }),
-        Class::Indication if message.method() == method::SEND => Some(Cause::Send {
-            lane,
-            peer: address(message.first(XOR_PEER_ADDRESS)?)?,
-            digest: digest_of(message.first(DATA)?),
-        }),
-        _ => None,
     }
 }
 

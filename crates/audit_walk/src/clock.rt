@@ -79,3 +79,14 @@ pub fn after(key: Key) -> Key {
 pub fn is_open(given_to: Option<u64>, key: Key) -> bool {
     given_to.is_none_or(|given_to| key.moment > given_to)
 }
+
+/// The least key behind which an event that follows this one may still be given, where events were given up to a horizon.
+pub fn open_behind(given_to: Option<u64>, key: Key) -> Key {
+    match given_to {
+        Some(moment) if key.moment <= moment => Key {
+            moment,
+            tie: u32::MAX,
+        },
+        _ => key,
+    }
+}

@@ -1,18 +1,18 @@
 //! What was found: events, and whether the server kept to its rules by them.
 
+use crate::later::Later;
 use crate::portion::Portion;
 use audit_model::{Event, Key, SightId};
 use audit_seen::LaneNumber;
 use std::alloc::{AllocError, Global};
-use std::collections::BTreeMap;
 
 /// What was found so far.
 #[derive(Drop)]
 pub struct Found {
     /// The events that weren't taken out yet.
     portion: Portion,
-    /// The events past the last horizon that were found before it was reached, by key and lane.
-    later: BTreeMap<(Key, LaneNumber), Event>,
+    /// The events past the last horizon that were found before it was reached.
+    later: Later,
     /// Whether the server kept to its rules in all that was placed, as far as the walk can tell.
     seems_conforming: bool,
     alloc: Global,
@@ -22,7 +22,7 @@ impl Found {
     pub fn new(alloc: Global) -> Found {
         Found {
             portion: Portion::new(alloc),
-            later: BTreeMap::new(alloc),
+            later: Later::new(alloc),
             seems_conforming: true,
             alloc,
         }
@@ -63,20 +63,17 @@ impl Found {
         let (events, drops) = self.take_portion().into_parts();
         let mut portion = Portion::of_drops(self.alloc, drops);
         for (lane, event) in events {
-            let lane = LaneNumber(lane);
+            let lane = LaneNumber::new(lane);
             if event.key().moment <= horizon {
                 portion.push(lane, event)?;
             } else {
-                self.later.insert((event.key(), lane), event)?;
+                self.later.push(lane, event)?;
             }
         }
-        for _ in 0..self.later.len() {
-            match self.later.first_key_value() {
-                Some(((key, _), _)) if key.moment <= horizon => {}
-                _ => break,
-            }
-            if let Some(((_, lane), event)) = self.later.pop_first() {
-                portion.push(lane, event)?;
+        for _ in 0..self.later.count() {
+            match self.later.take_first(horizon) {
+                Some((lane, event)) => portion.push(lane, event)?,
+                None => break,
             }
         }
         portion.sort();

@@ -73,7 +73,7 @@ impl<'a> Judge<'a> {
     pub fn lane_of(&self, client: Addr, listen: Addr) -> Option<LaneNumber>
         ensures { option_map (λ lane. lane.0) result ≡ lane_in self.now.clients.now.pairs (client, listen) }
     {
-        Some(LaneNumber(self.clients.lane_of(client, listen)?))
+        Some(LaneNumber::new(self.clients.lane_of(client, listen)?))
     }
 
     /// Answers a request, and tells whether the server may. Where it may not, the table stays.
@@ -114,7 +114,7 @@ impl<'a> Judge<'a> {
     ) -> Result<bool, AllocError> {
         let at = At {
             key,
-            lane: lane.0,
+            lane: lane.value(),
             place: 0,
         };
         let policy = self.intake.policy();

@@ -1,10 +1,11 @@
 //! What sightings are alone, whatever comes before them.
 
 use crate::causes::{Cause, cause_of_client, cause_of_peer, digest_of};
-use crate::content::{Content, answer_of, data_given};
+use crate::content::{Content, answer_of};
 use crate::datagrams::Transaction;
 use crate::interfaces::Data;
 use crate::judge::Judge;
+use audit_content::{Given, given_to_client};
 use audit_model::{Side, Sighting};
 use audit_seen::LaneNumber;
 
@@ -62,13 +63,15 @@ fn leaving_kind(judge: &Judge<'_>, sighting: &Sighting) -> Kind {
         return Kind::Data(Data::new(None, digest_of(payload)));
     }
     let lane = judge.lane_of(sighting.to, sighting.from);
-    if let (Some(lane), Some(answer)) = (lane, answer_of(payload)) {
-        let (id, content) = answer;
+    let Some(given) = given_to_client(payload) else {
+        return Kind::Data(Data::new(lane, 0));
+    };
+    if let (Some(lane), Some((id, content))) = (lane, answer_of(&given)) {
         return Kind::Answer(Transaction::new(lane, id), content);
     }
-    let digest = match data_given(payload) {
-        Some((_, data)) => digest_of(data),
-        None => 0,
+    let digest = match given {
+        Given::Data { data, .. } | Given::Channel { data, .. } => digest_of(data),
+        Given::Success { .. } | Given::Error { .. } => 0,
     };
     Kind::Data(Data::new(lane, digest))
 }

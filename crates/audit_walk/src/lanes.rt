@@ -12,7 +12,7 @@ use self::allocations::Allocations;
 use self::holders::Holders;
 pub use self::holding::ACTS_BEFORE;
 pub use self::lane::FoundLane;
-pub use self::origins::Asked;
+pub use self::origins::Origins;
 use crate::datagrams::{Answer, Datagrams};
 use crate::judge::Judge;
 use crate::numbers::{AnswerNumber, ArrivalNumber};
@@ -49,7 +49,7 @@ impl Lanes {
             let Ok(number) = u32::try_from(self.list.len()) else {
                 return Ok(());
             };
-            let lane = FoundLane::new(self.alloc, LaneNumber(number), *client, *listen);
+            let lane = FoundLane::new(self.alloc, LaneNumber::new(number), *client, *listen);
             self.list.push(lane)?;
         }
         Ok(())
@@ -68,7 +68,7 @@ impl Lanes {
         if self.list.is_empty() {
             None
         } else {
-            Some(LaneNumber(0))
+            Some(LaneNumber::new(0))
         }
     }
 

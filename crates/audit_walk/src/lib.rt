@@ -15,6 +15,7 @@ mod interfaces;
 mod judge;
 mod kinds;
 mod lanes;
+mod later;
 mod numbers;
 mod portion;
 mod queues;

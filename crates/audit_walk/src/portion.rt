@@ -32,7 +32,7 @@ impl Portion {
 
     /// Adds an event of a lane.
     pub fn push(&mut self, lane: LaneNumber, event: Event) -> Result<(), AllocError> {
-        self.events.push((lane.0, event))?;
+        self.events.push((lane.value(), event))?;
         Ok(())
     }
 

@@ -4,7 +4,7 @@ use super::Judge;
 use audit_model::{Key, SightId, Sighting};
 
 /// How many sightings behind a departure bound its latest moment.
-const LOOKED_AHEAD: u32 = 4;
+const LOOKED_AHEAD: usize = 4;
 
 /// For how long ahead of a moment sightings are read, beside their windows, in nanoseconds: most requests are answered sooner.
 const LONGEST: u64 = 20_000_000;
@@ -23,15 +23,11 @@ impl Judge<'_> {
     /// The latest moment of a departure: that of its window, or of the window of one that is close behind it on its interface.
     pub(crate) fn latest_moment(&self, leaves: &Sighting) -> u64 {
         let SightId { iface, index } = leaves.id;
+        let row = self.intake.interface(iface);
+        let behind = row.get(index as usize..).unwrap_or(&[]).iter().skip(1);
         let mut moment = self.last_moment(leaves);
-        for behind in 1..=LOOKED_AHEAD {
-            let next = SightId {
-                iface,
-                index: index.saturating_add(behind),
-            };
-            if let Some(next) = self.sighting(next) {
-                moment = moment.min(self.last_moment(next));
-            }
+        for next in behind.take(LOOKED_AHEAD) {
+            moment = moment.min(self.last_moment(next));
         }
         moment
     }

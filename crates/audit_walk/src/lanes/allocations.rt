@@ -10,10 +10,19 @@ use std::collections::BTreeSet;
 /// How many of them are looked at for one.
 const LOOKED_AT: usize = 8;
 
-/// Answers that make allocations and weren't given yet, by the relayed address and the least moment at which they leave.
+/// An answer that makes an allocation and wasn't given yet.
+#[derive(Clone, Copy, PartialEq, Eq, PartialOrd, Ord)]
+struct Expected {
+    relayed: Addr,
+    /// The least moment at which it leaves.
+    moment: u64,
+    answer: AnswerNumber,
+}
+
+/// Those that are expected, by the relayed address and the least moment at which they leave.
 #[derive(Drop)]
 pub struct Allocations {
-    answers: BTreeSet<(Addr, u64, AnswerNumber)>,
+    answers: BTreeSet<Expected>,
 }
 
 impl Allocations {
@@ -29,12 +38,20 @@ impl Allocations {
         moment: u64,
         answer: AnswerNumber,
     ) -> Result<(), AllocError> {
-        self.answers.insert((relayed, moment, answer))?;
+        self.answers.insert(Expected {
+            relayed,
+            moment,
+            answer,
+        })?;
         Ok(())
     }
 
     pub fn remove(&mut self, relayed: Addr, moment: u64, answer: AnswerNumber) {
-        self.answers.remove(&(relayed, moment, answer));
+        self.answers.remove(&Expected {
+            relayed,
+            moment,
+            answer,
+        });
     }
 
     /// Whether another client has to have had an allocation's relayed address before, since it can have given it up before this
@@ -51,12 +68,16 @@ impl Allocations {
             return false;
         };
         let until = judge.latest_moment(leaves);
-        let from = (relayed, earliest, AnswerNumber::new(0));
-        for (address, moment, other) in self.answers.range(from..).take(LOOKED_AT) {
-            if *address != relayed || *moment >= until {
+        let from = Expected {
+            relayed,
+            moment: earliest,
+            answer: AnswerNumber::new(0),
+        };
+        for other in self.answers.range(from..).take(LOOKED_AT) {
+            if other.relayed != relayed || other.moment >= until {
                 return false;
             }
-            if let Some(other) = datagrams.answer(*other) {
+            if let Some(other) = datagrams.answer(other.answer) {
                 if other.lane() != answer.lane()
                     && other.is_deleted_before(until)
                     && !may_precede(judge, answer, other)

@@ -1,9 +1,9 @@
 //! The allocation of a client, as it stands, and as it stood before it was deleted.
 
 use crate::causes::Cause;
-use crate::clock::{after, is_open};
-use crate::content::Given;
+use crate::clock::after;
 use crate::judge::Judge;
+use audit_content::{Channel, Given};
 use audit_model::{Addr, Key, Sighting, Tenancy};
 use audit_rules::LaneTable;
 use audit_seen::LaneNumber;
@@ -28,7 +28,7 @@ pub struct Holding {
 impl Holding {
     pub fn new(alloc: Global, number: LaneNumber, client: Addr, listen: Addr) -> Holding {
         Holding {
-            table: LaneTable::new(number.0, client, listen),
+            table: LaneTable::new(number.value(), client, listen),
             relayed: None,
             peers: BTreeMap::new(alloc),
             numbers: BTreeMap::new(alloc),
@@ -80,17 +80,18 @@ impl Holding {
     }
 
     /// Notes a channel's peer.
-    pub fn bind(&mut self, number: u16, peer: Addr) -> Result<(), AllocError> {
-        self.peers.insert(number, peer)?;
-        self.numbers.insert(peer, number)?;
+    pub fn bind(&mut self, channel: Channel) -> Result<(), AllocError> {
+        self.peers.insert(channel.number(), channel.peer())?;
+        self.numbers.insert(channel.peer(), channel.number())?;
         Ok(())
     }
 
     /// What asks for data of that digest that a client with this allocation is given.
-    pub fn cause_of(&self, given: Given, digest: u64) -> Option<Cause> {
-        let peer = match given {
-            Given::Peer(peer) => peer,
-            Given::Channel(number) => self.peers.get(&number).copied()?,
+    pub fn cause_of(&self, given: &Given<'_>, digest: u64) -> Option<Cause> {
+        let peer = match *given {
+            Given::Data { peer, .. } => peer,
+            Given::Channel { number, .. } => self.peers.get(&number).copied()?,
+            Given::Success { .. } | Given::Error { .. } => return None,
         };
         Some(Cause::Peer {
             relayed: self.relayed?,
@@ -140,22 +141,18 @@ impl Deleted {
         self.left = self.left.saturating_sub(1);
     }
 
-    /// Relays data that came at a key right before the deletion, if the server may and events are still given there, and tells at which key.
+    /// Relays data right before the deletion, behind a key, if the server may, and tells at which key.
     pub fn relay(
         &mut self,
         judge: &Judge<'_>,
         lane: LaneNumber,
         arrives: &Sighting,
         leaves: &Sighting,
-        came: Key,
-        given_to: Option<u64>,
+        behind: Key,
     ) -> Result<Option<Key>, AllocError> {
-        let Some(key) = self.key_behind(came) else {
+        let Some(key) = self.key_behind(behind) else {
             return Ok(None);
         };
-        if !is_open(given_to, key) {
-            return Ok(None);
-        }
         if !self.holding.relays(judge, lane, arrives, leaves, key)? {
             return Ok(None);
         }

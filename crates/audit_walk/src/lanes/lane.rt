@@ -4,10 +4,11 @@ use super::holding::{Deleted, Holding};
 use super::last::Last;
 use super::pending::Pending;
 use crate::causes::Cause;
-use crate::content::{Content, Given, asked_channel};
+use crate::content::Content;
 use crate::datagrams::{Answer, Datagrams};
 use crate::judge::Judge;
 use crate::numbers::AnswerNumber;
+use audit_content::{Given, named_channel};
 use audit_model::{Addr, Key, SightId, Sighting, Tenancy};
 use audit_rules::LaneTable;
 use audit_seen::LaneNumber;
@@ -91,19 +92,17 @@ impl FoundLane {
             .relays(judge, self.number, arrives, leaves, key)
     }
 
-    /// Relays data that came at a key right before one of the deletions, if the server may and events are still given there, and tells at which
-    /// key.
+    /// Relays data right before one of the deletions, behind a key, if the server may, and tells at which key.
     pub fn relay_before_deletion(
         &mut self,
         judge: &Judge<'_>,
         arrives: &Sighting,
         leaves: &Sighting,
-        came: Key,
-        given_to: Option<u64>,
+        behind: Key,
     ) -> Result<Option<Key>, AllocError> {
         let lane = self.number;
         for deleted in &mut self.deleted {
-            let key = deleted.relay(judge, lane, arrives, leaves, came, given_to)?;
+            let key = deleted.relay(judge, lane, arrives, leaves, behind)?;
             if key.is_some() {
                 return Ok(key);
             }
@@ -135,11 +134,11 @@ impl FoundLane {
             Content::Allocated(relayed) => self.current.set_relayed(relayed),
             Content::Bound => {
                 let channel = match arrives {
-                    Some(arrives) => asked_channel(arrives),
+                    Some(arrives) => named_channel(arrives.payload.as_slice()),
                     None => None,
                 };
-                if let Some((number, peer)) = channel {
-                    self.current.bind(number, peer)?;
+                if let Some(channel) = channel {
+                    self.current.bind(channel)?;
                 }
             }
             _ => {}
@@ -205,12 +204,17 @@ impl FoundLane {
     }
 
     /// What asks for data of that digest that the client is given.
-    pub fn cause_of(&self, given: Given, digest: u64) -> Option<Cause> {
+    pub fn cause_of(&self, given: &Given<'_>, digest: u64) -> Option<Cause> {
         self.current.cause_of(given, digest)
     }
 
     /// What asks for data that the client is given, by the last of its deleted allocations that had such a peer, unless it is this.
-    pub fn cause_before(&self, given: Given, digest: u64, current: Option<Cause>) -> Option<Cause> {
+    pub fn cause_before(
+        &self,
+        given: &Given<'_>,
+        digest: u64,
+        current: Option<Cause>,
+    ) -> Option<Cause> {
         for deleted in self.deleted.iter().rev() {
             let cause = deleted.holding().cause_of(given, digest);
             if cause.is_some() && cause != current {

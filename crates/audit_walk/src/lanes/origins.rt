@@ -2,35 +2,52 @@
 
 use super::Lanes;
 use crate::causes::Cause;
-use crate::content::data_given;
 use crate::interfaces::Data;
 use crate::judge::Judge;
+use audit_content::given_to_client;
 use audit_model::Sighting;
 use audit_seen::LaneNumber;
 
-/// What may have asked for a departure, with its lanes: of the lane that has the relayed address now, and of the one that had it
-/// before, each as it is and as it was before its last deletion.
+/// What may have asked for a departure, and its lane.
 #[derive(Clone, Copy)]
-pub struct Asked {
+pub struct Origin {
     lane: LaneNumber,
-    causes: [Option<(LaneNumber, Cause)>; 6],
+    cause: Cause,
 }
 
-impl Asked {
+impl Origin {
+    pub fn lane(&self) -> LaneNumber {
+        self.lane
+    }
+
+    pub fn cause(&self) -> &Cause {
+        &self.cause
+    }
+}
+
+/// All that may have asked for a departure: of the lane that has the relayed address now, and of the one that had it before, each as it is and
+/// as it was before its last deletion.
+#[derive(Clone, Copy)]
+pub struct Origins {
+    lane: LaneNumber,
+    list: [Option<Origin>; 6],
+}
+
+impl Origins {
     /// The lane that it is most likely of.
     pub fn lane(&self) -> LaneNumber {
         self.lane
     }
 
-    /// What may have asked for it, with its lanes, the most likely first.
-    pub fn causes(&self) -> &[Option<(LaneNumber, Cause)>] {
-        self.causes.as_slice()
+    /// What may have asked for it, the most likely first.
+    pub fn as_slice(&self) -> &[Option<Origin>] {
+        self.list.as_slice()
     }
 }
 
 impl Lanes {
     /// What may have asked for data that leaves; none where nobody has or had its relayed address.
-    pub fn asked_by(&self, judge: &Judge<'_>, leaves: &Sighting, data: &Data) -> Option<Asked> {
+    pub fn asked_by(&self, judge: &Judge<'_>, leaves: &Sighting, data: &Data) -> Option<Origins> {
         let digest = data.digest();
         if judge.policy().listens(leaves.from) {
             return Some(self.asked_by_peer(data.lane()?, leaves, digest));
@@ -41,9 +58,9 @@ impl Lanes {
             Some(lane) => self.asked_by_client(lane, leaves, digest),
             None => [None; 3],
         };
-        Some(Asked {
+        Some(Origins {
             lane: holders.last(),
-            causes: [
+            list: [
                 send,
                 channel,
                 deleted,
@@ -55,11 +72,11 @@ impl Lanes {
     }
 
     /// What of one client may have asked for data that leaves to a peer.
-    pub fn asked_by_one(&self, lane: LaneNumber, leaves: &Sighting, digest: u64) -> Asked {
+    pub fn asked_by_one(&self, lane: LaneNumber, leaves: &Sighting, digest: u64) -> Origins {
         let [send, channel, deleted] = self.asked_by_client(lane, leaves, digest);
-        Asked {
+        Origins {
             lane,
-            causes: [send, channel, deleted, None, None, None],
+            list: [send, channel, deleted, None, None, None],
         }
     }
 
@@ -69,45 +86,43 @@ impl Lanes {
         lane: LaneNumber,
         leaves: &Sighting,
         digest: u64,
-    ) -> [Option<(LaneNumber, Cause)>; 3] {
+    ) -> [Option<Origin>; 3] {
         let peer = leaves.to;
-        let send = Cause::Send { lane, peer, digest };
         let Some(client) = self.get(lane) else {
             return [None; 3];
         };
         let number = client.number_of(peer);
         let deleted = client.number_before(peer, number);
-        let by_channel = |number: u16| {
-            let channel = Cause::Channel {
+        let by_channel = |number: u16| Origin {
+            lane,
+            cause: Cause::Channel {
                 lane,
                 number,
                 digest,
-            };
-            (lane, channel)
+            },
+        };
+        let by_send = Origin {
+            lane,
+            cause: Cause::Send { lane, peer, digest },
         };
         [
-            if client.sends() {
-                Some((lane, send))
-            } else {
-                None
-            },
+            if client.sends() { Some(by_send) } else { None },
             number.map(by_channel),
             deleted.map(by_channel),
         ]
     }
 
     /// What asks for data that a client is given.
-    fn asked_by_peer(&self, lane: LaneNumber, leaves: &Sighting, digest: u64) -> Asked {
-        let mut causes = [None; 6];
+    fn asked_by_peer(&self, lane: LaneNumber, leaves: &Sighting, digest: u64) -> Origins {
+        let mut list = [None; 6];
         if let Some(client) = self.get(lane) {
-            if let Some((given, _)) = data_given(leaves.payload.as_slice()) {
-                let current = client.cause_of(given, digest);
-                causes[0] = current.map(|cause| (lane, cause));
-                causes[1] = client
-                    .cause_before(given, digest, current)
-                    .map(|cause| (lane, cause));
+            if let Some(given) = given_to_client(leaves.payload.as_slice()) {
+                let current = client.cause_of(&given, digest);
+                let before = client.cause_before(&given, digest, current);
+                list[0] = current.map(|cause| Origin { lane, cause });
+                list[1] = before.map(|cause| Origin { lane, cause });
             }
         }
-        Asked { lane, causes }
+        Origins { lane, list }
     }
 }

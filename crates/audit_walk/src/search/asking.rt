@@ -4,10 +4,11 @@
 //! is acted on when its success leaves, and so is what may not be done any earlier, or is answered behind such a request.
 
 use super::Search;
-use crate::content::{Content, is_request};
+use crate::content::Content;
 use crate::datagrams::{Answer, Transaction};
 use crate::judge::Judge;
 use crate::numbers::{AnswerNumber, ArrivalNumber};
+use audit_content::{Asked, asked_by_client};
 use audit_model::Sighting;
 use audit_seen::LaneNumber;
 use std::alloc::AllocError;
@@ -45,16 +46,16 @@ impl Search {
         number: ArrivalNumber,
         sighting: &Sighting,
     ) -> Result<(), AllocError> {
-        let asks = is_request(sighting);
+        let transaction = transaction_of(lane, sighting);
         if let Some(client) = self.lanes.get_mut(lane) {
-            if asks {
+            if transaction.is_some() {
                 client.last_mut().note_request(number);
             } else {
                 client.last_mut().note_sent(number);
             }
         }
-        if asks {
-            return self.ask(judge, lane, number, sighting);
+        if let Some(transaction) = transaction {
+            return self.ask(judge, number, &transaction);
         }
         self.datagrams.note_sent(number);
         Ok(())
@@ -64,14 +65,15 @@ impl Search {
     fn ask(
         &mut self,
         judge: &Judge<'_>,
-        lane: LaneNumber,
         number: ArrivalNumber,
-        sighting: &Sighting,
+        transaction: &Transaction,
     ) -> Result<(), AllocError> {
+        let lane = transaction.lane();
         let noted = self.datagrams.noted_answer(number);
+        let moment = self.clock.moment();
         let answer = match noted {
             Some(_) => noted,
-            None => self.reserve(judge, lane, number, sighting),
+            None => self.datagrams.reserve(judge, moment, number, transaction),
         };
         let Some(answer) = answer else {
             return Ok(());
@@ -89,19 +91,6 @@ impl Search {
             Some(client) => client.keep_back(answer, &known),
             None => Ok(()),
         }
-    }
-
-    /// Finds the answer to a request that none was noted with.
-    fn reserve(
-        &mut self,
-        judge: &Judge<'_>,
-        lane: LaneNumber,
-        number: ArrivalNumber,
-        sighting: &Sighting,
-    ) -> Option<AnswerNumber> {
-        let transaction = transaction_of(lane, sighting)?;
-        self.datagrams
-            .reserve(judge, self.clock.moment(), number, &transaction)
     }
 
     /// Whether an answer is best given as it leaves: the walk is late; or it leaves behind another that is kept back; or it deletes an
@@ -138,8 +127,10 @@ impl Search {
     }
 }
 
-/// The transaction of a request.
-fn transaction_of(lane: LaneNumber, sighting: &Sighting) -> Option<Transaction> {
-    let request = audit_stun::message(sighting.payload.as_slice())?;
-    Some(Transaction::new(lane, request.tid()))
+/// The transaction of a client's datagram, if it is a request.
+fn transaction_of(lane: LaneNumber, arrives: &Sighting) -> Option<Transaction> {
+    match asked_by_client(arrives.payload.as_slice())? {
+        Asked::Request { id, .. } => Some(Transaction::new(lane, id)),
+        Asked::Send { .. } | Asked::Channel { .. } => None,
+    }
 }

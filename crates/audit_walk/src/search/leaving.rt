@@ -6,6 +6,7 @@ use crate::datagrams::{Answer, Transaction};
 use crate::interfaces::Wait;
 use crate::judge::Judge;
 use crate::numbers::{AnswerNumber, ArrivalNumber};
+use audit_content::given_to_client;
 use audit_model::{Addr, Event, Sighting};
 use audit_seen::LaneNumber;
 use std::alloc::AllocError;
@@ -72,10 +73,10 @@ impl Search {
         lane: LaneNumber,
         leaves: &Sighting,
     ) -> Result<Option<ArrivalNumber>, AllocError> {
-        let Some(answer) = answer_of(leaves.payload.as_slice()) else {
+        let given = given_to_client(leaves.payload.as_slice());
+        let Some((id, _)) = given.and_then(|given| answer_of(&given)) else {
             return Ok(None);
         };
-        let (id, _) = answer;
         let earliest = self.earliest(judge);
         let transaction = Transaction::new(lane, id);
         let likely = self.datagrams.likely_request(&transaction, earliest)?;

@@ -2,11 +2,11 @@
 
 use super::Search;
 use crate::causes::Cause;
-use crate::clock::{after, is_open};
+use crate::clock::{after, is_open, open_behind};
 use crate::datagrams::CANDIDATES;
 use crate::interfaces::{Data, Wait};
 use crate::judge::Judge;
-use crate::lanes::Asked;
+use crate::lanes::Origins;
 use crate::numbers::ArrivalNumber;
 use audit_model::{Key, Sighting};
 use audit_seen::LaneNumber;
@@ -77,7 +77,7 @@ impl Search {
     }
 
     /// What may have asked for data from an address that nobody has or had: the last client that sent data, or else the first one.
-    fn asked_by_last(&self, judge: &Judge<'_>, leaves: &Sighting, digest: u64) -> Option<Asked> {
+    fn asked_by_last(&self, judge: &Judge<'_>, leaves: &Sighting, digest: u64) -> Option<Origins> {
         if judge.policy().listens(leaves.from) {
             return None;
         }
@@ -88,13 +88,14 @@ impl Search {
     fn choose(
         &mut self,
         judge: &Judge<'_>,
-        asked: &Asked,
+        asked: &Origins,
         leaves: &Sighting,
     ) -> Result<Choice, AllocError> {
         let mut choice = Choice::None;
-        for cause in asked.causes() {
-            if let Some((lane, cause)) = cause {
-                choice = choice.or(self.choose_of(judge, *lane, cause, leaves)?);
+        for origin in asked.as_slice() {
+            if let Some(origin) = origin {
+                let other = self.choose_of(judge, origin.lane(), origin.cause(), leaves)?;
+                choice = choice.or(other);
                 if let Choice::Acts(..) = choice {
                     return Ok(choice);
                 }
@@ -168,7 +169,8 @@ impl Search {
         if client.relays(judge, arrives, leaves, now)? {
             return Ok(Some(now));
         }
-        let before = client.relay_before_deletion(judge, arrives, leaves, came, given_to)?;
+        let behind = open_behind(given_to, came);
+        let before = client.relay_before_deletion(judge, arrives, leaves, behind)?;
         if before.is_some() {
             return Ok(before);
         }
@@ -189,19 +191,20 @@ impl Search {
     fn likely(
         &mut self,
         judge: &Judge<'_>,
-        asked: &Asked,
+        asked: &Origins,
         leaves: &Sighting,
     ) -> Result<Option<(LaneNumber, ArrivalNumber)>, AllocError> {
         let earliest = self.earliest(judge);
-        for cause in asked.causes() {
-            if let Some((lane, cause)) = cause {
+        for origin in asked.as_slice() {
+            if let Some(origin) = origin {
+                let cause = origin.cause();
                 if let Some(number) = self.datagrams.skip_to_first(cause, earliest) {
                     if self.datagrams.waiting_since(number).is_some() {
-                        return Ok(Some((*lane, number)));
+                        return Ok(Some((origin.lane(), number)));
                     }
                 }
                 if let Some(number) = self.datagrams.previous(cause, earliest)? {
-                    return Ok(Some((*lane, number)));
+                    return Ok(Some((origin.lane(), number)));
                 }
             }
         }
@@ -212,7 +215,7 @@ impl Search {
     fn last_of(
         &self,
         judge: &Judge<'_>,
-        asked: &Asked,
+        asked: &Origins,
         leaves: &Sighting,
         earliest: u64,
     ) -> Option<(LaneNumber, ArrivalNumber)> {

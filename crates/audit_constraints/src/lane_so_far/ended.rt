@@ -1,0 +1,55 @@
+//! Constraints about allocations that were ended shortly before departures.
+
+use super::LaneSoFar;
+use audit_search_input::AHEAD;
+use audit_search_state::Constraint;
+use audit_seen::{Gives, SeenNumber};
+use std::alloc::AllocError;
+
+impl LaneSoFar<'_> {
+    /// The answers that end allocations and leave before a departure, no longer than the hold, the last one first.
+    pub(crate) fn ends_before(&self, departure: SeenNumber) -> Result<Vec<SeenNumber>, AllocError> {
+        let moment = self.input.at(departure);
+        let mut found = Vec::new(self.input.alloc());
+        for (_, answer) in self.changes_before(departure).iter().rev().take(AHEAD) {
+            let is_end = self.input.gives(*answer) == Some(Gives::Deleted);
+            if is_end && self.input.held_until(*answer) >= moment {
+                found.push(*answer)?;
+            }
+        }
+        Ok(found)
+    }
+
+    /// Asks that what a departure may answer stands before the answers that ended allocations before it.
+    pub(crate) fn ask_before_ends(
+        &self,
+        departure: SeenNumber,
+        constraints: &mut Vec<Constraint>,
+    ) -> Result<(), AllocError> {
+        for answer in self.ends_before(departure)? {
+            for pool in self.any_pools(departure)? {
+                self.ask_behind(answer, pool, 1, constraints)?;
+            }
+        }
+        Ok(())
+    }
+
+    /// Asks that channels which were bound before a departure were bound in allocations that were ended before their answers left.
+    pub(crate) fn ask_earlier(
+        &self,
+        departure: SeenNumber,
+        constraints: &mut Vec<Constraint>,
+    ) -> Result<(), AllocError> {
+        for (_, answer) in self.changes_before(departure).iter().rev().take(AHEAD) {
+            let is_bound = self.input.gives(*answer) == Some(Gives::Bound);
+            let constraint = Constraint::Earlier { answer: *answer };
+            if is_bound
+                && !constraints.contains(&constraint)
+                && !self.ends_before(*answer)?.is_empty()
+            {
+                constraints.push(constraint)?;
+            }
+        }
+        Ok(())
+    }
+}

@@ -1,0 +1,119 @@
+//! Constraints for acts at their requests, so that leases end as early as they may.
+
+use super::{EACH, LaneSoFar};
+use audit_model::Rule;
+use audit_search_input::AHEAD;
+use audit_search_state::{Constraint, Refused};
+use audit_seen::{Gives, SeenNumber};
+use std::alloc::AllocError;
+
+impl LaneSoFar<'_> {
+    /// Asks that an address which another client had before is given before the departure, or at its request, where the answer leaves behind
+    /// the departure.
+    pub(crate) fn ask_soon(
+        &self,
+        departure: SeenNumber,
+        constraints: &mut Vec<Constraint>,
+    ) -> Result<(), AllocError> {
+        for answer in self.pending_behind(departure)? {
+            if self.input.deadlines().is_second(answer) {
+                for constraint in [
+                    Constraint::HandedOver { answer, departure },
+                    Constraint::AtRequest { answer },
+                ] {
+                    if !constraints.contains(&constraint) {
+                        constraints.push(constraint)?;
+                    }
+                }
+            }
+        }
+        Ok(())
+    }
+
+    /// Asks that a lease is given anew at its request, before the one that was there is over.
+    pub(crate) fn ask_own_early(
+        &self,
+        departure: SeenNumber,
+        constraints: &mut Vec<Constraint>,
+    ) -> Result<(), AllocError> {
+        if let Some(Gives::Refreshed { .. } | Gives::Bound | Gives::Permitted) = self
+            .input
+            .gives(departure)
+        {
+            constraints.push(Constraint::AtRequest { answer: departure })?;
+        }
+        Ok(())
+    }
+
+    /// Asks that what the lane holds was given at its request, the latest leases first, so that it may be over.
+    pub(crate) fn ask_at_request(
+        &self,
+        departure: SeenNumber,
+        constraints: &mut Vec<Constraint>,
+    ) -> Result<(), AllocError> {
+        let before = self.changes_before(departure);
+        for is_of_allocation in [true, false] {
+            let most = constraints.len().saturating_add(EACH.saturating_mul(2));
+            for (_, answer) in before.iter().rev().take(AHEAD) {
+                let gives = self.input.gives(*answer);
+                let is_one = gives.is_some_and(|gives| is_lease(gives, is_of_allocation));
+                if is_one && self.state.is_acted(*answer) && constraints.len() < most {
+                    let may_be_over = self.may_be_over(*answer, departure);
+                    if may_be_over {
+                        constraints.push(Constraint::OverBefore {
+                            answer: *answer,
+                            departure,
+                        })?;
+                    }
+                    if may_be_over || !self.ends_before(*answer)?.is_empty() {
+                        constraints.push(Constraint::AtRequest { answer: *answer })?;
+                    }
+                }
+            }
+        }
+        Ok(())
+    }
+
+    /// Whether the lease of an answer isn't over before a departure where it is given as it leaves, and is where it is given at its request.
+    fn may_be_over(&self, answer: SeenNumber, departure: SeenNumber) -> bool {
+        let (Some(latest), Some(request)) = (
+            self.input.latest_before(answer, departure),
+            self.input.matched_to(answer),
+        ) else {
+            return false;
+        };
+        self.input.at(request) <= latest && latest < self.input.at(answer)
+    }
+}
+
+/// Whether an answer gives an allocation for a time, or else something within one.
+fn is_lease(gives: Gives, is_of_allocation: bool) -> bool {
+    match gives {
+        Gives::Allocated { .. } | Gives::Refreshed { .. } => is_of_allocation,
+        Gives::Bound | Gives::Permitted => !is_of_allocation,
+        _ => false,
+    }
+}
+
+/// Whether a rule asks for an allocation.
+pub(crate) fn is_of_lease(refused: Refused) -> bool {
+    matches!(
+        refused,
+        Refused::Rule(Rule::NoAllocation | Rule::AllocationOver)
+    )
+}
+
+/// Whether a rule breaks over something that is in the table, or in another lane's.
+pub(crate) fn is_of_what_is_there(refused: Refused) -> bool {
+    matches!(
+        refused,
+        Refused::Rule(
+            Rule::ErrorCondition
+                | Rule::AllocationPresent
+                | Rule::RelayedAddress
+                | Rule::OtherUser
+                | Rule::ChannelConflict
+                | Rule::AddressHeld
+        )
+    )
+}

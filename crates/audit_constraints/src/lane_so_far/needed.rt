@@ -1,0 +1,173 @@
+//! What a lane would need to act on a departure, and doesn't have.
+
+use super::leases::{is_of_lease, is_of_what_is_there};
+use super::within::is_of_what_was_granted;
+use super::{EACH, LaneSoFar};
+use audit_model::Rule;
+use audit_search_input::{AHEAD, helps};
+use audit_search_state::{Constraint, PoolRef, Refused};
+use audit_seen::{Gives, SeenNumber};
+use std::alloc::AllocError;
+
+impl LaneSoFar<'_> {
+    /// What the lane would need to act on a departure, the likeliest first: arrivals before it, its own or those of answers that may help;
+    /// or that it is another lane's.
+    pub fn constraints(
+        &self,
+        departure: SeenNumber,
+        refused: Refused,
+    ) -> Result<Vec<Constraint>, AllocError> {
+        let mut constraints = Vec::new(self.input.alloc());
+        if refused == Refused::Rule(Rule::ChannelConflict) {
+            self.ask_earlier(departure, &mut constraints)?;
+        }
+        if is_of_what_was_granted(refused) {
+            self.ask_within(departure, &mut constraints)?;
+        }
+        if is_of_what_is_there(refused) {
+            self.ask_at_request(departure, &mut constraints)?;
+        }
+        if is_of_lease(refused) {
+            self.ask_own_early(departure, &mut constraints)?;
+        }
+        self.ask_soon(departure, &mut constraints)?;
+        self.ask_before_ends(departure, &mut constraints)?;
+        if is_of_table(refused) {
+            self.ask_changes(departure, refused, &mut constraints)?;
+            self.ask_own(departure, &mut constraints)?;
+        } else {
+            self.ask_own(departure, &mut constraints)?;
+            self.ask_changes(departure, refused, &mut constraints)?;
+        }
+        if is_of_table(refused) {
+            self.ask_earlier(departure, &mut constraints)?;
+        }
+        if self.has_other_holders(departure)? {
+            let place = constraints.len().min(EACH);
+            let constraint = Constraint::NotHere {
+                sighting: departure,
+                lane: self.number,
+            };
+            constraints.insert(place, constraint)?;
+        }
+        Ok(constraints)
+    }
+
+    /// Asks for arrivals that the departure may answer.
+    fn ask_own(
+        &self,
+        departure: SeenNumber,
+        constraints: &mut Vec<Constraint>,
+    ) -> Result<(), AllocError> {
+        let pools = self.any_pools(departure)?;
+        for pool in &pools {
+            self.ask_late(departure, *pool, constraints)?;
+            self.ask_behind(departure, *pool, EACH, constraints)?;
+        }
+        self.ask_older(departure, &pools, constraints)
+    }
+
+    /// Asks for the requests of answers that may help.
+    fn ask_changes(
+        &self,
+        departure: SeenNumber,
+        refused: Refused,
+        constraints: &mut Vec<Constraint>,
+    ) -> Result<(), AllocError> {
+        let reasons = [
+            refused,
+            Refused::Rule(Rule::NoPermission),
+            Refused::Rule(Rule::NoAllocation),
+            Refused::Rule(Rule::ErrorCondition),
+        ];
+        for reason in reasons {
+            self.ask_changes_for(departure, reason, constraints)?;
+        }
+        Ok(())
+    }
+
+    fn ask_changes_for(
+        &self,
+        departure: SeenNumber,
+        reason: Refused,
+        constraints: &mut Vec<Constraint>,
+    ) -> Result<(), AllocError> {
+        let rank = self.input.rank(departure);
+        let hi = self
+            .input
+            .seen(departure)
+            .map_or(0, |seen| seen.last_moment());
+        let until = hi.saturating_add(self.input.hold());
+        let behind = self.changes.partition_point(|change| change.0 <= rank);
+        let near = self
+            .changes
+            .get(behind.saturating_sub(AHEAD)..)
+            .unwrap_or(&[]);
+        for (_, answer) in near.iter().take(AHEAD.saturating_mul(3)) {
+            let may_help = self
+                .input
+                .gives(*answer)
+                .is_some_and(|gives| helps(reason, gives));
+            if may_help && !self.state.is_acted(*answer) && self.input.low(*answer) <= until {
+                if let Some(pool) = self.input.response_ref(*answer) {
+                    self.ask_behind(departure, pool, 1, constraints)?;
+                }
+            }
+        }
+        Ok(())
+    }
+
+    /// Asks for the first arrivals of a pool that stand behind a departure, and might stand before it.
+    pub(crate) fn ask_behind(
+        &self,
+        departure: SeenNumber,
+        pool: PoolRef,
+        count: usize,
+        constraints: &mut Vec<Constraint>,
+    ) -> Result<(), AllocError> {
+        let all = self.input.views().arrivals(self.number, pool);
+        let rank = self.input.rank(departure);
+        let hi = self
+            .input
+            .seen(departure)
+            .map_or(0, |seen| seen.last_moment());
+        let behind = all.partition_point(|one| one.rank() < rank);
+        for one in all.get(behind..).unwrap_or(&[]).iter().take(count) {
+            let arrival = one.number();
+            let constraint = Constraint::Before { arrival, departure };
+            let may_stand = self.input.low(arrival) <= hi && !self.state.is_used(arrival);
+            if may_stand && !constraints.contains(&constraint) {
+                constraints.push(constraint)?;
+            }
+        }
+        Ok(())
+    }
+
+    /// Whether a departure leaves from a relayed address that several lanes had.
+    fn has_other_holders(&self, departure: SeenNumber) -> Result<bool, AllocError> {
+        let input = self.input;
+        let Some(Gives::Relayed { relayed, .. }) = input.gives(departure) else {
+            return Ok(false);
+        };
+        let tenancies = input.known().tenancies();
+        let lane = self.number;
+        let of = tenancies.of_address(relayed);
+        Ok(of.iter().any(|tenancy| tenancy.lane() != lane))
+    }
+}
+
+/// Whether a rule asks for something in the table.
+fn is_of_table(refused: Refused) -> bool {
+    matches!(
+        refused,
+        Refused::Rule(
+            Rule::NoAllocation
+                | Rule::AllocationOver
+                | Rule::NoPermission
+                | Rule::PermissionOver
+                | Rule::NoChannel
+                | Rule::ChannelOver
+                | Rule::PeerDiffers
+        )
+    )
+}

@@ -1,0 +1,116 @@
+//! What a client is given.
+
+use audit_model::Addr;
+use audit_stun::numbers::attribute::{
+    DATA, ERROR_CODE, LIFETIME, XOR_PEER_ADDRESS, XOR_RELAYED_ADDRESS,
+};
+use audit_stun::numbers::method;
+use audit_stun::{Class, Message, address, channel_data, error_code, message};
+
+/// What a client is given.
+#[derive(Clone, Copy, Debug)]
+pub enum Given<'a> {
+    /// A success to a request of that method and transaction id (RFC 8489, section 5).
+    Success {
+        method: u16,
+        id: [u8; 12],
+        success: Success,
+    },
+    /// An error to such a request, with its code if one can be read (RFC 8489, section 14.8).
+    Error {
+        method: u16,
+        id: [u8; 12],
+        code: Option<u16>,
+    },
+    /// A Data indication (RFC 8656, section 11).
+    Data {
+        peer: Addr,
+        data: &'a [u8],
+    },
+    /// ChannelData to the client (RFC 8656, section 12).
+    Channel {
+        number: u16,
+        data: &'a [u8],
+    },
+}
+
+/// What a success says.
+#[derive(Clone, Copy, Debug)]
+pub enum Success {
+    /// There is an allocation of that relayed address (RFC 8656, section 7.2), for so many seconds.
+    Allocated { relayed: Addr, seconds: Option<u32> },
+    /// The allocation is there for so many seconds (RFC 8656, section 8.2).
+    Refreshed { seconds: Option<u32> },
+    /// The allocation is deleted: a success to a Refresh, of no seconds (RFC 8656, section 8.2).
+    Deleted,
+    /// A success to a CreatePermission (RFC 8656, section 10).
+    Permitted,
+    /// A success to a ChannelBind (RFC 8656, section 12).
+    Bound,
+    /// Another success.
+    Other,
+}
+
+/// What a datagram to a client gives it, if that can be read.
+pub fn given_to_client(payload: &[u8]) -> Option<Given<'_>> {
+    if let Some((number, data, _)) = channel_data(payload) {
+        return Some(Given::Channel { number, data });
+    }
+    let message = message(payload)?;
+    match message.class() {
+        Class::Success => Some(Given::Success {
+            method: message.method(),
+            id: message.tid(),
+            success: said_by_success(&message),
+        }),
+        Class::Error => Some(Given::Error {
+            method: message.method(),
+            id: message.tid(),
+            code: code_of(&message),
+        }),
+        Class::Indication if message.method() == method::DATA => given_by_data(&message),
+        Class::Request | Class::Indication => None,
+    }
+}
+
+fn said_by_success(message: &Message<'_>) -> Success {
+    match message.method() {
+        method::ALLOCATE => match relayed_address(message) {
+            Some(relayed) => Success::Allocated {
+                relayed,
+                seconds: seconds_of(message),
+            },
+            None => Success::Other,
+        },
+        method::REFRESH => match seconds_of(message) {
+            Some(0) => Success::Deleted,
+            seconds => Success::Refreshed { seconds },
+        },
+        method::CREATE_PERMISSION => Success::Permitted,
+        method::CHANNEL_BIND => Success::Bound,
+        _ => Success::Other,
+    }
+}
+
+/// What a Data indication gives.
+fn given_by_data<'a>(message: &Message<'a>) -> Option<Given<'a>> {
+    let peer = address(message.first(XOR_PEER_ADDRESS)?)?;
+    let data = message.first(DATA)?;
+    Some(Given::Data { peer, data })
+}
+
+fn relayed_address(message: &Message<'_>) -> Option<Addr> {
+    address(message.first(XOR_RELAYED_ADDRESS)?)
+}
+
+/// The seconds of a LIFETIME (RFC 8656, section 18.2).
+fn seconds_of(message: &Message<'_>) -> Option<u32> {
+    let [a, b, c, d] = message.first(LIFETIME)? else {
+        return None;
+    };
+    Some(u32::from_be_bytes([*a, *b, *c, *d]))
+}
+
+fn code_of(message: &Message<'_>) -> Option<u16> {
+    error_code(message.first(ERROR_CODE)?)
+}

@@ -1,0 +1,47 @@
+//! Which answers that are pending may help where a rule refuses an act.
+
+use super::Lane;
+use audit_search_input::{helps, names, peer_of};
+use audit_search_state::Refused;
+use audit_seen::{Gives, SeenNumber, Slot};
+use std::alloc::AllocError;
+
+impl Lane<'_> {
+    /// The answers behind a departure that change the table, aren't given yet, and leave within the hold of it.
+    pub(crate) fn pending_behind(
+        &self,
+        departure: SeenNumber,
+    ) -> Result<Vec<SeenNumber>, AllocError> {
+        self.input
+            .pending_behind(self.changes.as_slice(), &self.state, departure)
+    }
+
+    /// Those of them that may help where an act for the departure was refused.
+    pub(crate) fn pending(
+        &mut self,
+        departure: SeenNumber,
+        refused: Refused,
+    ) -> Result<Vec<SeenNumber>, AllocError> {
+        let peer = peer_of(self.input.gives(departure));
+        let slot = Slot::before(self.input.rank(departure));
+        let mut found = Vec::new(self.input.alloc());
+        for answer in self.pending_behind(departure)? {
+            let Some(gives) = self.input.gives(answer) else {
+                continue;
+            };
+            if !helps(refused, gives) {
+                continue;
+            }
+            let is_grant = matches!(gives, Gives::Permitted | Gives::Bound);
+            if let (true, Some(peer)) = (is_grant, peer) {
+                let request = self.oldest(answer, slot)?;
+                let request = request.and_then(|request| self.input.sighting(request));
+                if !request.is_some_and(|request| names(request.payload.as_slice(), peer.ip)) {
+                    continue;
+                }
+            }
+            found.push(answer)?;
+        }
+        Ok(found)
+    }
+}

@@ -1,0 +1,43 @@
+//! By when answers may be given whose leases are over before a departure.
+
+use super::SearchInput;
+use audit_seen::{Gives, SeenNumber, Slot};
+
+/// Nanoseconds of a second.
+const SECOND: u64 = 1_000_000_000;
+
+/// How long a permission lasts, in seconds (RFC 8656, section 9).
+const PERMISSION: u64 = 300;
+
+/// How long a channel lasts, in seconds (RFC 8656, section 12).
+const CHANNEL: u64 = 600;
+
+impl SearchInput<'_> {
+    /// The last moment at which an answer may be given whose lease is over before a departure.
+    pub fn latest_before(&self, answer: SeenNumber, departure: SeenNumber) -> Option<u64> {
+        let lease = lease_of(self.gives(answer)?)?;
+        let grace = self.policy().grace;
+        let until = self.at(departure).checked_sub(lease)?;
+        until.checked_sub(grace)?.checked_sub(1)
+    }
+
+    /// The latest slot, and its moment, at which an answer is given whose lease is over before a departure.
+    pub fn slot_before(&self, answer: SeenNumber, departure: SeenNumber) -> Option<(Slot, u64)> {
+        let latest = self.latest_before(answer, departure)?;
+        let order = self.in_order();
+        let count = order.partition_point(|one| self.at(*one) <= latest);
+        let last = *order.get(count.checked_sub(1)?)?;
+        Some((Slot::behind(self.rank(last)), self.at(last)))
+    }
+}
+
+/// How long the lease is that an answer gives, in nanoseconds (RFC 8656, sections 7.2, 9 and 12).
+fn lease_of(gives: Gives) -> Option<u64> {
+    let seconds = match gives {
+        Gives::Allocated { seconds, .. } | Gives::Refreshed { seconds } => u64::from(seconds),
+        Gives::Bound => CHANNEL,
+        Gives::Permitted => PERMISSION,
+        _ => return None,
+    };
+    Some(seconds.saturating_mul(SECOND))
+}

@@ -1,0 +1,72 @@
+//! Which answers may help where a rule refuses an act.
+
+use super::SearchInput;
+use audit_content::names_peer;
+use audit_model::{Addr, Rule};
+use audit_search_state::{Refused, State};
+use audit_seen::{Gives, SeenNumber};
+use std::alloc::AllocError;
+
+/// How many answers are looked at that are pending.
+pub const AHEAD: usize = 16;
+
+/// Whether an answer that changes the table may help where an act was refused.
+pub fn helps(refused: Refused, gives: Gives) -> bool {
+    let is_made = matches!(gives, Gives::Allocated { .. });
+    let is_ended = matches!(gives, Gives::Deleted);
+    let is_bound = matches!(gives, Gives::Bound);
+    let is_permitted = matches!(gives, Gives::Permitted);
+    match refused {
+        Refused::Rule(Rule::NoAllocation) => is_made,
+        Refused::Rule(Rule::AllocationOver) => {
+            is_made || matches!(gives, Gives::Refreshed { .. })
+        }
+        Refused::Rule(Rule::NoPermission | Rule::PermissionOver) => {
+            is_made || is_ended || is_bound || is_permitted
+        }
+        Refused::Rule(Rule::NoChannel | Rule::ChannelOver | Rule::PeerDiffers)
+        | Refused::NoArrival => is_made || is_ended || is_bound,
+        Refused::Rule(Rule::AllocationPresent) => is_ended,
+        Refused::Rule(
+            Rule::ErrorCondition | Rule::OtherUser | Rule::ChannelConflict | Rule::RelayedAddress,
+        ) => is_made || is_ended,
+        _ => false,
+    }
+}
+
+/// The peer that data goes to or comes from, where the departure tells.
+pub fn peer_of(gives: Option<Gives>) -> Option<Addr> {
+    match gives {
+        Some(Gives::Data { peer, .. } | Gives::Relayed { peer, .. }) => Some(peer),
+        _ => None,
+    }
+}
+
+/// Whether a request names a peer of that IP.
+pub fn names(payload: &[u8], ip: u32) -> bool {
+    names_peer(payload, ip)
+}
+
+impl SearchInput<'_> {
+    /// Those of a lane's answers that change its table which stand behind a departure, aren't given yet, and leave within the hold of it.
+    pub fn pending_behind(
+        &self,
+        changes: &[(u32, SeenNumber)],
+        state: &State,
+        departure: SeenNumber,
+    ) -> Result<Vec<SeenNumber>, AllocError> {
+        let rank = self.rank(departure);
+        let until = self.held_until(departure);
+        let from = changes.partition_point(|change| change.0 <= rank);
+        let mut found = Vec::new(self.alloc());
+        for (_, answer) in changes.get(from..).unwrap_or(&[]).iter().take(AHEAD) {
+            if self.at(*answer) > until {
+                break;
+            }
+            if !state.is_acted(*answer) {
+                found.push(*answer)?;
+            }
+        }
+        Ok(found)
+    }
+}
