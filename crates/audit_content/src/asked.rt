@@ -1,9 +1,12 @@
 //! What a client's datagram asks for.
 
+ghost use Rattle.std.specs.Prelude.{IfSome};
+ghost use Rattle.audit_content.specs.Says.{IsAsked};
+
+use crate::indications::{IndicationData, data_in};
 use audit_model::Addr;
-use audit_stun::numbers::attribute::{DATA, XOR_PEER_ADDRESS};
 use audit_stun::numbers::method;
-use audit_stun::{Class, Message, address, channel_data, message};
+use audit_stun::{Class, channel_data, message};
 
 /// What a client's datagram asks for.
 #[derive(Clone, Copy, Debug)]
@@ -17,7 +20,9 @@ pub enum Asked<'a> {
 }
 
 /// What a client's datagram asks for, if anything is answered to it.
-pub fn asked_by_client(payload: &[u8]) -> Option<Asked<'_>> {
+pub fn asked_by_client(payload: &[u8]) -> Option<Asked<'_>>
+    ensures { IfSome result (λ asked. IsAsked payload.now asked) }
+{
     if let Some((number, data, _)) = channel_data(payload) {
         return Some(Asked::Channel { number, data });
     }
@@ -27,14 +32,10 @@ pub fn asked_by_client(payload: &[u8]) -> Option<Asked<'_>> {
             method: message.method(),
             id: message.tid(),
         }),
-        Class::Indication if message.method() == method::SEND => asked_by_send(&message),
+        Class::Indication if message.method() == method::SEND => {
+            let IndicationData { peer, data } = data_in(&message)?;
+            Some(Asked::Send { peer, data })
+        }
         Class::Indication | Class::Success | Class::Error => None,
     }
-}
-
-/// What a Send indication asks for.
-fn asked_by_send<'a>(message: &Message<'a>) -> Option<Asked<'a>> {
-    let peer = address(message.first(XOR_PEER_ADDRESS)?)?;
-    let data = message.first(DATA)?;
-    Some(Asked::Send { peer, data })
 }

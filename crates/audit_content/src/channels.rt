@@ -1,5 +1,11 @@
 //! The channel that a ChannelBind asks for.
 
+ghost use Rattle.std.specs.Prelude.{◌≡◌, IfSome};
+ghost use Rattle.audit_stun.specs.declared.numbers.method.TheConstants as methods;
+ghost use Rattle.audit_stun.specs.Parts.{parts_of};
+ghost use Rattle.audit_stun.specs.Counted.{first_of};
+ghost use Rattle.audit_content.specs.Says.{HasChannel, number_in};
+
 use audit_model::Addr;
 use audit_stun::numbers::attribute::{CHANNEL_NUMBER, XOR_PEER_ADDRESS};
 use audit_stun::numbers::method;
@@ -29,7 +35,10 @@ impl Channel {
 }
 
 /// The channel that a ChannelBind asks for.
-pub fn asked_channel(payload: &[u8]) -> Option<Channel> {
+pub fn asked_channel(payload: &[u8]) -> Option<Channel>
+    ensures method { IfSome result (λ _. (parts_of payload.now).method ≡ methods.CHANNEL_BIND) }
+    ensures named { IfSome result (λ channel. HasChannel (parts_of payload.now) channel) }
+{
     let request = message(payload)?;
     if request.method() == method::CHANNEL_BIND {
         channel_in(&request)
@@ -39,16 +48,27 @@ pub fn asked_channel(payload: &[u8]) -> Option<Channel> {
 }
 
 /// The channel that a message names, of whatever method.
-pub fn named_channel(payload: &[u8]) -> Option<Channel> {
+pub fn named_channel(payload: &[u8]) -> Option<Channel>
+    ensures { IfSome result (λ channel. HasChannel (parts_of payload.now) channel) }
+{
     channel_in(&message(payload)?)
 }
 
-fn channel_in(message: &Message<'_>) -> Option<Channel> {
+fn channel_in(message: &Message<'_>) -> Option<Channel>
+    ensures { IfSome result (λ channel. HasChannel (parts_of message.now) channel) }
+{
+    let number = number_of(message)?;
+    let peer = address(message.first(XOR_PEER_ADDRESS)?)?;
+    Some(Channel { number, peer })
+}
+
+/// The number in a CHANNEL-NUMBER (RFC 8656, section 18.1).
+#[tactic(auto, unfolding(crate::specs::Says::number_in))]
+fn number_of(message: &Message<'_>) -> Option<u16>
+    ensures { result ≡ number_in (first_of CHANNEL_NUMBER (parts_of message.now).attributes) }
+{
     let [high, low, _, _] = message.first(CHANNEL_NUMBER)? else {
         return None;
     };
-    Some(Channel {
-        number: u16::from_be_bytes([*high, *low]),
-        peer: address(message.first(XOR_PEER_ADDRESS)?)?,
-    })
+    Some(u16::from_be_bytes([*high, *low]))
 }

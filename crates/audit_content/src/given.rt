@@ -1,9 +1,13 @@
 //! What a client is given.
 
+ghost use Rattle.std.specs.Prelude.{◌≡◌, IfSome};
+ghost use Rattle.audit_stun.specs.Parts.{parts_of};
+ghost use Rattle.audit_stun.specs.Counted.{first_of};
+ghost use Rattle.audit_content.specs.Says.{HasAddress, IsGiven, IsSuccess, code_in, seconds_in};
+
+use crate::indications::{IndicationData, data_in};
 use audit_model::Addr;
-use audit_stun::numbers::attribute::{
-    DATA, ERROR_CODE, LIFETIME, XOR_PEER_ADDRESS, XOR_RELAYED_ADDRESS,
-};
+use audit_stun::numbers::attribute::{ERROR_CODE, LIFETIME, XOR_RELAYED_ADDRESS};
 use audit_stun::numbers::method;
 use audit_stun::{Class, Message, address, channel_data, error_code, message};
 
@@ -52,7 +56,9 @@ pub enum Success {
 }
 
 /// What a datagram to a client gives it, if that can be read.
-pub fn given_to_client(payload: &[u8]) -> Option<Given<'_>> {
+pub fn given_to_client(payload: &[u8]) -> Option<Given<'_>>
+    ensures { IfSome result (λ given. IsGiven payload.now given) }
+{
     if let Some((number, data, _)) = channel_data(payload) {
         return Some(Given::Channel { number, data });
     }
@@ -68,12 +74,17 @@ pub fn given_to_client(payload: &[u8]) -> Option<Given<'_>> {
             id: message.tid(),
             code: code_of(&message),
         }),
-        Class::Indication if message.method() == method::DATA => given_by_data(&message),
+        Class::Indication if message.method() == method::DATA => {
+            let IndicationData { peer, data } = data_in(&message)?;
+            Some(Given::Data { peer, data })
+        }
         Class::Request | Class::Indication => None,
     }
 }
 
-fn said_by_success(message: &Message<'_>) -> Success {
+fn said_by_success(message: &Message<'_>) -> Success
+    ensures { IsSuccess (parts_of message.now) result }
+{
     match message.method() {
         method::ALLOCATE => match relayed_address(message) {
             Some(relayed) => Success::Allocated {
@@ -92,25 +103,26 @@ fn said_by_success(message: &Message<'_>) -> Success {
     }
 }
 
-/// What a Data indication gives.
-fn given_by_data<'a>(message: &Message<'a>) -> Option<Given<'a>> {
-    let peer = address(message.first(XOR_PEER_ADDRESS)?)?;
-    let data = message.first(DATA)?;
-    Some(Given::Data { peer, data })
-}
-
-fn relayed_address(message: &Message<'_>) -> Option<Addr> {
+fn relayed_address(message: &Message<'_>) -> Option<Addr>
+    ensures { IfSome result (λ found. HasAddress XOR_RELAYED_ADDRESS (parts_of message.now) found) }
+{
     address(message.first(XOR_RELAYED_ADDRESS)?)
 }
 
 /// The seconds of a LIFETIME (RFC 8656, section 18.2).
-fn seconds_of(message: &Message<'_>) -> Option<u32> {
+#[tactic(auto, unfolding(crate::specs::Says::seconds_in))]
+fn seconds_of(message: &Message<'_>) -> Option<u32>
+    ensures { result ≡ seconds_in (first_of LIFETIME (parts_of message.now).attributes) }
+{
     let [a, b, c, d] = message.first(LIFETIME)? else {
         return None;
     };
     Some(u32::from_be_bytes([*a, *b, *c, *d]))
 }
 
-fn code_of(message: &Message<'_>) -> Option<u16> {
+#[tactic(auto, unfolding(crate::specs::Says::code_in))]
+fn code_of(message: &Message<'_>) -> Option<u16>
+    ensures { result ≡ code_in (first_of ERROR_CODE (parts_of message.now).attributes) }
+{
     error_code(message.first(ERROR_CODE)?)
 }

@@ -19,7 +19,7 @@ mod times;
 
 pub use bindings::Bindings;
 pub use candidates::Known;
-pub use changes::Changes;
+pub use changes::{Changes, Made, Told};
 pub use contents::Contents;
 pub use handover::Handover;
 pub use matches::Matches;

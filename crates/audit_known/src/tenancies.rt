@@ -63,15 +63,17 @@ impl Tenancies {
         let changes = Changes::gather(alloc, sights, times)?;
         let mut by_address: Vec<Tenancy> = Vec::new(alloc);
         let mut last = None;
-        for (relayed, _, number) in changes.made() {
-            let Some(seen) = sights.get(*number) else {
+        for made in changes.made() {
+            let Some(seen) = sights.get(made.number()) else {
                 continue;
             };
-            if last == Some((*relayed, seen.lane(), seen.says())) {
+            let told = Some((made.relayed(), seen.lane(), seen.says()));
+            if last == told {
                 continue;
             }
-            last = Some((*relayed, seen.lane(), seen.says()));
-            if let Some(tenancy) = tenancy_of(sights, times, matches, &changes, *number, grace) {
+            last = told;
+            let maker = made.number();
+            if let Some(tenancy) = tenancy_of(sights, times, matches, &changes, maker, grace) {
                 by_address.push(tenancy)?;
             }
         }
@@ -210,11 +212,11 @@ fn prolonged(
     grace: u64,
 ) -> u64 {
     let mut last = first;
-    for (place, (other, when, number)) in changes.kept_behind(lane, from).iter().enumerate() {
-        let Some(seen) = sights.get(*number) else {
+    for (place, told) in changes.kept_behind(lane, from).iter().enumerate() {
+        let Some(seen) = sights.get(told.number()) else {
             return last;
         };
-        if *other != lane || *when > end || seen.first_moment() > last {
+        if told.lane() != lane || told.when() > end || seen.first_moment() > last {
             return last;
         }
         if place >= PROLONGED {

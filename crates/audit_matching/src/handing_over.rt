@@ -74,24 +74,25 @@ fn holdings(alloc: Global, facts: Facts<'_>, times: &Times) -> Result<Vec<Holdin
     let changes = Changes::gather(alloc, facts.sights, times)?;
     let mut found = Vec::new(alloc);
     let mut last = None;
-    for (relayed, when, maker) in changes.made() {
-        let Some(seen) = facts.sights.get(*maker) else {
+    for made in changes.made() {
+        let (relayed, maker) = (made.relayed(), made.number());
+        let Some(seen) = facts.sights.get(maker) else {
             continue;
         };
         let (Some(lane), Says::Gives(Gives::Allocated { .. }, pool)) = (seen.lane(), seen.says())
         else {
             continue;
         };
-        if last != Some((*relayed, pool)) {
-            let ender = changes.end_behind(lane, *when);
+        if last != Some((relayed, pool)) {
+            let ender = changes.end_behind(lane, made.when());
             found.push(Holding {
-                relayed: *relayed,
+                relayed,
                 lane,
-                maker: *maker,
+                maker,
                 ender: ender.filter(|ender| facts.matches.of(*ender).is_some()),
             })?;
         }
-        last = Some((*relayed, pool));
+        last = Some((relayed, pool));
     }
     Ok(found)
 }
