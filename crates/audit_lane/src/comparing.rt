@@ -19,46 +19,24 @@ pub fn same_policy(one: &Policy, other: &Policy) -> bool
         && same_skews(one.skews.as_slice(), other.skews.as_slice())
 }
 
+// Each `==` has a proof of its own, so each stands in a function.
+
 fn same_addresses(one: &[Addr], other: &[Addr]) -> bool
     ensures { IsTrue result ↔ (one.now ≡ other.now) }
 {
-    if one.len() != other.len() {
-        return false;
-    }
-    for i in 0..one.len() {
-        if one[i] != other[i] {
-            return false;
-        }
-    }
-    true
+    one == other
 }
 
 fn same_ranges(one: &[PortRange], other: &[PortRange]) -> bool
     ensures { IsTrue result ↔ (one.now ≡ other.now) }
 {
-    if one.len() != other.len() {
-        return false;
-    }
-    for i in 0..one.len() {
-        if one[i] != other[i] {
-            return false;
-        }
-    }
-    true
+    one == other
 }
 
 fn same_skews(one: &[InterfaceSkew], other: &[InterfaceSkew]) -> bool
     ensures { IsTrue result ↔ (one.now ≡ other.now) }
 {
-    if one.len() != other.len() {
-        return false;
-    }
-    for i in 0..one.len() {
-        if one[i] != other[i] {
-            return false;
-        }
-    }
-    true
+    one == other
 }
 
 fn same_sighting(one: &Sighting, other: &Sighting) -> bool
