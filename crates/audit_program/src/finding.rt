@@ -165,30 +165,6 @@ fn found_at_last<R: Threads + Wait + Sync, F: CertificateFinder>(
     }
 }
 
-/// The certificate by which `found_at_last` judges. What the passes find by whole windows isn't judged: it is taken for what it seems.
-fn certificate_at_last<R: Threads + Wait + Sync, F: CertificateFinder>(
-    rt: &R,
-    alloc: Global,
-    finder: &F,
-    files: &Files,
-    workers: Workers,
-) -> Result<Certificate, AllocError>
-    ensures { IfOk result (F.finds (taken files.now.intake)) }
-{
-    if let Some(found) = found_by_parts(rt, alloc, finder, files, Way::Walk, workers)? {
-        return Ok(found.certificate);
-    }
-    let way = Way::Passes;
-    let whole = found_in(rt, alloc, finder, files, way, Windows::Whole, workers)?;
-    if whole.seems_conforming() {
-        return Ok(whole.into_certificate());
-    }
-    match found_by_parts(rt, alloc, finder, files, way, workers)? {
-        Some(part) => Ok(part.certificate),
-        None => Ok(whole.into_certificate()),
-    }
-}
-
 /// The walk's certificate with the verdict by it, or that of a late walk, where no other certificate has to be looked for: it conforms, or
 /// what was captured shows a fault of the server, so that none does.
 ///
@@ -258,6 +234,6 @@ pub fn certificate_for<R: Threads + Wait + Sync, F: CertificateFinder>(
     }
     match decided(rt, alloc, finder, files, once.into_certificate(), workers)? {
         Some(found) => Ok(found.certificate),
-        None => certificate_at_last(rt, alloc, finder, files, workers),
+        None => Ok(found_at_last(rt, alloc, finder, files, workers)?.certificate),
     }
 }

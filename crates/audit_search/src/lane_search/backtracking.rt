@@ -3,6 +3,7 @@
 use super::{Choice, Farthest, LaneSearch, STEPS};
 use audit_constraints::LaneSoFar;
 use audit_model::Rule;
+use audit_search_acts::Lane;
 use audit_search_input::AHEAD;
 use audit_search_state::{Constraint, Fault, Refused};
 use audit_seen::{Gives, SeenNumber};
@@ -48,13 +49,7 @@ impl LaneSearch<'_> {
     pub fn ask(&mut self, departure: SeenNumber, refused: Refused) -> Result<(), AllocError> {
         let is_new = self.asked.iter().all(|asked| asked.0 != departure);
         if is_new && self.asked.len() < AHEAD {
-            let so_far = LaneSoFar::new(
-                self.lane.input(),
-                self.lane.number(),
-                self.lane.changes(),
-                self.lane.state(),
-            );
-            let constraints = so_far.constraints(departure, refused)?;
+            let constraints = needed(&self.lane, departure, refused)?;
             self.asked.push((departure, constraints))?;
         }
         Ok(())
@@ -177,6 +172,16 @@ impl LaneSearch<'_> {
         self.fault = Some(Fault::new(departure, refused, low, is_hopeless));
         Ok(())
     }
+}
+
+/// What a lane would need to act on a departure.
+fn needed(
+    lane: &Lane<'_>,
+    departure: SeenNumber,
+    refused: Refused,
+) -> Result<Vec<Constraint>, AllocError> {
+    let so_far = LaneSoFar::new(lane.input(), lane.number(), lane.changes(), lane.state());
+    so_far.constraints(departure, refused)
 }
 
 /// Whether a rule asks for an allocation, for none, or for another one.
