@@ -66,7 +66,8 @@ fn leaving_kind(judge: &Judge<'_>, sighting: &Sighting) -> Kind {
     let Some(given) = given_to_client(payload) else {
         return Kind::Data(Data::new(lane, 0));
     };
-    if let (Some(lane), Some((id, content))) = (lane, answer_of(&given)) {
+    if let (Some(lane), Some(answer)) = (lane, answer_of(&given)) {
+        let (id, content) = answer;
         return Kind::Answer(Transaction::new(lane, id), content);
     }
     let digest = match given {

@@ -74,9 +74,10 @@ impl Search {
         leaves: &Sighting,
     ) -> Result<Option<ArrivalNumber>, AllocError> {
         let given = given_to_client(leaves.payload.as_slice());
-        let Some((id, _)) = given.and_then(|given| answer_of(&given)) else {
+        let Some(answer) = given.and_then(|given| answer_of(&given)) else {
             return Ok(None);
         };
+        let (id, _) = answer;
         let earliest = self.earliest(judge);
         let transaction = Transaction::new(lane, id);
         let likely = self.datagrams.likely_request(&transaction, earliest)?;
