@@ -139,7 +139,8 @@ pub fn judge<R: Threads + Wait + Sync, O: Sink>(
 }
 
 /// Judges captures by the certificate of a file, and writes the report. Files are read in this order: policy, credentials, certificate,
-/// captures; each is judged before the next is read. It gives 0 where they conform, and 1 where that isn't shown.
+/// captures; each is judged before the next is read. It gives 0 where they conform, and 1 where that isn't shown. The memory of the
+/// captures isn't freed then.
 pub fn check_files<R: Threads + Wait + Sync, S: Source, O: Sink>(
     rt: &R,
     alloc: Global,
@@ -165,5 +166,8 @@ pub fn check_files<R: Threads + Wait + Sync, S: Source, O: Sink>(
     let certificate = read_text(alloc, source, certificate, reader)?;
     let intake = Intake::new(alloc, policy);
     let intake = take_in(rt, alloc, source, captures, intake, workers)?;
-    judge(rt, alloc, &intake, &users, &certificate, workers, out)
+    let status = judge(rt, alloc, &intake, &users, &certificate, workers, out)?;
+    // The program ends: to free each payload by itself would take a tenth of its time.
+    std::mem::forget(intake);
+    Ok(status)
 }
