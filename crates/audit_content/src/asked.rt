@@ -3,8 +3,9 @@
 ghost use Rattle.std.specs.Prelude.{IfSome};
 ghost use Rattle.audit_content.specs.Says.{IsAsked};
 
-use crate::indications::{IndicationData, data_in};
+use crate::peers::peer_in;
 use audit_model::Addr;
+use audit_stun::numbers::attribute::DATA;
 use audit_stun::numbers::method;
 use audit_stun::{Class, channel_data, message};
 
@@ -33,7 +34,8 @@ pub fn asked_by_client(payload: &[u8]) -> Option<Asked<'_>>
             id: message.tid(),
         }),
         Class::Indication if message.method() == method::SEND => {
-            let IndicationData { peer, data } = data_in(&message)?;
+            let peer = peer_in(&message)?;
+            let data = message.first(DATA)?;
             Some(Asked::Send { peer, data })
         }
         Class::Indication | Class::Success | Class::Error => None,

@@ -6,10 +6,11 @@ ghost use Rattle.audit_stun.specs.Parts.{parts_of};
 ghost use Rattle.audit_stun.specs.Counted.{first_of};
 ghost use Rattle.audit_content.specs.Says.{HasChannel, number_in};
 
+use crate::peers::peer_in;
 use audit_model::Addr;
-use audit_stun::numbers::attribute::{CHANNEL_NUMBER, XOR_PEER_ADDRESS};
+use audit_stun::numbers::attribute::CHANNEL_NUMBER;
 use audit_stun::numbers::method;
-use audit_stun::{Message, address, message};
+use audit_stun::{Message, message};
 
 /// A channel's number, with its peer (RFC 8656, section 12).
 #[derive(Clone, Copy, Debug)]
@@ -21,12 +22,14 @@ pub struct Channel {
 impl Channel {
     ghost use Rattle.std.specs.Prelude.{◌≡◌};
 
+    /// Its number.
     pub fn number(&self) -> u16
         ensures { result ≡ self.now.number }
     {
         self.number
     }
 
+    /// The peer that it is bound to.
     pub fn peer(&self) -> Addr
         ensures { result ≡ self.now.peer }
     {
@@ -58,7 +61,7 @@ fn channel_in(message: &Message<'_>) -> Option<Channel>
     ensures { IfSome result (λ channel. HasChannel (parts_of message.now) channel) }
 {
     let number = number_of(message)?;
-    let peer = address(message.first(XOR_PEER_ADDRESS)?)?;
+    let peer = peer_in(message)?;
     Some(Channel { number, peer })
 }
 

@@ -5,9 +5,9 @@ ghost use Rattle.audit_stun.specs.Parts.{parts_of};
 ghost use Rattle.audit_stun.specs.Counted.{first_of};
 ghost use Rattle.audit_content.specs.Says.{HasAddress, IsGiven, IsSuccess, code_in, seconds_in};
 
-use crate::indications::{IndicationData, data_in};
+use crate::peers::peer_in;
 use audit_model::Addr;
-use audit_stun::numbers::attribute::{ERROR_CODE, LIFETIME, XOR_RELAYED_ADDRESS};
+use audit_stun::numbers::attribute::{DATA, ERROR_CODE, LIFETIME, XOR_RELAYED_ADDRESS};
 use audit_stun::numbers::method;
 use audit_stun::{Class, Message, address, channel_data, error_code, message};
 
@@ -75,7 +75,8 @@ pub fn given_to_client(payload: &[u8]) -> Option<Given<'_>>
             code: code_of(&message),
         }),
         Class::Indication if message.method() == method::DATA => {
-            let IndicationData { peer, data } = data_in(&message)?;
+            let peer = peer_in(&message)?;
+            let data = message.first(DATA)?;
             Some(Given::Data { peer, data })
         }
         Class::Request | Class::Indication => None,

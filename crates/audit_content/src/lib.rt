@@ -6,7 +6,6 @@
 mod asked;
 mod channels;
 mod given;
-mod indications;
 mod peers;
 
 pub use asked::{Asked, asked_by_client};

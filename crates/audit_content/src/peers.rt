@@ -1,6 +1,19 @@
-//! The peers that a request names.
+//! The peers that a message names.
 
-use audit_stun::{address, message};
+ghost use Rattle.std.specs.Prelude.{IfSome};
+ghost use Rattle.audit_stun.specs.Parts.{parts_of};
+ghost use Rattle.audit_content.specs.Says.{HasAddress};
+
+use audit_model::Addr;
+use audit_stun::numbers::attribute::XOR_PEER_ADDRESS;
+use audit_stun::{Message, address, message};
+
+/// The first peer that a message names (RFC 8656, section 18.3).
+pub(crate) fn peer_in(message: &Message<'_>) -> Option<Addr>
+    ensures { IfSome result (λ peer. HasAddress XOR_PEER_ADDRESS (parts_of message.now) peer) }
+{
+    address(message.first(XOR_PEER_ADDRESS)?)
+}
 
 /// Whether a request names a peer of that IP (RFC 8656, section 18.3).
 pub fn names_peer(payload: &[u8], ip: u32) -> bool {
