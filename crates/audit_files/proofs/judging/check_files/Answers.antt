@@ -5,7 +5,6 @@ use Rattle.audit_model.specs.PolicyText.{policy_of}
 use Rattle.audit_model.specs.declared.policy.Policy.{Policy}
 use Rattle.audit_sightings.specs.Intake.{Taken, taken}
 use Rattle.audit_files.specs.Captures.{AreTakenIn}
-use Rattle.audit_files.proofs.Fed.{if_ok}
 use Rattle.audit_files.proofs.judging.check_files.Goals as goal
 
 pub returns : goal.returns
@@ -21,7 +20,7 @@ returns g c = λ policy_text users_text certificate_text texts policy users none
     let same : intake.policy ≡ c.in_ok-policy.policy = c.in_ok-intake.ensures.policy ∙ ap (λ (t : Taken). t.policy) c.new-intake.ensures.empty in
     let of_captures : AreTakenIn texts (taken intake) =
     c.in_ok-intake.ensures.taken texts c.new-intake.ensures.stands (subst (λ (h : Holds). AllZip (λ name text. h name.now ≡ Some text) c.args.captures.now texts) (sym third) captures) in
-    if_ok c.judge.result (λ status judged. (
+    (
       c.in_ok-certificate.certificate,
       of_certificate,
       record {
@@ -32,6 +31,6 @@ returns g c = λ policy_text users_text certificate_text texts policy users none
           users' = of_users;
           captures' = of_captures;
         };
-        judged = judged;
+        judged = c.in_ok-status.ensures;
       },
-    )) c.judge.ensures
+    )

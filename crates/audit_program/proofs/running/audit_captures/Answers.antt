@@ -1,6 +1,5 @@
 use Rattle.audit_keys.specs.KeyFor.{key_for}
 use Rattle.audit_sightings.specs.Intake.{taken}
-use Rattle.audit_files.proofs.Fed.{if_ok}
 use Rattle.audit_program.proofs.running.audit_captures.Goals as goal
 
 pub returns : goal.returns
@@ -9,7 +8,8 @@ returns g c = λ policy_text users_text texts policy users none captures.
     let read = c.in_ok-files.ensures policy_text users_text texts policy users none captures in
     let found = c.in_ok-found.found in
     let judges = c.in_ok-found.ensures.judged in
-    if_ok c.tell.result (λ status told. (
+    let told = c.in_ok-status.ensures in
+    (
       found.certificate,
       record {
         taken = taken files.intake;
@@ -24,4 +24,4 @@ returns g c = λ policy_text users_text texts policy users none captures.
           headline = judges.headline;
         };
       },
-    )) c.tell.ensures
+    )
