@@ -19,8 +19,7 @@ returns g c = λ policy_text users_text certificate_text texts policy users none
     let intake = c.in_ok-intake.intake in
     let same : intake.policy ≡ c.in_ok-policy.policy = c.in_ok-intake.ensures.policy ∙ ap (λ (t : Taken). t.policy) c.new-intake.ensures.empty in
     let of_captures : AreTakenIn texts (taken intake) =
-    c.in_ok-intake.ensures.taken texts c.new-intake.ensures.stands (subst (λ (h : Holds). AllZip (λ name text. h name.now ≡ Some text) c.args.captures.now texts) (sym third) captures) in
-    (
+    c.in_ok-intake.ensures.taken texts c.new-intake.ensures.stands (subst (λ (h : Holds). AllZip (λ name text. h name.now ≡ Some text) c.args.captures.now texts) (sym third) captures) in (
       c.in_ok-certificate.certificate,
       of_certificate,
       record {

@@ -8,8 +8,7 @@ returns g c = λ policy_text users_text texts policy users none captures.
     let read = c.in_ok-files.ensures policy_text users_text texts policy users none captures in
     let found = c.in_ok-found.found in
     let judges = c.in_ok-found.ensures.judged in
-    let told = c.in_ok-status.ensures in
-    (
+    let told = c.in_ok-status.ensures in (
       found.certificate,
       record {
         taken = taken files.intake;
