@@ -53,11 +53,15 @@ bin/turnaudit
 bin/turnexplain
 bin/turnprep
 share/bash-completion/completions/turnaudit
+share/bash-completion/completions/turnexplain
+share/bash-completion/completions/turnprep
 share/doc/turnaudit/CHANGELOG.md
 share/doc/turnaudit/LICENSE
 share/doc/turnaudit/README.md
 share/doc/turnaudit/docs/..
 share/fish/vendor_completions.d/turnaudit.fish
+share/fish/vendor_completions.d/turnexplain.fish
+share/fish/vendor_completions.d/turnprep.fish
 share/man/man1/turnaudit.1
 share/man/man1/turnexplain.1
 share/man/man1/turnprep.1
@@ -65,6 +69,8 @@ share/man/man5/turnaudit-certificate.5
 share/man/man5/turnaudit-policy.5
 share/man/man7/turnaudit-rules.7
 share/zsh/site-functions/_turnaudit
+share/zsh/site-functions/_turnexplain
+share/zsh/site-functions/_turnprep
 END
 
 for place in "$scratch/root//usr/local" "$scratch//home folder/.local"; do
@@ -79,6 +85,16 @@ for place in "$scratch/root//usr/local" "$scratch//home folder/.local"; do
     same "install in $name: the files" "$scratch/wanted" "$scratch/files"
     verdict "install in $name" "$before/$name/bin/turnaudit"
     beside "install in $name" "$before/$name/bin"
+done
+
+# Where a program isn't beside it, its completions aren't either.
+grep -Ev '^bin/turnprep$|/_?turnprep(\.fish)?$' "$scratch/wanted" > "$scratch/wanted_of_two"
+grep -Ev '^bin/turnexplain$|/_?turnexplain(\.fish)?$' "$scratch/wanted_of_two" > "$scratch/wanted_alone"
+for name in of_two alone; do
+    if [ $name = of_two ]; then others=$explains; else others=; fi
+    make -s install PROGRAM="$program" BESIDE="$others" PREFIX="$scratch/$name" > "$scratch/told" 2>&1 || cat "$scratch/told"
+    files "$scratch/$name" > "$scratch/files"
+    same "install $name: the files" "$scratch/wanted_$name" "$scratch/files"
 done
 
 if command -v dpkg-deb > /dev/null; then

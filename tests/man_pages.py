@@ -3,10 +3,11 @@
 
     python3 tests/man_pages.py PROGRAM TURNPREP TURNEXPLAIN
 
-What the help of each program says counts. It is compared with its page in docs/man, and PROGRAM's with what bash, zsh and fish offer by the
-files of completions/. turnaudit-rules(7) has to have each rule. Renderers and shells that aren't installed are left out, which is told.
+What the help of each program says counts. It is compared with its page in docs/man, and with what bash, zsh and fish offer by the files of
+completions/. turnaudit-rules(7) has to have each rule. Renderers and shells that aren't installed are left out, which is told.
 """
 
+import contextlib
 import os
 import pathlib
 import re
@@ -26,6 +27,13 @@ from plain.checker import TEXTS
 
 OPTION = re.compile(r"(?<![\w-])(--[a-z][a-z-]*|-[a-zA-Z])(?![\w-])")
 COMMANDS = "audit", "find", "live", "check"
+
+# What lies in the folder where words are completed, and what of it `ca` may become, by the name that help gives the value. Others name no file.
+FILES, FOLDERS = {"cap.pcapng", "cap a.pcapng", "other"}, {"captures"}
+ANY = {"cap.pcapng", "cap a.pcapng", "captures"}
+NAMED = {"CAPTURE": ANY, "FILE": ANY, "POLICY": ANY, "CREDENTIALS": ANY, "CERTIFICATE": ANY, "DIR": FOLDERS}
+# Commands by whose names files are called, too.
+CALLED = {"policy", "client"}
 
 # Markdown of every form, and lines that its page has.
 FORMS = r"""# Title
@@ -95,19 +103,27 @@ def section_of(text, title):
 
 
 def help_of(program):
-    """The program's own options, its commands, and the options of each command, as help tells them."""
+    """The program's commands, what the program and each command take, and the statuses, as help tells them."""
     own = said_by(program, "--help").stdout
     commands = {line.split()[0] for line in section_of(own, "Commands") if line.strip()}
     statuses = {line.split()[0] for line in section_of(own, "Exit status(?:, that of turnaudit)?") if line.strip()}
-    options = {None: options_in(section_of(own, "Options"))}
+    takes = {None: words_of(own)}
     for command in commands - {"help"}:
-        options[command] = options_in(section_of(said_by(program, command, "--help").stdout, "Options"))
-    return commands, options, statuses
+        takes[command] = words_of(said_by(program, command, "--help").stdout)
+    return commands, takes, statuses
 
 
-def options_in(lines):
-    """The options that stand in front of what is said of them."""
-    return {option for line in lines for option in OPTION.findall(line.strip().partition("  ")[0])}
+def words_of(text):
+    """The options that stand in front of what is said of them, each with the name of its value, and under None the name of the arguments."""
+    argument = re.search(r"^Arguments:\n  [<\[](\w+)", text, re.M)
+    words = {None: argument[1] if argument else ""}
+    for head in (line.strip().partition("  ")[0] for line in section_of(text, "Options")):
+        words.update(dict.fromkeys(OPTION.findall(head), head.partition(" <")[2].rstrip(">")))
+    return words
+
+
+def options_of(words):
+    return words.keys() - {None}
 
 
 def rows_of(blocks, title):
@@ -116,7 +132,7 @@ def rows_of(blocks, title):
     return [row[0] for block in behind if isinstance(block, markdown.Table) for row in block.rows]
 
 
-def try_page(tries, name, commands, options, statuses):
+def try_page(tries, name, commands, takes, statuses):
     """The program's page has the commands, the options of each, and the statuses of the help."""
     blocks = man_pages.document(f"man/{name}.1.md")
     synopsis, command = {}, None
@@ -124,69 +140,95 @@ def try_page(tries, name, commands, options, statuses):
         words = line.split()
         # A command's line may go on in the next one.
         command = words[1] if words[0] == name else command
-        if command in options:
+        if command in takes:
             synopsis.setdefault(command, {"-h", "--help"}).update(OPTION.findall(line))
     tries.same(f"the commands of {name}(1)", commands, {row.strip("`") for row in rows_of(blocks, "Commands")})
-    for command in options.keys() - {None}:
-        tries.same(f"the synopsis of {name} {command}", options[command], synopsis.get(command, set()))
-    tries.same(f"the options of {name}(1)", set().union(*options.values()), {name for row in rows_of(blocks, "Options") for name in OPTION.findall(row)})
+    for command in takes.keys() - {None}:
+        tries.same(f"the synopsis of {name} {command}", options_of(takes[command]), synopsis.get(command, set()))
+    tries.same(f"the options of {name}(1)", set().union(*map(options_of, takes.values())), {name for row in rows_of(blocks, "Options") for name in OPTION.findall(row)})
     tries.same(f"the statuses of {name}(1)", statuses, set(rows_of(blocks, "Exit status")))
 
 
-def offered_by_bash(words):
-    script = f'source {TOP}/completions/turnaudit.bash; COMP_WORDS=(turnaudit "$@"); COMP_CWORD=$#; _turnaudit; printf "%s\\n" "${{COMPREPLY[@]}}"'
-    return said_by("bash", "--norc", "-c", script, "bash", *words).stdout.split()
+def offered_by_bash(name, words):
+    script = f'source {TOP}/completions/{name}.bash; COMP_WORDS=({name} "$@"); COMP_CWORD=$#; _{name}; printf "%s\\n" "${{COMPREPLY[@]}}"'
+    return {row for row in said_by("bash", "--norc", "-c", script, "bash", *words).stdout.splitlines() if row}
 
 
-def offered_by_fish(words):
-    line = " ".join(["turnaudit", *words])
-    told = said_by("fish", "--no-config", "-c", f"source {TOP}/completions/turnaudit.fish; complete -C '{line}'").stdout
-    return [row.partition("\t")[0] for row in told.splitlines()]
+def offered_by_fish(name, words):
+    """What fish offers. Where a dash is typed it offers options behind any word: here not behind those that its file says take a value."""
+    file = TOP / "completions" / f"{name}.fish"
+    taking = {option for one in re.findall(r"(?: -s (\w))?(?: -l ([\w-]+))? -[rx] ", file.read_text()) for option in ("-" + one[0], "--" + one[1])}
+    if words[-1].startswith("-") and taking.intersection(words[-2:-1]):
+        return set()
+    told = said_by("fish", "--no-config", "-c", f"source {file}; complete -C '{' '.join([name, *words])}'").stdout
+    return {row.partition("\t")[0].replace("\\", "").rstrip("/") for row in told.splitlines()}
 
 
-def offered_by_zsh(words):
-    """What zsh's own functions are given: here they only print their words."""
+def offered_by_zsh(name, words):
+    """What zsh would offer by what its own functions are given: here they only print their words."""
     script = (
-        "_arguments() { [[ $1 == -C ]] && { state=$want; words=(\"${typed[@]}\"); [[ $want == command ]] || return 0 }; print -l -- \"$@\" }\n"
+        "_arguments() { [[ $1 == -C ]] && { [[ \"$*\" == *\"->$want\"* ]] && state=$want; words=(\"${typed[@]}\"); [[ $want == command ]] || return 0 }; print -l -- \"$@\" }\n"
         "_describe() { print -l -- \"${(@P)${@[-1]}}\" }\n"
-        f"want=$1; shift; typed=(\"$@\"); source {TOP}/completions/_turnaudit"
+        f"want=$1; shift; typed=(\"$@\"); source {TOP}/completions/_{name}"
     )
     state = "words" if len(words) > 1 else "command"
     told = said_by("zsh", "-f", "-c", script, "zsh", state, *words).stdout
-    return [name[1] for name in re.finditer(r"^(?:\([^)]*\))?([a-z-][\w-]*)(?=[=:\[])", told, re.M)]
+    given = {option: (sign, action) for option, sign, action in re.findall(r"^(?:\([^)]*\))?\*?(-[\w-]+)([=+]?)\[.*?\](?::[^:]*:(.*))?$", told, re.M)}
+    before = given.get(words[-2]) if len(words) > 1 else None
+    if before and before[0]:
+        return named_by(before[1], words[-1])
+    argument = re.search(r"^\*:capture:(.*)$", told, re.M)
+    return {*re.findall(r"^[a-z]+(?=:)", told, re.M), *given, *(named_by(argument[1], words[-1]) if argument else ())}
+
+
+def named_by(action, begun):
+    """What an action of zsh names here."""
+    return {name for name in os.listdir() if name.startswith(begun) and (action == "_files" or action == "_files -/" and os.path.isdir(name))}
 
 
 SHELLS = {"bash": offered_by_bash, "fish": offered_by_fish, "zsh": offered_by_zsh}
 
 
-def try_completions(tries, shell, commands, options):
-    """The shell offers the commands first, then the options of the command, and the names of files in between."""
-    offered = SHELLS[shell]
-    known = commands | set().union(*options.values())
-    first = set(offered([""])) | set(offered(["-"]))
-    tries.same(f"what {shell} offers first", commands | options[None], first & known | {word for word in first if word.startswith("--")})
-    for command in options.keys() - {None}:
-        found = set(offered([command, "-"])) | set(offered([command, "--"]))
-        tries.same(f"what {shell} offers behind {command}", options[command], {word for word in found if word.startswith("-")} & known | {word for word in found if word.startswith("--")})
-    if shell != "zsh":
-        tries.same(f"what {shell} offers behind help", set(COMMANDS), set(offered(["help", ""])) & set(COMMANDS))
-        for words in (["audit"], ["check", "--policy"], ["live", "--policy", "policy"]):
-            tries.same(f"the files that {shell} offers behind {words[-1]}", {"cap a.pcapng", "cap.pcapng"}, {name.replace("\\", "") for name in in_scratch(offered, [*words, "ca"])})
+def try_completions(tries, shell, name, commands, takes):
+    """The shell offers the commands first, then the options of the command, and files where the command or the option takes some."""
+    def offered(*words):
+        return SHELLS[shell](name, words)
+
+    def dashed(*words):
+        return {word for word in offered(*words, "-") | offered(*words, "--") if word.startswith("-")}
+
+    def named(*words):
+        return {word for word in offered(*words, "ca") if not word.startswith("-")}
+
+    tries.same(f"what {shell} offers first of {name}", commands | options_of(takes[None]), offered("") | offered("-"))
+    tries.same(f"what {shell} offers behind {name} help", commands if shell == "zsh" else commands - {"help"}, offered("help", ""))
+    for command in takes.keys() - {None}:
+        own = options_of(takes[command])
+        tries.same(f"the options that {shell} offers behind {name} {command}", own, dashed(command))
+        for other in commands & CALLED if "--policy" in own else ():
+            tries.same(f"the options that {shell} offers behind {name} {command} --policy {other}", own, dashed(command, "--policy", other) | {"--policy"})
+        for option, value in takes[command].items():
+            words = [command, option] if option else [command]
+            wanted = NAMED.get(value or takes[command][None], set())
+            tries.same(f"the files that {shell} offers behind {name} {' '.join(words)}", wanted, named(*words))
+            if option:
+                tries.ask(f"whether {shell} offers options behind {name} {command} {option}", bool(value) != bool(dashed(*words)))
 
 
-def in_scratch(offered, words):
-    """What is offered in a folder of two captures."""
+@contextlib.contextmanager
+def in_scratch():
+    """In a folder of files and a folder."""
     with tempfile.TemporaryDirectory(prefix="man-pages-") as room:
-        for name in ("cap.pcapng", "cap a.pcapng", "other"):
-            pathlib.Path(room, name).touch()
+        for file in FILES:
+            pathlib.Path(room, file).touch()
+        for folder in FOLDERS:
+            pathlib.Path(room, folder).mkdir()
         here = os.getcwd()
         os.chdir(room)
         try:
-            names = offered(words)
+            yield
         finally:
             os.chdir(here)
-        # bash's words are parted at blanks here.
-        return {"cap a.pcapng", *names} - {"cap", "a.pcapng"} if "a.pcapng" in names else set(names)
 
 
 RENDERERS = {
@@ -228,16 +270,17 @@ def main():
         sys.exit(__doc__.strip())
     program, prepares, explains = (pathlib.Path(word).resolve() for word in sys.argv[1:])
     tries = Tries()
-    commands, options, statuses = help_of(program)
-    tries.same("the commands of the help", set(COMMANDS) | {"help"}, commands)
-    try_page(tries, "turnaudit", commands, options, statuses)
-    for name, other in (("turnprep", prepares), ("turnexplain", explains)):
-        try_page(tries, name, *help_of(other))
+    shells = [shell for shell in SHELLS if shutil.which(shell)]
     for shell in SHELLS:
-        if shutil.which(shell):
-            try_completions(tries, shell, commands, options)
-        else:
+        if shell not in shells:
             print(f"man_pages: no {shell}, not tried")
+    tries.same("the commands of the help", set(COMMANDS) | {"help"}, help_of(program)[0])
+    for name, each in (("turnaudit", program), ("turnprep", prepares), ("turnexplain", explains)):
+        commands, takes, statuses = help_of(each)
+        try_page(tries, name, commands, takes, statuses)
+        with in_scratch():
+            for shell in shells:
+                try_completions(tries, shell, name, commands, takes)
     with tempfile.TemporaryDirectory(prefix="man-pages-") as room:
         one, other = pathlib.Path(room, "one"), pathlib.Path(room, "other")
         names = man_pages.write(one)

@@ -1,5 +1,5 @@
 #!/usr/bin/env python3
-"""Installs turnaudit: the program and those beside it, its man pages, its completions and its documents.
+"""Installs turnaudit: the program and those beside it, the completions of each, the man pages and the documents.
 
     tools/install.py --program FILE [--beside FILE..] [--prefix /usr/local] [--destdir FOLDER] [--zsh share/zsh/site-functions]
                      [--compressed] [--strip]
@@ -20,6 +20,7 @@ from pathlib import Path
 import man_pages
 
 TOP = Path(__file__).resolve().parent.parent
+COMPLETIONS = TOP / "completions"
 ZSH = "share/zsh/site-functions"
 
 
@@ -65,16 +66,21 @@ def put_program(program, place, strip):
         put(copy, place, 0o755)
 
 
+def put_completions(name, root, zsh):
+    """What the shells offer behind the name of a program, where that is told. A program beside it may have any name."""
+    if (COMPLETIONS / f"_{name}").is_file():
+        put(COMPLETIONS / f"{name}.bash", root / "share" / "bash-completion" / "completions" / name)
+        put(COMPLETIONS / f"_{name}", root / zsh / f"_{name}")
+        put(COMPLETIONS / f"{name}.fish", root / "share" / "fish" / "vendor_completions.d" / f"{name}.fish")
+
+
 def install(program, beside, root, zsh=ZSH, packed=False, strip=False):
     """Installs below a folder, which stands for the prefix. Programs beside it keep the names of their files."""
-    put_program(program, root / "bin" / "turnaudit", strip)
-    for other in beside:
-        put_program(other, root / "bin" / other.name, strip)
+    for name, file in [("turnaudit", program), *((other.name, other) for other in beside)]:
+        put_program(file, root / "bin" / name, strip)
+        put_completions(name, root, zsh)
     share = root / "share"
     put_man_pages(share, packed)
-    put(TOP / "completions" / "turnaudit.bash", share / "bash-completion" / "completions" / "turnaudit")
-    put(TOP / "completions" / "_turnaudit", root / zsh / "_turnaudit")
-    put(TOP / "completions" / "turnaudit.fish", share / "fish" / "vendor_completions.d" / "turnaudit.fish")
     put_documents(share)
 
 
