@@ -6,3 +6,4 @@ pub mod PairSets
 pub mod Sames
 pub mod Apart
 pub mod Endpoints
+pub mod SkewSearch

@@ -62,14 +62,21 @@ pub struct Certificate {
 }
 
 impl Certificate {
-    /// The skew that it has of the interface, in microseconds. It goes over the skews, 1,024 at the most.
+    /// The skew that it has of the interface, in microseconds. It takes log n in the skews.
     pub fn skew_of(&self, iface: u32) -> Option<u64>
         ensures { result ≡ skew_of self.now.skews iface }
     {
-        self.skews
-            .as_slice()
-            .iter()
-            .find(|skew| skew.iface == iface)
-            .map(|skew| skew.microseconds)
+        skew_among(self.skews.as_slice(), iface)
+    }
+}
+
+/// The skew of the interface among skews whose interfaces rise.
+fn skew_among(skews: &[CertSkew], iface: u32) -> Option<u64>
+    requires { rise skews.now ≡ true }
+    ensures { result ≡ skew_of skews.now iface }
+{
+    match skews.binary_search_by_key(&iface, |skew| skew.iface) {
+        Ok(at) => Some(skews[at].microseconds),
+        Err(_) => None,
     }
 }

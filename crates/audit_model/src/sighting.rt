@@ -5,7 +5,7 @@ ghost use Rattle.audit_model.specs.Skews.{nanoseconds_of};
 ghost use Rattle.audit_model.specs.Window.{first_moment, last_moment};
 
 use crate::address::Addr;
-use crate::listed::Listed;
+use crate::payload::Payload;
 
 /// The name of a sighting: its interface, and its place among the sightings of that interface.
 #[derive(Clone, Copy, Debug, PartialEq, Eq, PartialOrd, Ord, Hash)]
@@ -28,7 +28,7 @@ pub enum Side {
 /// A datagram with one endpoint in the service. Times are nanoseconds since 1970.
 #[derive(Debug, Drop)]
 pub struct Sighting {
-    pub payload: Listed<u8>,
+    pub payload: Payload,
     /// When the capture says that it was seen.
     pub stamp: u64,
     /// The first moment of its stamp's window.
