@@ -6,3 +6,4 @@ pub mod FilesSteps
 pub mod AmidSteps
 pub mod AmidMore
 pub mod Zipped
+pub mod StretchSteps

@@ -1,9 +1,9 @@
 -- From which moment on the newest sighting of a file may have come, once there is a sighting more.
-use Rattle.std.proofs.Common.{◌≡◌, ◌≢◌, ℕ, zero, suc, ◌+◌, ◌<◌, ◌≤◌, ◌/◌, max, List, [], ◌∷◌, ◌++◌, length, refl, sym, ap, ◌∙◌, subst, arith, ◌⊎◌, inl, inr, Option, Some, None}
+use Rattle.std.proofs.Common.{◌≡◌, ◌≢◌, ℕ, ◌<◌, ◌/◌, max, List, [], ◌∷◌, length, refl, sym, ap, ◌∙◌, subst, arith, ◌⊎◌, inl, inr, Option, Some, None}
 use Rattle.std.proofs.lemmas.Bool.{cases_eq, cases_lt}
 use Rattle.std.proofs.lemmas.List.{get_or-set_other, get_or-set_same}
 use Rattle.std.proofs.lemmas.List.Elements.{Contains-append_left, Contains-push, Contains-push_cases}
-use Rattle.std.specs.Prelude.{slice_index_or, slice_set, Contains, IfSome, IsSomeAnd}
+use Rattle.std.specs.Prelude.{slice_index_or, slice_set, Contains}
 use Rattle.audit_model.specs.declared.sighting.Sighting.{Sighting}
 use Rattle.audit_sightings.specs.ByInterface.{of_interface, Adds}
 use Rattle.audit_sightings.specs.Newest.{StartsAt, IsNewest, AreNewest, later_of}

@@ -7,7 +7,7 @@ ghost use Rattle.audit_sightings.specs.Newest.{later_of};
 
 use crate::fault::IntakeFaultKind;
 use crate::intake::MAX_FILES;
-use crate::service_datagram::ServiceDatagram;
+use crate::owned_datagram::OwnedDatagram;
 use audit_model::{Listed, SightId, Sighting, window};
 use std::alloc::{AllocError, Global};
 use std::marker::Model;
@@ -45,7 +45,7 @@ impl ByInterface {
     ghost use Rattle.std.specs.Prelude.{◌≡◌, ◌⊎◌, ◌<◌, ℕ, [], length, OnOk, OnErr, IfSome, IfErr, option_copied, option_and_then, slice_get};
     ghost use Rattle.audit_sightings.specs.ByInterface.{of_interface, count_of, IsNumbered, EachFits, Adds};
     ghost use Rattle.audit_sightings.specs.Newest.{IsNewest};
-    ghost use Rattle.audit_sightings.specs.View.{view};
+    ghost use Rattle.audit_sightings.specs.Stretch.{owned};
     ghost use Rattle.audit_sightings.specs.Sightings.{sighting_of};
 
     /// No sightings. It takes no memory.
@@ -109,11 +109,11 @@ impl ByInterface {
         &mut self,
         iface: u32,
         skew: u64,
-        kept: ServiceDatagram<'_>,
+        kept: OwnedDatagram,
     ) -> Result<(), IntakeFaultKind>
         requires { iface < 1024 }
         ensures ok { OnOk result (Adds self.old iface
-            (sighting_of skew iface (length (of_interface self.old iface)) (view kept.entry)) self.new) }
+            (sighting_of skew iface (length (of_interface self.old iface)) (owned kept)) self.new) }
         ensures full { count_of self.old ≡ MAX_SIGHTINGS → result ≡ Err IntakeFaultKind.Limit }
         ensures refused { IfErr result (λ fault. (fault ≡ IntakeFaultKind.Memory)
             ⊎ ((fault ≡ IntakeFaultKind.Limit) × (count_of self.old ≡ MAX_SIGHTINGS))) }
@@ -123,11 +123,10 @@ impl ByInterface {
             return Err(IntakeFaultKind::Limit);
         }
         let index = self.interface(iface).len() as u32;
-        bytes(kept.payload);
-        let payload = Vec::from_slice(self.alloc, kept.payload)?;
+        bytes(kept.payload.as_slice());
         let (lo, hi) = window(kept.stamp, skew);
         let sighting = Sighting {
-            payload: Listed::from(payload),
+            payload: kept.payload,
             stamp: kept.stamp,
             lo,
             hi,

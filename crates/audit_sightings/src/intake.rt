@@ -4,15 +4,15 @@ ghost use Rattle.std.specs.Prelude.{◌≤◌, vec_len};
 
 use crate::by_interface::ByInterface;
 use crate::fault::{IntakeFault, IntakeFaultKind};
-use crate::parallel::{gather, take_frames};
-use crate::taking::{take_packet, take_packets};
+use crate::parallel::{gather, take_by_threads};
+use crate::taking::{take_in_turn, take_packets};
 use audit_model::{Policy, SightId, Sighting};
 use audit_pcapng::BlockReader;
 use std::alloc::Global;
 use std::thread::Threads;
 
-/// From how many bytes on the frames of a piece are read by many threads. It saves no time at any size so far (docs/DECISIONS.md).
-const PARALLEL_FROM: usize = 1_048_576;
+/// From how many bytes on the frames of a piece are read by many threads. Below that a thread costs more than it saves.
+const PARALLEL_FROM: usize = 4_194_304;
 
 /// How many files there may be.
 pub const MAX_FILES: usize = 16;
@@ -145,7 +145,7 @@ impl Intake {
         let mut held = Vec::new(self.alloc);
         let reader = &mut self.files[file as usize];
         let started = reader.start(piece, &mut held);
-        match take_packets(&self.policy, &mut self.interfaces, file, &held) {
+        match take_packets(self.alloc, &self.policy, &mut self.interfaces, file, &held) {
             Err(fault) => Err(fault),
             Ok(()) => match started {
                 Ok(rest) => Ok(rest),
@@ -236,7 +236,7 @@ impl Intake {
         let mut packets = Vec::new(self.alloc);
         let reader = &mut self.files[file as usize];
         let gathered = gather(reader, rest, &mut packets);
-        take_frames(
+        take_by_threads(
             rt,
             self.alloc,
             &self.policy,
@@ -261,40 +261,18 @@ impl Intake {
         ensures policy { self.new.policy ≡ self.old.policy }
         ensures files { vec_len self.new.files ≡ vec_len self.old.files }
     {
-        let mut rest = rest;
-        'packets: while let Some(behind) = self.take_next(file, rest)? {
-            rest = behind;
-        }
-        Ok(())
-    }
-
-    /// Takes in the next packet of what is left of a piece, and gives the bytes behind it if there is one.
-    fn take_next<'a>(
-        &mut self,
-        file: u32,
-        rest: &'a [u8],
-    ) -> Result<Option<&'a [u8]>, IntakeFaultKind>
-        requires { file < vec_len self.old.files }
-        ensures packet { (files : List Fed) (piece : List ℕ) → Amid self.old files file piece rest.now →
-            IfOk result (λ step. IfSome step (λ behind. Amid self.new files file piece behind.now)) }
-        ensures none { (files : List Fed) (piece : List ℕ) → Amid self.old files file piece rest.now →
-            IfOk result (λ step. IfNone step (GoesOn self.new files file piece)) }
-        ensures err { (files : List Fed) (piece : List ℕ) → Amid self.old files file piece rest.now →
-            IfErr result (Refuses self.old.policy self.new.interfaces files file piece) }
-        ensures shorter { IfOk result (λ step. IfSome step (λ behind. length behind.now < length rest.now)) }
-        ensures grows { Grows self.old.interfaces self.new.interfaces }
-        ensures policy { self.new.policy ≡ self.old.policy }
-        ensures files { vec_len self.new.files ≡ vec_len self.old.files }
-    {
+        let mut packets = Vec::new(self.alloc);
         let reader = &mut self.files[file as usize];
-        match reader.next(rest) {
-            Ok(None) => Ok(None),
-            Ok(Some((packet, behind))) => {
-                match take_packet(&self.policy, &mut self.interfaces, file, packet) {
-                    Ok(()) => Ok(Some(behind)),
-                    Err(fault) => Err(fault),
-                }
-            }
+        let gathered = gather(reader, rest, &mut packets);
+        take_in_turn(
+            self.alloc,
+            &self.policy,
+            &mut self.interfaces,
+            file,
+            &packets,
+        )?;
+        match gathered {
+            Ok(()) => Ok(()),
             Err(fault) => Err(IntakeFaultKind::Capture(fault)),
         }
     }

@@ -5,8 +5,10 @@ mod by_interface;
 mod fault;
 mod intake;
 pub mod laws;
+mod owned_datagram;
 mod parallel;
 mod service_datagram;
+mod stretch;
 mod taking;
 
 pub use audit_model::{Side, SightId, Sighting};

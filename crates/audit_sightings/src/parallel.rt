@@ -1,20 +1,20 @@
 //! Packets whose frames many threads read.
 
-ghost use Rattle.std.specs.Prelude.{◌≡◌, ◌<◌, [], ◌++◌, ℕ, List, map, IfOk, IfErr, OnOk};
+ghost use Rattle.std.specs.Prelude.{◌≡◌, ◌<◌, ◌+◌, ◌/◌, [], ◌++◌, ℕ, List, length, map, IfOk, IfErr, OnOk};
 ghost use Rattle.std.specs.List.{AllZip};
 ghost use Rattle.audit_pcapng.specs.declared.packet.Packet.{Packet};
 ghost use Rattle.audit_pcapng.specs.Captures.{BeginsWith};
 ghost use Rattle.audit_pcapng.specs.Packets.{packet_of};
 ghost use Rattle.audit_pcapng.specs.Readers.{StandsFor};
 ghost use Rattle.audit_pcapng.specs.Steps.{IsAt, EndsBy};
-ghost use Rattle.audit_sightings.specs.ServiceDatagram.{service_datagram_of};
 ghost use Rattle.audit_sightings.specs.Sightings.{TakesIn, Stops};
-ghost use Rattle.audit_sightings.specs.View.{view_found};
+ghost use Rattle.audit_sightings.specs.Stretch.{read_of, stretch_at};
+ghost use Rattle.rayon.specs.Numbers.{nat_range};
 
 use crate::by_interface::ByInterface;
 use crate::fault::IntakeFaultKind;
-use crate::service_datagram::{ServiceDatagram, service_datagram};
-use crate::taking::take_found;
+use crate::stretch::{STRETCH, Stretch, part_of, read_stretch};
+use crate::taking::take_stretch;
 use audit_model::Policy;
 use audit_pcapng::{BlockReader, CaptureFault, PacketSlice};
 use rayon::prelude::*;
@@ -43,27 +43,49 @@ pub fn gather<'a>(
     Ok(())
 }
 
-/// What each packet is to the service, in order, by as many threads as there are processors where there are many packets.
-fn read_frames<'p, R: Threads + Sync>(
+/// What is read by many threads.
+#[derive(Clone, Copy)]
+struct Reading<'r, 'p> {
+    alloc: Global,
+    policy: &'r Policy,
+    packets: &'r [PacketSlice<'p>],
+}
+
+/// What the packets of each stretch are to the service, by as many threads as there are processors.
+fn read_stretches<R: Threads + Sync>(
     rt: &R,
     alloc: Global,
     policy: &Policy,
-    packets: &[PacketSlice<'p>],
-) -> Result<Vec<Result<Option<ServiceDatagram<'p>>, IntakeFaultKind>>, AllocError>
-    ensures { IfOk result (λ founds. AllZip (λ packet found. view_found found ≡ service_datagram_of policy.now (packet_of packet)) packets.now founds.items) }
+    packets: &[PacketSlice<'_>],
+) -> Result<Vec<Stretch>, AllocError>
+    ensures { IfOk result (λ stretches. AllZip (λ number stretch. stretch ≡ read_of policy.now (stretch_at packets.now number))
+        (nat_range 0 (length packets.now / 2048 + 1)) stretches.items) }
 {
-    packets
-        .par_iter()
+    let reading = Reading {
+        alloc,
+        policy,
+        packets,
+    };
+    let stretches = packets.len() / STRETCH + 1;
+    (0..stretches)
+        .into_par_iter()
+        .with_min_len(1)
         .map(
-            |packet: &PacketSlice<'_>| -> Result<Option<ServiceDatagram<'_>>, IntakeFaultKind>
-                ensures { view_found result ≡ service_datagram_of policy.entry.now (packet_of packet.now) }
-            { service_datagram(policy, *packet) },
+            |number: usize| -> Result<Stretch, AllocError>
+                ensures { IfOk result (λ stretch. stretch ≡ read_of reading.entry.policy.now (stretch_at reading.entry.packets.now number)) }
+            {
+                read_stretch(
+                    reading.alloc,
+                    reading.policy,
+                    part_of(reading.packets, number),
+                )
+            },
         )
-        .collect(rt, alloc)
+        .collect::<Result<Vec<Stretch>, AllocError>>(rt, alloc)?
 }
 
 /// Takes in packets of a file, in order, up to the first that is refused. Their frames are read by many threads.
-pub fn take_frames<R: Threads + Sync>(
+pub fn take_by_threads<R: Threads + Sync>(
     rt: &R,
     alloc: Global,
     policy: &Policy,
@@ -75,16 +97,15 @@ pub fn take_frames<R: Threads + Sync>(
     ensures ok { OnOk result (TakesIn policy.now interfaces.old file (map packet_of packets.now) interfaces.new) }
     ensures err { IfErr result (Stops policy.now interfaces.old file (map packet_of packets.now) interfaces.new) }
 {
-    if packets.len() == 0 {
+    if packets.is_empty() {
         return Ok(());
     }
-    let Ok(founds) = read_frames(rt, alloc, policy, packets) else {
+    let Ok(stretches) = read_stretches(rt, alloc, policy, packets) else {
         return Err(IntakeFaultKind::Memory);
     };
-    for i in 0..packets.len() {
-        let packet = packets[i];
-        let found = founds[i];
-        take_found(policy, interfaces, file, packet, found)?;
+    for number in 0..packets.len() / STRETCH + 1 {
+        let part = part_of(packets, number);
+        take_stretch(policy, interfaces, file, part, &stretches[number])?;
     }
     Ok(())
 }
