@@ -11,7 +11,7 @@ use audit_pcapng::BlockReader;
 use std::alloc::Global;
 use std::thread::Threads;
 
-/// From how many bytes on the frames of a piece are read by many threads. Below that a thread costs more than it saves.
+/// From how many bytes on the frames of a piece are read by many threads. Below that threads cost more than they save.
 const PARALLEL_FROM: usize = 4_194_304;
 
 /// How many files there may be.
@@ -93,6 +93,7 @@ impl Intake {
 
     /// Takes the next bytes of a file, cut anywhere: its packets in order, up to the first fault of a block or a frame.
     /// What was taken in before a fault stays, and every later call then fails by V6 with this file's number.
+    /// It holds some 100 bytes for each packet of the piece while it runs.
     pub fn feed(&mut self, file: u32, piece: &[u8]) -> Result<(), IntakeFault>
         requires { file < vec_len self.old.files }
         ensures ok { (files : List Fed) → StandsFor self.old files → OnOk result (GoesOn self.new files file piece.now) }
@@ -154,8 +155,9 @@ impl Intake {
         }
     }
 
-    /// As `feed`, but that the frames of a piece of 1 MiB or more are read by as many threads as there are processors, and
-    /// then taken in in order. Of such a piece it holds some 100 bytes more for each packet while it runs, and takes longer than `feed`.
+    /// As `feed`, but that the frames of a piece of 4 MiB or more are read by as many threads as there are processors, some thousand packets
+    /// by each at a time, and then taken in in order. What it saves is a sixth at the most, and of pieces that were just read from a file
+    /// nothing (docs/DECISIONS.md).
     pub fn feed_parallel<R: Threads + Sync>(
         &mut self,
         rt: &R,

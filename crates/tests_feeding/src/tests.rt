@@ -1,4 +1,4 @@
-//! What `feed` takes in of many datagrams, and that `feed_parallel` takes in the same. Below 1 MiB neither starts a thread.
+//! What `feed` takes in of many datagrams, and that `feed_parallel` takes in the same. Below 4 MiB neither starts a thread.
 
 use audit_model::{Addr, Side, SightId, Sighting, read_policy};
 use audit_samples::{BuildFault, Capture, UdpDatagram};
@@ -111,7 +111,7 @@ fn assert_same(rt: &impl Abort, one: &Intake, many: &Intake, sightings: u32) -> 
 #[test]
 fn as_many_threads_take_them_in(rt: HostRuntime) -> Result<(), Fail> {
     let alloc = rt.alloc();
-    for (pairs, sightings) in [(2500u64, 5000u32), (7000, 14_000)] {
+    for (pairs, sightings) in [(2500u64, 5000u32), (30_000, 60_000)] {
         let capture = capture(alloc, pairs)?;
         let (one, fed_by_one) = fed(alloc, capture.bytes())?;
         let (many, fed_by_many) = fed_parallel(&rt, alloc, capture.bytes())?;
@@ -129,7 +129,7 @@ fn as_many_threads_take_them_in(rt: HostRuntime) -> Result<(), Fail> {
 #[test]
 fn what_comes_before_a_fragment_is_kept(rt: HostRuntime) -> Result<(), Fail> {
     let alloc = rt.alloc();
-    for (pairs, kept) in [(2500u64, 3000u32), (7000, 10_000)] {
+    for (pairs, kept) in [(2500u64, 3000u32), (30_000, 50_000)] {
         let capture = capture(alloc, pairs)?;
         let bytes = with_fragment(alloc, &capture, kept as usize)?;
         let (one, fed_by_one) = fed(alloc, &bytes)?;
