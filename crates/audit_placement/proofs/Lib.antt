@@ -15,3 +15,4 @@ pub mod CleanSteps
 pub mod CleanMore
 pub mod CleanNamed
 pub mod CleanTurns
+pub mod PieceSteps

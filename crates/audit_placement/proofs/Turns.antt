@@ -15,6 +15,7 @@ use Rattle.audit_placement.specs.declared.entry.Entry.{Entry}
 use Rattle.audit_model.specs.declared.pair.Pair.{Pair}
 use Rattle.audit_placement.specs.declared.first.FirstPlaces.{FirstPlaces}
 use Rattle.audit_placement.specs.Entries.{entry_of, entries_from, lane_entries, lanes_entries}
+pub use Rattle.audit_placement.specs.Pieces.{last_of}
 use Rattle.audit_placement.specs.FirstPlace.{Notes}
 use Rattle.audit_placement.specs.Shows.{ShowsAt, ShowsFrom}
 use Rattle.audit_placement.proofs.LeastOfTwo.{least_both}
@@ -50,11 +51,6 @@ module _ (taken : Taken) where
   least_one earlier entry a is =
       least_same (ShowsAt taken earlier entry) (ShowsFrom taken earlier (entry ∷ [])) (λ b shown. inl shown)
       (λ b shown. elim shown [ inl h ↦ h | inr h ↦ absurd h ]) a is
-
--- the key of the last event, if there is one
-abbrev pub last_of : Option Key → List Event → Option Key
-last_of last [] = last
-last_of last (event ∷ events) = last_of (Some (key_of event)) events
 
 pub last_push : (last : Option Key) (events : List Event) (event : Event) → last_of last (events ++ event ∷ []) ≡ Some (key_of event)
 last_push last [] event = refl

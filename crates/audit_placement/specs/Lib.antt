@@ -4,6 +4,7 @@ pub mod Table
 pub mod Keys
 pub mod Places
 pub mod Clean
+pub mod Pieces
 pub mod FirstPlace
 pub mod Checks
 pub mod Cuts

@@ -1,19 +1,22 @@
 //! Whether a certificate shows no breach of what it places, told in one pass over its events.
 
-ghost use Rattle.std.specs.Prelude.{◌++◌, [], ℕ, List, IfOk, IfSome};
+ghost use Rattle.std.specs.Prelude.{◌<◌, ◌++◌, [], ℕ, All, List, IfOk, IfSome};
 ghost use Rattle.std.specs.Bool.{OnTrue};
 ghost use Rattle.audit_placement.specs.declared.entry.Entry.{Entry};
-ghost use Rattle.audit_sightings.specs.Intake.{taken};
+ghost use Rattle.audit_sightings.specs.Intake.{Taken, taken};
 ghost use Rattle.audit_placement.specs.Clean.{IsClean};
 ghost use Rattle.audit_placement.specs.Entries.{lane_entries, lanes_entries, drop_entries, entries};
 ghost use Rattle.audit_placement.specs.Keys.{key_at};
+ghost use Rattle.audit_placement.specs.Pieces.{LaneBreaksNoRule};
 
+use crate::asking::lanes_break_no_rule;
 use crate::entry::LaneEnd;
 use crate::keys::PlacedKeys;
-use crate::taking::note_event;
+use crate::taking::{note_event, place_event};
 use audit_model::{CertDrop, CertLane, Certificate, Event, Key, Pair};
 use audit_sightings::Intake;
 use std::alloc::{AllocError, Global};
+use std::thread::Threads;
 
 /// Notes what a lane's events place, and tells whether they show no breach behind what is noted.
 fn note_lane(intake: &Intake, keys: &mut PlacedKeys, lane: &CertLane) -> bool
@@ -50,7 +53,33 @@ fn note_lanes(intake: &Intake, keys: &mut PlacedKeys, lanes: &[CertLane]) -> boo
     true
 }
 
-/// The same of the drops.
+/// Notes what a lane's events place, of which none breaks a rule by itself, and tells whether they show no breach behind what is noted.
+fn place_lane(keys: &mut PlacedKeys, lane: &CertLane) -> bool
+    ensures { (taken : Taken) (number : ℕ) (earlier : List Entry) → LaneBreaksNoRule taken lane.now → IsClean taken (key_at keys.old) earlier →
+        OnTrue result (IsClean taken (key_at keys.new) (earlier ++ lane_entries number lane.now)) }
+{
+    'events: for event in lane.events.as_slice() {
+        if !place_event(keys, *event) {
+            return false;
+        }
+    }
+    true
+}
+
+/// The same of all lanes.
+fn place_lanes(keys: &mut PlacedKeys, lanes: &[CertLane]) -> bool
+    ensures { (taken : Taken) → All (LaneBreaksNoRule taken) lanes.now → IsClean taken (key_at keys.old) [] →
+        OnTrue result (IsClean taken (key_at keys.new) (lanes_entries 0 lanes.now)) }
+{
+    'lanes: for lane in lanes {
+        if !place_lane(keys, lane) {
+            return false;
+        }
+    }
+    true
+}
+
+/// Notes what the drops place, and tells whether they show no breach behind what is noted.
 fn note_drops(intake: &Intake, keys: &mut PlacedKeys, drops: &[CertDrop]) -> bool
     ensures { (number : ℕ) (earlier : List Entry) → IsClean (taken intake.now) (key_at keys.old) earlier →
         OnTrue result (IsClean (taken intake.now) (key_at keys.new) (earlier ++ drop_entries number drops.now)) }
@@ -82,6 +111,37 @@ pub fn clean_keys(
     let mut keys = PlacedKeys::new(alloc);
     keys.grow(alloc, intake)?;
     if !note_lanes(intake, &mut keys, certificate.lanes.as_slice()) {
+        return Ok(None);
+    }
+    if !note_drops(intake, &mut keys, certificate.drops.as_slice()) {
+        return Ok(None);
+    }
+    Ok(Some(keys))
+}
+
+/// The same by so many threads at the most. They ask each event of the lanes whether it breaks a rule by itself, and then this thread
+/// alone goes over the events once more, for the keys, and over the drops. It takes 16 bytes a sighting, and before that up to 129 bytes
+/// for each lane and for each 4,096 events of a lane. Without memory for those, it is `clean_keys`.
+pub fn clean_keys_by<R: Threads + Sync>(
+    rt: &R,
+    alloc: Global,
+    intake: &Intake,
+    certificate: &Certificate,
+    workers: u32,
+) -> Result<Option<PlacedKeys>, AllocError>
+    requires { 0 < workers }
+    ensures { IfOk result (λ found. IfSome found (λ keys. IsClean (taken intake.now) (key_at keys) (entries certificate.now))) }
+{
+    let asked = lanes_break_no_rule(rt, alloc, intake, certificate.lanes.as_slice(), workers);
+    let Ok(fine) = asked else {
+        return clean_keys(alloc, intake, certificate);
+    };
+    if !fine {
+        return Ok(None);
+    }
+    let mut keys = PlacedKeys::new(alloc);
+    keys.grow(alloc, intake)?;
+    if !place_lanes(&mut keys, certificate.lanes.as_slice()) {
         return Ok(None);
     }
     if !note_drops(intake, &mut keys, certificate.drops.as_slice()) {

@@ -1,6 +1,7 @@
 //! Placement: whether a certificate places each sighting once, in its window and in order.
 #![tactic(auto)]
 
+mod asking;
 mod clean;
 mod cuts;
 mod entry;
@@ -9,6 +10,7 @@ mod first;
 mod keys;
 mod laws;
 mod neighbours;
+mod pieces;
 mod places;
 mod single;
 mod table;
@@ -24,4 +26,4 @@ pub use places::Places;
 pub use single::event_rule;
 pub use taking::note_event;
 pub use unplaced::unplaced_breach;
-pub use whole::{Placement, placed, placed_breach};
+pub use whole::{Placement, placed, placed_breach, placed_by};

@@ -1,6 +1,7 @@
 //! What one event shows of placement.
 
-ghost use Rattle.std.specs.Prelude.{◌≡◌, IfNone};
+ghost use Rattle.std.specs.Prelude.{◌≡◌, IfNone, None, false};
+ghost use Rattle.std.specs.Bool.{OnTrue};
 ghost use Rattle.audit_model.specs.Lanes.{same_pair};
 ghost use Rattle.audit_sightings.specs.Intake.{IsThere, NamesWhatIsThere, taken};
 ghost use Rattle.audit_placement.specs.Checks.{is_late, is_of_another, placing_checks, act_checks, event_checks, first_broken};
@@ -118,4 +119,11 @@ pub fn event_rule(
         Event::Out { sight, key } => placing_rule(intake, end, placed, Side::Leaves, sight, key),
         Event::Act { sight, gives, key } => act_rule(intake, end.last, sight, gives, key),
     }
+}
+
+/// Whether the event breaks no rule of placement behind the end of its lane, whatever else places its sighting.
+pub fn breaks_no_rule(intake: &Intake, end: LaneEnd, event: Event) -> bool
+    ensures { OnTrue result (first_broken (event_checks (taken intake.now) false end.pair end.last event) ≡ None) }
+{
+    event_rule(intake, end, event, false).is_none()
 }

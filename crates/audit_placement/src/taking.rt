@@ -6,12 +6,12 @@ ghost use Rattle.std.specs.Ordering.{is_gt};
 ghost use Rattle.audit_model.specs.declared.event.Key.{Key as EventKey};
 ghost use Rattle.audit_model.specs.Breach.{key_cmp};
 ghost use Rattle.audit_sightings.specs.Intake.{taken};
-ghost use Rattle.audit_placement.specs.Clean.{PlacesAt, Takes};
+ghost use Rattle.audit_placement.specs.Clean.{PlacesAt, PlacesEvent, Takes};
 ghost use Rattle.audit_placement.specs.Keys.{key_at};
 
 use crate::entry::LaneEnd;
 use crate::keys::PlacedKeys;
-use crate::single::event_rule;
+use crate::single::breaks_no_rule;
 use audit_model::{Event, Key, SightId};
 use audit_sightings::Intake;
 
@@ -59,15 +59,19 @@ fn note_key(keys: &mut PlacedKeys, sight: SightId, key: Key) -> bool
         && keys.place(sight, key)
 }
 
-/// Notes what an event places behind the end of its lane, and tells whether it shows no breach.
-pub fn note_event(intake: &Intake, keys: &mut PlacedKeys, end: LaneEnd, event: Event) -> bool
-    ensures { OnTrue result (Takes (taken intake.now) (key_at keys.old) end.pair end.last event (key_at keys.new)) }
+/// Notes what an event places, and tells whether it stands between its neighbours. Whether the event breaks a rule by itself isn't asked.
+pub fn place_event(keys: &mut PlacedKeys, event: Event) -> bool
+    ensures { OnTrue result (PlacesEvent (key_at keys.old) event (key_at keys.new)) }
 {
-    if event_rule(intake, end, event, false).is_some() {
-        return false;
-    }
     match event {
         Event::In { sight, key } | Event::Out { sight, key } => note_key(keys, sight, key),
         Event::Act { .. } => true,
     }
+}
+
+/// Notes what an event places behind the end of its lane, and tells whether it shows no breach.
+pub fn note_event(intake: &Intake, keys: &mut PlacedKeys, end: LaneEnd, event: Event) -> bool
+    ensures { OnTrue result (Takes (taken intake.now) (key_at keys.old) end.pair end.last event (key_at keys.new)) }
+{
+    breaks_no_rule(intake, end, event) && place_event(keys, event)
 }

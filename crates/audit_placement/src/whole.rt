@@ -1,26 +1,33 @@
 //! Whether all is placed.
 
-ghost use Rattle.std.specs.Prelude.{◌≡◌, [], IfOk, IfErr, IfNone, OnOk, Some, None};
+ghost use Rattle.std.specs.Prelude.{◌≡◌, ◌<◌, [], IfOk, IfErr, IfNone, IfSome, OnOk, Some, None};
 ghost use Rattle.audit_model.specs.Least.{IsLeast};
 ghost use Rattle.audit_sightings.specs.Intake.{taken};
 ghost use Rattle.audit_sightings.specs.ByInterface.{count_of};
+ghost use Rattle.audit_placement.specs.Clean.{IsClean};
 ghost use Rattle.audit_placement.specs.Entries.{lanes_entries, entries};
 ghost use Rattle.audit_placement.specs.FirstPlace.{Notes};
+ghost use Rattle.audit_placement.specs.Keys.{key_at};
 ghost use Rattle.audit_placement.specs.Named.{AllNamed};
 ghost use Rattle.audit_placement.specs.Shows.{Shows, ShowsByStamps, ShowsFrom, ShowsPlaced};
 
-use crate::clean::clean_keys;
+use crate::clean::{clean_keys, clean_keys_by};
 use crate::cuts::least_cut;
 use crate::events::{drops_breach, lane_breach};
 use crate::first::FirstPlaces;
+use crate::keys::PlacedKeys;
 use crate::neighbours::neighbours_breach;
 use crate::places::Places;
 use crate::unplaced::unplaced_breach;
-use audit_model::{Breach, Certificate};
+use audit_model::{Breach, CertLane, Certificate};
 use audit_sightings::Intake;
 use std::alloc::{AllocError, Global};
+use std::thread::Threads;
 
-/// That a certificate places each sighting once, in its window and in order. Only `placed` makes one.
+/// A certificate with fewer events in its lanes is judged by one thread, since to start another takes longer.
+const FEW: usize = 16_384;
+
+/// That a certificate places each sighting once, in its window and in order. Only `placed` and `placed_by` make one.
 #[derive(Debug, Drop)]
 pub struct Placement {
     datagrams: u32,
@@ -73,16 +80,18 @@ pub fn placed_breach(
 }
 
 /// The least breach of placement by the windows of the stamps, or none exactly where none is shown. Where there is none, the
-/// events name what is there.
+/// events name what is there. `clean` has the keys at which sightings are placed, where it is known that nothing placed shows a breach.
 fn least_breach(
     alloc: Global,
     intake: &Intake,
     certificate: &Certificate,
+    clean: Option<PlacedKeys>,
 ) -> Result<Option<Breach>, AllocError>
+    requires { IfSome clean (λ keys. IsClean (taken intake.now) (key_at keys) (entries certificate.now)) }
     ensures shown { IfOk result (IsLeast (ShowsByStamps (taken intake.now) certificate.now)) }
     ensures named { IfOk result (λ least. IfNone least (AllNamed (taken intake.now) certificate.now)) }
 {
-    if let Some(keys) = clean_keys(alloc, intake, certificate)? {
+    if let Some(keys) = clean {
         return Ok(unplaced_breach(intake, certificate, &Places::Once(keys)));
     }
     let (of_placed, first) = placed_breach(alloc, intake, certificate)?;
@@ -96,13 +105,37 @@ fn least_with_cuts(
     alloc: Global,
     intake: &Intake,
     certificate: &Certificate,
+    clean: Option<PlacedKeys>,
 ) -> Result<Option<Breach>, AllocError>
+    requires { IfSome clean (λ keys. IsClean (taken intake.now) (key_at keys) (entries certificate.now)) }
     ensures shown { IfOk result (IsLeast (Shows (taken intake.now) certificate.now)) }
     ensures named { IfOk result (λ least. IfNone least (AllNamed (taken intake.now) certificate.now)) }
 {
-    let by_stamps = least_breach(alloc, intake, certificate)?;
+    let by_stamps = least_breach(alloc, intake, certificate, clean)?;
     let of_cuts = least_cut(intake, certificate);
     Ok(Breach::least(by_stamps, of_cuts))
+}
+
+/// What `placed` finds, by what is known of clean keys.
+fn found_by(
+    alloc: Global,
+    intake: &Intake,
+    certificate: &Certificate,
+    clean: Option<PlacedKeys>,
+) -> Result<Result<Placement, Breach>, AllocError>
+    requires { IfSome clean (λ keys. IsClean (taken intake.now) (key_at keys) (entries certificate.now)) }
+    ensures passes { IfOk result (λ found. OnOk found (IsLeast (Shows (taken intake.now) certificate.now) None)) }
+    ensures breach { IfOk result (λ found. IfErr found (λ least. IsLeast (Shows (taken intake.now) certificate.now) (Some least))) }
+    ensures datagrams { IfOk result (λ found. IfOk found (λ placement. placement.datagrams ≡ count_of (taken intake.now).interfaces)) }
+    ensures named { IfOk result (λ found. OnOk found (AllNamed (taken intake.now) certificate.now)) }
+{
+    match least_with_cuts(alloc, intake, certificate, clean)? {
+        Some(breach) => Ok(Err(breach)),
+        None => {
+            let (_, datagrams) = intake.counts();
+            Ok(Ok(Placement { datagrams }))
+        }
+    }
 }
 
 /// Whether the certificate places each sighting of the intake once, in its window and in order, or else the least breach.
@@ -120,11 +153,43 @@ pub fn placed(
     ensures datagrams { IfOk result (λ found. IfOk found (λ placement. placement.datagrams ≡ count_of (taken intake.now).interfaces)) }
     ensures named { IfOk result (λ found. OnOk found (AllNamed (taken intake.now) certificate.now)) }
 {
-    match least_with_cuts(alloc, intake, certificate)? {
-        Some(breach) => Ok(Err(breach)),
-        None => {
-            let (_, datagrams) = intake.counts();
-            Ok(Ok(Placement { datagrams }))
+    let clean = clean_keys(alloc, intake, certificate)?;
+    found_by(alloc, intake, certificate, clean)
+}
+
+/// Whether the lanes have so many events that threads take less time than they cost.
+fn are_many(lanes: &[CertLane]) -> bool {
+    let mut events: usize = 0;
+    'lanes: for lane in lanes {
+        events = events.saturating_add(lane.events.len());
+        if events >= FEW {
+            return true;
         }
     }
+    false
+}
+
+/// The same as `placed`, by so many threads at the most: they ask each event of the lanes what it tells by itself, and the rest is done by
+/// this thread alone. It takes up to 129 bytes more for each lane and for each 4,096 events of a lane, while the threads ask. With one
+/// worker, or with few events, it is `placed`.
+pub fn placed_by<R: Threads + Sync>(
+    rt: &R,
+    alloc: Global,
+    intake: &Intake,
+    certificate: &Certificate,
+    workers: u32,
+) -> Result<Result<Placement, Breach>, AllocError>
+    requires { 0 < workers }
+    // It passes exactly where no breach is shown,
+    ensures passes { IfOk result (λ found. OnOk found (IsLeast (Shows (taken intake.now) certificate.now) None)) }
+    // and else the least one is told.
+    ensures breach { IfOk result (λ found. IfErr found (λ least. IsLeast (Shows (taken intake.now) certificate.now) (Some least))) }
+    ensures datagrams { IfOk result (λ found. IfOk found (λ placement. placement.datagrams ≡ count_of (taken intake.now).interfaces)) }
+    ensures named { IfOk result (λ found. OnOk found (AllNamed (taken intake.now) certificate.now)) }
+{
+    if workers == 1 || !are_many(certificate.lanes.as_slice()) {
+        return placed(alloc, intake, certificate);
+    }
+    let clean = clean_keys_by(rt, alloc, intake, certificate, workers)?;
+    found_by(alloc, intake, certificate, clean)
 }

@@ -22,12 +22,12 @@ returns-clause-named c = none_of_first _ _ _ _ c.least.ensures c.in_ok-of_placed
 pub returns-in-Some-clause-shown : goal.returns-in-Some-clause-shown
 returns-in-Some-clause-shown c =
     let certificate = c.args.certificate.now in
-    let clean = subst (λ o. IfSome o (λ keys. IsClean (taken c.args.intake.now) (key_at keys) (entries certificate))) c.in-Some.is c.in_ok-keys.ensures in
+    let clean = subst (λ o. IfSome o (λ keys. IsClean (taken c.args.intake.now) (key_at keys) (entries certificate))) c.in-Some.is c.requires in
     clean_whole (taken c.args.intake.now) (key_at c.in-Some.keys) certificate _ clean
     (c.unplaced_breach.ensures (entries certificate) (clean_tells (taken c.args.intake.now) (key_at c.in-Some.keys) (entries certificate) clean))
 
 pub returns-in-Some-clause-named : goal.returns-in-Some-clause-named
 returns-in-Some-clause-named c =
     let certificate = c.args.certificate.now in
-    let clean = subst (λ o. IfSome o (λ keys. IsClean (taken c.args.intake.now) (key_at keys) (entries certificate))) c.in-Some.is c.in_ok-keys.ensures in
+    let clean = subst (λ o. IfSome o (λ keys. IsClean (taken c.args.intake.now) (key_at keys) (entries certificate))) c.in-Some.is c.requires in
     clean_names (taken c.args.intake.now) (key_at c.in-Some.keys) certificate c.unplaced_breach.result clean

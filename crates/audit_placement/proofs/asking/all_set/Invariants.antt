@@ -1,0 +1,7 @@
+use Rattle.std.proofs.Common.{All, take}
+use Rattle.std.specs.Prelude.{IsTrue}
+use Rattle.audit_placement.proofs.asking.all_set.Given as goal
+
+-- the flags so far are set
+abbrev pub invariant-flags : goal.invariant-flags
+invariant-flags l = All IsTrue (take l.flag-index l.flags)

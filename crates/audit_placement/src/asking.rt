@@ -1,0 +1,107 @@
+//! Whether the events of a certificate's lanes break no rule by themselves, asked by the workers.
+
+ghost use Rattle.std.specs.Prelude.{◌≡◌, ◌<◌, ℕ, All, IfOk, IsSomeAnd, IsTrue, length, slice_get, slice_index_or};
+ghost use Rattle.std.specs.Bool.{OnTrue};
+ghost use Rattle.audit_sightings.specs.Intake.{taken};
+ghost use Rattle.audit_placement.specs.Pieces.{BreakNoRule, LaneBreaksNoRule, PieceBreaksNoRule};
+
+use crate::entry::LaneEnd;
+use crate::pieces::{Piece, pieces_of};
+use crate::single::breaks_no_rule;
+use audit_model::{CertLane, Event, Key};
+use audit_sightings::Intake;
+use std::alloc::{AllocError, Global};
+use std::thread;
+use std::thread::Threads;
+
+/// Whether events that stand behind the end of their lane, one behind the other, break no rule by themselves.
+fn break_no_rule(intake: &Intake, start: LaneEnd, events: &[Event]) -> bool
+    ensures { OnTrue result (BreakNoRule (taken intake.now) start.pair start.last events.now) }
+{
+    let mut last: Option<Key> = start.last;
+    'events: for event in events {
+        let end = LaneEnd {
+            pair: start.pair,
+            last,
+        };
+        if !breaks_no_rule(intake, end, *event) {
+            return false;
+        }
+        last = Some(event.key());
+    }
+    true
+}
+
+/// Sets the flag where the piece of that number breaks no rule, and clears it where it breaks one.
+fn ask_piece(intake: &Intake, pieces: &[Piece<'_>], number: usize, flag: &mut bool)
+    requires { number < length pieces.now }
+    ensures { OnTrue flag.new (IsSomeAnd (slice_get pieces.now number) (PieceBreaksNoRule (taken intake.now))) }
+{
+    let piece = pieces[number];
+    *flag = break_no_rule(intake, piece.end, piece.events);
+}
+
+/// The same of each piece and its flag, by so many threads at the most.
+fn ask_pieces<R: Threads + Sync>(
+    rt: &R,
+    intake: &Intake,
+    pieces: &[Piece<'_>],
+    workers: u32,
+    flags: &mut [bool],
+)
+    requires workers { 0 < workers }
+    requires there { length flags.old ≡ length pieces.now }
+    ensures { (i : ℕ) (d : _) → i < length flags.old → OnTrue (slice_index_or flags.new i d) (IsSomeAnd (slice_get pieces.now i) (PieceBreaksNoRule (taken intake.now))) }
+{
+    thread::for_each_mut(
+        rt,
+        flags,
+        workers as usize,
+        &|number, flag| ask_piece(intake, pieces, number, flag),
+    );
+}
+
+/// Whether all flags are set.
+fn all_set(flags: &[bool]) -> bool
+    ensures { OnTrue result (All IsTrue flags.now) }
+{
+    'flags: for flag in flags {
+        if !*flag {
+            return false;
+        }
+    }
+    true
+}
+
+/// Whether no piece breaks a rule, asked by so many threads at the most. There is a flag for each.
+fn pieces_break_no_rule<R: Threads + Sync>(
+    rt: &R,
+    intake: &Intake,
+    pieces: &[Piece<'_>],
+    workers: u32,
+    flags: &mut [bool],
+) -> bool
+    requires workers { 0 < workers }
+    requires there { length flags.old ≡ length pieces.now }
+    ensures { OnTrue result (All (PieceBreaksNoRule (taken intake.now)) pieces.now) }
+{
+    ask_pieces(rt, intake, pieces, workers, flags);
+    all_set(flags)
+}
+
+/// Whether the events of the lanes break no rule by themselves, asked by so many threads at the most.
+/// It goes once over the events, and takes up to 129 bytes for each lane and for each 4,096 events of a lane.
+pub fn lanes_break_no_rule<R: Threads + Sync>(
+    rt: &R,
+    alloc: Global,
+    intake: &Intake,
+    lanes: &[CertLane],
+    workers: u32,
+) -> Result<bool, AllocError>
+    requires { 0 < workers }
+    ensures { IfOk result (λ held. OnTrue held (All (LaneBreaksNoRule (taken intake.now)) lanes.now)) }
+{
+    let pieces = pieces_of(alloc, lanes)?;
+    let mut flags = vec![in alloc; false; pieces.len()]?;
+    Ok(pieces_break_no_rule(rt, intake, pieces.as_slice(), workers, flags.as_mut_slice()))
+}
