@@ -11,7 +11,7 @@ use Rattle.audit_rules.specs.declared.credentials.CredRow.{CredRow}
 use Rattle.audit_lane.specs.declared.input.LaneEvent.{LaneEvent}
 use Rattle.audit_lane.specs.declared.input.LaneEvent.TheVariants.{In, Act, Out}
 
--- an event with the sightings that it names; of an arrival, the number of the user that it names too
+-- an event with the sightings that it names; of a request that arrives, the number of the user that it names too
 pub data Happening : Type 0 where
   Came : Sighting → Option ℕ → Key → Happening
   Acted : Sighting → Sighting → Key → Happening

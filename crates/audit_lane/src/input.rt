@@ -25,7 +25,7 @@ pub enum LaneEvent<'a> {
     /// A datagram arrives at the server.
     In {
         sighting: &'a Sighting,
-        /// The number of the user that it names, among the lane's users; None where it names nobody.
+        /// The number of the user that it names, among the lane's users; None where it is no request, or names nobody.
         user: Option<u32>,
         key: Key,
     },
@@ -49,7 +49,7 @@ pub struct LaneInput<'a> {
     client: Addr,
     listen: Addr,
     policy: &'a Policy,
-    /// The user of a realm, with their key, that each arrival names, where the credentials have one, in the order of the arrivals.
+    /// The user of a realm, with their key, that each request names, where the credentials have one, in the order of the arrivals.
     users: Vec<CredRow<'a>>,
     events: Vec<LaneEvent<'a>>,
 }
@@ -125,7 +125,7 @@ impl<'a> LaneInput<'a> {
     }
 }
 
-/// The event with the sightings that it names. The user that an arrival names is added to the users.
+/// The event with the sightings that it names. The user that a request names is added to the users.
 fn with_sightings<'a>(
     intake: &'a Intake,
     credentials: &Credentials,
@@ -162,8 +162,8 @@ fn with_sightings<'a>(
 
 /// What the lane of that number is judged by. Its events have to name sightings that are there, with the right sides.
 ///
-/// Each arrival tells the user that it names, so that judging an act looks for nobody, and a certificate that names one arrival in many
-/// acts has it read once. It takes log n in the credentials for each arrival, and time in its length.
+/// Each request tells the user that it names, so that judging an act looks for nobody, and a certificate that names one arrival in many
+/// acts has it read once. It takes log n in the credentials for each request, and time in its length.
 pub fn lane_input<'a>(
     alloc: Global,
     number: u32,

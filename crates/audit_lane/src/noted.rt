@@ -18,7 +18,7 @@ use std::collections::BTreeMap;
 pub struct Arrival {
     /// When it came in, in nanoseconds since 1970.
     pub moment: u64,
-    /// The number of the user that it names, among the lane's users.
+    /// The number of the user that it names, among the lane's users, if it is a request.
     pub user: Option<u32>,
     pub acted: bool,
 }

@@ -32,7 +32,7 @@ use Rattle.audit_rules.specs.Seen.{key_in}
 use Rattle.audit_rules.specs.Situation.{Situation}
 use Rattle.audit_verdict.specs.Run.{IsKnown, move_of, placed_at}
 use Rattle.audit_verdict.proofs.Agreeing.{user_agrees}
-use Rattle.audit_verdict.proofs.KeysTold.{AgreeInMessage, may_said}
+use Rattle.audit_verdict.proofs.KeysTold.{AgreeInRequest, may_said}
 use Rattle.audit_verdict.proofs.Running.{IsOpen, open_to, change_same}
 use Rattle.audit_server.specs.Captured.{MayBetween}
 use Rattle.audit_server.specs.State.{put}
@@ -46,11 +46,11 @@ key_same : (row : CredRow) (user realm : List ℕ) (is : Bool) → option_map (�
 key_same row user realm true = refl
 key_same row user realm false = refl
 
--- the row of the user that a payload names has the key that the credentials have
-pub row_agrees : (key_for : KeyFor) (payload : List ℕ) (named : Option CredRow) → IsRowOf key_for payload named → AgreeInMessage (key_in (option_to_list named)) key_for payload
+-- the row of the user that a request names has the key that the credentials have
+pub row_agrees : (key_for : KeyFor) (payload : List ℕ) (named : Option CredRow) → IsRowOf key_for payload named → AgreeInRequest (key_in (option_to_list named)) key_for payload
 row_agrees key_for payload None nobody = user_agrees key_for [] payload None nobody
-row_agrees key_for payload (Some row) names = λ message user realm names_user names_realm.
-    key_same row user realm (bytes_eq row.user.now user && bytes_eq row.realm.now realm) ∙ user_agrees key_for (user_of row ∷ []) payload (Some 0) names message user realm names_user names_realm
+row_agrees key_for payload (Some row) names = λ message class user realm names_user names_realm.
+    key_same row user realm (bytes_eq row.user.now user && bytes_eq row.realm.now realm) ∙ user_agrees key_for (user_of row ∷ []) payload (Some 0) names message class user realm names_user names_realm
 
 past_to : (b : Bool) (r : Rule) → cond b (Some r) None ≡ None → b ≡ false
 past_to true r h = absurd (none-some r (sym h))
@@ -81,12 +81,12 @@ module _ (taken : Taken) (key_for : KeyFor) (pair : Pair) (number place : ℕ) (
     tells_first = ap told_by may_be.is ∙ known.told a.id arrived may_be.is
 
     -- the key of whom the arrival names
-    pub agrees : (named : Option CredRow) → rows ≡ option_to_list named → IsRowOf key_for a.payload named → AgreeInMessage (terms.keys (told_by (old.came a.id))) key_for a.payload
+    pub agrees : (named : Option CredRow) → rows ≡ option_to_list named → IsRowOf key_for a.payload named → AgreeInRequest (terms.keys (told_by (old.came a.id))) key_for a.payload
     agrees named rows_are is =
-        subst (λ (told : Option ℕ). AgreeInMessage (terms.keys told) key_for a.payload) (sym tells_first)
-        (subst (λ (rs : List CredRow). AgreeInMessage ((terms_by number taken.policy rs).keys (Some 0)) key_for a.payload) (sym rows_are) (first_row named is))
+        subst (λ (told : Option ℕ). AgreeInRequest (terms.keys told) key_for a.payload) (sym tells_first)
+        (subst (λ (rs : List CredRow). AgreeInRequest ((terms_by number taken.policy rs).keys (Some 0)) key_for a.payload) (sym rows_are) (first_row named is))
       where
-        first_row : (named : Option CredRow) → IsRowOf key_for a.payload named → AgreeInMessage ((terms_by number taken.policy (option_to_list named)).keys (Some 0)) key_for a.payload
+        first_row : (named : Option CredRow) → IsRowOf key_for a.payload named → AgreeInRequest ((terms_by number taken.policy (option_to_list named)).keys (Some 0)) key_for a.payload
         first_row None nobody = row_agrees key_for a.payload None nobody
         first_row (Some row) names = row_agrees key_for a.payload (Some row) names
 
@@ -106,7 +106,7 @@ module _ (taken : Taken) (key_for : KeyFor) (pair : Pair) (number place : ℕ) (
       moment = key.moment;
     }
 
-    may_answer : AgreeInMessage (terms.keys (told_by (old.came a.id))) key_for a.payload → MayAnswer (situation_in terms old a l key.moment) (change_in (situation_in terms old a l key.moment))
+    may_answer : AgreeInRequest (terms.keys (told_by (old.came a.id))) key_for a.payload → MayAnswer (situation_in terms old a l key.moment) (change_in (situation_in terms old a l key.moment))
         → sighting_at taken a.id ≡ Some a → sighting_at taken l.id ≡ Some l → (rules_for taken key_for).MayAnswer pair a.id l.id key.moment m.allocation
     unfolding asked
     may_answer agree right there gives_there =

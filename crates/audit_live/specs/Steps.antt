@@ -5,7 +5,7 @@ use Rattle.audit_model.specs.declared.event.Event.{Event}
 use Rattle.audit_model.specs.declared.verdict.Breach.{Breach}
 use Rattle.audit_rules.specs.declared.credentials.CredRow.{CredRow}
 use Rattle.audit_rules.specs.Keys.{KeyFor}
-use Rattle.audit_rules.specs.Named.{Names, NamesNobody}
+use Rattle.audit_rules.specs.Named.{Names, RequestNamesNobody}
 use Rattle.audit_sightings.specs.Intake.{Taken}
 use Rattle.audit_lane.specs.declared.state.LaneState.{LaneState}
 use Rattle.audit_lane.specs.After.{after}
@@ -17,11 +17,11 @@ use Rattle.audit_lane.specs.Seen.{SameKept, kept_of, terms_by}
 use Rattle.audit_lane.specs.Walk.{AreOwed, Shows}
 use Rattle.audit_live.specs.declared.lane.LiveLane.{LiveLane}
 
--- the row of the user that a payload names, if the credentials have their key
+-- the row of the user that a payload names, with the key that the credentials have; None where it is no request, or names nobody
 abbrev pub IsRowOf : KeyFor → List ℕ → Option CredRow → Type 0
-IsRowOf key_for payload named = MatchOption named (NamesNobody key_for payload) (λ row. Names key_for payload row.user.now row.realm.now row.key)
+IsRowOf key_for payload named = MatchOption named (RequestNamesNobody key_for payload) (λ row. Names key_for payload row.user.now row.realm.now row.key)
 
--- an act goes by the row of the user that its arrival names, which each arrival tells as the first
+-- an act goes by the row of the user that its request names, which each arrival tells as the first
 abbrev pub AreRowsOf : KeyFor → Happening → List CredRow → Type 0
 AreRowsOf key_for (Came sighting user key) rows = user ≡ Some 0
 AreRowsOf key_for (Acted arrives leaves key) rows = (named : Option CredRow) × (rows ≡ option_to_list named) × IsRowOf key_for arrives.payload named

@@ -66,7 +66,7 @@ impl LiveLane {
             .step(self.number, &[], intake.policy(), self.steps, arrives)
     }
 
-    /// The user that the arrival names is looked up when the server acts on it.
+    /// The user that a request names is looked up when the server acts on it.
     fn act(
         &mut self,
         intake: &Intake,
@@ -87,7 +87,7 @@ impl LiveLane {
             leaves,
             key,
         };
-        match CredRow::of(credentials, arrives.payload.as_slice()) {
+        match CredRow::of_request(credentials, arrives.payload.as_slice()) {
             Some(row) => self
                 .state
                 .step(self.number, &[row], intake.policy(), self.steps, act),

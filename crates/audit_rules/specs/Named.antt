@@ -1,8 +1,10 @@
 -- The user and the realm that a payload names.
 use Rattle.std.specs.Prelude.{◌≡◌, ℕ, List, Some}
+use Rattle.audit_stun.specs.declared.class.Class.TheVariants.{Request}
 use Rattle.audit_stun.specs.declared.numbers.attribute.TheConstants.{USERNAME, REALM}
 use Rattle.audit_stun.specs.Message.{Parts, IsMessage}
 use Rattle.audit_stun.specs.Counted.{first_of}
+use Rattle.audit_stun.specs.Parts.{parts_of}
 use Rattle.audit_keys.specs.declared.keys.Keys.{Keys}
 use Rattle.audit_keys.specs.Keys.{KeyFor}
 
@@ -16,3 +18,7 @@ pub record Names (key_for : KeyFor) (payload user realm : List ℕ) (keys : Keys
 
 abbrev pub NamesNobody : KeyFor → List ℕ → Type 0
 NamesNobody key_for payload = (user realm : List ℕ) (keys : Keys) → Names key_for payload user realm keys → ⊥
+
+-- where the payload is a request (RFC 8489, section 5), it names nobody
+abbrev pub RequestNamesNobody : KeyFor → List ℕ → Type 0
+RequestNamesNobody key_for payload = IsMessage payload (parts_of payload) → (parts_of payload).class ≡ Request → NamesNobody key_for payload

@@ -1,8 +1,10 @@
 //! The users that an act may be by.
 
 ghost use Rattle.std.specs.Prelude.{◌≡◌, ◌↔◌, IsTrue, Some, None, MatchOption, option_copied};
+ghost use Rattle.audit_stun.specs.declared.class.Class.TheVariants.{Request};
 ghost use Rattle.audit_stun.specs.declared.numbers.attribute.TheConstants.{USERNAME};
 ghost use Rattle.audit_stun.specs.Counted.{first_of};
+ghost use Rattle.audit_stun.specs.Message.{IsMessage};
 ghost use Rattle.audit_stun.specs.Parts.{parts_of};
 ghost use Rattle.audit_rules.specs.Situation.{asked};
 ghost use Rattle.audit_rules.specs.Standing.{key_named, IsByUser, IsSignedBack};
@@ -23,7 +25,7 @@ pub struct CredRow<'a> {
 
 impl<'a> CredRow<'a> {
     ghost use Rattle.audit_keys.specs.KeyFor.{key_for};
-    ghost use Rattle.audit_rules.specs.Named.{Names, NamesNobody};
+    ghost use Rattle.audit_rules.specs.Named.{Names, NamesNobody, RequestNamesNobody};
 
     /// The row of the user and the realm that a message names in USERNAME and REALM, with their long-term keys (RFC 8489, section 9.2). None where the
     /// payload is no message, has no such attributes, or the credentials have no keys for both. It takes log n in the credentials, and no memory.
@@ -37,6 +39,28 @@ impl<'a> CredRow<'a> {
         let key = credentials.lookup(user, realm)?;
         Some(CredRow { user, realm, key })
     }
+
+    /// The same of a request, of which alone judging asks for a user: of any other payload it reads the first two bytes, or finds the row as `of` does.
+    pub fn of_request(credentials: &Credentials, payload: &'a [u8]) -> Option<CredRow<'a>>
+        ensures { MatchOption result (RequestNamesNobody (key_for credentials.now) payload.now)
+            (λ row. Names (key_for credentials.now) payload.now row.user.now row.realm.now row.key) }
+    {
+        if !begins_request(payload) {
+            return None;
+        }
+        CredRow::of(credentials, payload)
+    }
+}
+
+/// Whether the first two bytes may be a request's message type: two zero bits, and zero for both bits of the class (RFC 8489, section 5).
+fn begins_request(payload: &[u8]) -> bool
+    ensures { IsMessage payload.now (parts_of payload.now) → (parts_of payload.now).class ≡ Request → IsTrue result }
+{
+    let [first, second, ..] = payload else {
+        return false;
+    };
+    let message_type = u16::from_be_bytes([*first, *second]);
+    message_type < 1 << 14 && message_type / 256 % 2 == 0 && message_type / 16 % 2 == 0
 }
 
 /// Who signed a request.

@@ -1,4 +1,4 @@
--- The user that an arrival tells has the key that the credentials have for whom it names.
+-- The user that a request tells has the key that the credentials have for whom it names.
 use Rattle.std.proofs.Common.{◌≡◌, ℕ, zero, suc, Bool, true, cond, ◌&&◌, List, [], ◌∷◌, Option, Some, None, refl, sym, ap, ◌∙◌}
 use Rattle.std.specs.Prelude.{IsSomeAnd, slice_get, option_map, option_to_list}
 use Rattle.std.specs.Str.{bytes_eq}
@@ -14,7 +14,7 @@ use Rattle.audit_rules.specs.Named.{Names, NamesNobody}
 use Rattle.audit_lane.specs.Content.{User, numbered}
 use Rattle.audit_lane.specs.Judged.{key_by}
 use Rattle.audit_lane.specs.Told.{IsOfUser}
-use Rattle.audit_verdict.proofs.KeysTold.{AgreeInMessage}
+use Rattle.audit_verdict.proofs.KeysTold.{AgreeInRequest}
 
 same_some : {X : Type 0} (x y : X) → Some x ≡ Some y → x ≡ y
 same_some x y h = cc
@@ -47,6 +47,6 @@ some_agrees key_for [] payload n holds = elim holds [ ]
 some_agrees key_for (one ∷ users) payload zero holds = one_agrees key_for payload one holds
 some_agrees key_for (one ∷ users) payload (suc n) holds = some_agrees key_for users payload n holds
 
-pub user_agrees : (key_for : KeyFor) (users : List User) (payload : List ℕ) (number : Option ℕ) → IsOfUser key_for users payload number → AgreeInMessage (key_by (numbered users number)) key_for payload
-user_agrees key_for users payload None nobody message = nobody_agrees key_for payload nobody message
-user_agrees key_for users payload (Some n) holds message = some_agrees key_for users payload n holds
+pub user_agrees : (key_for : KeyFor) (users : List User) (payload : List ℕ) (number : Option ℕ) → IsOfUser key_for users payload number → AgreeInRequest (key_by (numbered users number)) key_for payload
+user_agrees key_for users payload None nobody message class = nobody_agrees key_for payload (nobody message class) message
+user_agrees key_for users payload (Some n) holds message class = some_agrees key_for users payload n holds

@@ -1,31 +1,32 @@
--- Where the payload of an act's arrival is a message, the keys for the user that it names are all that the act goes by.
-use Rattle.std.proofs.Common.{ℕ, List, subst}
+-- Where the payload of an act's arrival is a request, the keys for the user that it names are all that the act goes by.
+use Rattle.std.proofs.Common.{◌≡◌, ℕ, List, subst}
+use Rattle.audit_stun.specs.declared.class.Class.TheVariants.{Request}
 use Rattle.audit_stun.specs.Message.{IsMessage}
 use Rattle.audit_stun.specs.Parts.{parts_of}
 use Rattle.audit_rules.specs.Allocation.{Change}
 use Rattle.audit_rules.specs.Answer.{MayAnswer, Answers, Case, Binding, Error as ErrorCase, New, Again, Refresh, Permission, ChannelBind, Send, ChannelUp, Data, ChannelDown}
 use Rattle.audit_rules.specs.Keys.{KeyFor, AgreeOn, with_keys}
 use Rattle.audit_rules.specs.Said.{change_in}
-use Rattle.audit_rules.specs.Situation.{Situation}
+use Rattle.audit_rules.specs.Situation.{Situation, IsOf}
 use Rattle.audit_rules.proofs.Keys.{may_keyed, change_keyed}
 
--- both have the same key for the user and the realm that a message names
-abbrev pub AgreeInMessage : KeyFor → KeyFor → List ℕ → Type 0
-AgreeInMessage one other payload = IsMessage payload (parts_of payload) → AgreeOn one other payload
+-- both have the same key for the user and the realm that a request names
+abbrev pub AgreeInRequest : KeyFor → KeyFor → List ℕ → Type 0
+AgreeInRequest one other payload = IsMessage payload (parts_of payload) → (parts_of payload).class ≡ Request → AgreeOn one other payload
 
-module _ (key_for : KeyFor) (x : Situation) (agree : AgreeInMessage x.key_for key_for x.arrives.payload) where
-  by_message : IsMessage x.arrives.payload (parts_of x.arrives.payload) → (change : Change) → MayAnswer x change → MayAnswer (with_keys key_for x) change
-  by_message message change may = may_keyed key_for x (agree message) change may
+module _ (key_for : KeyFor) (x : Situation) (agree : AgreeInRequest x.key_for key_for x.arrives.payload) where
+  by_request : (method : ℕ) → IsOf x.arrives.payload Request method → (change : Change) → MayAnswer x change → MayAnswer (with_keys key_for x) change
+  by_request method request change may = may_keyed key_for x (agree request.0 request.1) change may
 
   may_case : (change : Change) (may : MayAnswer x change) (case : Case) → Answers case x change → MayAnswer (with_keys key_for x) change
   unfolding MayAnswer
-  may_case change may Binding r = by_message r.0.response.request.0 change may
-  may_case change may ErrorCase r = by_message r.0.response.request.0 change may
-  may_case change may New r = by_message r.response.request.0 change may
-  may_case change may Again r = by_message r.0.response.request.0 change may
-  may_case change may Refresh r = by_message r.response.request.0 change may
-  may_case change may Permission r = by_message r.response.request.0 change may
-  may_case change may ChannelBind r = by_message r.response.request.0 change may
+  may_case change may Binding r = by_request _ r.0.response.request change may
+  may_case change may ErrorCase r = by_request _ r.0.response.request change may
+  may_case change may New r = by_request _ r.response.request change may
+  may_case change may Again r = by_request _ r.0.response.request change may
+  may_case change may Refresh r = by_request _ r.response.request change may
+  may_case change may Permission r = by_request _ r.response.request change may
+  may_case change may ChannelBind r = by_request _ r.response.request change may
   may_case change may Send r = (may.0, Send, (record { goes = r.0.goes; indication = r.0.indication; relays = r.0.relays; peer = r.0.peer; sends = r.0.sends }, r.1))
   may_case change may ChannelUp r = (may.0, ChannelUp, (record { goes = r.0.goes; number = r.0.number; past = r.0.past; says = r.0.says; relays = r.0.relays }, r.1))
   may_case change may Data r = (may.0, Data, (record { goes = r.0.goes; indication = r.0.indication; relays = r.0.relays; peer = r.0.peer; sends = r.0.sends }, r.1))

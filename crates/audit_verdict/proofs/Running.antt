@@ -29,7 +29,7 @@ use Rattle.audit_lane.specs.Faults.{IsRight, act_fault, out_fault, is_past}
 use Rattle.audit_lane.specs.Kept.{Terms, Kept, told_by, situation_in}
 use Rattle.audit_verdict.specs.Run.{IsKnown, placed_at, move_of}
 use Rattle.audit_lane.specs.Walk.{key_at}
-use Rattle.audit_verdict.proofs.KeysTold.{AgreeInMessage, may_said}
+use Rattle.audit_verdict.proofs.KeysTold.{AgreeInRequest, may_said}
 
 -- an arrival that no act took waits
 abbrev pub waits : Option Arrival → Option ℕ
@@ -157,17 +157,17 @@ module _ (terms : Terms) (key_for : KeyFor) (pair : Pair) (sighting : SightId �
         ∙ ap (λ o. MayBetween terms.policy key_for pair moment kept.standing.allocation o (sighting l.id)) k
         ∙ ap (λ o. MayBetween terms.policy key_for pair moment kept.standing.allocation (Some a) o) m
 
-    may_to : (a l : Sighting) (moment : ℕ) → AgreeInMessage (told a) key_for a.payload → May (situation_in terms kept a l moment) → May (asked_by key_for a l moment)
+    may_to : (a l : Sighting) (moment : ℕ) → AgreeInRequest (told a) key_for a.payload → May (situation_in terms kept a l moment) → May (asked_by key_for a l moment)
     may_to a l moment agree may = may_said key_for (asked_by (told a) a l moment) agree (subst May (situation_is a l moment) may)
 
-    may_back : (a l : Sighting) (moment : ℕ) → AgreeInMessage (told a) key_for a.payload → May (asked_by key_for a l moment) → May (situation_in terms kept a l moment)
+    may_back : (a l : Sighting) (moment : ℕ) → AgreeInRequest (told a) key_for a.payload → May (asked_by key_for a l moment) → May (situation_in terms kept a l moment)
     may_back a l moment agree may = subst May (sym (situation_is a l moment))
-        (may_said (told a) (asked_by key_for a l moment) (λ message user realm names_user names_realm. sym (agree message user realm names_user names_realm)) may)
+        (may_said (told a) (asked_by key_for a l moment) (λ message class user realm names_user names_realm. sym (agree message class user realm names_user names_realm)) may)
 
-    -- an act's arrival tells a user with the key that the credentials have
+    -- an act's request tells a user with the key that the credentials have
     abbrev pub AgreesOnAct : Happening → Type 0
     AgreesOnAct (Came s user key) = Unit {0}
-    AgreesOnAct (Acted a l key) = AgreeInMessage (told a) key_for a.payload
+    AgreesOnAct (Acted a l key) = AgreeInRequest (told a) key_for a.payload
     AgreesOnAct (Went s key) = Unit {0}
 
     free_change : (now moment : ℕ) (ch : Change) → IsFree w_of (state_of pair kept now) moment pair ch

@@ -63,7 +63,7 @@ MomentsRise now (event ∷ events) = (now ≤ (key_at event).moment) × MomentsR
 abbrev pub steps_in : Content → List Placed
 steps_in content = placed_from (terms_of content) (pair_in content) 0 content.events
 
--- Where each sighting is placed at most once and moments rise, a lane whose arrivals tell their users passes with these tenancies
+-- Where each sighting is placed at most once and moments rise, a lane whose requests tell their users passes with these tenancies
 -- just where it is a run of the server that has this client alone, and these are the tenancies of that run.
 abbrev pub PassesAsRun : Content → Type 0
 PassesAsRun content = (key_for : KeyFor) (sighting : SightId → Option Sighting) →

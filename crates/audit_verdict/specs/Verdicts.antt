@@ -15,7 +15,7 @@ use Rattle.audit_rules.specs.Keys.{KeyFor}
 use Rattle.audit_sightings.specs.ByInterface.{count_of}
 use Rattle.audit_sightings.specs.Intake.{Taken}
 
--- the lane's events with their sightings, whose arrivals tell the users that they name and the credentials have
+-- the lane's events with their sightings, whose requests tell the users that they name and the credentials have
 pub record IsLaneInput (taken : Taken) (key_for : KeyFor) (number : ℕ) (lane : CertLane) (content : Content) : Type 0 where
   pub input : IsInputOf taken number lane content
   pub users : All (Tells key_for content.users) content.events
