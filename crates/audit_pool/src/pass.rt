@@ -16,7 +16,7 @@ use audit_book::Closed;
 use audit_glue::{check, conclude};
 use audit_keys::Credentials;
 use audit_model::{Certificate, Verdict};
-use audit_placement::placed;
+use audit_placement::placed_by;
 use audit_sightings::Intake;
 use audit_sightings::laws::sightings_are_numbered;
 use std::alloc::{AllocError, Global};
@@ -31,7 +31,7 @@ pub struct Judged<'a> {
     pub closed: Option<Closed<'a>>,
 }
 
-/// The verdict that the parts come to: placement first, then the lanes by the workers, or by this thread where they had no memory.
+/// The verdict that the parts come to: placement first, then the lanes, by the workers, or by this thread where they had no memory.
 fn verdict_of_parts<'a, R: Threads + Wait + Sync, G: Gate + Sync>(
     rt: &R,
     alloc: Global,
@@ -45,7 +45,7 @@ fn verdict_of_parts<'a, R: Threads + Wait + Sync, G: Gate + Sync>(
     ensures verdict { IfOk result (λ j. IsVerdict (taken intake.now) (key_for credentials.now) certificate.now j.verdict) }
     ensures closed { IfOk result (λ j. IfSome j.closed (λ c. IsFullOf (taken intake.now) (key_for credentials.now) certificate.now workers c.claimants.items c.seats.items c.entries.items j.verdict)) }
 {
-    let placement = match placed(alloc, intake, certificate)? {
+    let placement = match placed_by(rt, alloc, intake, certificate, workers)? {
         Ok(placement) => placement,
         Err(breach) => {
             return Ok(Judged {
