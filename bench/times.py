@@ -1,11 +1,12 @@
 #!/usr/bin/env python3
 """Times `turnaudit find`, `check` and `audit` with 1, 2 and 4 workers, on captures made by make_capture.py, beside programs that read the same files.
 
-    python3 bench/times.py [--clients 24 1000] [--datagrams 1000000] [--runs 5] [--workers 1 2 4] [--markdown]
+    python3 bench/times.py [--clients 24 1000] [--datagrams 1000000] [--runs 5] [--workers 1 2 4] [--markdown | --readme]
 
 Of each number of clients the programs take turns, round after round, on this machine, with the files in its cache; of each the median counts, with the least and
-the greatest. Beside the seconds on the wall stand those of the processors (cpu), in the programs and in the system for them, and both as a ratio to those of `capinfos` and of
-`sha1sum` in the same rounds. The load is told before and after. `capinfos` is timed where it is installed. The last line of each table tells whether all answers were the same, the certificates of `find` among themselves.
+the greatest. Beside the seconds on the wall stand those of the processors (cpu), in the programs and in the system for them, both as a ratio to those of `capinfos` in
+the same rounds (of `sha1sum` where that isn't installed), and the greatest resident set. The load is told before and after. The last line of each table tells whether
+all answers were the same, the certificates of `find` among themselves. With --readme it prints the table of README.md, of 1 and 4 workers.
 
 It runs bench/make_capture.py as a program. It imports no file of this repository, and none imports it.
 """
@@ -14,40 +15,50 @@ import argparse
 import hashlib
 import os
 import pathlib
-import resource
 import shutil
 import statistics
 import subprocess
 import sys
 import tempfile
 import time
+from dataclasses import dataclass
 
 HERE = pathlib.Path(__file__).resolve().parent
 PROGRAM = HERE.parent / "crates/turnaudit/out/turnaudit"
 
 
-def timed(commands, out):
-    """Seconds on the wall and of the processors for commands that run one after the other, and what they answer."""
-    began, before = time.monotonic(), resource.getrusage(resource.RUSAGE_CHILDREN)
+@dataclass
+class Took:
+    """What a command took: seconds on the wall and of the processors, and the greatest resident set in MB."""
+
+    wall: float
+    cpu: float
+    megabytes: float
+
+
+def timed(words, out):
+    """What a command takes, whose answer goes to the file."""
+    began = time.monotonic()
     with out.open("wb") as stream:
-        for words in commands:
-            run = subprocess.run(words, stdout=stream, stderr=subprocess.PIPE, check=False)
-            if run.returncode != 0:
-                sys.exit(f"{words[0]} ended with status {run.returncode}: {run.stderr!r} {out.read_bytes()[:300]!r}")
-    wall, after = time.monotonic() - began, resource.getrusage(resource.RUSAGE_CHILDREN)
-    return wall, after.ru_utime + after.ru_stime - before.ru_utime - before.ru_stime
+        run = subprocess.Popen(words, stdout=stream, stderr=subprocess.PIPE)
+        said = run.stderr.read()
+        _, ended, usage = os.wait4(run.pid, 0)
+    wall = time.monotonic() - began
+    if ended != 0:
+        sys.exit(f"{words[0]} ended with status {os.waitstatus_to_exitcode(ended)}: {said!r} {out.read_bytes()[:300]!r}")
+    return Took(wall, usage.ru_utime + usage.ru_stime, usage.ru_maxrss * 1024 / 1e6)
 
 
 def programs_on(folder, workers):
-    """The programs, by the name that the table has for each: the commands that it is timed by."""
+    """The programs, by the name that the table has for each: the command that it is timed by."""
     captures = [folder / "client.pcapng", folder / "peer.pcapng"]
     inputs = ["--policy", folder / "policy", "--creds", folder / "creds"]
-    programs = {"sha1sum": [["sha1sum", *captures]]}
+    programs = {"sha1sum": ["sha1sum", *captures]}
     if shutil.which("capinfos"):
-        programs["capinfos"] = [["capinfos", *captures]]
+        programs["capinfos"] = ["capinfos", *captures]
     for command, more in (("find", []), ("check", ["--cert", folder / "certificate"]), ("audit", [])):
         for count in workers:
-            programs[f"turnaudit {command} --workers {count}"] = [[PROGRAM, command, *inputs, *more, "--workers", str(count), *captures]]
+            programs[f"turnaudit {command} --workers {count}"] = [PROGRAM, command, *inputs, *more, "--workers", str(count), *captures]
     return programs
 
 
@@ -55,19 +66,35 @@ def load():
     return ", ".join(f"{number:.1f}" for number in os.getloadavg())
 
 
+def medians(takes):
+    return Took(*(statistics.median(getattr(take, part) for take in takes) for part in ("wall", "cpu", "megabytes")))
+
+
 def table(rows, markdown):
-    """The rows with what each takes in units of capinfos and of sha1sum."""
-    units = [unit for unit in ("capinfos", "sha1sum") if unit in rows]
-    heads = ["", "wall", "least to greatest", "cpu"] + [f"{what}/{unit}" for unit in units for what in ("wall", "cpu")]
+    """The rows with what each takes, also in units of capinfos."""
+    unit = "capinfos" if "capinfos" in rows else "sha1sum"
+    one = medians(rows[unit])
+    heads = ["", "wall", "least to greatest", "cpu", f"wall/{unit}", f"cpu/{unit}", "MB"]
     lines = [heads] + [["---"] * len(heads)] * markdown
     for name, takes in rows.items():
-        wall, spent = (statistics.median(take[part] for take in takes) for part in (0, 1))
-        line = [f"`{name}`" if markdown else name, f"{wall:.2f}", f"{min(take[0] for take in takes):.2f} to {max(take[0] for take in takes):.2f}", f"{spent:.2f}"]
-        for unit in units:
-            line += [f"{mine / statistics.median(take[part] for take in rows[unit]):.2f}" for part, mine in ((0, wall), (1, spent))]
-        lines.append(line)
+        took = medians(takes)
+        walls = [take.wall for take in takes]
+        line = [f"`{name}`" if markdown else name, f"{took.wall:.2f}", f"{min(walls):.2f} to {max(walls):.2f}", f"{took.cpu:.2f}"]
+        lines.append([*line, f"{took.wall / one.wall:.2f}", f"{took.cpu / one.cpu:.2f}", f"{max(take.megabytes for take in takes):.0f}"])
     for line in lines:
-        print("| " + " | ".join(line) + " |" if markdown else f"{line[0]:30}" + "".join(f"{cell:>23}" for cell in line[1:]))
+        print("| " + " | ".join(line) + " |" if markdown else f"{line[0]:30}" + "".join(f"{cell:>20}" for cell in line[1:]))
+
+
+def readme(rows):
+    """The table of README.md: seconds by one worker and by four, and the memory."""
+    print("| | 1 worker | 4 workers | MB |\n|---|---|---|---|")
+    for name in ("capinfos", "sha1sum"):
+        if name in rows:
+            print(f"| `{name}` | {medians(rows[name]).wall:.1f} | | |")
+    for command in ("find", "check", "audit"):
+        by_one, by_four = (rows[f"turnaudit {command} --workers {count}"] for count in (1, 4))
+        megabytes = max(take.megabytes for take in by_one + by_four)
+        print(f"| `turnaudit {command}` | {medians(by_one).wall:.1f} | {medians(by_four).wall:.1f} | {megabytes:.0f} |")
 
 
 def measure(folder, clients, asked):
@@ -79,15 +106,18 @@ def measure(folder, clients, asked):
     rows = {name: [] for name in programs}
     answers, certificates = set(), set()
     for _ in range(asked.runs):
-        for name, commands in programs.items():
+        for name, words in programs.items():
             out = folder / "answer"
-            rows[name].append(timed(commands, out))
+            rows[name].append(timed(words, out))
             if " find " in name:
                 certificates.add(hashlib.sha256(out.read_bytes()).digest())
             elif "--workers" in name:
                 answers.add(out.read_bytes())
     print(f" before, {load()} after\n")
-    table(rows, asked.markdown)
+    if asked.readme:
+        readme(rows)
+    else:
+        table(rows, asked.markdown)
     told = " | ".join(answer.decode().splitlines()[1] for answer in answers)
     print(f"\n{'one answer' if len(answers) == 1 else f'{len(answers)} ANSWERS'}: {told}")
     if len(certificates) > 1:
@@ -101,14 +131,16 @@ def main():
     words.add_argument("--datagrams", type=int, default=1_000_000)
     words.add_argument("--runs", type=int, default=5)
     words.add_argument("--workers", type=int, nargs="+", default=[1, 2, 4])
-    words.add_argument("--markdown", action="store_true", help="print tables as docs/MEASURED.md has them")
+    form = words.add_mutually_exclusive_group()
+    form.add_argument("--markdown", action="store_true", help="print tables as docs/MEASURED.md has them")
+    form.add_argument("--readme", action="store_true", help="print the table of README.md")
     asked = words.parse_args()
+    if asked.readme and not {1, 4} <= set(asked.workers):
+        words.error("--readme needs the workers 1 and 4")
     same = True
     for clients in asked.clients:
         with tempfile.TemporaryDirectory() as name:
             same = measure(pathlib.Path(name), clients, asked) and same
-    peak = resource.getrusage(resource.RUSAGE_CHILDREN).ru_maxrss * 1024
-    print(f"greatest resident set of any {peak / 1e6:.0f} MB")
     return 0 if same else 1
 
 
