@@ -1,7 +1,7 @@
 #!/bin/bash
 # no_memory.sh PROGRAM: each allocation of `audit`, `find`, `check` and `live` on a capture of a real server is refused in turn; the answer is status 3 and
 # one line each time, and nothing on standard output; with several workers that, or the answer of one, also where two lanes break a rule. So are those of `audit`
-# and `find` on a capture for which a part of each window is walked over. Of the
+# and `find` on a capture for which a part of each window is walked over, and of `check` by two workers on one client's over 16,384 events. Of the
 # certificate for 24 clients, of which `find` makes all lines before it writes any, some allocations are refused. Of one with more lines than
 # that (16,384) the last allocations are refused, and a front of it may be out: with status 3 it is no certificate. With several workers on 24 clients the last allocations are refused in turn, and then the threads
 # from each number on: the answer is that of one thread, or status 3. It needs gcc.
@@ -50,6 +50,11 @@ echo "skew-us 1000000" >> "$scratch/wide/policy"
 inputs=(--policy "$scratch/wide/policy" --creds "$scratch/wide/creds" "$scratch"/wide/*.pcapng)
 refuse_each "audit by a part of the windows" audit
 refuse_each "find by a part of the windows" find
+
+# Of one client's many events the workers share placement.
+python3 ../../bench/make_capture.py "$scratch/many" --clients 1 --datagrams 13000
+inputs=(--policy "$scratch/many/policy" --creds "$scratch/many/creds" "$scratch/many/client.pcapng" "$scratch/many/peer.pcapng")
+refuse_each "check of many events by two workers" check --cert "$scratch/many/certificate" --workers 2
 
 # Both lanes break a rule, the second one earlier: by no refusal the first one's breach is told.
 cd ../../tests/two-lanes-broken || exit 1

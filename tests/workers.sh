@@ -1,6 +1,7 @@
 #!/bin/bash
 # workers.sh PROGRAM: asks that the answer doesn't depend on the number of workers: each folder of captures in examples/ by `audit`, by `find`, and by `check` with
-# the stored certificate or else the one that `find` writes, with 1, 2, 4 and 256 workers: the same status, and the same bytes on both outputs.
+# the stored certificate or else the one that `find` writes, with 1, 2, 4 and 256 workers: the same status, and the same bytes on both outputs. So it asks of captures of one
+# client that have over 16,384 events, whose placement the workers share, and of their certificate with a breach in one event, also where two pieces of 4,096 meet.
 program=$(realpath "$1") || exit 1
 cd "$(dirname "$0")/../examples" || exit 1
 scratch=$(mktemp -d)
@@ -43,6 +44,22 @@ for folder in */; do
     fi
     compare check --cert "$certificate"
     cd ..
+done
+
+python3 ../bench/make_capture.py "$scratch/made/" --clients 1 --datagrams 14000 && cd "$scratch/made" || exit 1
+folder=made
+captures=(client.pcapng peer.pcapng)
+compare audit
+compare check --cert certificate
+for line in 5 4098 4099 4100 12290; do
+    # The moment of that line's event, a second later: it leaves its window, and the events of its lane don't rise.
+    sed "${line}s/ 1700000000\([0-9]\{9\}\) / 1700000001\1 /" certificate > changed
+    folder="made, line $line"
+    compare check --cert changed
+    if cmp -s "$scratch/status.1" <(echo 0); then
+        failed=$((failed + 1))
+        echo "failed: line $line is no breach"
+    fi
 done
 echo "workers: $passed passed, $failed failed"
 [ "$failed" = 0 ] && [ "$passed" -gt 0 ]
