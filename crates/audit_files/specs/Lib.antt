@@ -1,4 +1,5 @@
 pub mod Captures
+pub mod CertificateTexts
 pub mod Judged
 pub mod Pieces
 pub mod Stops

@@ -7,14 +7,18 @@ ghost use Rattle.audit_cert.specs.Spelling.{said_by};
 ghost use Rattle.audit_keys.specs.KeyFor.{key_for};
 ghost use Rattle.audit_model.specs.declared.certificate.Certificate.{Certificate as Written};
 ghost use Rattle.audit_model.specs.PolicyText.{policy_of};
+ghost use Rattle.audit_sightings.specs.Files.{StandsFor};
 ghost use Rattle.audit_sightings.specs.Intake.{taken};
 ghost use Rattle.audit_verdict.specs.Verdicts.{IsConforming, IsVerdict};
 ghost use Rattle.audit_whole.specs.CaptureRun.{rules_for};
 ghost use Rattle.audit_whole.specs.Conforms.{Conforms};
 ghost use Rattle.audit_whole.specs.Headline.{Headline};
+ghost use Rattle.audit_files.specs.Captures.{AreTakenIn};
+ghost use Rattle.audit_files.specs.CertificateTexts.{HasText};
 ghost use Rattle.audit_files.specs.Judged.{AreRead, AreUsers, IsAudited, IsJudged, IsTold};
 
 use crate::captures::take_in;
+use crate::certificate_text::CertificateText;
 use crate::source::Source;
 use crate::stop::Stop;
 use crate::text::read_text;
@@ -28,7 +32,7 @@ use audit_report::report;
 use audit_sightings::Intake;
 use std::alloc::{AllocError, Global};
 use std::sync::Wait;
-use std::thread::Threads;
+use std::thread::{Threads, join};
 
 /// The policy that a file has.
 pub fn read_policy<S: Source>(alloc: Global, source: &mut S, name: &str) -> Result<Policy, Stop>
@@ -138,9 +142,45 @@ pub fn judge<R: Threads + Wait + Sync, O: Sink>(
     tell(alloc, &verdict, intake, out)
 }
 
+/// The certificate of a file, and the captures. One worker reads them in this order, and judges the certificate before it reads a capture.
+/// Of more workers one reads the certificate's lines while the others take in the captures; its text takes memory until then. What is
+/// wrong with the certificate is told before what is wrong with a capture.
+fn read_both<R: Threads + Sync, S: Source>(
+    rt: &R,
+    alloc: Global,
+    source: &mut S,
+    certificate: &str,
+    captures: &[&str],
+    intake: Intake,
+    workers: Workers,
+) -> Result<(Certificate, Intake), Stop>
+    ensures certificate { (text : List ℕ) → S.holds source.old certificate.now ≡ Some text → IfOk result (λ both. cert_of text ≡ Ok (said_by both.0)) }
+    ensures policy { IfOk result (λ both. both.1.policy ≡ intake.policy) }
+    ensures captures { (texts : List (List ℕ)) → StandsFor intake [] → AllZip (λ name text. S.holds source.old name.now ≡ Some text) captures.now texts
+        → IfOk result (λ both. AreTakenIn texts (taken both.1)) }
+{
+    if workers.count == 1 {
+        let reader = CertificateReader::new(alloc);
+        let certificate = read_text(alloc, source, certificate, reader)?;
+        let intake = take_in(rt, alloc, source, captures, intake, workers)?;
+        return Ok((certificate, intake));
+    }
+    let text = read_text(alloc, source, certificate, CertificateText::new(alloc))?;
+    let lines = move || -> Result<Certificate, Stop>
+        ensures { (bytes : List ℕ) → HasText text bytes → IfOk result (λ certificate. cert_of bytes ≡ Ok (said_by certificate)) }
+    { text.read() };
+    let frames = move || -> Result<Intake, Stop>
+        ensures policy { IfOk result (λ done. done.policy ≡ intake.policy) }
+        ensures captures { (texts : List (List ℕ)) → StandsFor intake [] → AllZip (λ name text. S.holds source.entry.now name.now ≡ Some text) captures.entry.now texts
+            → IfOk result (λ done. AreTakenIn texts (taken done)) }
+    { take_in(rt, alloc, source, captures, intake, workers) };
+    let (certificate, intake) = join(rt, lines, frames);
+    Ok((certificate?, intake?))
+}
+
 /// Judges captures by the certificate of a file, and writes the report. Files are read in this order: policy, credentials, certificate,
-/// captures; each is judged before the next is read. It gives 0 where they conform, and 1 where that isn't shown. The memory of the
-/// captures isn't freed then.
+/// captures; each is judged before the next is read, but for the certificate where there is more than one worker. It gives 0 where they
+/// conform, and 1 where that isn't shown. The memory of the captures isn't freed then.
 pub fn check_files<R: Threads + Wait + Sync, S: Source, O: Sink>(
     rt: &R,
     alloc: Global,
@@ -162,10 +202,16 @@ pub fn check_files<R: Threads + Wait + Sync, S: Source, O: Sink>(
 {
     let policy = read_policy(alloc, source, policy)?;
     let users = read_users(alloc, source, users)?;
-    let reader = CertificateReader::new(alloc);
-    let certificate = read_text(alloc, source, certificate, reader)?;
     let intake = Intake::new(alloc, policy);
-    let intake = take_in(rt, alloc, source, captures, intake, workers)?;
+    let (certificate, intake) = read_both(
+        rt,
+        alloc,
+        source,
+        certificate,
+        captures,
+        intake,
+        workers,
+    )?;
     let status = judge(rt, alloc, &intake, &users, &certificate, workers, out)?;
     // The program ends: to free each payload by itself would take a tenth of its time.
     std::mem::forget(intake);

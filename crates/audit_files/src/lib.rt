@@ -2,6 +2,7 @@
 #![tactic(auto)]
 
 mod captures;
+mod certificate_text;
 mod judging;
 mod source;
 mod stop;

@@ -10,7 +10,7 @@ use audit_model::{Certificate, Policy, PolicyReader};
 use std::alloc::Global;
 
 /// What a text is read by.
-pub trait TextReading {
+pub trait TextReading: Drop + Sized {
     ghost use Rattle.std.specs.Prelude.{ℕ, List};
 
     /// What the text says.
@@ -25,6 +25,11 @@ pub trait TextReading {
     /// Takes the next piece of the text.
     fn feed(self, piece: &[u8]) -> Result<Self, Stop>
         ensures { (text : List ℕ) → stands self text → IfOk result (λ fed. stands fed (text ++ piece.now)) };
+
+    /// Why the reading stops, where the text can't be read on for this reason.
+    fn stop(self, stop: Stop) -> Stop {
+        stop
+    }
 
     /// What the text says that ends here.
     fn finish(self) -> Result<Self::Whole, Stop>
@@ -92,7 +97,7 @@ impl TextReading for CertificateReader {
 }
 
 /// What the text of a file says. It is read to its end, or to the piece in which it is refused.
-pub fn read_text<S: Source, R: TextReading + Drop>(
+pub fn read_text<S: Source, R: TextReading>(
     alloc: Global,
     source: &mut S,
     name: &str,
@@ -105,7 +110,10 @@ pub fn read_text<S: Source, R: TextReading + Drop>(
     let mut reader = reader;
     let mut at = 0u64;
     'pieces: for _ in 0..u64::MAX {
-        let read = source.piece(name, at, &mut piece)?;
+        let read = match source.piece(name, at, &mut piece) {
+            Ok(read) => read,
+            Err(fault) => return Err(reader.stop(Stop::from(fault))),
+        };
         if read == 0 {
             return reader.finish();
         }

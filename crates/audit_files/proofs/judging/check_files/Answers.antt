@@ -12,14 +12,14 @@ returns g c = λ policy_text users_text certificate_text texts policy users none
     let Holds : Type 0 = List ℕ → Option (List ℕ) in
     let first = c.read_policy.ensures.kept in
     let second = c.read_users.ensures.kept ∙ first in
-    let third = c.read_text.ensures.kept ∙ second in
     let of_policy = c.in_ok-policy.ensures.says policy_text policy in
     let of_users = c.in_ok-users.ensures.says users_text (subst (λ (h : Holds). IfSome c.args.users (λ name. h name.now ≡ Some users_text)) (sym first) users) none in
-    let of_certificate = c.in_ok-certificate.ensures.says certificate_text (subst (λ (h : Holds). h c.args.certificate.now ≡ Some certificate_text) (sym second) certificate) c.new-reader.ensures in
-    let intake = c.in_ok-intake.intake in
-    let same : intake.policy ≡ c.in_ok-policy.policy = c.in_ok-intake.ensures.policy ∙ ap (λ (t : Taken). t.policy) c.new-intake.ensures.empty in
+    let both = c.in_ok-certificate.ensures in
+    let of_certificate = both.certificate certificate_text (subst (λ (h : Holds). h c.args.certificate.now ≡ Some certificate_text) (sym second) certificate) in
+    let intake = c.in_ok-certificate.intake in
+    let same : intake.policy ≡ c.in_ok-policy.policy = both.policy ∙ ap (λ (t : Taken). t.policy) c.new-intake.ensures.empty in
     let of_captures : AreTakenIn texts (taken intake) =
-    c.in_ok-intake.ensures.taken texts c.new-intake.ensures.stands (subst (λ (h : Holds). AllZip (λ name text. h name.now ≡ Some text) c.args.captures.now texts) (sym third) captures) in (
+    both.captures texts c.new-intake.ensures.stands (subst (λ (h : Holds). AllZip (λ name text. h name.now ≡ Some text) c.args.captures.now texts) (sym second) captures) in (
       c.in_ok-certificate.certificate,
       of_certificate,
       record {
