@@ -110,7 +110,9 @@ def measure(folder, clients, asked):
             out = folder / "answer"
             rows[name].append(timed(words, out))
             if " find " in name:
-                certificates.add(hashlib.sha256(out.read_bytes()).digest())
+                # Not read whole: a program that is started next would count with the memory that it takes here.
+                with out.open("rb") as certificate:
+                    certificates.add(hashlib.file_digest(certificate, "sha256").digest())
             elif "--workers" in name:
                 answers.add(out.read_bytes())
     print(f" before, {load()} after\n")

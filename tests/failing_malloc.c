@@ -1,9 +1,10 @@
-// Preloaded: the allocation of number FAIL_AT, counted from 1, gets no memory, and no thread is to be had from the one of number
+// Preloaded: the allocation of number FAIL_AT, counted from 1 and without those that shrink a block, gets no memory, and no thread is to be had from the one of number
 // THREADS_FAIL_AT on. Where every allocation before FAIL_AT got its memory, tells how many there were. The program has threads: it counts atomically, and the end
 // of the program is `_exit`.
 #define _GNU_SOURCE
 #include <dlfcn.h>
 #include <errno.h>
+#include <malloc.h>
 #include <pthread.h>
 #include <stdio.h>
 #include <stdlib.h>
@@ -64,6 +65,10 @@ void *malloc(size_t size) {
 void *realloc(void *block, size_t size) {
     if (!next_realloc) {
         next_realloc = dlsym(RTLD_NEXT, "realloc");
+    }
+    // A block that shrinks asks for no memory.
+    if (block && size <= malloc_usable_size(block)) {
+        return next_realloc(block, size);
     }
     return fails() ? NULL : next_realloc(block, size);
 }
