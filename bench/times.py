@@ -6,7 +6,7 @@
 Of each number of clients the programs take turns, round after round, on this machine, with the files in its cache; of each the median counts, with the least and
 the greatest. Beside the seconds on the wall stand those of the processors (cpu), in the programs and in the system for them, both as a ratio to those of `capinfos` in
 the same rounds (of `sha1sum` where that isn't installed), and the greatest resident set. The load is told before and after. The last line of each table tells whether
-all answers were the same, the certificates of `find` among themselves. With --readme it prints the table of README.md, of 1 and 4 workers.
+all answers were the same, the certificates of `find` among themselves. With --readme it prints the row of README.md's table.
 
 It runs bench/make_capture.py as a program. It imports no file of this repository, and none imports it.
 """
@@ -86,15 +86,12 @@ def table(rows, markdown):
 
 
 def readme(rows):
-    """The table of README.md: seconds by one worker and by four, and the memory."""
-    print("| | 1 worker | 4 workers | MB |\n|---|---|---|---|")
-    for name in ("capinfos", "sha1sum"):
-        if name in rows:
-            print(f"| `{name}` | {medians(rows[name]).wall:.1f} | | |")
-    for command in ("find", "check", "audit"):
-        by_one, by_four = (rows[f"turnaudit {command} --workers {count}"] for count in (1, 4))
-        megabytes = max(take.megabytes for take in by_one + by_four)
-        print(f"| `turnaudit {command}` | {medians(by_one).wall:.1f} | {medians(by_four).wall:.1f} | {megabytes:.0f} |")
+    """The row of the table of README.md: what `audit` takes by one worker and by four, and the greatest memory."""
+    unit = "capinfos" if "capinfos" in rows else "sha1sum"
+    by_one, by_four = (rows[f"turnaudit audit --workers {count}"] for count in (1, 4))
+    memory = max(take.megabytes for take in by_one + by_four)
+    took = f"{medians(by_one).wall:.1f} s, by 4 workers {medians(by_four).wall:.1f} s"
+    print(f"| `turnaudit audit` | a million datagrams (`{unit}`: {medians(rows[unit]).wall:.1f} s) | {took} | {memory:.0f} MB |")
 
 
 def measure(folder, clients, asked):
@@ -135,7 +132,7 @@ def main():
     words.add_argument("--workers", type=int, nargs="+", default=[1, 2, 4])
     form = words.add_mutually_exclusive_group()
     form.add_argument("--markdown", action="store_true", help="print tables as docs/MEASURED.md has them")
-    form.add_argument("--readme", action="store_true", help="print the table of README.md")
+    form.add_argument("--readme", action="store_true", help="print the row of README.md's table")
     asked = words.parse_args()
     if asked.readme and not {1, 4} <= set(asked.workers):
         words.error("--readme needs the workers 1 and 4")
