@@ -42,7 +42,7 @@ const MOST_USERS: usize = 16_777_216;
 const SELF: &str = "/proc/self/exe";
 
 /// The SHA-256 of docs/headline.txt, which says what is proved. `tests/explain_page.py` compares it.
-const HEADLINE: &str = "032fd5ca2ef1e81154f10eb6c6170d9d6bb12855a73fed1783f17940e659d1c5";
+const HEADLINE: &str = "60534a8eea0789ebb764bc3f154c4b2fd978537746605782e2d7e460761eeecb";
 
 /// What the page shows, gathered.
 #[derive(Drop)]
