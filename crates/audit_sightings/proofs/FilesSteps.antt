@@ -25,7 +25,7 @@ use Rattle.audit_sightings.specs.Sightings.{sightings_of, AreSound, more_of, IsR
 use Rattle.audit_sightings.specs.Files.{Fed, not_fed, fed_at, packets_of, StandsFor, with_piece, Refuses, IsNext}
 use Rattle.audit_sightings.proofs.TakingSteps.{AreSightings-same}
 
-none_given : (policy : Policy) (iface : ℕ) → [] ≡ sightings_of policy iface []
+pub none_given : (policy : Policy) (iface : ℕ) → [] ≡ sightings_of policy iface []
 unfolding sightings_of
 none_given policy iface = refl
 
@@ -45,7 +45,7 @@ fed_at-more [] (suc file) = refl
 fed_at-more (fed ∷ files) zero = refl
 fed_at-more (fed ∷ files) (suc file) = fed_at-more files file
 
-fed_at-past : (files : List Fed) (file : ℕ) → length files ≤ file → fed_at files file ≡ not_fed
+pub fed_at-past : (files : List Fed) (file : ℕ) → length files ≤ file → fed_at files file ≡ not_fed
 fed_at-past [] zero h = refl
 fed_at-past [] (suc file) h = refl
 fed_at-past (fed ∷ files) zero h = absurd (omega arith)

@@ -1,8 +1,10 @@
 pub mod RowSteps
+pub mod JoinSteps
 pub mod NewestSteps
 pub mod TakingSteps
 pub mod Refusing
 pub mod FilesSteps
+pub mod JoinFiles
 pub mod AmidSteps
 pub mod AmidMore
 pub mod Zipped

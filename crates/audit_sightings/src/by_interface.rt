@@ -1,5 +1,7 @@
 //! Sightings, interface by interface.
 
+mod joining;
+
 ghost use Rattle.std.specs.Prelude.{◌≡◌, ◌<◌, ◌≤◌, ◌+◌, max, List, ℕ, [], ◌∷◌, ◌++◌, length, replicate, OnOk, OnErr};
 ghost use Rattle.audit_model.specs.declared.sighting.Sighting.{Sighting};
 ghost use Rattle.audit_sightings.specs.ByInterface.{Adds, AreBytes};

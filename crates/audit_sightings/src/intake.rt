@@ -1,5 +1,7 @@
 //! What is taken in of the captures.
 
+mod joining;
+
 ghost use Rattle.std.specs.Prelude.{◌≤◌, vec_len};
 
 use crate::by_interface::ByInterface;
