@@ -4,10 +4,12 @@ ghost use Rattle.std.specs.Prelude.{◌≡◌, IfOk};
 ghost use Rattle.audit_lane.specs.Judged.{IsJudged};
 ghost use Rattle.audit_lane.specs.Seen.{judgement_of};
 
+use crate::ahead::Compared;
 use crate::fault::LaneFault;
 use crate::input::LaneInput;
 use crate::state::LaneState;
 use audit_model::{Breach, Listed, Tenancy};
+use audit_sightings::EventsAhead;
 use std::alloc::{AllocError, Global};
 use std::marker::Model;
 use std::sync::Arc;
@@ -63,7 +65,9 @@ fn outcome_of(alloc: Global, input: &LaneInput<'_>) -> Result<Outcome, AllocErro
 {
     let mut lane = LaneState::new(alloc, input.number(), input.client(), input.listen());
     let events = input.events();
+    let mut ahead = EventsAhead::new(Compared, events);
     'events: for place in 0..events.len() {
+        ahead.advance();
         match lane.step(
             input.number(),
             input.users(),

@@ -9,12 +9,13 @@ ghost use Rattle.audit_lane.specs.Named.{IsFrom, IsInputOf};
 ghost use Rattle.audit_lane.specs.Told.{Tells};
 ghost use Rattle.audit_lane.specs.Users.{GrowsByOne, TellsItsUser};
 
+use crate::ahead::Arrivals;
 use crate::comparing::{same_events, same_policy, same_users};
 use crate::users::add_user;
 use audit_keys::Credentials;
 use audit_model::{Addr, CertLane, Event, Key, Policy};
 use audit_rules::CredRow;
-use audit_sightings::{Intake, Sighting};
+use audit_sightings::{EventsAhead, Intake, Sighting};
 use std::alloc::{AllocError, Global};
 use std::marker::Model;
 use std::sync::Arc;
@@ -178,7 +179,9 @@ pub fn lane_input<'a>(
 {
     let mut users = Vec::new(alloc);
     let mut events = Vec::with_capacity(alloc, lane.events.len())?;
+    let mut ahead = EventsAhead::new(Arrivals { intake }, lane.events.as_slice());
     'events: for event in lane.events.as_slice() {
+        ahead.advance();
         events.push(with_sightings(intake, credentials, &mut users, *event)?)?;
     }
     let input = LaneInput {

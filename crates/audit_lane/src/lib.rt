@@ -1,6 +1,7 @@
 //! One lane alone: what its client sent, and what the server answered.
 #![tactic(auto)]
 
+mod ahead;
 mod comparing;
 mod concluding;
 mod fault;

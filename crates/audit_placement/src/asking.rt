@@ -5,11 +5,12 @@ ghost use Rattle.std.specs.Bool.{OnTrue};
 ghost use Rattle.audit_sightings.specs.Intake.{taken};
 ghost use Rattle.audit_placement.specs.Pieces.{BreakNoRule, LaneBreaksNoRule, PieceBreaksNoRule};
 
+use crate::ahead::Placed;
 use crate::entry::LaneEnd;
 use crate::pieces::{Piece, pieces_of};
 use crate::single::breaks_no_rule;
 use audit_model::{CertLane, Event, Key};
-use audit_sightings::Intake;
+use audit_sightings::{EventsAhead, Intake};
 use std::alloc::{AllocError, Global};
 use std::thread;
 use std::thread::Threads;
@@ -19,7 +20,9 @@ fn break_no_rule(intake: &Intake, start: LaneEnd, events: &[Event]) -> bool
     ensures { OnTrue result (BreakNoRule (taken intake.now) start.pair start.last events.now) }
 {
     let mut last: Option<Key> = start.last;
+    let mut ahead = EventsAhead::new(Placed { intake }, events);
     'events: for event in events {
+        ahead.advance();
         let end = LaneEnd {
             pair: start.pair,
             last,

@@ -9,12 +9,13 @@ ghost use Rattle.audit_placement.specs.Entries.{lane_entries, lanes_entries, dro
 ghost use Rattle.audit_placement.specs.Keys.{key_at};
 ghost use Rattle.audit_placement.specs.Pieces.{LaneBreaksNoRule};
 
+use crate::ahead::Placed;
 use crate::asking::lanes_break_no_rule;
 use crate::entry::LaneEnd;
 use crate::keys::PlacedKeys;
 use crate::taking::{note_event, place_event};
 use audit_model::{CertDrop, CertLane, Certificate, Event, Key, Pair};
-use audit_sightings::Intake;
+use audit_sightings::{EventsAhead, Intake};
 use std::alloc::{AllocError, Global};
 use std::thread::Threads;
 
@@ -28,7 +29,9 @@ fn note_lane(intake: &Intake, keys: &mut PlacedKeys, lane: &CertLane) -> bool
         listen: lane.listen,
     };
     let mut last: Option<Key> = None;
+    let mut ahead = EventsAhead::new(Placed { intake }, lane.events.as_slice());
     'events: for event in lane.events.as_slice() {
+        ahead.advance();
         let end = LaneEnd {
             pair: Some(pair),
             last,

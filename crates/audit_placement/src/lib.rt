@@ -1,6 +1,7 @@
 //! Placement: whether a certificate places each sighting once, in its window and in order.
 #![tactic(auto)]
 
+mod ahead;
 mod asking;
 mod clean;
 mod cuts;

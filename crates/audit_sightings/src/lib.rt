@@ -1,6 +1,7 @@
 //! The datagrams of the service that the captures hold, interface by interface.
 #![tactic(auto)]
 
+mod ahead;
 mod by_interface;
 mod fault;
 mod intake;
@@ -11,6 +12,7 @@ mod service_datagram;
 mod stretch;
 mod taking;
 
+pub use ahead::{EventsAhead, ReadsAhead, read_payload, read_sighting};
 pub use audit_model::{Side, SightId, Sighting};
 pub use by_interface::MAX_SIGHTINGS;
 pub use fault::{IntakeFault, IntakeFaultKind};
