@@ -5,43 +5,23 @@ ghost use Rattle.std.specs.List.{AllZip};
 ghost use Rattle.audit_pcapng.specs.declared.packet.Packet.{Packet};
 ghost use Rattle.audit_sightings.specs.Files.{Fed, GoesOn, StandsFor};
 ghost use Rattle.audit_sightings.specs.Intake.{taken};
-ghost use Rattle.audit_files.specs.Captures.{AreTakenIn};
+ghost use Rattle.audit_files.specs.Captures.{AreTakenIn, Follow};
 
+use crate::apart::take_apart;
 use crate::source::{PIECE, Source};
 use crate::stop::Stop;
 use crate::workers::Workers;
-use audit_sightings::{Intake, IntakeFault};
+use audit_sightings::{Intake, MAX_FILES};
 use std::alloc::Global;
 use std::thread::Threads;
 
-/// Feeds a piece to the intake, with more than one worker by many threads.
-fn feed_piece<R: Threads + Sync>(
-    rt: &R,
-    intake: &mut Intake,
-    file: u32,
-    piece: &[u8],
-    workers: Workers,
-) -> Result<(), IntakeFault>
-    requires { file < vec_len intake.old.files }
-    ensures ok { (files : List Fed) → StandsFor intake.old files → OnOk result (GoesOn intake.new files file piece.now) }
-    ensures policy { intake.new.policy ≡ intake.old.policy }
-    ensures files { vec_len intake.new.files ≡ vec_len intake.old.files }
-{
-    if workers.count == 1 {
-        return intake.feed(file, piece);
-    }
-    intake.feed_parallel(rt, file, piece)
-}
-
 /// Feeds a capture to the intake, from its first byte to its last.
-fn feed_capture<R: Threads + Sync, S: Source>(
-    rt: &R,
+fn feed_capture<S: Source>(
     alloc: Global,
     source: &mut S,
     name: &str,
     intake: &mut Intake,
     file: u32,
-    workers: Workers,
 ) -> Result<(), Stop>
     requires { file < vec_len intake.old.files }
     ensures kept { S.holds source.new ≡ S.holds source.old }
@@ -56,7 +36,7 @@ fn feed_capture<R: Threads + Sync, S: Source>(
         if read == 0 {
             return Ok(());
         }
-        feed_piece(rt, intake, file, &piece[..read], workers)?;
+        intake.feed(file, &piece[..read])?;
         let Some(next) = at.checked_add(read as u64) else {
             return Err(Stop::Read);
         };
@@ -66,13 +46,11 @@ fn feed_capture<R: Threads + Sync, S: Source>(
 }
 
 /// Takes in a capture more.
-fn take_capture<R: Threads + Sync, S: Source>(
-    rt: &R,
+pub fn take_capture<S: Source>(
     alloc: Global,
     source: &mut S,
     name: &str,
     intake: &mut Intake,
-    workers: Workers,
 ) -> Result<(), Stop>
     ensures kept { S.holds source.new ≡ S.holds source.old }
     ensures policy { intake.new.policy ≡ intake.old.policy }
@@ -80,16 +58,56 @@ fn take_capture<R: Threads + Sync, S: Source>(
         → OnOk result ((packets : List Packet) × StandsFor intake.new (files ++ record { text = bytes; packets = packets } ∷ [])) }
 {
     let file = intake.add_file()?;
-    feed_capture(rt, alloc, source, name, intake, file, workers)
+    feed_capture(alloc, source, name, intake, file)
 }
 
-/// The captures, each fed from its first byte to its last, and then asked for its end. Any number of workers takes in the same.
+/// Takes in the captures one after the other.
+fn take_in_turn<S: Source>(
+    alloc: Global,
+    source: &mut S,
+    names: &[&str],
+    mut intake: Intake,
+) -> Result<Intake, Stop>
+    ensures kept { S.holds source.new ≡ S.holds source.old }
+    ensures policy { IfOk result (λ done. done.policy ≡ intake.policy) }
+    ensures fed { (texts : List (List ℕ)) (files : List Fed) → StandsFor intake files → AllZip (λ name text. S.holds source.old name.now ≡ Some text) names.now texts
+        → IfOk result (Follow files texts) }
+{
+    for name in names {
+        take_capture(alloc, source, name, &mut intake)?;
+    }
+    Ok(intake)
+}
+
+/// Takes in the captures, with more than one worker side by side. Where they are too many files, the first that is refused is told.
+fn take_all<R: Threads + Sync, S: Source>(
+    rt: &R,
+    alloc: Global,
+    source: &mut S,
+    names: &[&str],
+    intake: Intake,
+    workers: Workers,
+) -> Result<Intake, Stop>
+    ensures kept { S.holds source.new ≡ S.holds source.old }
+    ensures policy { IfOk result (λ done. done.policy ≡ intake.policy) }
+    ensures fed { (texts : List (List ℕ)) (files : List Fed) → StandsFor intake files → AllZip (λ name text. S.holds source.old name.now ≡ Some text) names.now texts
+        → IfOk result (Follow files texts) }
+{
+    let (files, _) = intake.counts();
+    if workers.count > 1 && names.len() > 1 && names.len() <= MAX_FILES - files as usize {
+        return take_apart(rt, alloc, source, names, intake, workers);
+    }
+    take_in_turn(alloc, source, names, intake)
+}
+
+/// The captures, each fed from its first byte to its last, and then asked for its end. Any number of workers takes in the same, and tells
+/// the same of what is refused: with more than one the captures are read side by side, each by one thread.
 pub fn take_in<R: Threads + Sync, S: Source>(
     rt: &R,
     alloc: Global,
     source: &mut S,
     names: &[&str],
-    mut intake: Intake,
+    intake: Intake,
     workers: Workers,
 ) -> Result<Intake, Stop>
     ensures kept { S.holds source.new ≡ S.holds source.old }
@@ -97,9 +115,7 @@ pub fn take_in<R: Threads + Sync, S: Source>(
     ensures taken { (texts : List (List ℕ)) → StandsFor intake [] → AllZip (λ name text. S.holds source.old name.now ≡ Some text) names.now texts
         → IfOk result (λ done. AreTakenIn texts (taken done)) }
 {
-    for name in names {
-        take_capture(rt, alloc, source, name, &mut intake, workers)?;
-    }
+    let intake = take_all(rt, alloc, source, names, intake, workers)?;
     intake.finish()?;
     Ok(intake)
 }

@@ -1,6 +1,7 @@
 //! The files of a run, from their bytes to the verdict on them.
 #![tactic(auto)]
 
+mod apart;
 mod captures;
 mod certificate_text;
 mod judging;

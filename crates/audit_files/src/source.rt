@@ -3,6 +3,8 @@
 ghost use Rattle.std.specs.Prelude.{◌≡◌, ◌≤◌, ℕ, IfOk, List, Some, length};
 ghost use Rattle.audit_files.specs.Pieces.{IsPieceAt};
 
+use std::alloc::Global;
+
 /// How many bytes are asked for at once.
 pub const PIECE: usize = 65_536;
 
@@ -11,7 +13,7 @@ pub const PIECE: usize = 65_536;
 pub struct ReadFailed;
 
 /// Gives the bytes of files, piece by piece.
-pub trait Source {
+pub trait Source: Send + Drop + Sized {
     ghost use Rattle.std.specs.Prelude.{ℕ, List, Option};
 
     /// The bytes of the file of a name. A source that is None claims nothing of them.
@@ -22,4 +24,8 @@ pub trait Source {
         ensures within { IfOk result (λ n. n ≤ length into.old) }
         ensures kept { holds self.new ≡ holds self.old }
         ensures bytes { (bytes : List ℕ) → holds self.old name.now ≡ Some bytes → IfOk result (λ n. IsPieceAt bytes at n into.new) };
+
+    /// A source of the same files, which another thread may read from at the same time. Nothing of it is read yet.
+    fn beside(&self, alloc: Global) -> Self
+        ensures { holds result ≡ holds self.now };
 }

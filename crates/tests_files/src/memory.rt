@@ -5,6 +5,7 @@ ghost use Rattle.tests_files.specs.Held.{held_among};
 
 use audit_files::{ReadFailed, Source};
 use audit_model::{Sink, SinkFailed};
+use std::alloc::Global;
 
 /// The files "policy", "certificate" and "capture".
 #[derive(Clone, Copy)]
@@ -48,6 +49,10 @@ impl Source for Files<'_> {
         let count = into.len().min(file.len() - at);
         into[..count].copy_from_slice(&file[at..at + count]);
         Ok(count)
+    }
+
+    fn beside(&self, _alloc: Global) -> Self {
+        *self
     }
 }
 

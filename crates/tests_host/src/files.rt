@@ -124,6 +124,25 @@ impl Source for Files<'_> {
         into[..count].copy_from_slice(&file[at..at + count]);
         Ok(count)
     }
+
+    fn beside(&self, alloc: Global) -> Self {
+        Files {
+            policy: self.policy,
+            credentials: self.credentials,
+            certificate: self.certificate,
+            capture: self.capture,
+            second: self.second,
+            first: self.first,
+            step: self.step,
+            fails: self.fails,
+            turns: self.turns,
+            asked: 0,
+            asked_second: 0,
+            gave: Vec::new(alloc),
+            gave_second: Vec::new(alloc),
+            pauses: 0,
+        }
+    }
 }
 
 impl Growing for Files<'_> {

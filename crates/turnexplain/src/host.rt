@@ -5,6 +5,7 @@ ghost use Rattle.std.specs.Prelude.{◌≡◌, None};
 use audit_files::{ReadFailed, Source};
 use audit_model::{Sink, SinkFailed};
 use explain_program::{Explaining, PageFile, Trouble};
+use std::alloc::Global;
 use std::fs::File;
 use std::io::{Read, Write};
 use std::rt::Files;
@@ -26,7 +27,7 @@ impl<'r, R: Files<File = File>> HostFiles<'r, R> {
     }
 }
 
-impl<R: Files<File = File>> Source for HostFiles<'_, R> {
+impl<R: Files<File = File> + Sync> Source for HostFiles<'_, R> {
     ghost use Rattle.std.specs.Prelude.{None};
 
     ghost holds = { λ _ _. None };
@@ -46,6 +47,10 @@ impl<R: Files<File = File>> Source for HostFiles<'_, R> {
             Err(_) => Err(ReadFailed),
         }
     }
+
+    fn beside(&self, _alloc: Global) -> Self {
+        HostFiles::new(self.rt)
+    }
 }
 
 /// Why a file couldn't be opened or read.
@@ -57,7 +62,7 @@ fn trouble_of(error: &io::Error) -> Trouble {
     }
 }
 
-impl<R: Files<File = File>> Explaining for HostFiles<'_, R> {
+impl<R: Files<File = File> + Sync> Explaining for HostFiles<'_, R> {
     fn trouble(&mut self, name: &str) -> Option<Trouble> {
         let mut file = match fs::open(self.rt, name) {
             Ok(file) => file,

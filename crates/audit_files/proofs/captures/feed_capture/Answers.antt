@@ -14,8 +14,8 @@ pieces-init g c = record {
   fed = λ bytes files holds stands. goes_nowhere c.args.intake.now files c.args.file stands;
 }
 
-pub feed_piece-requires : goal.feed_piece-requires
-feed_piece-requires g c = (c.type_bounds.sync-R, omega (arith, c.requires, c.pieces.invariant.count))
+pub feed-requires : goal.feed-requires
+feed-requires g c = omega (arith, c.requires, c.pieces.invariant.count)
 
 pub returns-then-read-eq0-clause-fed : goal.returns-then-read-eq0-clause-fed
 returns-then-read-eq0-clause-fed g c = λ bytes files holds stands.
@@ -28,8 +28,8 @@ pub pieces-preserved : goal.pieces-preserved
 pieces-preserved g c = record {
   room = c.pieces.invariant.room;
   same = c.piece.ensures.kept ∙ c.pieces.invariant.same;
-  count = c.feed_piece.ensures.files ∙ c.pieces.invariant.count;
-  policy = c.feed_piece.ensures.policy ∙ c.pieces.invariant.policy;
+  count = c.feed.ensures.files ∙ c.pieces.invariant.count;
+  policy = c.feed.ensures.policy ∙ c.pieces.invariant.policy;
   fed = λ bytes files holds stands.
       let at = c.pieces.at in
       let read = c.in_ok-read.read in
@@ -39,7 +39,7 @@ pieces-preserved g c = record {
       let piece : IsPieceAt bytes at read c.piece.new.into = c.in_ok-read.ensures.bytes bytes now in
       let so_far = c.pieces.invariant.fed bytes files holds stands in
       let within : c.args.file < length files = omega (arith, c.requires, stands.count) in
-      subst (λ (text : List ℕ). GoesOn c.feed_piece.new.intake files c.args.file text)
+      subst (λ (text : List ℕ). GoesOn c.feed.new.self files c.args.file text)
       (ap (λ (l : List ℕ). take at bytes ++ take read l) c.deref.ensures.value ∙ ap (λ (l : List ℕ). take at bytes ++ l) (read_of c.piece.new.into _ c.pieces.piece.len read short within_piece) ∙ fed_more bytes c.piece.new.into at read piece.same ∙ ap (λ (n : ℕ). take n bytes) (sym c.in-Some.ensures.1))
-      (goes_further c.feed_piece.new.intake files c.args.file (take at bytes) _ so_far.more within (c.in_ok-feed_piece.ensures.ok _ so_far.stands));
+      (goes_further c.feed.new.self files c.args.file (take at bytes) _ so_far.more within (c.in_ok-feed.ensures.ok _ so_far.stands));
 }
