@@ -1,85 +1,108 @@
-//! How long it takes to read captures and to take them in, by one thread and by many, in turn.
-//! `rt run -- POLICY KIBIBYTES ROUNDS CAPTURE..`, where many threads are fed pieces of so many KiB, and one is fed 64; without these words it
-//! prints nothing.
+//! How long it takes to read captures and to take them in: one after the other by one thread, side by side by so many, and one after the
+//! other in pieces of so many KiB, whose frames many threads read. `rt run -- POLICY WORKERS KIBIBYTES ROUNDS CAPTURE..`; without these
+//! words it prints nothing.
 #![tactic(auto)]
 
-use audit_model::read_policy;
+mod captures;
+
+use audit_files::{Source, Workers, take_in};
+use audit_model::{Policy, read_policy};
 use audit_sightings::Intake;
-use std::alloc::Global;
-use std::fs::File;
-use std::io::Read;
-use std::rt::Files;
+use captures::Captures;
+use std::alloc::{AllocError, Global};
 use std::thread::Threads;
 use std::time::{Clock, Instant};
-use std::{env, fs, io};
+use std::{env, fmt, fs, io};
 
-/// How many bytes one thread is fed at once.
-const PIECE: usize = 65_536;
-
-/// How captures are fed.
+/// How captures are read.
 #[derive(Clone, Copy)]
 enum Way {
-    ByOne,
+    InTurn,
+    SideBySide(Workers),
     /// In pieces of so many bytes.
-    ByThreads(usize),
+    FramesByThreads(usize),
 }
 
-impl Way {
-    fn piece(self) -> usize {
+impl fmt::Display for Way {
+    fn fmt<W: fmt::Write>(&self, f: &mut fmt::Formatter<W>) -> fmt::Result {
         match self {
-            Way::ByOne => PIECE,
-            Way::ByThreads(bytes) => bytes,
+            Way::InTurn => f.write_str("in turn"),
+            Way::SideBySide(workers) => write!(f, "side by side by {}", workers.count),
+            Way::FramesByThreads(bytes) => write!(f, "frames by threads, pieces of {bytes}"),
         }
     }
 }
 
-/// The capture fed to its end, piece by piece; none where it is refused.
-fn feed<R: Threads + Files<File = File> + Sync>(
-    rt: &R,
-    intake: &mut Intake,
-    name: &str,
-    into: &mut [u8],
-    way: Way,
-) -> io::Result<Option<()>> {
-    let Ok(file) = intake.add_file() else {
-        return Ok(None);
-    };
-    let mut capture = fs::open(rt, name)?;
-    for _ in 0..u64::MAX {
-        let read = capture.read(into)?;
-        if read == 0 {
-            return Ok(Some(()));
-        }
-        let fed = match way {
-            Way::ByOne => intake.feed(file, &into[..read]),
-            Way::ByThreads(_) => intake.feed_parallel(rt, file, &into[..read]),
-        };
-        if fed.is_err() {
-            return Ok(None);
-        }
-    }
-    Ok(None)
-}
-
-/// How many microseconds it takes to take the captures in, and how many sightings they give; none where one is refused.
-fn timed<R: Threads + Files<File = File> + Clock + Sync>(
+/// The captures, of which the frames are read by threads, piece by piece; none where one is refused.
+fn frames_by_threads<R: Threads + Sync, S: Source>(
     rt: &R,
     alloc: Global,
+    source: &mut S,
+    names: &[&str],
+    mut intake: Intake,
+    bytes: usize,
+) -> Result<Option<Intake>, AllocError> {
+    let mut into = vec![in alloc; 0u8; bytes]?;
+    for name in names {
+        let Ok(file) = intake.add_file() else {
+            return Ok(None);
+        };
+        let mut at = 0u64;
+        'pieces: for _ in 0..u64::MAX {
+            let Ok(read) = source.piece(name, at, &mut into) else {
+                return Ok(None);
+            };
+            if read == 0 {
+                break 'pieces;
+            }
+            if intake.feed_parallel(rt, file, &into[..read]).is_err() {
+                return Ok(None);
+            }
+            at = at.saturating_add(read as u64);
+        }
+    }
+    Ok(Some(intake))
+}
+
+/// The captures, read one way; none where one is refused.
+fn read<R: Threads + Sync, S: Source>(
+    rt: &R,
+    alloc: Global,
+    source: &mut S,
+    names: &[&str],
+    policy: Policy,
+    way: Way,
+) -> Result<Option<Intake>, AllocError> {
+    let intake = Intake::new(alloc, policy);
+    let workers = match way {
+        Way::InTurn => Workers::one(),
+        Way::SideBySide(workers) => workers,
+        Way::FramesByThreads(bytes) => {
+            return frames_by_threads(rt, alloc, source, names, intake, bytes);
+        }
+    };
+    match take_in(rt, alloc, source, names, intake, workers) {
+        Ok(intake) => Ok(Some(intake)),
+        Err(_) => Ok(None),
+    }
+}
+
+/// How many microseconds it takes to read the captures, and how many sightings they give; none where one is refused.
+fn timed<R: Threads + Clock + Sync, S: Source>(
+    rt: &R,
+    alloc: Global,
+    source: &mut S,
     policy: &[u8],
-    captures: &[String],
+    names: &[&str],
     way: Way,
 ) -> io::Result<Option<(u64, u32)>> {
     let Ok(policy) = read_policy(alloc, policy) else {
         return Ok(None);
     };
     let start = Instant::now(rt)?;
-    let mut intake = Intake::new(alloc, policy);
-    let mut into = vec![in alloc; 0u8; way.piece()]?;
-    for name in captures {
-        if feed(rt, &mut intake, name.as_str(), &mut into, way)?.is_none() {
-            return Ok(None);
-        }
-    }
+    let Some(intake) = read(rt, alloc, source, names, policy, way)? else {
+        return Ok(None);
+    };
     let took = start.elapsed(rt)?;
     let (_, sightings) = intake.counts();
     let microseconds = took.as_secs().saturating_mul(1_000_000);
@@ -93,23 +116,31 @@ fn main(rt: HostRuntime) -> io::Result<()> {
     for word in env::args(&rt)? {
         words.push(word)?;
     }
-    let [_, policy, kibibytes, rounds, captures @ ..] = words.as_slice() else {
+    let [_, policy, workers, kibibytes, rounds, captures @ ..] = words.as_slice() else {
         return Ok(());
     };
-    let (Ok(kibibytes), Ok(rounds)) = (kibibytes.parse::<usize>(), rounds.parse::<u32>()) else {
+    let (Ok(workers), Ok(kibibytes), Ok(rounds)) = (
+        workers.parse::<u32>(),
+        kibibytes.parse::<usize>(),
+        rounds.parse::<u32>(),
+    ) else {
         return Ok(());
     };
+    let Some(workers) = Workers::of(workers) else {
+        return Ok(());
+    };
+    let mut names = Vec::new(alloc);
+    for name in captures {
+        names.push(name.as_str())?;
+    }
     let policy = fs::read(&rt, policy.as_str())?;
-    let by_threads = Way::ByThreads(kibibytes.saturating_mul(1024));
+    let mut source = Captures::new(&rt);
+    let frames = Way::FramesByThreads(kibibytes.saturating_mul(1024));
     for round in 0..rounds {
-        for way in [Way::ByOne, by_threads] {
-            let by = match way {
-                Way::ByOne => "one thread",
-                Way::ByThreads(_) => "many threads",
-            };
-            match timed(&rt, alloc, &policy, captures, way)? {
+        for way in [Way::InTurn, Way::SideBySide(workers), frames] {
+            match timed(&rt, alloc, &mut source, &policy, &names, way)? {
                 Some((took, sightings)) => println!(rt;
-                    "round {round}, {by}: {took} microseconds for {sightings} sightings"
+                    "round {round}, {way}: {took} microseconds for {sightings} sightings"
                 )?,
                 None => println!(rt; "refused")?,
             }
