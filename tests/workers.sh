@@ -1,7 +1,8 @@
 #!/bin/bash
 # workers.sh PROGRAM: asks that the answer doesn't depend on the number of workers: each folder of captures in examples/ by `audit`, by `find`, and by `check` with
 # the stored certificate or else the one that `find` writes, with 1, 2, 4 and 256 workers: the same status, and the same bytes on both outputs. So it asks of captures of one
-# client that have over 16,384 events, whose placement the workers share, and of their certificate with a breach in one event, also where two pieces of 4,096 meet.
+# client that have over 16,384 events, whose placement the workers share, and of their certificate with a breach in one event, also where two pieces of 4,096 meet. And so
+# it asks of captures that are refused, which several workers read side by side.
 program=$(realpath "$1") || exit 1
 cd "$(dirname "$0")/../examples" || exit 1
 scratch=$(mktemp -d)
@@ -61,5 +62,32 @@ for line in 5 4098 4099 4100 12290; do
         echo "failed: line $line is no breach"
     fi
 done
+
+# Several workers read captures side by side, and tell of those that are refused what one tells: a block that is wrong comes before an end that is, whatever their order.
+head -c 100000 client.pcapng > cut.pcapng
+{ head -c 50000 peer.pcapng; head -c 4096 /dev/zero; } > wrong.pcapng
+: > empty.pcapng
+refused() { # TOLD CAPTURES.. : the captures are refused so by any number of workers
+    told=$1
+    shift
+    captures=("$@")
+    folder="refused: $*"
+    compare audit
+    compare check --cert certificate
+    if ! grep -q -- "$told" "$scratch/err.1"; then
+        failed=$((failed + 1))
+        echo "failed: $* is told by $(cat "$scratch/err.1")"
+    fi
+}
+refused 'C[0-9]* in capture 1' cut.pcapng wrong.pcapng
+refused 'C[0-9]* in capture 0' wrong.pcapng cut.pcapng
+refused 'C[0-9]* in capture 0' cut.pcapng peer.pcapng
+refused 'C[0-9]* in capture 1' client.pcapng cut.pcapng
+refused 'C[0-9]* in capture 2' client.pcapng peer.pcapng wrong.pcapng missing.pcapng
+refused 'read failed' client.pcapng missing.pcapng wrong.pcapng
+refused 'C[0-9]* in capture 1' client.pcapng wrong.pcapng missing.pcapng
+refused 'V4 in capture 16' $(yes empty.pcapng | head -n 17)
+refused 'C[0-9]* in capture 3' $(yes empty.pcapng | head -n 3) wrong.pcapng $(yes empty.pcapng | head -n 13)
+refused 'C[0-9]* in capture 3' $(yes empty.pcapng | head -n 3) wrong.pcapng $(yes empty.pcapng | head -n 12)
 echo "workers: $passed passed, $failed failed"
 [ "$failed" = 0 ] && [ "$passed" -gt 0 ]
