@@ -173,7 +173,7 @@ fn read_both<R: Threads + Sync, S: Source>(
         ensures policy { IfOk result (λ done. done.policy ≡ intake.policy) }
         ensures captures { (texts : List (List ℕ)) → StandsFor intake [] → AllZip (λ name text. S.holds source.entry.now name.now ≡ Some text) captures.entry.now texts
             → IfOk result (λ done. AreTakenIn texts (taken done)) }
-    { take_in(rt, alloc, source, captures, intake, workers) };
+    { take_in(rt, alloc, source, captures, intake, workers.others()) };
     let (certificate, intake) = join(rt, lines, frames);
     Ok((certificate?, intake?))
 }

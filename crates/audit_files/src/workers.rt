@@ -22,6 +22,13 @@ impl Workers {
         Some(Workers { count })
     }
 
+    /// Those that are left where one does something else, at least one.
+    pub fn others(self) -> Workers {
+        Workers {
+            count: (self.count - 1).max(1),
+        }
+    }
+
     /// The caller's thread alone.
     pub fn one() -> Workers
         ensures { result.count ≡ 1 }
