@@ -1,5 +1,7 @@
-//! Tests of many datagrams by one feed.
+//! Tests of many datagrams by one feed, and of intakes whose files are joined.
 #![tactic(auto)]
 
+#[cfg(test)]
+mod joining;
 #[cfg(test)]
 mod tests;
