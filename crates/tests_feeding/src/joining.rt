@@ -1,5 +1,7 @@
 //! The files of two intakes together.
 
+ghost use Rattle.std.specs.Prelude.{◌≡◌, IfOk};
+
 use audit_model::{Addr, Side, SightId, read_policy};
 use audit_samples::{BuildFault, Capture, UdpDatagram};
 use audit_sightings::{Intake, IntakeFault, IntakeFaultKind};
@@ -30,7 +32,9 @@ fn capture(alloc: Global, payload: &[u8], stamp: u64) -> Result<Capture, BuildFa
 }
 
 /// An intake of one file, and one of two whose second alone is fed.
-fn apart(alloc: Global, first: &[u8], second: &[u8]) -> Result<(Intake, Intake), Fail> {
+fn apart(alloc: Global, first: &[u8], second: &[u8]) -> Result<(Intake, Intake), Fail>
+    ensures { IfOk result (λ both. both.1.policy ≡ both.0.policy) }
+{
     let mut one = Intake::new(alloc, read_policy(alloc, POLICY)?);
     let mut other = one.beside()?;
     let file = one.add_file()?;
