@@ -1,5 +1,7 @@
 //! Captures on the machine.
 
+ghost use Rattle.std.specs.Prelude.{◌≡◌, None};
+
 use audit_files::{ReadFailed, Source};
 use std::alloc::Global;
 use std::fs;
@@ -16,7 +18,9 @@ pub struct Captures<'r, R: Files<File = File>> {
 
 impl<'r, R: Files<File = File>> Captures<'r, R> {
     /// None is open.
-    pub fn new(rt: &'r R) -> Self {
+    pub fn new(rt: &'r R) -> Self
+        ensures { result.opened ≡ None }
+    {
         Captures { rt, opened: None }
     }
 }
