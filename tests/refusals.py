@@ -143,8 +143,8 @@ def try_page(program, folder):
 
 
 def try_endless(program, folder):
-    """Inputs without an end are refused at their beginning."""
-    for kind, line in (("policy", "P1 in policy line 1"), ("credentials", "K2 in credentials line 1"), ("certificate", "T1 in certificate line 1")):
+    """Inputs without an end are refused at their beginning, as lines of too many bytes."""
+    for kind, line in (("policy", "P1 in policy line 1"), ("credentials", "K1 in credentials line 1"), ("certificate", "T1 in certificate line 1")):
         words = words_for(folder, kind, b"")
         words = ["/dev/zero" if word == folder / {"policy": "policy", "credentials": "creds", "certificate": "cert"}[kind] else word for word in words]
         run = answer(program, words)

@@ -1,5 +1,5 @@
 -- A line that is spelled is read again.
-use Rattle.std.proofs.Common.{◌≡◌, ℕ, ◌<◌, Bool, false, cond, eqb, ◌&&◌, List, [], ◌∷◌, ◌++◌, length, Result, Ok, Err, codes, refl, sym, ap, ◌∙◌, append_assoc, eq-eqb}
+use Rattle.std.proofs.Common.{◌≡◌, ℕ, ◌<◌, ◌≤◌, Bool, false, cond, eqb, ◌&&◌, List, [], ◌∷◌, ◌++◌, length, Result, Ok, Err, codes, refl, sym, ap, ◌∙◌, append_assoc, eq-eqb}
 use Rattle.std.specs.Str.{bytes_eq}
 use Rattle.std.proofs.lemmas.Bool.{lt-ltb, lt-leb}
 use Rattle.audit_model.specs.declared.address.Addr.{Addr}
@@ -22,7 +22,9 @@ use Rattle.audit_cert.specs.Spelling.{sight_text, event_line, lane_line, drop_li
 use Rattle.audit_model.specs.Fits.{AddrFits}
 use Rattle.audit_cert.specs.Fits.{SightFits, KeyFits, EventFits, DropFits}
 use Rattle.audit_text.specs.Reading.{line_after}
+use Rattle.audit_text.specs.declared.text_reader.TheConstants.{LONGEST_LINE}
 use Rattle.audit_cert.proofs.Texts.{read_rest, line_read}
+use Rattle.audit_cert.proofs.Short.{lane_word, lane_short, event_short, drop_short}
 use Rattle.audit_cert.proofs.Words.{placed_word}
 use Rattle.audit_cert.proofs.Found.{event_word, event_ended, empty_lane, in_made, act_made, out_made}
 use Rattle.audit_cert.proofs.FoundTexts.{lane_kept, lane_read, event_kept, drop_kept, by_word}
@@ -30,9 +32,9 @@ use Rattle.audit_cert.proofs.Again.{Lacks, lacks_both, bind_again, both_again, h
 
 -- ---- one line of a text
 
-pub line_again : (n : ℕ) (said next : Drafted) (line rest : List ℕ) → Lacks 10 line → bytes_eq line (codes "end") ≡ false → after_line said line ≡ Ok next →
+pub line_again : (n : ℕ) (said next : Drafted) (line rest : List ℕ) → Lacks 10 line → length line ≤ LONGEST_LINE → bytes_eq line (codes "end") ≡ false → after_line said line ≡ Ok next →
     read_rest n said (line ++ 10 ∷ rest) ≡ read_rest (line_after n) next rest
-line_again n said next line rest lacks other e = line_read n said next line rest lacks other e
+line_again n said next line rest lacks short other e = line_read n said next line rest lacks short other e
 
 ended_text : (whole line rest : List ℕ) → whole ≡ line ++ 10 ∷ [] → whole ++ rest ≡ line ++ 10 ∷ rest
 ended_text whole line rest e = ap (λ (l : List ℕ). l ++ rest) e ∙ append_assoc line (10 ∷ []) rest
@@ -43,9 +45,6 @@ unfolding after_line
 worded said word words next lacks e = bind_again (of_word (halves_of 32 (word ++ 32 ∷ words))) (by_word said) (word, words) next (ap of_word (halves_at 32 word words lacks)) e
 
 -- ---- lanes
-
-abbrev pub lane_word : Addr → Addr → List ℕ
-lane_word client listen = codes "lane" ++ 32 ∷ (addr_text client ++ 32 ∷ addr_text listen)
 
 lane_after : (said : Drafted) (client listen : Addr) → AddrFits client → AddrFits listen → length said.drops ≡ 0 → length said.lanes < 65536 → has_pair client listen said.lanes ≡ false →
     after_lane said (addr_text client ++ 32 ∷ addr_text listen) ≡ Ok (record said { lanes = said.lanes ++ empty_lane client listen ∷ [] })
@@ -67,7 +66,7 @@ lane_step n said lane rest c l none few new =
     let text : lane_line lane ≡ lane_word lane.client lane.listen ++ 10 ∷ [] = ap (λ (x : List ℕ). codes "lane " ++ x) (sym (append_assoc client (32 ∷ listen) (10 ∷ []))) in
     let lacks : Lacks 10 (lane_word lane.client lane.listen) = lacks_both 10 client (32 ∷ listen) (addr_lacks 10 lane.client refl refl refl c) (addr_lacks 10 lane.listen refl refl refl l) in
     ap (read_rest n said) (ended_text (lane_line lane) (lane_word lane.client lane.listen) rest text)
-    ∙ line_again n said _ (lane_word lane.client lane.listen) rest lacks refl (worded said (codes "lane") (client ++ 32 ∷ listen) _ refl (lane_after said lane.client lane.listen c l none few new))
+    ∙ line_again n said _ (lane_word lane.client lane.listen) rest lacks (lane_short lane.client lane.listen c l) refl (worded said (codes "lane") (client ++ 32 ∷ listen) _ refl (lane_after said lane.client lane.listen c l none few new))
 
 -- ---- events
 
@@ -119,7 +118,7 @@ pub event_step : (n : ℕ) (said : Drafted) (event : Event) (rest : List ℕ) �
     read_rest n said (event_line event ++ rest) ≡ read_rest (line_after n) (record said { lanes = with_event event said.lanes }) rest
 event_step n said event rest fits some none few =
     ap (read_rest n said) (ended_text (event_line event) (event_word event) rest (event_ended event))
-    ∙ line_again n said _ (event_word event) rest (event_lacks event fits) (not_end event) (event_line_after said event fits some none few)
+    ∙ line_again n said _ (event_word event) rest (event_lacks event fits) (event_short event fits) (not_end event) (event_line_after said event fits some none few)
 
 -- ---- drops
 
@@ -135,4 +134,4 @@ drop_step n said drop rest fits few =
     let placed : List ℕ = placed_word drop.sight drop.key in
     let text : drop_line drop ≡ (codes "drop" ++ 32 ∷ placed) ++ 10 ∷ [] = ap (λ (x : List ℕ). codes "drop " ++ x) (sym (append_assoc (sight_text drop.sight) _ (10 ∷ []))) in
     ap (read_rest n said) (ended_text (drop_line drop) (codes "drop" ++ 32 ∷ placed) rest text)
-    ∙ line_again n said _ (codes "drop" ++ 32 ∷ placed) rest (placed_lacks drop.sight drop.key fits.0 fits.1) refl (worded said (codes "drop") placed _ refl (drop_after said drop fits few))
+    ∙ line_again n said _ (codes "drop" ++ 32 ∷ placed) rest (placed_lacks drop.sight drop.key fits.0 fits.1) (drop_short drop fits) refl (worded said (codes "drop") placed _ refl (drop_after said drop fits few))

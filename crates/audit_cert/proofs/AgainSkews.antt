@@ -1,5 +1,5 @@
 -- Skews that are spelled are read again, and then the lines behind them.
-use Rattle.std.proofs.Common.{◌≡◌, ℕ, ◌<◌, ◌≤◌, Bool, true, false, cond, eqb, leb, List, [], ◌∷◌, ◌++◌, length, Result, Ok, Err, codes, refl, sym, ap, ◌∙◌, append_assoc, append-nil, arith}
+use Rattle.std.proofs.Common.{◌≡◌, ℕ, ◌<◌, ◌≤◌, Bool, true, false, cond, eqb, leb, ltb, List, [], ◌∷◌, ◌++◌, length, Result, Ok, Err, codes, refl, sym, ap, ◌∙◌, append_assoc, append-nil, arith}
 use Rattle.std.specs.List.{flat_map, AllByRecursion}
 use Rattle.std.proofs.lemmas.Bool.{lt-leb}
 use Rattle.std.proofs.lemmas.List.{length-append}
@@ -10,19 +10,21 @@ use Rattle.audit_model.specs.declared.certificate.CertSkew.{CertSkew}
 use Rattle.audit_model.specs.Skews.{rise}
 use Rattle.audit_text.specs.declared.token.TokenFault.{TokenFault}
 use Rattle.audit_text.specs.Lines.{Pieces, pieces}
-use Rattle.audit_text.specs.Reading.{line_after, at_line, end_of, taken_in}
+use Rattle.audit_text.specs.Reading.{line_after, at_line, end_of, taken_in, within, end_within}
+use Rattle.audit_text.specs.declared.text_reader.TheConstants.{LONGEST_LINE}
 use Rattle.audit_text.specs.Token.{◌>>=◌}
 use Rattle.audit_cert.specs.declared.fault.CertFaultKind.{CertFaultKind}
 use Rattle.audit_cert.specs.declared.fault.CertFaultKind.TheVariants.{Line, Limit, SkewOrder}
 use Rattle.audit_cert.specs.CertFault.{of_word}
 use Rattle.audit_cert.specs.CertLines.{is_after_skews, after_skew}
-use Rattle.audit_cert.specs.CertText.{after, after_other, after_skews, among_skews, unended, lacks, said_in}
+use Rattle.audit_cert.specs.CertText.{after, after_other, after_skews, among_skews, unended, overlong, lacks, said_in}
 use Rattle.audit_cert.specs.DraftView.{Drafted, Progress}
 use Rattle.audit_cert.specs.EventLine.{cert_skew_of}
 use Rattle.audit_cert.specs.Fits.{SkewFits}
 use Rattle.audit_cert.specs.Spelling.{lane_lines, drop_line, skew_line}
 use Rattle.audit_cert.proofs.Again.{Lacks, bind_again, halves_at, cert_skew_again, skew_lacks}
 use Rattle.audit_cert.proofs.Found.{skew_ended}
+use Rattle.audit_cert.proofs.Short.{skew_short}
 use Rattle.audit_cert.proofs.FoundTexts.{of_skews, skew_kept}
 use Rattle.audit_cert.proofs.Skews.{after_front}
 use Rattle.audit_cert.proofs.Texts.{in_lines, in_skews, read_from, read_rest, read_skews, one_read}
@@ -54,7 +56,7 @@ skew_step n before skew rest fits rises few =
     let line : List ℕ = whole_line skew in
     let lacks : Lacks 10 line = skew_lacks skew fits in
     let text : skew_line skew ++ rest ≡ line ++ 10 ∷ rest = ap (λ (l : List ℕ). l ++ rest) (skew_ended skew) ∙ append_assoc line (10 ∷ []) rest in
-    ap (read_skews n (of_skews before)) text ∙ one_read n (in_skews (of_skews before)) (in_skews (of_skews (before ++ skew ∷ []))) line rest lacks (skew_taken before skew fits rises few)
+    ap (read_skews n (of_skews before)) text ∙ one_read n (in_skews (of_skews before)) (in_skews (of_skews (before ++ skew ∷ []))) line rest lacks (skew_short skew fits) (skew_taken before skew fits rises few)
 
 -- ---- skews
 
@@ -75,7 +77,9 @@ same_reading : (n : ℕ) (said : Drafted) (first : List ℕ) (more : List (List 
     read_from n (in_skews said) (record { first = first; more = more }) ≡ read_from n (in_lines said) (record { first = first; more = more })
 same_reading n said [] [] e = refl
 same_reading n said (b ∷ bs) [] e = refl
-same_reading n said first (next ∷ more) e = ap (λ (r : Result Progress CertFaultKind). said_in (end_of unended lacks (at_line n r (λ progress. taken_in after (line_after n) progress next more)))) e
+same_reading n said first (next ∷ more) e =
+    ap (λ (r : Result Progress CertFaultKind). said_in (end_of (end_within overlong unended) lacks (at_line n (cond (ltb LONGEST_LINE (length first)) (Err Line) r)
+    (λ progress. taken_in (within overlong after) (line_after n) progress next more)))) e
 
 -- a line that is no skew
 no_skew : (said : Drafted) (line : List ℕ) → eqb (length said.skews) 0 ≡ false → after_skews said line ≡ after_other said line

@@ -114,11 +114,11 @@ module _ (skews : List CertSkew) where
 
 headed : (text : List ℕ) → cert_of (heading ++ 10 ∷ text) ≡ read_rest 2 nothing_said text
 unfolding cert_of after
-headed text = one_read 1 begun (in_lines nothing_said) heading text refl refl
+headed text = one_read 1 begun (in_lines nothing_said) heading text refl (omega arith) refl
 
 second_headed : (text : List ℕ) → cert_of (second_heading ++ 10 ∷ text) ≡ read_skews 2 nothing_said text
 unfolding cert_of after
-second_headed text = one_read 1 begun (in_skews nothing_said) second_heading text refl refl
+second_headed text = one_read 1 begun (in_skews nothing_said) second_heading text refl (omega arith) refl
 
 over : (n : ℕ) (said : Drafted) → read_rest n said (codes "end\n") ≡ Ok said
 unfolding after

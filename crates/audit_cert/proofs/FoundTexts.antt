@@ -14,7 +14,8 @@ use Rattle.audit_text.specs.Token.{◌>>=◌, halves_of, both_of}
 use Rattle.audit_text.specs.Lines.{Pieces, pieces}
 use Rattle.audit_model.specs.Addr.{addr_of, addr_text}
 use Rattle.audit_text.specs.declared.line_fault.LineFault.{LineFault}
-use Rattle.audit_text.specs.Reading.{line_after, at_line, taken_in, end_of}
+use Rattle.audit_text.specs.Reading.{line_after, at_line, taken_in, end_of, within, end_within}
+use Rattle.audit_text.specs.declared.text_reader.TheConstants.{LONGEST_LINE}
 use Rattle.audit_cert.specs.declared.lines.Stage.TheVariants as stage
 use Rattle.audit_cert.specs.declared.fault.CertFaultKind.{CertFaultKind}
 use Rattle.audit_cert.specs.declared.fault.CertFaultKind.TheVariants.{Heading, Line, LaneDouble, SkewOrder, Limit}
@@ -23,7 +24,7 @@ use Rattle.audit_cert.specs.DraftView.{Drafted, Progress, nothing_said}
 use Rattle.audit_cert.specs.EventLine.{placed_of, cert_skew_of, event_of}
 use Rattle.audit_model.specs.Lanes.{same_lane, has_pair}
 use Rattle.audit_cert.specs.CertLines.{with_event, said_count, is_after_skews, after_lane, after_event, after_drop, after_skew, after_line}
-use Rattle.audit_cert.specs.CertText.{begun, after, after_other, after_skews, among_skews, unended, lacks, said_in, cert_of}
+use Rattle.audit_cert.specs.CertText.{begun, after, after_other, after_skews, among_skews, unended, overlong, lacks, said_in, cert_of}
 use Rattle.audit_cert.specs.Spelling.{lane_lines, drop_line, skew_line, front, spelling}
 use Rattle.audit_cert.proofs.Steps.{bind_ok, both_ok, word_ok, guard_false, guard_true, chosen, ok_is}
 use Rattle.audit_cert.proofs.Words.{halves_found, joins, placed_word, placed_found, skew_word, cert_skew_found, addr_found}
@@ -139,6 +140,20 @@ from_pieces line progress piece more = read_from line progress (record { first =
 abbrev ended_with : Drafted → Progress
 ended_with said = record { stage = stage.Ended; said = said }
 
+-- the reading of a line, followed by that of the lines after it
+abbrev then_rest : ℕ → Result Progress CertFaultKind → List ℕ → List (List ℕ) → Whole
+then_rest line taken next more = said_in (end_of (end_within overlong unended) lacks (at_line line taken (λ progress. taken_in (within overlong after) (line_after line) progress next more)))
+
+-- a line that is taken in is not too long
+is_short : (line : ℕ) (progress : Progress) (all : Drafted) (piece next : List ℕ) (more : List (List ℕ)) → from_pieces line progress piece (next ∷ more) ≡ Ok all →
+    (ltb LONGEST_LINE (length piece) ≡ false) × (then_rest line (after progress piece) next more ≡ Ok all)
+is_short line progress all piece next more e =
+    elim (ltb LONGEST_LINE (length piece)) as (λ t. ltb LONGEST_LINE (length piece) ≡ t → then_rest line (cond t (Err (overlong progress)) (after progress piece)) next more ≡ Ok all →
+    (ltb LONGEST_LINE (length piece) ≡ false) × (then_rest line (after progress piece) next more ≡ Ok all)) [
+      | true ↦ λ is k. absurd cc
+      | false ↦ λ is k. (is, k)
+    ] refl e
+
 -- `end` is the last line
 end_found : (line : ℕ) (said all : Drafted) (piece next : List ℕ) (more : List (List ℕ)) → bytes_eq piece (codes "end") ≡ true → from_pieces line (ended_with said) next more ≡ Ok all →
     Reads said (joined piece (next ∷ more)) all
@@ -150,11 +165,7 @@ end_found line said all piece [] [] same e =
       skews = refl;
     })
 end_found line said all piece (b ∷ bs) [] same e = absurd cc
-end_found line said all piece next (x ∷ more) same e = absurd cc
-
--- what a line and those behind it come to
-abbrev then_rest : ℕ → Result Progress CertFaultKind → List ℕ → List (List ℕ) → Whole
-then_rest line taken next more = said_in (end_of unended lacks (at_line line taken (λ progress. taken_in after (line_after line) progress next more)))
+end_found line said all piece next (x ∷ more) same e = absurd (let k = (is_short line (ended_with said) all next x more e).1 in cc)
 
 next_said : (line : ℕ) (taken : Said) (next : List ℕ) (more : List (List ℕ)) (all : Drafted) → then_rest line (taken >>= (λ s. Ok (in_lines s))) next more ≡ Ok all →
     (x : Drafted) × (taken ≡ Ok x) × (from_pieces (line_after line) (in_lines x) next more ≡ Ok all)
@@ -180,7 +191,7 @@ lines_found line said all piece (next ∷ more) e =
             apart = λ apart. rest.apart (adds.apart apart);
             skews = rest.skews ∙ adds.skews;
           }
-    ] refl e
+    ] refl (is_short line (in_lines said) all piece next more e).1
 
 -- ---- skews
 
@@ -206,14 +217,16 @@ pub record ReadsSkews (skews : List CertSkew) (text : List ℕ) (all : Drafted) 
   pub apart : IsDistinct same_lane all.lanes
 
 -- the first line that is no skew
-behind_found : (line : ℕ) (skews : List CertSkew) (all : Drafted) (piece next : List ℕ) (more : List (List ℕ)) → then_rest line (after_skews (of_skews skews) piece) next more ≡ Ok all →
+behind_found : (line : ℕ) (skews : List CertSkew) (all : Drafted) (piece next : List ℕ) (more : List (List ℕ)) → ltb LONGEST_LINE (length piece) ≡ false → then_rest line (after_skews (of_skews skews) piece) next more ≡ Ok all →
     ReadsSkews skews (joined piece (next ∷ more)) all
 unfolding after
-behind_found line skews all piece next more e =
+behind_found line skews all piece next more short e =
     elim (eqb (length skews) 0) as (λ t. eqb (length skews) 0 ≡ t → then_rest line (cond t (Err Line) (after_other (of_skews skews) piece)) next more ≡ Ok all → ReadsSkews skews (joined piece (next ∷ more)) all) [
       | true ↦ λ is k. absurd cc
       | false ↦ λ is k.
-          let r = lines_found line (of_skews skews) all piece (next ∷ more) k in
+          let again : ltb LONGEST_LINE (length piece) ≡ false → from_pieces line (in_lines (of_skews skews)) piece (next ∷ more) ≡ Ok all =
+          λ few. ap (λ (t : Bool). then_rest line (cond t (Err Line) (after_other (of_skews skews) piece)) next more) few ∙ k in
+          let r = lines_found line (of_skews skews) all piece (next ∷ more) (again short) in
           record {
             lines = ap (λ (l : List ℕ). flat_map skew_line skews ++ l) r.lines ∙ ap (λ (ss : List CertSkew). flat_map skew_line ss ++ (body all ++ codes "end\n")) (sym r.skews);
             some = ap (λ (ss : List CertSkew). eqb (length ss) 0) r.skews ∙ is;
@@ -240,10 +253,10 @@ skews_found line skews all [] [] e = absurd cc
 skews_found line skews all (b ∷ bs) [] e = absurd cc
 skews_found line skews all piece (next ∷ more) e =
     elim (halves_of 32 piece) as (λ r. halves_of 32 piece ≡ r → then_rest line (among_skews r (of_skews skews) piece) next more ≡ Ok all → ReadsSkews skews (joined piece (next ∷ more)) all) [
-      | Err fault ↦ λ is k. behind_found line skews all piece next more k
+      | Err fault ↦ λ is k. behind_found line skews all piece next more (is_short line (in_skews (of_skews skews)) all piece next more e).0 k
       | Ok h ↦ λ is k. elim (bytes_eq h.0 (codes "skew")) as (λ t. bytes_eq h.0 (codes "skew") ≡ t →
           then_rest line (cond t (after_skew (of_skews skews) h.1 >>= (λ s. Ok (in_skews s))) (after_skews (of_skews skews) piece)) next more ≡ Ok all → ReadsSkews skews (joined piece (next ∷ more)) all) [
-            | false ↦ λ other k. behind_found line skews all piece next more k
+            | false ↦ λ other k. behind_found line skews all piece next more (is_short line (in_skews (of_skews skews)) all piece next more e).0 k
             | true ↦ λ same k.
                 let x = next_skew line (after_skew (of_skews skews) h.1) next more all k in
                 let f = skew_found skews x.0 h.1 x.1 in
@@ -251,7 +264,7 @@ skews_found line skews all piece (next ∷ more) e =
                 let text : piece ≡ codes "skew" ++ 32 ∷ skew_word f.0 = begins piece h.0 h.1 (codes "skew") _ (halves_found 32 piece h is) same f.1 in
                 record { lines = one_skew f.0 skews piece (joined next more) text ∙ rest.lines; some = rest.some; apart = rest.apart }
           ] refl k
-    ] refl e
+    ] refl (is_short line (in_skews (of_skews skews)) all piece next more e).1
 
 -- ---- the whole
 
@@ -300,7 +313,7 @@ heading_found first (next ∷ more) all e =
             | true ↦ λ is j. second_found first next more all is j
             | false ↦ λ is j. absurd cc
           ] refl k
-    ] refl e
+    ] refl (is_short 1 begun all first next more e).1
 
 pub cert_found : (text : List ℕ) (all : Drafted) → cert_of text ≡ Ok all → IsFound text all
 unfolding cert_of

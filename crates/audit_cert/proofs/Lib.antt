@@ -9,6 +9,7 @@ pub mod Found
 pub mod FoundTexts
 pub mod Laws
 pub mod Again
+pub mod Short
 pub mod AgainLines
 pub mod AgainSkews
 pub mod AgainTexts

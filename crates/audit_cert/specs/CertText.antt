@@ -4,7 +4,7 @@ use Rattle.std.specs.Str.{bytes_eq}
 use Rattle.audit_text.specs.declared.line_fault.LineFault.{LineFault}
 use Rattle.audit_text.specs.Token.{◌>>=◌, halves_of}
 use Rattle.audit_text.specs.declared.token.TokenFault.{TokenFault}
-use Rattle.audit_text.specs.Reading.{SoFar, read_text}
+use Rattle.audit_text.specs.Reading.{SoFar, within, read_text}
 use Rattle.audit_text.specs.Readers as readers
 use Rattle.audit_cert.specs.declared.lines.Stage.{Stage}
 use Rattle.audit_cert.specs.declared.lines.Stage.TheVariants as stage
@@ -63,6 +63,10 @@ unended_in stage.Ended = Line
 abbrev pub unended : Progress → List ℕ → CertFaultKind
 unended progress rest = unended_in progress.stage
 
+-- and so is a line of too many bytes
+abbrev pub overlong : Progress → CertFaultKind
+overlong progress = unended_in progress.stage
+
 -- the heading and `end` have to be there
 abbrev pub lacks_in : Stage → Option CertFaultKind
 lacks_in stage.Heading = Some Heading
@@ -79,7 +83,7 @@ Says lines progress = lines ≡ progress
 
 -- a reader was fed this text, which has no fault so far
 abbrev pub StandsFor : SoFar Progress → List ℕ → Type 0
-StandsFor reader text = readers.StandsFor Says after begun reader text
+StandsFor reader text = readers.StandsFor Says (within overlong after) begun reader text
 
 abbrev pub said_in : Result Progress (LineFault CertFaultKind) → Result Drafted (LineFault CertFaultKind)
 said_in (Ok progress) = Ok progress.said
@@ -87,4 +91,4 @@ said_in (Err fault) = Err fault
 
 -- what a text says, or its first fault
 unfoldable pub cert_of : List ℕ → Result Drafted (LineFault CertFaultKind)
-cert_of text = said_in (read_text after unended lacks begun text)
+cert_of text = said_in (read_text overlong after unended lacks begun text)

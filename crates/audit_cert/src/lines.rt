@@ -16,9 +16,6 @@ const HEADING: &[u8; 23] = b"turnaudit-certificate 1";
 /// Skews stand behind it.
 const SECOND_HEADING: &[u8; 23] = b"turnaudit-certificate 2";
 
-/// How long a line may be before its LF is there, in bytes. The longest that is right, an act, has 78.
-const LONGEST_LINE: usize = 1_024;
-
 /// Which line comes next.
 #[derive(Clone, Copy, Debug, PartialEq, Eq)]
 pub enum Stage {
@@ -139,7 +136,7 @@ impl CertificateLines {
 
 impl Lines for CertificateLines {
     ghost use Rattle.audit_cert.specs.DraftView.{Progress};
-    ghost use Rattle.audit_cert.specs.CertText.{Says, after, unended, lacks};
+    ghost use Rattle.audit_cert.specs.CertText.{Says, after, unended, overlong, lacks};
 
     type Kind = CertFaultKind;
 
@@ -151,17 +148,21 @@ impl Lines for CertificateLines {
 
     ghost unended = { unended };
 
+    ghost overlong = { overlong };
+
     ghost lacks = { lacks };
 
     ghost is_memory = { is_memory };
-
-    const LONGEST: usize = LONGEST_LINE;
 
     fn take_line(&mut self, line: &[u8]) -> Result<(), CertFaultKind> {
         self.add(line)
     }
 
     fn unended(&self, _rest: &[u8]) -> CertFaultKind {
+        self.overlong()
+    }
+
+    fn overlong(&self) -> CertFaultKind {
         match self.stage {
             Stage::Heading => CertFaultKind::Heading,
             Stage::Skews | Stage::Lines | Stage::Ended => CertFaultKind::Line,

@@ -40,12 +40,13 @@ impl CertificateReader {
         }
     }
 
-    /// Takes the next piece of the text, or tells the first fault of the text so far. Then it can't become a certificate, and the reader is gone.
+    /// Takes the next piece of the text, or reports the first fault of the text so far. Every text that continues these bytes has the
+    /// same fault, however it is cut. After a fault the reader is consumed.
     #[tactic(auto, unfolding(crate::specs::CertText::cert_of))]
     pub fn feed(self, piece: &[u8]) -> Result<CertificateReader, CertFault>
         ensures ok { (text : List ℕ) → StandsFor self text → IfOk result (λ fed. StandsFor fed (text ++ piece.now)) }
-        ensures err { (text : List ℕ) → StandsFor self text →
-            IfErr result (λ fault. UnlessMemory (λ f. is_memory f.kind) fault (cert_of (text ++ piece.now))) }
+        ensures err { (text : List ℕ) → StandsFor self text → (more : List ℕ) →
+            IfErr result (λ fault. UnlessMemory (λ f. is_memory f.kind) fault (cert_of (text ++ piece.now ++ more))) }
     {
         Ok(CertificateReader {
             reader: self.reader.feed(piece)?,

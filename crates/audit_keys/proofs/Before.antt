@@ -1,18 +1,17 @@
 -- A message without attributes of SHA-256 is signed and authentic as it was before.
-use Rattle.std.proofs.Common.{◌≡◌, ◌≢◌, inl, inr, ℕ, true, false, eqb, List, [], ◌∷◌, ◌++◌, length, Option, Some, None, refl, sym, ap, subst, ◌∙◌}
+use Rattle.std.proofs.Common.{◌≡◌, ◌≢◌, inl, inr, ℕ, eqb, List, [], ◌∷◌, Option, Some, None, refl, sym, ap, subst, ◌∙◌}
 use Rattle.std.specs.List.{All, filter, find}
 use Rattle.std.specs.Prelude.{Bool, ◌||◌, ◌==◌, MatchOption, IsSomeAnd, option_map}
 use Rattle.std.proofs.lemmas.Bool.{ne_eqb, eq-eqb, cases_eq, cases_Bool}
 use Rattle.std.proofs.lemmas.List.Elements.{All-head, All-tail, All-weaker}
 use Rattle.audit_stun.specs.Attribute.{Attribute}
-use Rattle.audit_stun.specs.Counted.{counted, after_integrity, fingerprints, first_of}
+use Rattle.audit_stun.specs.Counted.{counted, after_integrity, first_of}
 use Rattle.audit_stun.specs.Covered.{covered_of}
 use Rattle.audit_stun.specs.Parts.{parts_of}
 use Rattle.audit_keys.specs.declared.keys.Keys.{Keys}
 use Rattle.audit_keys.specs.Authentic.{IsAuthentic}
 use Rattle.audit_keys.specs.Before256.{counted_before, first_before, covered_before, WasSigned, WasAuthentic, md5_keys, HasNeither}
-use Rattle.audit_keys.specs.Chosen.{algorithm_in, key_by, chosen_key}
-use Rattle.audit_keys.specs.Hmac.{hmac_of}
+use Rattle.audit_keys.specs.Chosen.{algorithm_in, chosen_key}
 use Rattle.audit_keys.specs.Keys.{KeyFor}
 use Rattle.audit_keys.specs.Signed.{Integrity, IsHmac, IsHmac256, IsSigned}
 

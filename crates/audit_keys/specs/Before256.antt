@@ -1,5 +1,5 @@
 -- Signed and authentic as they were while no SHA-256 was judged. Only the law `unchanged` speaks of them.
-use Rattle.std.specs.Prelude.{◌≡◌, ◌≢◌, ℕ, ◌+◌, ◌==◌, ◌||◌, if◌then◌else◌, List, [], ◌∷◌, ◌++◌, length, take, slice_range, All, map, filter, find, Option, Some, option_map}
+use Rattle.std.specs.Prelude.{◌≡◌, ◌≢◌, ℕ, ◌+◌, ◌==◌, ◌||◌, if◌then◌else◌, List, [], ◌∷◌, ◌++◌, length, take, slice_range, All, filter, find, Option, Some, option_map}
 use Rattle.std.specs.Int.{w16, to_be_bytes}
 use Rattle.audit_stun.specs.declared.numbers.attribute.TheConstants.{USERNAME, REALM, NONCE, MESSAGE_INTEGRITY, MESSAGE_INTEGRITY_SHA256, PASSWORD_ALGORITHM, FINGERPRINT}
 use Rattle.audit_stun.specs.Attribute.{Attribute, padded}

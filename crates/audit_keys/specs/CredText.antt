@@ -21,10 +21,14 @@ after listed line = with_credential listed (read_credential (length listed + 1) 
 abbrev pub unended : List LongTermCredential → List ℕ → CredFaultKind
 unended listed rest = if list_all may_stand rest then Line else Character
 
+-- a line of too many bytes is none, whatever stands in it
+abbrev pub overlong : List LongTermCredential → CredFaultKind
+overlong listed = Line
+
 -- nothing has to be there
 abbrev pub lacks : List LongTermCredential → Option CredFaultKind
 lacks listed = None
 
 -- The credentials of a text, the last one first, or its first fault
 unfoldable pub credentials_of : List ℕ → Result (List LongTermCredential) (LineFault CredFaultKind)
-credentials_of text = read_text after unended lacks [] text
+credentials_of text = read_text overlong after unended lacks [] text

@@ -9,9 +9,6 @@ use crate::keyring::Credentials;
 use audit_text::Lines;
 use std::alloc::Global;
 
-/// How long a line may be before its LF is there, in bytes. The longest that is right has 1,526.
-const LONGEST_LINE: usize = 4_096;
-
 /// The users that the lines so far say.
 #[derive(Drop)]
 pub struct CredentialLines {
@@ -48,7 +45,7 @@ impl Lines for CredentialLines {
     ghost use Rattle.std.specs.Prelude.{List};
     ghost use Rattle.audit_keys.specs.CredFault.{is_memory};
     ghost use Rattle.audit_keys.specs.CredLine.{LongTermCredential as Line};
-    ghost use Rattle.audit_keys.specs.CredText.{after, unended, lacks};
+    ghost use Rattle.audit_keys.specs.CredText.{after, unended, overlong, lacks};
     ghost use Rattle.audit_keys.specs.CredentialLines.{Says};
 
     type Kind = CredFaultKind;
@@ -61,11 +58,11 @@ impl Lines for CredentialLines {
 
     ghost unended = { unended };
 
+    ghost overlong = { overlong };
+
     ghost lacks = { lacks };
 
     ghost is_memory = { is_memory };
-
-    const LONGEST: usize = LONGEST_LINE;
 
     fn take_line(&mut self, line: &[u8]) -> Result<(), CredFaultKind> {
         let number = self.count + 1;
@@ -88,6 +85,10 @@ impl Lines for CredentialLines {
         } else {
             CredFaultKind::Character
         }
+    }
+
+    fn overlong(&self) -> CredFaultKind {
+        CredFaultKind::Line
     }
 
     fn lacks(&self) -> Option<CredFaultKind> {

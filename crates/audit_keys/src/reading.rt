@@ -32,11 +32,12 @@ impl CredentialsReader {
     }
 
     #[tactic(auto, unfolding(crate::specs::CredText::credentials_of))]
-    /// Takes the next piece of the text, or tells the first fault of the text so far. Then it can't become a credentials text, and the reader is gone.
+    /// Takes the next piece of the text, or reports the first fault of the text so far. Every text that continues these bytes has the
+    /// same fault, however it is cut. After a fault the reader is consumed.
     pub fn feed(self, piece: &[u8]) -> Result<CredentialsReader, CredFault>
         ensures ok { (text : List ℕ) → StandsFor self text → IfOk result (λ fed. StandsFor fed (text ++ piece.now)) }
-        ensures err { (text : List ℕ) → StandsFor self text →
-            IfErr result (λ fault. UnlessMemory (λ f. is_memory f.kind) fault (credentials_of (text ++ piece.now))) }
+        ensures err { (text : List ℕ) → StandsFor self text → (more : List ℕ) →
+            IfErr result (λ fault. UnlessMemory (λ f. is_memory f.kind) fault (credentials_of (text ++ piece.now ++ more))) }
     {
         Ok(CredentialsReader {
             reader: self.reader.feed(piece)?,

@@ -16,7 +16,7 @@ use Rattle.audit_model.specs.declared.policy_fault.PolicyFaultKind.TheVariants.{
 use Rattle.audit_model.specs.Lanes.{same_addr}
 use Rattle.audit_model.specs.Policy.{AreApart}
 use Rattle.audit_model.specs.PolicyLines.{Said, meets_said, is_said_of, interface_of, after_listen, after_relay, after_skew, after_setting, after_word, tolerance_of, of_word, listen_of, range_of}
-use Rattle.audit_model.specs.PolicyText.{after, after_heading, unended, lacks, nothing_said, policy_read, policy_of}
+use Rattle.audit_model.specs.PolicyText.{after, after_heading, unended, overlong, lacks, nothing_said, policy_read, policy_of}
 use Rattle.audit_model.specs.PortRange.{is_in, meet, lone}
 use Rattle.audit_text.specs.Token.{◌>>=◌, halves_of, both_of, number_of}
 
@@ -142,7 +142,7 @@ abbrev GivesApart : Result Policy (LineFault PolicyFaultKind) → Type 0
 GivesApart (Ok policy) = AreApart policy
 GivesApart (Err fault) = Unit {0}
 
-said_apart : (read : Result Said (LineFault PolicyFaultKind)) → IfRead after unended lacks IsApart read → GivesApart (policy_read read)
+said_apart : (read : Result Said (LineFault PolicyFaultKind)) → IfRead overlong after unended lacks IsApart read → GivesApart (policy_read read)
 said_apart (Ok said) apart = apart
 said_apart (Err fault) apart = tt
 
@@ -151,4 +151,4 @@ pub read_apart : (text : List ℕ) (policy : Policy) → policy_of text ≡ Ok p
 unfolding policy_of
 read_apart text policy is =
     let nothing : IsApart nothing_said = λ addr listens relays. let bad : false ≡ true = listens in cc in
-    subst GivesApart is (said_apart (read_text after unended lacks nothing_said text) (read_keeps after unended lacks IsApart lined nothing_said text nothing))
+    subst GivesApart is (said_apart (read_text overlong after unended lacks nothing_said text) (read_keeps overlong after unended lacks IsApart lined nothing_said text nothing))

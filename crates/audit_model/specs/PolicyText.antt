@@ -1,7 +1,7 @@
 -- A policy text: a heading, then lines, each ended by an LF.
 use Rattle.std.specs.Prelude.{◌≡◌, ℕ, true, false, ◌==◌, if◌then◌else◌, List, [], length, Option, Some, None, unwrap_or, Result, Ok, Err, codes}
 use Rattle.std.specs.Str.{bytes_eq}
-use Rattle.audit_text.specs.Reading.{SoFar, read_text}
+use Rattle.audit_text.specs.Reading.{SoFar, within, read_text}
 use Rattle.audit_text.specs.Readers as readers
 use Rattle.audit_model.specs.declared.policy.Policy.{Policy}
 use Rattle.audit_text.specs.declared.line_fault.LineFault.{LineFault}
@@ -26,6 +26,10 @@ after said line = if said.headed then after_word said line else after_heading sa
 abbrev pub unended : Said → List ℕ → PolicyFaultKind
 unended said rest = Line
 
+-- a line of too many bytes is none
+abbrev pub overlong : Said → PolicyFaultKind
+overlong said = Line
+
 -- a listen line has to be there
 abbrev pub lacks : Said → Option PolicyFaultKind
 lacks said = if said.headed then (if length said.listen == 0 then Some Missing else None) else Some Line
@@ -47,7 +51,7 @@ Says draft said = draft ≡ said
 
 -- a reader was fed this text, which has no fault so far
 abbrev pub StandsFor : SoFar Said → List ℕ → Type 0
-StandsFor reader text = readers.StandsFor Says after nothing_said reader text
+StandsFor reader text = readers.StandsFor Says (within overlong after) nothing_said reader text
 
 -- the policy of what a whole text says
 abbrev pub policy_read : Result Said (LineFault PolicyFaultKind) → Result Policy (LineFault PolicyFaultKind)
@@ -56,4 +60,4 @@ policy_read (Err fault) = Err fault
 
 -- the policy that a text spells, or its first fault
 unfoldable pub policy_of : List ℕ → Result Policy (LineFault PolicyFaultKind)
-policy_of text = policy_read (read_text after unended lacks nothing_said text)
+policy_of text = policy_read (read_text overlong after unended lacks nothing_said text)

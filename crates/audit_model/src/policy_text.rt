@@ -42,9 +42,6 @@ const DEFAULT_GRACE: u64 = 1_000 * NANOSECONDS_IN_MS;
 
 const DEFAULT_HOLD: u64 = 2_000 * NANOSECONDS_IN_MS;
 
-/// How long a line may be before its LF is there, in bytes. The longest that is right, a relay range, has 37.
-const LONGEST_LINE: usize = 1_024;
-
 /// What the lines so far say.
 #[derive(Debug, Drop)]
 pub struct PolicyDraft {
@@ -321,7 +318,7 @@ impl PolicyDraft {
 
 impl Lines for PolicyDraft {
     ghost use Rattle.audit_model.specs.PolicyLines.{Said};
-    ghost use Rattle.audit_model.specs.PolicyText.{Says, after, unended, lacks};
+    ghost use Rattle.audit_model.specs.PolicyText.{Says, after, unended, overlong, lacks};
 
     type Kind = PolicyFaultKind;
 
@@ -333,17 +330,21 @@ impl Lines for PolicyDraft {
 
     ghost unended = { unended };
 
+    ghost overlong = { overlong };
+
     ghost lacks = { lacks };
 
     ghost is_memory = { is_memory };
-
-    const LONGEST: usize = LONGEST_LINE;
 
     fn take_line(&mut self, line: &[u8]) -> Result<(), PolicyFaultKind> {
         self.add(line)
     }
 
     fn unended(&self, _rest: &[u8]) -> PolicyFaultKind {
+        PolicyFaultKind::Line
+    }
+
+    fn overlong(&self) -> PolicyFaultKind {
         PolicyFaultKind::Line
     }
 

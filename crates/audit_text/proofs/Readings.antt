@@ -1,10 +1,13 @@
 -- A text read in pieces is read as a whole.
 use Rattle.std.proofs.Common.{◌≡◌, ℕ, Bool, true, false, cond, eqb, ◌||◌, List, [], ◌∷◌, ◌++◌, length, ◌<◌, Option, None, Result, Ok, Err, arith, refl, sym, ap, ◌∙◌, append_assoc, append-nil}
 use Rattle.std.specs.Prelude.{MatchResult}
+use Rattle.std.proofs.lemmas.Bool.{lt-ltb}
+use Rattle.std.proofs.lemmas.List.{length-append}
 use Rattle.audit_text.specs.declared.line_fault.LineFault.{LineFault}
 use Rattle.audit_text.specs.Lines.{Pieces, pieces, has_lf}
 use Rattle.audit_text.specs.Token.{cut_of}
-use Rattle.audit_text.specs.Reading.{SoFar, line_after, at_line, taken_in, so_far, with_more, ended, end_of, read_text, UnlessMemory}
+use Rattle.audit_text.specs.declared.text_reader.TheConstants.{LONGEST_LINE}
+use Rattle.audit_text.specs.Reading.{SoFar, line_after, at_line, taken_in, so_far, within, end_within, with_more, ended, end_of, read_text, UnlessMemory}
 use Rattle.audit_text.proofs.Broken.{IsCut, in_front, with_line, cons_first, pieces-unbroken, pieces-uncut, unbroken-append}
 
 module _ {S K : Type 0} (after : S → List ℕ → Result S K) where
@@ -52,6 +55,31 @@ module _ {S K : Type 0} (after : S → List ℕ → Result S K) where
   pub so_far-append : (start : S) (text piece : List ℕ) (st : SoFar S) → so_far after start text ≡ Ok st → so_far after start (text ++ piece) ≡ with_more after st piece
   so_far-append start text piece st e = more_behind 1 start [] text piece st refl e
 
+  -- a line refused, and what follows it
+  refused_more : (line : ℕ) (taken : Result S K) (text more : List ℕ) (fault : LineFault K) →
+      ((next : S) → read_on (line_after line) next (pieces text) ≡ Err fault → read_on (line_after line) next (pieces (text ++ more)) ≡ Err fault) →
+      at_line line taken (λ next. read_on (line_after line) next (pieces text)) ≡ Err fault →
+      at_line line taken (λ next. read_on (line_after line) next (pieces (text ++ more))) ≡ Err fault
+  refused_more line (Ok next) text more fault below e = below next e
+  refused_more line (Err kind) text more fault below e = e
+
+  refused_behind : (line : ℕ) (said : S) (front text more : List ℕ) (fault : LineFault K) →
+      read_on line said (in_front front (pieces text)) ≡ Err fault → read_on line said (in_front front (pieces (text ++ more))) ≡ Err fault
+  refused_behind line said front [] more fault e = absurd (cc)
+  refused_behind line said front (b ∷ bs) more fault e =
+      elim (eqb b 10) as (λ t. eqb b 10 ≡ t → read_on line said (in_front front (cond {A = Pieces} t (with_line [] (pieces bs)) (cons_first b (pieces bs)))) ≡ Err fault →
+      read_on line said (in_front front (cond {A = Pieces} t (with_line [] (pieces (bs ++ more))) (cons_first b (pieces (bs ++ more))))) ≡ Err fault) [
+        | true ↦ λ q k. refused_more line (after said (front ++ [])) bs more fault (λ next. refused_behind (line_after line) next [] bs more fault) k
+        | false ↦ λ q k.
+            let moved : (p : Pieces) → in_front front (cons_first b p) ≡ in_front (front ++ b ∷ []) p = λ p. ap (λ (l : List ℕ). record { first = l; more = p.more }) (sym (append_assoc front (b ∷ []) p.first)) in
+            ap (read_on line said) (moved (pieces (bs ++ more)))
+            ∙ refused_behind line said (front ++ b ∷ []) bs more fault (ap (read_on line said) (sym (moved (pieces bs))) ∙ k)
+      ] refl e
+
+  -- a text that is refused so far, with more behind it
+  pub still_refused : (start : S) (text more : List ℕ) (fault : LineFault K) → so_far after start text ≡ Err fault → so_far after start (text ++ more) ≡ Err fault
+  still_refused start text more fault e = refused_behind 1 start [] text more fault e
+
   first_line : (line : ℕ) (said : S) (held rest bytes behind : List ℕ) → has_lf held ≡ false → IsCut rest bytes behind →
       read_on line said (pieces (held ++ rest)) ≡ at_line line (after said (held ++ bytes)) (λ next. read_on (line_after line) next (pieces behind))
   first_line line said held rest bytes behind unbroken cut =
@@ -83,22 +111,42 @@ module _ {S K : Type 0} (after : S → List ℕ → Result S K) where
       ∙ ap (λ (n : ℕ). Ok (record { said = st.said; line = n; rest = next.rest })) (sym line)
       ∙ ap (λ (s : S). Ok (record { said = s; line = next.line; rest = next.rest })) (sym said)
 
-  module _ (unended : S → List ℕ → K) (lacks : S → Option K) where
-    -- a text with a piece that is refused
-    pub refused_with : (start : S) (text piece : List ℕ) (st : SoFar S) (fault : LineFault K) → so_far after start text ≡ Ok st → with_more after st piece ≡ Err fault →
-        read_text after unended lacks start (text ++ piece) ≡ Err fault
-    refused_with start text piece st fault e refused = ap (end_of unended lacks) (so_far-append start text piece st e ∙ refused)
+module _ {S K : Type 0} (overlong : S → K) (after : S → List ℕ → Result S K) (unended : S → List ℕ → K) (lacks : S → Option K) where
+  -- a text with a piece that is refused, whatever follows
+  pub refused_with : (start : S) (text piece more : List ℕ) (st : SoFar S) (fault : LineFault K) → so_far (within overlong after) start text ≡ Ok st →
+      with_more (within overlong after) st piece ≡ Err fault → read_text overlong after unended lacks start ((text ++ piece) ++ more) ≡ Err fault
+  refused_with start text piece more st fault e refused =
+      ap (end_of (end_within overlong unended) lacks)
+      (still_refused (within overlong after) start (text ++ piece) more fault (so_far-append (within overlong after) start text piece st e ∙ refused))
 
-    abbrev last_fault : SoFar S → Result S (LineFault K)
-    last_fault st = Err (record { kind = unended st.said st.rest; line = st.line })
+  abbrev last_fault : SoFar S → Result S (LineFault K)
+  last_fault st = Err (record { kind = end_within overlong unended st.said st.rest; line = st.line })
 
-    unended_is : (line : ℕ) (said : S) (rest : List ℕ) → 0 < length rest → ended unended lacks line said rest ≡ Err (record { kind = unended said rest; line = line })
-    unended_is line said [] some = absurd (omega arith)
-    unended_is line said (b ∷ bs) some = refl
+  unended_is : (line : ℕ) (said : S) (rest : List ℕ) → 0 < length rest →
+      ended (end_within overlong unended) lacks line said rest ≡ Err (record { kind = end_within overlong unended said rest; line = line })
+  unended_is line said [] some = absurd (omega arith)
+  unended_is line said (b ∷ bs) some = refl
 
-    -- a text that ends behind no LF
-    pub unended_with : (start : S) (text : List ℕ) (st : SoFar S) → so_far after start text ≡ Ok st → 0 < length st.rest → read_text after unended lacks start text ≡ last_fault st
-    unended_with start text st e some = ap (end_of unended lacks) e ∙ unended_is st.line st.said st.rest some
+  -- a text that ends behind no LF
+  pub unended_with : (start : S) (text : List ℕ) (st : SoFar S) → so_far (within overlong after) start text ≡ Ok st → 0 < length st.rest → read_text overlong after unended lacks start text ≡ last_fault st
+  unended_with start text st e some = ap (end_of (end_within overlong unended) lacks) e ∙ unended_is st.line st.said st.rest some
+
+  -- a line that is too long is refused so, wherever its LF is
+  overlong_line : (line : ℕ) (said : S) (first : List ℕ) (more : List (List ℕ)) → LONGEST_LINE < length first →
+      end_of (end_within overlong unended) lacks (taken_in (within overlong after) line said first more) ≡ Err (record { kind = overlong said; line = line })
+  overlong_line line said first [] long =
+      unended_is line said first (omega (arith, long))
+      ∙ ap (λ (t : Bool). Err (record { kind = cond t (overlong said) (unended said first); line = line })) (lt-ltb LONGEST_LINE (length first) long)
+  overlong_line line said first (next ∷ more) long =
+      ap (λ (t : Bool). end_of (end_within overlong unended) lacks (at_line line (cond t (Err (overlong said)) (after said first)) (λ s. taken_in (within overlong after) (line_after line) s next more)))
+      (lt-ltb LONGEST_LINE (length first) long)
+
+  pub overlong_with : (start : S) (text more : List ℕ) (st : SoFar S) → so_far (within overlong after) start text ≡ Ok st → has_lf st.rest ≡ false → LONGEST_LINE < length st.rest →
+      read_text overlong after unended lacks start (text ++ more) ≡ Err (record { kind = overlong st.said; line = st.line })
+  overlong_with start text more st e unbroken long =
+      ap (end_of (end_within overlong unended) lacks) (so_far-append (within overlong after) start text more st e)
+      ∙ ap (λ (p : Pieces). end_of (end_within overlong unended) lacks (read_on (within overlong after) st.line st.said p)) (pieces-unbroken st.rest more unbroken)
+      ∙ overlong_line st.line st.said (st.rest ++ (pieces more).first) (pieces more).more (omega (arith, long, length-append st.rest (pieces more).first))
 
 -- what equals a reading is told as it
 pub told_as_read : {A K : Type 0} (is_memory : K → Bool) (result read : Result A K) → result ≡ read →

@@ -1,13 +1,15 @@
 -- What a reader stands for, as it is fed.
-use Rattle.std.proofs.Common.{◌≡◌, ℕ, ◌<◌, Bool, false, List, [], ◌++◌, length, Option, None, Result, Ok, Err, arith, refl, sym, ap, ◌∙◌}
+use Rattle.std.proofs.Common.{◌≡◌, ℕ, ◌<◌, Bool, false, cond, List, [], ◌++◌, length, Option, None, Result, Ok, Err, arith, refl, sym, ap, ◌∙◌}
 use Rattle.std.specs.Prelude.{MatchResult}
+use Rattle.std.proofs.lemmas.Bool.{lt-ltb}
 use Rattle.audit_text.specs.declared.line_fault.LineFault.{LineFault}
 use Rattle.audit_text.specs.Lines.{has_lf}
 use Rattle.audit_text.specs.Token.{cut_of}
-use Rattle.audit_text.specs.Reading.{SoFar, line_after, with_more, read_text, UnlessMemory}
+use Rattle.audit_text.specs.declared.text_reader.TheConstants.{LONGEST_LINE}
+use Rattle.audit_text.specs.Reading.{SoFar, line_after, within, end_within, with_more, read_text, UnlessMemory}
 use Rattle.audit_text.specs.Readers.{Stands, StandsFor, Took}
 use Rattle.audit_text.proofs.Broken.{IsCut}
-use Rattle.audit_text.proofs.Readings.{with_more-line, with_more-refused, with_more-held, so_far-append, refused_with, unended_with}
+use Rattle.audit_text.proofs.Readings.{with_more-line, with_more-refused, with_more-held, so_far-append, refused_with, unended_with, overlong_with}
 
 module _ {T S K : Type 0} (says : T → S → Type 0) (after : S → List ℕ → Result S K) where
   -- a line is taken in
@@ -46,20 +48,34 @@ module _ {T S K : Type 0} (says : T → S → Type 0) (after : S → List ℕ �
       (now : SoFar S) × (with_more after stands.0 piece ≡ Ok now) × Stands says next now → StandsFor says after start next (text ++ piece)
   stands_with start reader next text piece stands more = (more.0, so_far-append after start text piece stands.0 stands.1 ∙ more.1, more.2)
 
-  module _ (unended : S → List ℕ → K) (lacks : S → Option K) where
-    pub piece_refused : (is_fault : LineFault K → Bool) (start : S) (reader : SoFar T) (text piece : List ℕ) (fault : LineFault K) → (stands : StandsFor says after start reader text) →
-        UnlessMemory is_fault fault (with_more after stands.0 piece) → UnlessMemory is_fault fault (read_text after unended lacks start (text ++ piece))
-    piece_refused is_fault start reader text piece fault stands told = λ not_memory. refused_with after unended lacks start text piece stands.0 fault stands.1 (told not_memory)
+module _ {T S K : Type 0} (says : T → S → Type 0) (overlong : S → K) (after : S → List ℕ → Result S K) (unended : S → List ℕ → K) (lacks : S → Option K) where
+  pub piece_refused : (is_fault : LineFault K → Bool) (start : S) (reader : SoFar T) (text piece more : List ℕ) (fault : LineFault K) →
+      (stands : StandsFor says (within overlong after) start reader text) →
+      UnlessMemory is_fault fault (with_more (within overlong after) stands.0 piece) → UnlessMemory is_fault fault (read_text overlong after unended lacks start ((text ++ piece) ++ more))
+  piece_refused is_fault start reader text piece more fault stands told =
+      λ not_memory. refused_with overlong after unended lacks start text piece more stands.0 fault stands.1 (told not_memory)
 
-    -- a line that doesn't end
-    pub unended_line : (start : S) (reader : SoFar T) (text : List ℕ) (kind : K) → (stands : StandsFor says after start reader text) → 0 < length reader.rest →
-        kind ≡ unended stands.0.said reader.rest → read_text after unended lacks start text ≡ Err (record { kind = kind; line = reader.line })
-    unended_line start reader text kind stands some is =
-        let sofar = stands.0 in
-        let long : 0 < length sofar.rest = omega (arith, ap length stands.2.rest) in
-        unended_with after unended lacks start text sofar stands.1 long
-        ∙ ap (λ (k : K). Err (record { kind = k; line = sofar.line })) (sym (is ∙ ap (unended sofar.said) stands.2.rest))
-        ∙ ap (λ (n : ℕ). Err (record { kind = kind; line = n })) (sym stands.2.line)
+  -- a line that doesn't end
+  pub unended_line : (start : S) (reader : SoFar T) (text : List ℕ) (fault : LineFault K) → (stands : StandsFor says (within overlong after) start reader text) → 0 < length reader.rest →
+      fault ≡ record { kind = end_within overlong unended stands.0.said reader.rest; line = reader.line } → read_text overlong after unended lacks start text ≡ Err fault
+  unended_line start reader text fault stands some is =
+      let sofar = stands.0 in
+      let long : 0 < length sofar.rest = omega (arith, ap length stands.2.rest) in
+      unended_with overlong after unended lacks start text sofar stands.1 long
+      ∙ ap (λ (rest : List ℕ). Err (record { kind = end_within overlong unended sofar.said rest; line = sofar.line })) (sym stands.2.rest)
+      ∙ ap (λ (n : ℕ). Err (record { kind = end_within overlong unended sofar.said reader.rest; line = n })) (sym stands.2.line)
+      ∙ ap (λ (f : LineFault K). Err f) (sym is)
+
+  -- a line that is too long before its LF is there
+  pub held_overlong : (start : S) (reader : SoFar T) (text more : List ℕ) (fault : LineFault K) → (stands : StandsFor says (within overlong after) start reader text) → has_lf reader.rest ≡ false →
+      LONGEST_LINE < length reader.rest → fault ≡ record { kind = end_within overlong unended stands.0.said reader.rest; line = reader.line } →
+      read_text overlong after unended lacks start (text ++ more) ≡ Err fault
+  held_overlong start reader text more fault stands unbroken long is =
+      let sofar = stands.0 in
+      overlong_with overlong after unended lacks start text more sofar stands.1 (ap has_lf (sym stands.2.rest) ∙ unbroken) (omega (arith, long, ap length stands.2.rest))
+      ∙ ap (λ (n : ℕ). Err (record { kind = overlong sofar.said; line = n })) (sym stands.2.line)
+      ∙ ap (λ (t : Bool). Err (record { kind = cond t (overlong sofar.said) (unended sofar.said reader.rest); line = reader.line })) (sym (lt-ltb LONGEST_LINE (length reader.rest) long))
+      ∙ ap (λ (f : LineFault K). Err f) (sym is)
 
 -- what is taken in by something that is what it says
 pub taken_as : {S K : Type 0} (is_memory : K → Bool) (result : Result (Unit {0}) K) (read : S → Result S K) (old new before : S) →

@@ -1,5 +1,6 @@
 -- A text read line by line, from the first line to the last.
-use Rattle.std.specs.Prelude.{◌≡◌, ℕ, ◌+◌, ◌-◌, ◌^◌, min, Bool, false, List, [], ◌∷◌, ◌++◌, Option, Some, None, Result, Ok, Err}
+use Rattle.std.specs.Prelude.{◌≡◌, ℕ, ◌+◌, ◌-◌, ◌^◌, min, nat_lt, Bool, false, if◌then◌else◌, List, [], ◌∷◌, ◌++◌, length, Option, Some, None, Result, Ok, Err}
+use Rattle.audit_text.specs.declared.text_reader.TheConstants.{LONGEST_LINE}
 use Rattle.audit_text.specs.declared.line_fault.LineFault.{LineFault}
 use Rattle.audit_text.specs.Lines.{pieces}
 
@@ -45,9 +46,17 @@ abbrev pub end_of : {S K : Type 0} → (S → List ℕ → K) → (S → Option 
 end_of unended lacks (Ok sofar) = ended unended lacks sofar.line sofar.said sofar.rest
 end_of unended lacks (Err fault) = Err fault
 
+-- a line of more than `LONGEST_LINE` bytes is refused, whatever it contains
+abbrev pub within : {S K : Type 0} → (S → K) → (S → List ℕ → Result S K) → S → List ℕ → Result S K
+within overlong after said line = if nat_lt LONGEST_LINE (length line) then Err (overlong said) else after said line
+
+-- the fault of bytes that no LF ends; more than `LONGEST_LINE` of them are an overlong line
+abbrev pub end_within : {S K : Type 0} → (S → K) → (S → List ℕ → K) → S → List ℕ → K
+end_within overlong unended said rest = if nat_lt LONGEST_LINE (length rest) then overlong said else unended said rest
+
 -- what a whole text says, or its first fault
-abbrev pub read_text : {S K : Type 0} → (S → List ℕ → Result S K) → (S → List ℕ → K) → (S → Option K) → S → List ℕ → Result S (LineFault K)
-read_text after unended lacks start text = end_of unended lacks (so_far after start text)
+abbrev pub read_text : {S K : Type 0} → (S → K) → (S → List ℕ → Result S K) → (S → List ℕ → K) → (S → Option K) → S → List ℕ → Result S (LineFault K)
+read_text overlong after unended lacks start text = end_of (end_within overlong unended) lacks (so_far (within overlong after) start text)
 
 -- the kind of a fault is the reading's, but for want of memory
 abbrev pub UnlessMemory : {A K : Type 0} → (K → Bool) → K → Result A K → Type 0

@@ -6,5 +6,5 @@ mod text_reader;
 mod token;
 
 pub use line_fault::LineFault;
-pub use text_reader::{Lines, TextReader};
+pub use text_reader::{LONGEST_LINE, Lines, TextReader};
 pub use token::{TokenFault, both, cut, halves, number};

@@ -2,13 +2,16 @@
 
 ghost use Rattle.std.specs.Prelude.{◌≡◌, ◌++◌, [], ℕ, List, true, false, MatchResult, Ok, OnOk, IfOk, IfErr};
 ghost use Rattle.audit_text.specs.Lines.{has_lf};
-ghost use Rattle.audit_text.specs.Reading.{SoFar, so_far, with_more, read_text, UnlessMemory, line_after};
+ghost use Rattle.audit_text.specs.Reading.{SoFar, so_far, within, end_within, with_more, read_text, UnlessMemory, line_after};
 ghost use Rattle.audit_text.specs.Readers.{Stands, StandsFor, Took};
 
 use crate::line_fault::LineFault;
 use crate::token::cut;
 use std::alloc::Global;
 use std::marker::Model;
+
+/// The maximum length of a line, in bytes without its LF. Every valid line of a policy, a certificate or a credentials text is shorter.
+pub const LONGEST_LINE: usize = 65_536;
 
 /// What takes in a text line by line.
 pub trait Lines: Drop {
@@ -29,14 +32,14 @@ pub trait Lines: Drop {
     /// What is wrong with bytes that no LF ends.
     ghost unended: { said → List ℕ → Self.Kind };
 
+    /// What is wrong with a line of more than `LONGEST_LINE` bytes, whatever it holds.
+    ghost overlong: { said → Self.Kind };
+
     /// What is lacking where the text ends behind the last line.
     ghost lacks: { said → Option Self.Kind };
 
     /// Whether a fault is want of memory.
     ghost is_memory: { Self.Kind → Bool };
-
-    /// How long a line may be before its LF is there, in bytes. No line that is right is longer.
-    const LONGEST: usize;
 
     /// Takes in a line, without its LF.
     fn take_line(&mut self, line: &[u8]) -> Result<(), Self::Kind>
@@ -47,6 +50,10 @@ pub trait Lines: Drop {
     /// What is wrong with bytes that no LF ends.
     fn unended(&self, rest: &[u8]) -> Self::Kind
         ensures { (before : said) → says self.now before → result ≡ unended before rest.now };
+
+    /// What is wrong with a line of more than `LONGEST_LINE` bytes.
+    fn overlong(&self) -> Self::Kind
+        ensures { (before : said) → says self.now before → result ≡ overlong before };
 
     /// What is lacking where the text ends here.
     fn lacks(&self) -> Option<Self::Kind>
@@ -82,10 +89,16 @@ impl<L: Lines> Model for TextReader<L> {
 
 /// Takes in a line that is whole.
 fn take<L: Lines>(lines: &mut L, number: u64, line: &[u8]) -> Result<(), LineFault<L::Kind>>
-    ensures ok { (before : L.said) → L.says lines.old before → OnOk result (Took L.says (L.after before line.now) lines.new) }
+    ensures ok { (before : L.said) → L.says lines.old before → OnOk result (Took L.says (within L.overlong L.after before line.now) lines.new) }
     ensures err { (before : L.said) → L.says lines.old before →
-        IfErr result (λ fault. (fault.line ≡ number) × UnlessMemory L.is_memory fault.kind (L.after before line.now)) }
+        IfErr result (λ fault. (fault.line ≡ number) × UnlessMemory L.is_memory fault.kind (within L.overlong L.after before line.now)) }
 {
+    if line.len() > LONGEST_LINE {
+        return Err(LineFault {
+            kind: lines.overlong(),
+            line: number,
+        });
+    }
     match lines.take_line(line) {
         Ok(()) => Ok(()),
         Err(kind) => Err(LineFault { kind, line: number }),
@@ -95,7 +108,7 @@ fn take<L: Lines>(lines: &mut L, number: u64, line: &[u8]) -> Result<(), LineFau
 impl<L: Lines> TextReader<L> {
     /// A reader of no bytes. It takes no memory.
     pub fn new(alloc: Global, lines: L) -> Self
-        ensures { (start : L.said) → L.says lines start → StandsFor L.says L.after start result [] }
+        ensures { (start : L.said) → L.says lines start → StandsFor L.says (within L.overlong L.after) start result [] }
     {
         TextReader {
             lines,
@@ -131,11 +144,11 @@ impl<L: Lines> TextReader<L> {
     fn end_line(&mut self, bytes: &[u8]) -> Result<(), LineFault<L::Kind>>
         requires { has_lf bytes.now ≡ false }
         ensures ok { (before : L.said) → L.says self.old.said before →
-            OnOk result (Took L.says (L.after before (self.old.rest ++ bytes.now)) self.new.said) }
+            OnOk result (Took L.says (within L.overlong L.after before (self.old.rest ++ bytes.now)) self.new.said) }
         ensures next { OnOk result (self.new.line ≡ line_after self.old.line) }
         ensures held { OnOk result (self.new.rest ≡ []) }
         ensures err { (before : L.said) → L.says self.old.said before → IfErr result (λ fault. L.is_memory fault.kind ≡ false →
-            (fault.line ≡ self.old.line) × UnlessMemory L.is_memory fault.kind (L.after before (self.old.rest ++ bytes.now))) }
+            (fault.line ≡ self.old.line) × UnlessMemory L.is_memory fault.kind (within L.overlong L.after before (self.old.rest ++ bytes.now))) }
     {
         if self.held.is_empty() {
             take(&mut self.lines, self.line, bytes)?;
@@ -151,9 +164,9 @@ impl<L: Lines> TextReader<L> {
     /// Takes in each line that ends in the piece, and holds the rest.
     fn take_in(&mut self, piece: &[u8]) -> Result<(), LineFault<L::Kind>>
         ensures ok { (before : SoFar L.said) → Stands L.says self.old before →
-            OnOk result ((next : SoFar L.said) × (with_more L.after before piece.now ≡ Ok next) × Stands L.says self.new next) }
+            OnOk result ((next : SoFar L.said) × (with_more (within L.overlong L.after) before piece.now ≡ Ok next) × Stands L.says self.new next) }
         ensures err { (before : SoFar L.said) → Stands L.says self.old before →
-            IfErr result (λ fault. UnlessMemory (λ f. L.is_memory f.kind) fault (with_more L.after before piece.now)) }
+            IfErr result (λ fault. UnlessMemory (λ f. L.is_memory f.kind) fault (with_more (within L.overlong L.after) before piece.now)) }
     {
         let _held = &self.held;
         let mut rest = piece;
@@ -164,29 +177,40 @@ impl<L: Lines> TextReader<L> {
         self.hold(rest)
     }
 
-    /// Takes the next piece of the text. Once it is refused the reader is gone. A line that has not ended, and is longer than any line that is right,
-    /// is refused as if the text ended there, so that bytes without an LF are not kept for ever.
+    /// What is wrong with the line that comes, where the text ends in it.
+    fn cut_off(&self) -> LineFault<L::Kind>
+        ensures { (before : L.said) → L.says self.now.said before →
+            result ≡ record { kind = end_within L.overlong L.unended before self.now.rest; line = self.now.line } }
+    {
+        if self.held.len() > LONGEST_LINE {
+            return self.fault(self.lines.overlong());
+        }
+        self.fault(self.lines.unended(&self.held))
+    }
+
+    /// Takes the next piece of the text. A refusal consumes the reader. Every text that continues these bytes has the same fault, however it is cut.
+    /// It keeps at most `LONGEST_LINE` bytes of a line after each call, so that a line without an end takes no more memory.
     pub fn feed(mut self, piece: &[u8]) -> Result<Self, LineFault<L::Kind>>
-        ensures ok { (start : L.said) (text : List ℕ) → StandsFor L.says L.after start self text →
-            IfOk result (λ reader. StandsFor L.says L.after start reader (text ++ piece.now)) }
-        ensures err { (start : L.said) (text : List ℕ) → StandsFor L.says L.after start self text →
-            IfErr result (λ fault. UnlessMemory (λ f. L.is_memory f.kind) fault (read_text L.after L.unended L.lacks start (text ++ piece.now))) }
+        ensures ok { (start : L.said) (text : List ℕ) → StandsFor L.says (within L.overlong L.after) start self text →
+            IfOk result (λ reader. StandsFor L.says (within L.overlong L.after) start reader (text ++ piece.now)) }
+        ensures err { (start : L.said) (text : List ℕ) → StandsFor L.says (within L.overlong L.after) start self text → (more : List ℕ) →
+            IfErr result (λ fault. UnlessMemory (λ f. L.is_memory f.kind) fault (read_text L.overlong L.after L.unended L.lacks start (text ++ piece.now ++ more))) }
     {
         self.take_in(piece)?;
-        if self.held.len() > L::LONGEST {
-            return Err(self.fault(self.lines.unended(&self.held)));
+        if self.held.len() > LONGEST_LINE {
+            return Err(self.cut_off());
         }
         Ok(self)
     }
 
     /// What takes in the lines, where the text may end here, or what is wrong with a text that ends here. It takes no memory.
     pub fn finish(self) -> Result<L, LineFault<L::Kind>>
-        ensures { (start : L.said) (text : List ℕ) → StandsFor L.says L.after start self text → MatchResult result
-            (λ lines. Took L.says (read_text L.after L.unended L.lacks start text) lines)
-            (λ fault. read_text L.after L.unended L.lacks start text ≡ Err fault) }
+        ensures { (start : L.said) (text : List ℕ) → StandsFor L.says (within L.overlong L.after) start self text → MatchResult result
+            (λ lines. Took L.says (read_text L.overlong L.after L.unended L.lacks start text) lines)
+            (λ fault. read_text L.overlong L.after L.unended L.lacks start text ≡ Err fault) }
     {
         if !self.held.is_empty() {
-            return Err(self.fault(self.lines.unended(&self.held)));
+            return Err(self.cut_off());
         }
         match self.lines.lacks() {
             None => Ok(self.lines),

@@ -2,6 +2,7 @@ use Rattle.std.proofs.lemmas.Result.{err_from_is_err_and, on_ok_weaker}
 use Rattle.std.proofs.Common.{refl, sym, ◌∙◌}
 use Rattle.audit_text.proofs.Broken.{cut_is, uncut_unbroken}
 use Rattle.audit_text.proofs.Standing.{line_taken, line_refused, rest_held}
+use Rattle.audit_text.specs.Reading.{within}
 use Rattle.audit_text.proofs.text_reader.TextReader.take_in.Goals as goal
 
 pub end_line-requires : goal.end_line-requires
@@ -20,7 +21,7 @@ lines-preserved g c =
     record {
       same = λ before stands.
           let now = c.lines.invariant.same before stands in
-          let next = line_taken g.L.Lines.says g.L.Lines.after c.lines.self c.end_line.new.self now.0 c.lines.rest.now c.in-Some.line.now c.in-Some.behind.now
+          let next = line_taken g.L.Lines.says (within g.L.Lines.overlong g.L.Lines.after) c.lines.self c.end_line.new.self now.0 c.lines.rest.now c.in-Some.line.now c.in-Some.behind.now
           now.1 c.lines.invariant.unbroken cut (done.ok now.0.said now.1.said) done.next done.held in
           (next.0, next.1, next.2 ∙ now.2);
       unbroken = rw done.held refl;
@@ -32,7 +33,7 @@ returns-in_err-end_line-clause-err g c before stands =
     let now = c.lines.invariant.same before stands in
     let cut = cut_is c.lines.rest.now c.in-Some.line.now c.in-Some.behind.now (sym c.in-Some.ensures.parts) in
     rw (p.1, p.2) (λ not_memory. sym now.2
-    ∙ line_refused g.L.Lines.says g.L.Lines.after g.L.Lines.is_memory c.lines.self now.0 c.in_err-end_line.field-0.0 c.lines.rest.now c.in-Some.line.now c.in-Some.behind.now
+    ∙ line_refused g.L.Lines.says (within g.L.Lines.overlong g.L.Lines.after) g.L.Lines.is_memory c.lines.self now.0 c.in_err-end_line.field-0.0 c.lines.rest.now c.in-Some.line.now c.in-Some.behind.now
     now.1 c.lines.invariant.unbroken cut (c.in_err-end_line.ensures.err now.0.said now.1.said) not_memory)
 
 pub returns-clause-ok : goal.returns-clause-ok
@@ -40,7 +41,7 @@ returns-clause-ok g c before stands =
     let now = c.lines.invariant.same before stands in
     on_ok_weaker c.hold.result
     (λ held.
-    let next = rest_held g.L.Lines.says g.L.Lines.after c.lines.self c.hold.new.self now.0 c.lines.rest.now now.1 c.lines.invariant.unbroken (sym c.in_default.ensures.parts)
+    let next = rest_held g.L.Lines.says (within g.L.Lines.overlong g.L.Lines.after) c.lines.self c.hold.new.self now.0 c.lines.rest.now now.1 c.lines.invariant.unbroken (sym c.in_default.ensures.parts)
     c.hold.ensures.lines c.hold.ensures.line held in
     (next.0, sym now.2 ∙ next.1, next.2))
     c.hold.ensures.ok
