@@ -1,32 +1,44 @@
 //! Why a book refuses a call.
 
+use thiserror::Error;
+
 /// Why a book isn't opened.
-#[derive(Clone, Copy, PartialEq, Eq, Debug)]
+#[derive(Clone, Copy, PartialEq, Eq, Debug, Error)]
 pub enum BookFault {
-    /// There are not 1 to 256 seats.
+    /// O1: there are not 1 to 256 seats.
+    #[error("O1 seats")]
     Seats,
+    /// O2: there was no memory.
+    #[error("O2 memory")]
     Memory,
 }
 
 /// Why a finding isn't entered.
-#[derive(Clone, Copy, PartialEq, Eq, Debug)]
+#[derive(Clone, Copy, PartialEq, Eq, Debug, Error)]
 pub enum EnterFault {
-    /// Its input isn't the job's input of its lane.
+    /// E2: its input isn't the job's input of its lane.
+    #[error("E2 stranger")]
     Stranger,
-    /// The lane has an entry, at this place.
+    /// E1: the lane has an entry, at this place.
+    #[error("E1 taken at {0}")]
     Taken(u32),
+    /// E4: there was no memory.
+    #[error("E4 memory")]
     Memory,
 }
 
 /// Why a book isn't closed.
-#[derive(Clone, Copy, PartialEq, Eq, Debug)]
+#[derive(Clone, Copy, PartialEq, Eq, Debug, Error)]
 pub enum CloseFault {
-    /// A seat of the book isn't among those given.
+    /// L2: a seat of the book isn't among those given.
+    #[error("L2 seat missing")]
     SeatMissing,
-    /// The history of a seat isn't what the seat keeps.
+    /// L1: the history of a seat isn't what the seat keeps.
+    #[error("L1 astray")]
     Astray,
 }
 
-/// The entries of a seat, in order, aren't its receipts.
-#[derive(Clone, Copy, PartialEq, Eq, Debug)]
+/// L1: the entries of a seat, in order, aren't its receipts.
+#[derive(Clone, Copy, PartialEq, Eq, Debug, Error)]
+#[error("L1 astray")]
 pub struct Astray;

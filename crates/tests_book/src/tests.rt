@@ -4,4 +4,5 @@ mod books;
 mod closing;
 mod lanes;
 mod memory;
+mod texts;
 mod threads;
