@@ -6,6 +6,7 @@ ghost use Rattle.audit_cert.specs.CertText.{cert_of};
 ghost use Rattle.audit_cert.specs.Spelling.{said_by};
 ghost use Rattle.audit_keys.specs.KeyFor.{key_for};
 ghost use Rattle.audit_model.specs.declared.certificate.Certificate.{Certificate as Written};
+ghost use Rattle.audit_model.specs.Policy.{AreApart};
 ghost use Rattle.audit_model.specs.PolicyText.{policy_of};
 ghost use Rattle.audit_sightings.specs.Files.{StandsFor};
 ghost use Rattle.audit_sightings.specs.Intake.{taken};
@@ -38,6 +39,7 @@ use std::thread::{Threads, join};
 pub fn read_policy<S: Source>(alloc: Global, source: &mut S, name: &str) -> Result<Policy, Stop>
     ensures kept { S.holds source.new ≡ S.holds source.old }
     ensures says { (text : List ℕ) → S.holds source.old name.now ≡ Some text → IfOk result (λ policy. policy_of text ≡ Ok policy) }
+    ensures apart { (text : List ℕ) → S.holds source.old name.now ≡ Some text → IfOk result AreApart }
 {
     read_text(alloc, source, name, PolicyReader::new(alloc))
 }

@@ -5,6 +5,7 @@ mod apart;
 mod captures;
 mod certificate_text;
 mod judging;
+mod laws;
 mod source;
 mod stop;
 mod text;
@@ -14,6 +15,7 @@ pub use captures::take_in;
 pub use judging::{
     Files, check_files, judge, read_files, read_policy, read_users, tell, verdict_of,
 };
+pub use laws::{all_that_left_was_relayed, no_listen_address_is_a_relay};
 pub use source::{ReadFailed, Source};
 pub use stop::{Place, Stop};
 pub use text::{TextReading, read_text};
