@@ -39,14 +39,22 @@ FIRST_RELAY_PORT = 49152
 ALLOCATED, PERMITTED, PERMIT = 0x0103, 0x0108, 0x0008
 # The ChannelBind success of coturn-permission-outlived, frame 18: with it the permission began that ended 300 seconds later.
 GRANTED = "0.15"
+# Departures of long-midcall.pcapng for 192.0.2.1:53515: 60 frames are sent from it, and 60 are received at it. Each of these is sent on.
+MIDCALL = 120
 
 
 def ask(program, policy, creds, captures):
     """The status, the faults as (datagram, title), the lines on beginnings, and standard error."""
     done = subprocess.run([program, "faults", "--policy", policy, "--creds", creds, *captures], capture_output=True, text=True)
     faults = re.findall(r"^fault (\S+) (.*)$", done.stdout, re.M)
-    beginnings = re.findall(r"^(beginning .*captured)", done.stdout, re.M)
+    beginnings = re.findall(r"^(beginning (?:not )?captured)", done.stdout, re.M)
     return done.returncode, faults, beginnings, done.stderr
+
+
+def granted_when(program, policy, creds, captures):
+    """How many of the faults say of what they lacked that it was never granted, granted later, or had expired."""
+    done = subprocess.run([program, "faults", "--policy", policy, "--creds", creds, *captures], capture_output=True, text=True)
+    return {words: len(re.findall(f"^{words}: ", done.stdout, re.M)) for words in ("never granted", "granted later", "expired")}
 
 
 def reason_in(line):
@@ -123,6 +131,8 @@ def try_outlived(tries, program):
     found = (status, len(faults), {title for _, title in faults}, faults[0][0], faults[-1][0])
     tries.same(folder.name, (1, 40, {"relayed without a permission"}, "0.423", "0.625"), found)
     tries.same(f"{folder.name}, the success", (40, {GRANTED}, 48_986_820), looked_at(program, folder))
+    found = granted_when(program, folder / "policy", folder / "creds", [folder / "cap.pcapng"])
+    tries.same(f"{folder.name}, when", {"never granted": 0, "granted later": 0, "expired": 40}, found)
     folder = EXAMPLES / "processone-other-user"
     status, faults, _, _ = ask(program, folder / "policy", folder / "creds", [folder / "cap.pcapng"])
     tries.same(folder.name, (0, []), (status, faults))
@@ -134,6 +144,24 @@ def looked_at(program, folder):
     told = subprocess.run(words, capture_output=True, text=True).stdout
     found = re.findall(r"^last granted by datagram (\S+), too early by (\d+) nanoseconds for datagram \S+$", told, re.M)
     return len(found), {name for name, _ in found}, int(found[0][1])
+
+
+def try_midcall(tries, program):
+    """A capture that begins in the middle of calls. No Allocate success in it tells 198.51.100.7:41000 the address 192.0.2.1:53515, at which 60
+    datagrams are relayed each way before the client is told another address."""
+    folder = HERE / "prepare" / "inputs"
+    words = [program, "faults", "--policy", folder / "policy", "--creds", folder / "creds", folder / "long-midcall.pcapng"]
+    told = subprocess.run(words, capture_output=True, text=True).stdout
+    faults = [fault for fault in told.split("\nfault ")[1:] if "relayed without an allocation\n" in fault]
+    of_it = [fault for fault in faults if "192.0.2.1:53515 to" in fault or "to 198.51.100.7:41000 " in fault]
+    too_late = "\nbeginning not captured: the capture began too late for that relayed address; "
+    tries.same("midcall, of the client", MIDCALL, len(of_it))
+    tries.same("midcall, began too late", MIDCALL, sum(too_late in fault and "\nnever granted: " in fault for fault in of_it))
+
+
+def stamped_as(block, other):
+    """The block with the timestamp of another."""
+    return block[:12] + other[12:20] + block[20:]
 
 
 def try_changed(tries, program):
@@ -163,6 +191,16 @@ def try_changed(tries, program):
     without = [block for block in blocks if not is_message(block, {PERMITTED, PERMIT})]
     served = [(name, "relayed without a permission") for block, name in numbered(without) if is_data(block)]
     shown("no CreatePermission", without, (served, ["beginning captured"] * len(served)))
+    exchange = [block for block in blocks if is_message(block, {PERMITTED, PERMIT})]
+    latest = max((block for block in blocks if ends_of(block)), key=lambda block: struct.unpack_from("<II", block, 12))
+    moved = without + [stamped_as(block, latest) for block in exchange]
+    shown("CreatePermission at the end", moved, (served, ["beginning captured"] * len(served)))
+    for name, changed, wanted in (("no CreatePermission", without, "never granted"), ("CreatePermission at the end", moved, "granted later")):
+        with tempfile.TemporaryDirectory() as room:
+            capture = pathlib.Path(room, "cap.pcapng")
+            capture.write_bytes(b"".join(changed))
+            found = granted_when(program, folder / "policy", folder / "creds", [capture])
+        tries.same(f"{name}, when", {words: len(served) if words == wanted else 0 for words in found}, found)
     granted = [(name, "granted without a user's request") for block, name in numbered(blocks) if is_message(block, {ALLOCATED, PERMITTED, 0x0104, 0x0109})]
     wrong = re.sub(r"[^\t\n]+(?=\n)", "another", (folder / "creds").read_text())
     shown("another password", blocks, (granted, []), wrong)
@@ -228,6 +266,7 @@ def main():
     program, turnaudit, tries = os.path.realpath(words.program), os.path.realpath(words.turnaudit), Tries()
     try_examples(tries, program)
     try_outlived(tries, program)
+    try_midcall(tries, program)
     try_changed(tries, program)
     try_simulated(tries, program, words.count)
     try_damaged(tries, program, turnaudit, words.count)

@@ -12,9 +12,8 @@ use Rattle.audit_rules.specs.Values.{Names}
 use Rattle.audit_faults.specs.declared.fault.Grant.{Grant}
 use Rattle.audit_faults.specs.declared.fault.Lease.{Lease}
 use Rattle.audit_faults.specs.declared.fault.Lease.TheVariants.{Allocation, Permission, Channel}
-use Rattle.audit_faults.specs.Beginning.{IsAllocated}
 use Rattle.audit_faults.specs.Grants.{IsCaptured, AsksFor, TellsOf, Requests, Succeeds, IsGranted}
-use Rattle.audit_faults.specs.Leased.{IsLeaseMethod, IsLeaseMessage, answer_key, ask_key, relayed_key, beginning_key, permission_key, channel_key, HasRequestKey, Answers, IsAnswerBy, IsRequestBy}
+use Rattle.audit_faults.specs.Leased.{IsLeaseMethod, IsLeaseMessage, answer_key, ask_key, relayed_key, permission_key, channel_key, HasRequestKey, Answers, IsAnswerBy, IsRequestBy}
 
 -- a request for a lease is of a method that grants one
 pub lease_message : (lease : Lease) (payload : List ℕ) → AsksFor lease payload → IsLeaseMessage Request payload
@@ -42,9 +41,6 @@ answer_has_key client request s method (leaves, to, succeeds, same) = (
   (succeeds.0, succeeds.1, subst IsLeaseMethod (sym succeeds.2) method),
   inl (same_answer (parts_of request).method (parts_of s.payload).method client s.to (parts_of request).tid (parts_of s.payload).tid (sym succeeds.2) (sym to) (sym same)),
 )
-
-pub beginning_has_key : (client : Addr) (s : Sighting) → IsAllocated client s → IsAnswerBy (beginning_key client) s
-beginning_has_key client s (leaves, to, of) = (leaves, (of.0, of.1, inl of.2), inr (of.2, inl (ap beginning_key (sym to))))
 
 module _ (taken : Taken) (grant : Grant) (asked given : Sighting) where
   pub is_answer : (request s : Sighting) → Requests taken.policy grant asked given request → Succeeds taken.policy grant asked request s → Answers request.from request.payload s

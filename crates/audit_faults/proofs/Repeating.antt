@@ -1,5 +1,5 @@
 -- What repeats a datagram explains no more than that.
-use Rattle.std.proofs.Common.{◌≡◌, inl, inr, ◌<◌, ◌≤◌, ◌-◌, ℕ, Option, Some, IfSome, List, [], ◌∷◌, ◌++◌, length, length-append, get_or, sym, ◌∙◌, ap, subst, arith}
+use Rattle.std.proofs.Common.{◌≡◌, ◌⊎◌, inl, inr, ◌<◌, ◌≤◌, ◌-◌, ℕ, Option, Some, IfSome, List, [], ◌∷◌, ◌++◌, length, length-append, get_or, sym, ◌∙◌, ap, subst, arith}
 use Rattle.std.proofs.Math.ListN.{get_or-append}
 use Rattle.std.proofs.Math.Seq.{get_or-append_seam}
 use Rattle.std.specs.Prelude.{slice_index_or}
@@ -18,7 +18,7 @@ use Rattle.audit_faults.specs.declared.fault.Lease.{Lease}
 use Rattle.audit_faults.specs.declared.fault.Lease.TheVariants.{Allocation, Permission, Channel}
 use Rattle.audit_faults.specs.declared.keyed.Keyed.{Keyed}
 use Rattle.audit_faults.specs.Asks.{InReach}
-use Rattle.audit_faults.specs.Beginning.{Begins, IsByClient, IsToClient}
+use Rattle.audit_faults.specs.Beginning.{SentOnOnce, SentInChannelOnce, ToldOnce, ToldInChannelOnce, Begins}
 use Rattle.audit_faults.specs.Explains.{IsWanted, IsProved, Holds, Reasons, Explains}
 use Rattle.audit_faults.specs.Fits.{IsFit}
 use Rattle.audit_faults.specs.Grants.{HasGrant, MayLast}
@@ -163,19 +163,24 @@ explained_by_repeated taken key_for fault earlier later given repeats near e =
 
 -- ---- and what asked for a departure at the later one asked for it at the earlier one
 
-module _ (taken : Taken) (later given : Sighting) (stamp lo hi : ℕ) (id : SightId) where
+module _ (taken : Taken) (fault : Fault) (until : ℕ) (later given : Sighting) (stamp lo hi : ℕ) (id : SightId) where
   abbrev sooner : Sighting
   sooner = record later { stamp = stamp; lo = lo; hi = hi; id = id }
 
-  by_client : IsByClient taken.policy later given → IsByClient taken.policy sooner given
-  by_client (inl sent) = inl (record {
-    served = sent.served;
-    relayed = sent.relayed;
-    indication = sent.indication;
-    peer = sent.peer;
-    sends = sent.sends;
-  })
-  by_client (inr (number, sent)) = inr (
+  forms : (SentOnOnce taken fault until later given ⊎ SentInChannelOnce taken fault until later given ⊎ ToldOnce taken fault until later given ⊎ ToldInChannelOnce taken fault until later given) →
+      (SentOnOnce taken fault until sooner given ⊎ SentInChannelOnce taken fault until sooner given ⊎ ToldOnce taken fault until sooner given ⊎ ToldInChannelOnce taken fault until sooner given)
+  forms (inl (sent, allocated, permitted)) = inl (
+    record {
+      served = sent.served;
+      relayed = sent.relayed;
+      indication = sent.indication;
+      peer = sent.peer;
+      sends = sent.sends;
+    },
+    allocated,
+    permitted,
+  )
+  forms (inr (inl (number, sent, allocated, bound))) = inr (inl (
     number,
     record {
       served = sent.served;
@@ -183,17 +188,21 @@ module _ (taken : Taken) (later given : Sighting) (stamp lo hi : ℕ) (id : Sigh
       past = sent.past;
       says = sent.says;
     },
-  )
-
-  to_client : IsToClient taken.policy later given → IsToClient taken.policy sooner given
-  to_client (inl told) = inl (record {
-    served = told.served;
-    relayed = told.relayed;
-    indication = told.indication;
-    peer = told.peer;
-    sends = told.sends;
-  })
-  to_client (inr (number, told)) = inr (
+    allocated,
+    bound,
+  ))
+  forms (inr (inr (inl (told, allocated, permitted)))) = inr (inr (inl (
+    record {
+      served = told.served;
+      relayed = told.relayed;
+      indication = told.indication;
+      peer = told.peer;
+      sends = told.sends;
+    },
+    allocated,
+    permitted,
+  )))
+  forms (inr (inr (inr (number, told, allocated, permitted, bound)))) = inr (inr (inr (
     number,
     record {
       served = told.served;
@@ -202,15 +211,18 @@ module _ (taken : Taken) (later given : Sighting) (stamp lo hi : ℕ) (id : Sigh
       says = told.says;
       padding = told.padding;
     },
-  )
+    allocated,
+    permitted,
+    bound,
+  )))
 
-  as_sooner : InReach taken.policy.hold sooner given → Begins taken given later → Begins taken given sooner
-  as_sooner near (arrives, _, asks) = (arrives, near, elim asks [ inl (client, allocated) ↦ inl (by_client client, allocated) | inr (client, allocated) ↦ inr (to_client client, allocated) ])
+  as_sooner : InReach taken.policy.hold sooner given → Begins taken fault until given later → Begins taken fault until given sooner
+  as_sooner near (arrives, _, asks) = (arrives, near, forms asks)
 
-pub begun_by_repeated : (taken : Taken) (earlier later given : Sighting) → IsRepeat earlier later → InReach taken.policy.hold earlier given → Begins taken given later → Begins taken given earlier
-begun_by_repeated taken earlier later given repeats near e =
-    subst (Begins taken given) (sym repeats.same)
-    (as_sooner taken later given earlier.stamp earlier.lo earlier.hi earlier.id (subst (λ (s : Sighting). InReach taken.policy.hold s given) repeats.same near) e)
+pub begun_by_repeated : (taken : Taken) (fault : Fault) (until : ℕ) (earlier later given : Sighting) → IsRepeat earlier later → InReach taken.policy.hold earlier given → Begins taken fault until given later → Begins taken fault until given earlier
+begun_by_repeated taken fault until earlier later given repeats near e =
+    subst (Begins taken fault until given) (sym repeats.same)
+    (as_sooner taken fault until later given earlier.stamp earlier.lo earlier.hi earlier.id (subst (λ (s : Sighting). InReach taken.policy.hold s given) repeats.same near) e)
 
 -- ---- so the places of repeats may be passed over
 

@@ -20,7 +20,7 @@ use Rattle.audit_stun.specs.declared.numbers.method.TheConstants.{SEND, DATA as 
 use Rattle.audit_faults.specs.declared.fault.Fault.{Fault}
 use Rattle.audit_faults.specs.Asks.{IsResponse, Responds, SentOn, SentInChannel, Told, ToldInChannel}
 use Rattle.audit_faults.specs.Asked.{Tells, HasMessageKey, HasChannelKey, IsAskedBy}
-use Rattle.audit_faults.specs.Beginning.{IsByClient, IsToClient, Begins}
+use Rattle.audit_faults.specs.Beginning.{Begins}
 use Rattle.audit_faults.specs.Explains.{Explains, Reasons}
 use Rattle.audit_faults.specs.Keyed.{digest_of}
 
@@ -67,14 +67,6 @@ module _ (policy : Policy) (asked given : Sighting) (arrives : asked.side ≡ Ar
   pub by_told_in_channel : (number : ℕ) → ToldInChannel policy number asked given → Keys policy asked given
   by_told_in_channel number s = inr (inr (digest_of asked.payload, (number, asked.payload, s.past, s.says, refl), of_peer s.relayed))
 
-  by_client : IsByClient policy asked given → Keys policy asked given
-  by_client (inl s) = by_sent s
-  by_client (inr (number, s)) = by_channel number s
-
-  to_client : IsToClient policy asked given → Keys policy asked given
-  to_client (inl s) = by_told s
-  to_client (inr (number, s)) = by_told_in_channel number s
-
 module _ (taken : Taken) (key_for : KeyFor) (fault : Fault) (asked given : Sighting) where
   by_reasons : asked.side ≡ Arrives → Reasons taken key_for fault asked given → Keys taken.policy asked given
   by_reasons arrives (inl h) = by_response taken.policy asked given arrives h.0
@@ -86,10 +78,12 @@ module _ (taken : Taken) (key_for : KeyFor) (fault : Fault) (asked given : Sight
   pub has_key : Explains taken key_for fault asked given → Keys taken.policy asked given
   has_key e = by_reasons e.arrives e.reasons
 
--- what asked for it for a client that began has one too
-pub begun_has_key : (taken : Taken) (asked given : Sighting) → Begins taken given asked → Keys taken.policy asked given
-begun_has_key taken asked given (arrives, near, inl h) = by_client taken.policy asked given arrives h.0
-begun_has_key taken asked given (arrives, near, inr h) = to_client taken.policy asked given arrives h.0
+-- what asked for it for a client that was granted the leases has one too
+pub begun_has_key : (taken : Taken) (fault : Fault) (until : ℕ) (asked given : Sighting) → Begins taken fault until given asked → Keys taken.policy asked given
+begun_has_key taken fault until asked given (arrives, near, inl h) = by_sent taken.policy asked given arrives h.0
+begun_has_key taken fault until asked given (arrives, near, inr (inl h)) = by_channel taken.policy asked given arrives h.0 h.1
+begun_has_key taken fault until asked given (arrives, near, inr (inr (inl h))) = by_told taken.policy asked given arrives h.0
+begun_has_key taken fault until asked given (arrives, near, inr (inr (inr h))) = by_told_in_channel taken.policy asked given arrives h.0 h.1
 
 -- ---- a message has one key
 

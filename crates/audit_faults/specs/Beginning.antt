@@ -1,34 +1,68 @@
--- Whether the captures show the beginning of a client that asked for a departure. A lease from before them is no lease here.
-use Rattle.std.specs.Prelude.{◌≡◌, ◌⊎◌, ℕ}
+-- Whether the captures show that a client which asked for a departure was ever granted the leases that it needs. Here no lease ends, and one from before the captures is none.
+use Rattle.std.specs.Prelude.{◌≡◌, ◌⊎◌, ◌≤◌, ℕ}
 use Rattle.audit_model.specs.declared.address.Addr.{Addr}
-use Rattle.audit_model.specs.declared.policy.Policy.{Policy}
 use Rattle.audit_model.specs.declared.sighting.Sighting.{Sighting}
 use Rattle.audit_model.specs.declared.sighting.Side.TheVariants.{Arrives, Leaves}
 use Rattle.audit_stun.specs.declared.class.Class.TheVariants.{Success}
-use Rattle.audit_stun.specs.declared.numbers.method.TheConstants.{ALLOCATE}
+use Rattle.audit_stun.specs.Parts.{parts_of}
 use Rattle.audit_sightings.specs.Intake.{Taken}
 use Rattle.audit_rules.specs.Situation.{IsOf}
+use Rattle.audit_faults.specs.declared.fault.Fault.{Fault}
+use Rattle.audit_faults.specs.declared.fault.Fault.TheVariants.{Unallocated}
+use Rattle.audit_faults.specs.declared.fault.Grant.{Grant}
+use Rattle.audit_faults.specs.declared.fault.Lease.{Lease}
+use Rattle.audit_faults.specs.declared.fault.Lease.TheVariants.{Allocation, Permission, Channel}
 use Rattle.audit_faults.specs.Asks.{SentOn, SentInChannel, Told, ToldInChannel, InReach}
-use Rattle.audit_faults.specs.Grants.{IsCaptured}
+use Rattle.audit_faults.specs.Explains.{IsWanted}
+use Rattle.audit_faults.specs.Grants.{IsCaptured, AsksFor, TellsOf}
 
--- an Allocate success to the client
-abbrev pub IsAllocated : Addr → Sighting → Type 0
-IsAllocated client success = (success.side ≡ Leaves) × (success.to ≡ client) × IsOf success.payload Success ALLOCATE
+-- A request of the client for the lease that may have come by then, and its success, which left no earlier. How long the lease lasts isn't asked.
+pub record IsGrantedBy (until : ℕ) (grant : Grant) (request success : Sighting) : Type 0 where
+  pub arrives : request.side ≡ Arrives
+  pub from : request.from ≡ grant.client
+  pub to : request.to ≡ grant.listen
+  pub by : request.lo ≤ until
+  pub asks : AsksFor grant.lease request.payload
+  pub leaves : success.side ≡ Leaves
+  pub back_from : success.from ≡ grant.listen
+  pub back_to : success.to ≡ grant.client
+  pub after : request.lo ≤ success.hi
+  pub succeeds : IsOf success.payload Success (parts_of request.payload).method
+  pub same_id : (parts_of success.payload).tid ≡ (parts_of request.payload).tid
+  pub tells : TellsOf grant.lease success.payload
 
-abbrev pub HasAllocated : Taken → Addr → Type 0
-HasAllocated taken client = (success : Sighting) × IsCaptured taken success × IsAllocated client success
+module _ (taken : Taken) where
+  -- both were captured
+  abbrev pub WasGranted : ℕ → Grant → Type 0
+  WasGranted until grant = (request : Sighting) × IsCaptured taken request × ((success : Sighting) × IsCaptured taken success × IsGrantedBy until grant request success)
 
--- a client asked for it, or a peer whose data goes to a client
-abbrev pub IsByClient : Policy → Sighting → Sighting → Type 0
-IsByClient policy asked given = SentOn policy asked given ⊎ ((number : ℕ) × SentInChannel policy number asked given)
+  module _ (fault : Fault) (until : ℕ) where
+    -- the client was granted the lease, where the fault asks about it
+    abbrev pub WasWanted : Addr → Addr → Lease → Type 0
+    WasWanted client listen lease = IsWanted fault lease (WasGranted until (record { client = client; listen = listen; lease = lease }))
 
-abbrev pub IsToClient : Policy → Sighting → Sighting → Type 0
-IsToClient policy asked given = Told policy asked given ⊎ ((number : ℕ) × ToldInChannel policy number asked given)
+    -- a client's data to a peer, and a peer's data to a client, each with the leases that it needs
+    abbrev pub SentOnOnce : Sighting → Sighting → Type 0
+    SentOnOnce asked given = SentOn taken.policy asked given × WasWanted asked.from asked.to (Allocation given.from) × WasWanted asked.from asked.to (Permission given.to.ip)
 
--- it arrived, in time, and asked for it for a client to which an Allocate success was captured
-abbrev pub Begins : Taken → Sighting → Sighting → Type 0
-Begins taken given asked =
-    (asked.side ≡ Arrives) × InReach taken.policy.hold asked given × ((IsByClient taken.policy asked given × HasAllocated taken asked.from) ⊎ (IsToClient taken.policy asked given × HasAllocated taken given.to))
+    abbrev pub SentInChannelOnce : Sighting → Sighting → Type 0
+    SentInChannelOnce asked given = (number : ℕ) × SentInChannel taken.policy number asked given × WasWanted asked.from asked.to (Allocation given.from) × WasWanted asked.from asked.to (Channel number given.to)
 
-abbrev pub HasBeginning : Taken → Sighting → Type 0
-HasBeginning taken given = (asked : Sighting) × IsCaptured taken asked × Begins taken given asked
+    abbrev pub ToldOnce : Sighting → Sighting → Type 0
+    ToldOnce asked given = Told taken.policy asked given × WasWanted given.to given.from (Allocation asked.to) × WasWanted given.to given.from (Permission asked.from.ip)
+
+    abbrev pub ToldInChannelOnce : Sighting → Sighting → Type 0
+    ToldInChannelOnce asked given =
+        (number : ℕ) × ToldInChannel taken.policy number asked given × WasWanted given.to given.from (Allocation asked.to) × WasWanted given.to given.from (Permission asked.from.ip)
+        × WasWanted given.to given.from (Channel number asked.from)
+
+    -- it arrived, in time, and asked for the departure for a client that was granted those leases by then
+    abbrev pub Begins : Sighting → Sighting → Type 0
+    Begins given asked = (asked.side ≡ Arrives) × InReach taken.policy.hold asked given × (SentOnOnce asked given ⊎ SentInChannelOnce asked given ⊎ ToldOnce asked given ⊎ ToldInChannelOnce asked given)
+
+    abbrev pub WasBegun : Sighting → Type 0
+    WasBegun given = (asked : Sighting) × IsCaptured taken asked × Begins given asked
+
+  -- the allocation's beginning was captured: an Allocate success response granted that relayed address to a client whose datagram requires the departure, and its request may precede the departure
+  abbrev pub HasBeginning : Sighting → Type 0
+  HasBeginning given = WasBegun Unallocated given.hi given

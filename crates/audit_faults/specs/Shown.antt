@@ -1,14 +1,16 @@
 -- All faults that captures show.
-use Rattle.std.specs.Prelude.{◌≡◌, ◌⊎◌, ◌↔◌, ◌<◌, IsTrue, List, Some, IfSome, Any}
+use Rattle.std.specs.Prelude.{◌≡◌, ◌⊎◌, ◌↔◌, ◌<◌, IsTrue, List, Option, None, Some, IfSome, Any}
 use Rattle.std.specs.List.{All, AllPairs}
 use Rattle.audit_model.specs.declared.sighting.SightId.{SightId}
 use Rattle.audit_model.specs.declared.sighting.Sighting.{Sighting}
 use Rattle.audit_sightings.specs.Intake.{Taken, sighting_at}
 use Rattle.audit_rules.specs.Keys.{KeyFor}
 use Rattle.audit_faults.specs.declared.fault.Fault.{Fault}
-use Rattle.audit_faults.specs.declared.fault.Fault.TheVariants.{Unallocated}
+use Rattle.audit_faults.specs.declared.fault.Fault.TheVariants.{Unasked, Unallocated, Unpermitted, Unbound, Unfit, Unauthentic}
+use Rattle.audit_faults.specs.declared.fault.Granted.{Granted}
+use Rattle.audit_faults.specs.declared.fault.Granted.TheVariants.{Never, Later, Before}
 use Rattle.audit_faults.specs.declared.fault.ShownFault.{ShownFault}
-use Rattle.audit_faults.specs.Beginning.{HasBeginning}
+use Rattle.audit_faults.specs.Beginning.{WasBegun, HasBeginning}
 use Rattle.audit_faults.specs.Explains.{IsFault, NoneBefore}
 use Rattle.audit_faults.specs.LastGrant.{IsTooEarly}
 
@@ -16,15 +18,35 @@ use Rattle.audit_faults.specs.LastGrant.{IsTooEarly}
 abbrev pub IsBefore : SightId → SightId → Type 0
 IsBefore one other = (one.iface < other.iface) ⊎ ((one.iface ≡ other.iface) × (one.index < other.index))
 
--- it has no allocation, and no Allocate success to a client that asked for it was captured: the client may have one from before the captures
+-- what it lacked is a lease
+abbrev pub IsOfLease : Fault → Type 0
+IsOfLease Unasked = ⊥
+IsOfLease Unallocated = Unit {0}
+IsOfLease Unpermitted = Unit {0}
+IsOfLease Unbound = Unit {0}
+IsOfLease Unfit = ⊥
+IsOfLease Unauthentic = ⊥
+
+-- the departure lacked a lease, and no captured Allocate granted its relayed address before it to a client that requires it: the captures began too late for that address
 abbrev pub MayPredate : Taken → Fault → SightId → Type 0
-MayPredate taken fault sight = (fault ≡ Unallocated) × ((given : Sighting) → sighting_at taken sight ≡ Some given → HasBeginning taken given → ⊥)
+MayPredate taken fault sight = IsOfLease fault × ((given : Sighting) → sighting_at taken sight ≡ Some given → HasBeginning taken given → ⊥)
+
+-- when a client that asked for it was granted what it lacked: never in what was captured; by no request that may have come before it; by one that may have
+abbrev pub IsWhen : Taken → Fault → Sighting → Granted → Type 0
+IsWhen taken fault given Never = WasBegun taken fault 18446744073709551615 given → ⊥
+IsWhen taken fault given Later = WasBegun taken fault 18446744073709551615 given × (WasBegun taken fault given.hi given → ⊥)
+IsWhen taken fault given Before = WasBegun taken fault given.hi given
+
+-- a time of the grant is reported if the departure lacked a lease
+abbrev pub TellsWhen : Taken → Fault → SightId → Option Granted → Type 0
+TellsWhen taken fault sight None = IsOfLease fault → ⊥
+TellsWhen taken fault sight (Some granted) = IsOfLease fault × ((given : Sighting) → sighting_at taken sight ≡ Some given → IsWhen taken fault given granted)
 
 module _ (taken : Taken) (key_for : KeyFor) where
-  -- the departure shows this fault, and none of those that are told before it; a success that is told of is too early
+  -- the departure shows this fault and none that ranks before it; the record says whether the captures began too late, and when the missing lease was granted; a success response that it names is too early
   abbrev pub IsFirstFault : ShownFault → Type 0
   IsFirstFault shown = IsFault taken key_for shown.fault shown.sight × NoneBefore (λ earlier. IsFault taken key_for earlier shown.sight) shown.fault × (IsTrue shown.may_predate ↔ MayPredate taken shown.fault shown.sight)
-      × IfSome shown.last (IsTooEarly taken shown.fault)
+      × TellsWhen taken shown.fault shown.sight shown.granted × IfSome shown.last (IsTooEarly taken shown.fault)
 
   -- All shown faults: of each departure that shows one the first, in rising order, and so once.
   pub record AreFaults (faults : List ShownFault) : Type 0 where

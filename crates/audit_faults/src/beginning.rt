@@ -1,102 +1,197 @@
-//! Whether the captures show the beginning of a client that asked for a departure.
+//! Whether a lease that a departure lacked was ever granted to a client that asked for it, in time or not.
 
-ghost use Rattle.std.specs.Prelude.{◌≡◌, ◌↔◌, IsTrue, Some};
-ghost use Rattle.audit_model.specs.declared.sighting.Sighting.{Sighting};
-ghost use Rattle.audit_sightings.specs.Intake.{taken, sighting_at};
-ghost use Rattle.audit_faults.specs.Beginning.{IsAllocated, HasAllocated, IsByClient, IsToClient, Begins};
-ghost use Rattle.audit_faults.specs.Leased.{AreAnswers};
+ghost use Rattle.std.specs.Prelude.{◌≡◌, ◌↔◌, IsTrue};
+ghost use Rattle.audit_sightings.specs.Intake.{taken};
+ghost use Rattle.audit_faults.specs.Beginning.{WasGranted, WasWanted, SentOnOnce, SentInChannelOnce, ToldOnce, ToldInChannelOnce, Begins};
+ghost use Rattle.audit_faults.specs.Index.{IsIndex};
 
 use crate::asks::{in_reach, sent_in_channel, sent_on, told, told_in_channel};
-use crate::keyed::{ByKey, span_of_key};
-use crate::lease_keys::beginning_key;
-use crate::values::message_of;
-use audit_model::{Addr, Policy, Side, SightId, Sighting};
+use crate::fault::{Fault, Grant, Lease};
+use crate::held::has_grant;
+use crate::index::Index;
+use audit_model::{Addr, Side, Sighting};
 use audit_sightings::Intake;
-use audit_stun::Class;
-use audit_stun::numbers::method::ALLOCATE;
 
-/// Whether the sighting of that name is an Allocate success to the client.
-fn is_allocated_at(intake: &Intake, sight: SightId, client: Addr) -> bool
-    ensures { IsTrue result ↔ ((success : Sighting) × (sighting_at (taken intake.now) sight ≡ Some success) × IsAllocated client success) }
+/// Whether the lease was granted, by a request that may have come no later than that departure left. By the first moment of all no
+/// lease is over.
+fn was_granted(
+    intake: &Intake,
+    index: &Index<'_>,
+    grant: &Grant,
+    always: &Sighting,
+    left: &Sighting,
+) -> bool
+    requires index { IsIndex (taken intake.now) index.now }
+    requires always { always.now.lo ≡ 0 }
+    ensures { IsTrue result ↔ WasGranted (taken intake.now) left.now.hi grant.now }
 {
-    let Some(success) = intake.sighting(sight) else {
+    has_grant(intake, index, grant, always, left)
+}
+
+/// Whether the client was granted the lease, where the fault asks about it.
+fn was_wanted(
+    intake: &Intake,
+    index: &Index<'_>,
+    fault: Fault,
+    client: Addr,
+    listen: Addr,
+    lease: Lease,
+    always: &Sighting,
+    left: &Sighting,
+) -> bool
+    requires index { IsIndex (taken intake.now) index.now }
+    requires always { always.now.lo ≡ 0 }
+    ensures { IsTrue result ↔ WasWanted (taken intake.now) fault left.now.hi client listen lease }
+{
+    let grant = Grant {
+        client,
+        listen,
+        lease,
+    };
+    match (fault, lease) {
+        (Fault::Unasked, _) => true,
+        (Fault::Unallocated, Lease::Permission { ip: _ }) => true,
+        (Fault::Unallocated, Lease::Channel { number: _, peer: _ }) => true,
+        (Fault::Unpermitted, Lease::Channel { number: _, peer: _ }) => true,
+        _ => was_granted(intake, index, &grant, always, left),
+    }
+}
+
+/// A Send indication's data, of a client that was once granted an allocation and a permission.
+fn sent_on_once(
+    intake: &Intake,
+    index: &Index<'_>,
+    fault: Fault,
+    always: &Sighting,
+    left: &Sighting,
+    asked: &Sighting,
+    given: &Sighting,
+) -> bool
+    requires index { IsIndex (taken intake.now) index.now }
+    requires always { always.now.lo ≡ 0 }
+    ensures { IsTrue result ↔ SentOnOnce (taken intake.now) fault left.now.hi asked.now given.now }
+{
+    let relayed = Lease::Allocation {
+        relayed: given.from,
+    };
+    let permission = Lease::Permission { ip: given.to.ip };
+    sent_on(intake.policy(), asked, given)
+        && was_wanted(
+            intake, index, fault, asked.from, asked.to, relayed, always, left,
+        )
+        && was_wanted(
+            intake, index, fault, asked.from, asked.to, permission, always, left,
+        )
+}
+
+/// ChannelData of a client that was once granted an allocation and the channel.
+fn sent_in_channel_once(
+    intake: &Intake,
+    index: &Index<'_>,
+    fault: Fault,
+    always: &Sighting,
+    left: &Sighting,
+    asked: &Sighting,
+    given: &Sighting,
+) -> bool
+    requires index { IsIndex (taken intake.now) index.now }
+    requires always { always.now.lo ≡ 0 }
+    ensures { IsTrue result ↔ SentInChannelOnce (taken intake.now) fault left.now.hi asked.now given.now }
+{
+    let Some(number) = sent_in_channel(intake.policy(), asked, given) else {
         return false;
     };
-    if success.side != Side::Leaves || success.to != client {
-        return false;
-    }
-    message_of(success.payload.as_slice(), Class::Success, ALLOCATE).is_some()
+    let allocation = Lease::Allocation {
+        relayed: given.from,
+    };
+    let channel = Lease::Channel {
+        number,
+        peer: given.to,
+    };
+    was_wanted(
+        intake, index, fault, asked.from, asked.to, allocation, always, left,
+    ) && was_wanted(
+        intake, index, fault, asked.from, asked.to, channel, always, left,
+    )
 }
 
-/// Whether an Allocate success to the client was captured.
-fn has_allocated(intake: &Intake, answers: ByKey<'_>, client: Addr) -> bool
-    requires answers { AreAnswers (taken intake.now) answers }
-    ensures { IsTrue result ↔ HasAllocated (taken intake.now) client }
+/// A Data indication for a client that was once granted an allocation and a permission.
+fn told_once(
+    intake: &Intake,
+    index: &Index<'_>,
+    fault: Fault,
+    always: &Sighting,
+    left: &Sighting,
+    asked: &Sighting,
+    given: &Sighting,
+) -> bool
+    requires index { IsIndex (taken intake.now) index.now }
+    requires always { always.now.lo ≡ 0 }
+    ensures { IsTrue result ↔ ToldOnce (taken intake.now) fault left.now.hi asked.now given.now }
 {
-    let key = beginning_key(client);
-    let span = span_of_key(answers.places, key, 0, u64::MAX);
-    let mut place = span.past;
-    'places: while span.first < place {
-        place -= 1;
-        if is_allocated_at(intake, answers.places[place].sight, client) {
-            return true;
-        }
-    }
-    false
+    let relayed = Lease::Allocation { relayed: asked.to };
+    let permission = Lease::Permission { ip: asked.from.ip };
+    told(intake.policy(), asked, given)
+        && was_wanted(
+            intake, index, fault, given.to, given.from, relayed, always, left,
+        )
+        && was_wanted(
+            intake, index, fault, given.to, given.from, permission, always, left,
+        )
 }
 
-/// Whether a client asked for it.
-fn is_by_client(policy: &Policy, asked: &Sighting, given: &Sighting) -> bool
-    ensures { IsTrue result ↔ IsByClient policy.now asked.now given.now }
+/// ChannelData to a client that was once granted an allocation, a permission and the channel.
+fn told_in_channel_once(
+    intake: &Intake,
+    index: &Index<'_>,
+    fault: Fault,
+    always: &Sighting,
+    left: &Sighting,
+    asked: &Sighting,
+    given: &Sighting,
+) -> bool
+    requires index { IsIndex (taken intake.now) index.now }
+    requires always { always.now.lo ≡ 0 }
+    ensures { IsTrue result ↔ ToldInChannelOnce (taken intake.now) fault left.now.hi asked.now given.now }
 {
-    if sent_on(policy, asked, given) {
-        return true;
-    }
-    let Some(_) = sent_in_channel(policy, asked, given) else {
+    let Some(number) = told_in_channel(intake.policy(), asked, given) else {
         return false;
     };
-    true
-}
-
-/// Whether it is a peer's data for the client.
-fn is_to_client(policy: &Policy, asked: &Sighting, given: &Sighting) -> bool
-    ensures { IsTrue result ↔ IsToClient policy.now asked.now given.now }
-{
-    if told(policy, asked, given) {
-        return true;
-    }
-    let Some(_) = told_in_channel(policy, asked, given) else {
-        return false;
+    let allocation = Lease::Allocation { relayed: asked.to };
+    let permission = Lease::Permission { ip: asked.from.ip };
+    let channel = Lease::Channel {
+        number,
+        peer: asked.from,
     };
-    true
+    was_wanted(
+        intake, index, fault, given.to, given.from, allocation, always, left,
+    ) && was_wanted(
+        intake, index, fault, given.to, given.from, permission, always, left,
+    ) && was_wanted(
+        intake, index, fault, given.to, given.from, channel, always, left,
+    )
 }
 
-/// Whether a client asked for it to which an Allocate success was captured.
-fn begins_by(intake: &Intake, answers: ByKey<'_>, asked: &Sighting, given: &Sighting) -> bool
-    requires answers { AreAnswers (taken intake.now) answers }
-    ensures { IsTrue result ↔ (IsByClient (taken intake.now).policy asked.now given.now × HasAllocated (taken intake.now) asked.now.from) }
-{
-    is_by_client(intake.policy(), asked, given) && has_allocated(intake, answers, asked.from)
-}
-
-/// Whether it is a peer's data for such a client.
-fn begins_to(intake: &Intake, answers: ByKey<'_>, asked: &Sighting, given: &Sighting) -> bool
-    requires answers { AreAnswers (taken intake.now) answers }
-    ensures { IsTrue result ↔ (IsToClient (taken intake.now).policy asked.now given.now × HasAllocated (taken intake.now) given.now.to) }
-{
-    is_to_client(intake.policy(), asked, given) && has_allocated(intake, answers, given.to)
-}
-
-/// Whether it asked for the departure, for a client to which an Allocate success was captured.
-pub fn begins(intake: &Intake, answers: ByKey<'_>, asked: &Sighting, given: &Sighting) -> bool
-    requires answers { AreAnswers (taken intake.now) answers }
-    ensures { IsTrue result ↔ Begins (taken intake.now) given.now asked.now }
+/// Whether it asked for the departure in time, for a client that was granted the leases that the fault asks about by a request which may
+/// have come no later than another departure left.
+pub fn begins(
+    intake: &Intake,
+    index: &Index<'_>,
+    fault: Fault,
+    always: &Sighting,
+    left: &Sighting,
+    asked: &Sighting,
+    given: &Sighting,
+) -> bool
+    requires index { IsIndex (taken intake.now) index.now }
+    requires always { always.now.lo ≡ 0 }
+    ensures { IsTrue result ↔ Begins (taken intake.now) fault left.now.hi given.now asked.now }
 {
     if asked.side != Side::Arrives || !in_reach(intake.policy().hold, asked, given) {
         return false;
     }
-    if begins_by(intake, answers, asked, given) {
-        return true;
-    }
-    begins_to(intake, answers, asked, given)
+    sent_on_once(intake, index, fault, always, left, asked, given)
+        || sent_in_channel_once(intake, index, fault, always, left, asked, given)
+        || told_once(intake, index, fault, always, left, asked, given)
+        || told_in_channel_once(intake, index, fault, always, left, asked, given)
 }

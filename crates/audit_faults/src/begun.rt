@@ -1,54 +1,68 @@
-//! Whether the captures show the beginning of a client that asked for a departure, by what arrived with a key of it.
+//! Whether a client that asked for a departure was ever granted the leases that it needs, by what arrived with a key of it.
 
 ghost use Rattle.std.specs.Prelude.{◌≡◌, ◌↔◌, ℕ, IsFalse, IsTrue, Some};
 ghost use Rattle.audit_model.specs.Policy.{relays};
 ghost use Rattle.audit_model.specs.declared.sighting.Sighting.{Sighting};
 ghost use Rattle.audit_sightings.specs.Intake.{taken, sighting_at};
 ghost use Rattle.audit_faults.specs.Asked.{HasMessageKey, HasChannelKey, IsAskedBy};
-ghost use Rattle.audit_faults.specs.Beginning.{Begins, HasBeginning};
+ghost use Rattle.audit_faults.specs.Beginning.{Begins, WasBegun};
 ghost use Rattle.audit_faults.specs.Grants.{IsCaptured};
-ghost use Rattle.audit_faults.specs.Index.{AreAsked};
+ghost use Rattle.audit_faults.specs.Index.{AreAsked, IsIndex};
 ghost use Rattle.audit_faults.specs.Keyed.{digest_of};
-ghost use Rattle.audit_faults.specs.Leased.{AreAnswers};
 ghost use Rattle.audit_faults.specs.Repeats.{HasBefore, IsPlaced};
 
 use crate::asked::{channel_key, message_key};
 use crate::beginning::begins;
-use crate::keyed::{ByKey, digest, span_of_key};
+use crate::fault::Fault;
+use crate::index::Index;
+use crate::keyed::{digest, span_of_key};
 use crate::reach::Span;
 use crate::repeats::{Asking, repeats_in_reach};
 use crate::sought::earliest;
 use audit_model::{SightId, Sighting};
 use audit_sightings::Intake;
 
-/// Whether the sighting of that name asked for the departure, for a client to which an Allocate success was captured.
-fn begins_at(intake: &Intake, answers: ByKey<'_>, sight: SightId, given: &Sighting) -> bool
-    requires { AreAnswers (taken intake.now) answers }
+/// Whether the sighting of that name asked for the departure, for a client that was granted the leases by then.
+fn begins_at(
+    intake: &Intake,
+    index: &Index<'_>,
+    fault: Fault,
+    always: &Sighting,
+    left: &Sighting,
+    sight: SightId,
+    given: &Sighting,
+) -> bool
+    requires index { IsIndex (taken intake.now) index.now }
+    requires always { always.now.lo ≡ 0 }
     ensures { IsTrue result ↔ ((asked : Sighting) × (sighting_at (taken intake.now) sight ≡ Some asked)
-        × Begins (taken intake.now) given.now asked) }
+        × Begins (taken intake.now) fault left.now.hi given.now asked) }
 {
     let Some(asked) = intake.sighting(sight) else {
         return false;
     };
-    begins(intake, answers, asked, given)
+    begins(intake, index, fault, always, left, asked, given)
 }
 
 /// Whether what stands at a place did, and repeats nothing that did.
 fn begins_first(
     intake: &Intake,
     asking: Asking<'_>,
-    answers: ByKey<'_>,
+    index: &Index<'_>,
+    fault: Fault,
+    always: &Sighting,
+    left: &Sighting,
     first: usize,
     place: usize,
     given: &Sighting,
 ) -> bool
-    requires answers { AreAnswers (taken intake.now) answers }
+    requires index { IsIndex (taken intake.now) index.now }
+    requires always { always.now.lo ≡ 0 }
     requires asking { AreAsked (taken intake.now) asking }
     ensures some { IsTrue result → ((asked : Sighting) × IsCaptured (taken intake.now) asked
-        × Begins (taken intake.now) given.now asked) }
+        × Begins (taken intake.now) fault left.now.hi given.now asked) }
     ensures none { IsFalse result → (asked : Sighting) → IsPlaced (taken intake.now) asking.entry.by_key.places.now place asked →
-        Begins (taken intake.now) given.now asked →
-        HasBefore (taken intake.now) asking.entry.by_key.places.now (Begins (taken intake.now) given.now) first place }
+        Begins (taken intake.now) fault left.now.hi given.now asked →
+        HasBefore (taken intake.now) asking.entry.by_key.places.now (Begins (taken intake.now) fault left.now.hi given.now) first place }
 {
     if repeats_in_reach(intake, asking, first, place, given) {
         return false;
@@ -56,20 +70,24 @@ fn begins_first(
     let Some(one) = asking.by_key.places.get(place) else {
         return false;
     };
-    begins_at(intake, answers, one.sight, given)
+    begins_at(intake, index, fault, always, left, one.sight, given)
 }
 
 /// Whether what stands at the last of these places did. Mostly it did.
 fn begins_last(
     intake: &Intake,
     asking: Asking<'_>,
-    answers: ByKey<'_>,
+    index: &Index<'_>,
+    fault: Fault,
+    always: &Sighting,
+    left: &Sighting,
     span: Span,
     given: &Sighting,
 ) -> bool
-    requires { AreAnswers (taken intake.now) answers }
+    requires index { IsIndex (taken intake.now) index.now }
+    requires always { always.now.lo ≡ 0 }
     ensures { IsTrue result → ((asked : Sighting) × IsCaptured (taken intake.now) asked
-        × Begins (taken intake.now) given.now asked) }
+        × Begins (taken intake.now) fault left.now.hi given.now asked) }
 {
     if span.past <= span.first {
         return false;
@@ -77,33 +95,39 @@ fn begins_last(
     let Some(one) = asking.by_key.places.get(span.past - 1) else {
         return false;
     };
-    begins_at(intake, answers, one.sight, given)
+    begins_at(intake, index, fault, always, left, one.sight, given)
 }
 
 /// Whether something did that arrived with the key, the last one first.
 fn begun_by(
     intake: &Intake,
     asking: Asking<'_>,
-    answers: ByKey<'_>,
+    index: &Index<'_>,
+    fault: Fault,
+    always: &Sighting,
+    left: &Sighting,
     key: u64,
     given: &Sighting,
 ) -> bool
-    requires answers { AreAnswers (taken intake.now) answers }
+    requires index { IsIndex (taken intake.now) index.now }
+    requires always { always.now.lo ≡ 0 }
     requires asking { AreAsked (taken intake.now) asking }
     ensures some { IsTrue result → ((asked : Sighting) × IsCaptured (taken intake.now) asked
-        × Begins (taken intake.now) given.now asked) }
+        × Begins (taken intake.now) fault left.now.hi given.now asked) }
     ensures all { (asked : Sighting) → IsCaptured (taken intake.now) asked → IsAskedBy (taken intake.now).policy key asked →
-        Begins (taken intake.now) given.now asked → IsTrue result }
+        Begins (taken intake.now) fault left.now.hi given.now asked → IsTrue result }
 {
     let first = earliest(given, intake.policy().hold, asking.by_key.width);
     let span = span_of_key(asking.by_key.places, key, first, given.hi);
-    if begins_last(intake, asking, answers, span, given) {
+    if begins_last(intake, asking, index, fault, always, left, span, given) {
         return true;
     }
     let mut place = span.past;
     'places: while span.first < place {
         place -= 1;
-        if begins_first(intake, asking, answers, span.first, place, given) {
+        if begins_first(
+            intake, asking, index, fault, always, left, span.first, place, given,
+        ) {
             return true;
         }
     }
@@ -114,79 +138,95 @@ fn begun_by(
 fn begun_by_all_of_it(
     intake: &Intake,
     asking: Asking<'_>,
-    answers: ByKey<'_>,
+    index: &Index<'_>,
+    fault: Fault,
+    always: &Sighting,
+    left: &Sighting,
     given: &Sighting,
 ) -> bool
-    requires answers { AreAnswers (taken intake.now) answers }
+    requires index { IsIndex (taken intake.now) index.now }
+    requires always { always.now.lo ≡ 0 }
     requires asking { AreAsked (taken intake.now) asking }
     ensures some { IsTrue result → ((asked : Sighting) × IsCaptured (taken intake.now) asked
-        × Begins (taken intake.now) given.now asked) }
+        × Begins (taken intake.now) fault left.now.hi given.now asked) }
     ensures all { (key : ℕ) (asked : Sighting) → IsTrue (relays (taken intake.now).policy given.now.from) → key ≡ digest_of given.now.payload → IsCaptured (taken intake.now) asked →
-        IsAskedBy (taken intake.now).policy key asked → Begins (taken intake.now) given.now asked → IsTrue result }
+        IsAskedBy (taken intake.now).policy key asked → Begins (taken intake.now) fault left.now.hi given.now asked → IsTrue result }
 {
     if !intake.policy().relays(given.from) {
         return false;
     }
     let key = digest(given.payload.as_slice());
-    begun_by(intake, asking, answers, key, given)
+    begun_by(intake, asking, index, fault, always, left, key, given)
 }
 
 /// The same of a message to a client.
 fn begun_by_message(
     intake: &Intake,
     asking: Asking<'_>,
-    answers: ByKey<'_>,
+    index: &Index<'_>,
+    fault: Fault,
+    always: &Sighting,
+    left: &Sighting,
     given: &Sighting,
 ) -> bool
-    requires answers { AreAnswers (taken intake.now) answers }
+    requires index { IsIndex (taken intake.now) index.now }
+    requires always { always.now.lo ≡ 0 }
     requires asking { AreAsked (taken intake.now) asking }
     ensures some { IsTrue result → ((asked : Sighting) × IsCaptured (taken intake.now) asked
-        × Begins (taken intake.now) given.now asked) }
+        × Begins (taken intake.now) fault left.now.hi given.now asked) }
     ensures all { (key : ℕ) (asked : Sighting) → HasMessageKey given.now.payload key → IsCaptured (taken intake.now) asked →
-        IsAskedBy (taken intake.now).policy key asked → Begins (taken intake.now) given.now asked → IsTrue result }
+        IsAskedBy (taken intake.now).policy key asked → Begins (taken intake.now) fault left.now.hi given.now asked → IsTrue result }
 {
     let Some(key) = message_key(given.payload.as_slice()) else {
         return false;
     };
-    begun_by(intake, asking, answers, key, given)
+    begun_by(intake, asking, index, fault, always, left, key, given)
 }
 
 /// The same of ChannelData to a client.
 fn begun_by_channel(
     intake: &Intake,
     asking: Asking<'_>,
-    answers: ByKey<'_>,
+    index: &Index<'_>,
+    fault: Fault,
+    always: &Sighting,
+    left: &Sighting,
     given: &Sighting,
 ) -> bool
-    requires answers { AreAnswers (taken intake.now) answers }
+    requires index { IsIndex (taken intake.now) index.now }
+    requires always { always.now.lo ≡ 0 }
     requires asking { AreAsked (taken intake.now) asking }
     ensures some { IsTrue result → ((asked : Sighting) × IsCaptured (taken intake.now) asked
-        × Begins (taken intake.now) given.now asked) }
+        × Begins (taken intake.now) fault left.now.hi given.now asked) }
     ensures all { (key : ℕ) (asked : Sighting) → HasChannelKey given.now.payload key → IsCaptured (taken intake.now) asked →
-        IsAskedBy (taken intake.now).policy key asked → Begins (taken intake.now) given.now asked → IsTrue result }
+        IsAskedBy (taken intake.now).policy key asked → Begins (taken intake.now) fault left.now.hi given.now asked → IsTrue result }
 {
     let Some(key) = channel_key(given.payload.as_slice()) else {
         return false;
     };
-    begun_by(intake, asking, answers, key, given)
+    begun_by(intake, asking, index, fault, always, left, key, given)
 }
 
 /// Whether something that was captured did: it arrived with a key of the departure.
-pub fn has_beginning(
+pub fn was_begun(
     intake: &Intake,
     asking: Asking<'_>,
-    answers: ByKey<'_>,
+    index: &Index<'_>,
+    fault: Fault,
+    always: &Sighting,
+    left: &Sighting,
     given: &Sighting,
 ) -> bool
-    requires answers { AreAnswers (taken intake.now) answers }
+    requires index { IsIndex (taken intake.now) index.now }
+    requires always { always.now.lo ≡ 0 }
     requires asking { AreAsked (taken intake.now) asking }
-    ensures { IsTrue result ↔ HasBeginning (taken intake.now) given.now }
+    ensures { IsTrue result ↔ WasBegun (taken intake.now) fault left.now.hi given.now }
 {
-    if begun_by_all_of_it(intake, asking, answers, given) {
+    if begun_by_all_of_it(intake, asking, index, fault, always, left, given) {
         return true;
     }
-    if begun_by_message(intake, asking, answers, given) {
+    if begun_by_message(intake, asking, index, fault, always, left, given) {
         return true;
     }
-    begun_by_channel(intake, asking, answers, given)
+    begun_by_channel(intake, asking, index, fault, always, left, given)
 }

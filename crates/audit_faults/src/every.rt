@@ -11,15 +11,13 @@ ghost use Rattle.audit_whole.specs.CaptureRun.{rules_for, IsCaptureRun};
 ghost use Rattle.audit_whole.specs.Conforms.{Conforms};
 ghost use Rattle.audit_faults.specs.Beginning.{HasBeginning};
 ghost use Rattle.audit_faults.specs.Index.{AreAsked, IsIndex};
-ghost use Rattle.audit_faults.specs.Leased.{AreAnswers};
-ghost use Rattle.audit_faults.specs.Shown.{AreFaults, AreFaultsBefore, MayPredate};
+ghost use Rattle.audit_faults.specs.Shown.{AreFaults, AreFaultsBefore, IsOfLease, MayPredate, IsWhen, TellsWhen};
 
 use crate::answers::answers_of;
 use crate::asked::asking_of;
-use crate::begun::has_beginning;
-use crate::fault::{Fault, ShownFault};
+use crate::begun::was_begun;
+use crate::fault::{Fault, Granted, ShownFault};
 use crate::index::{Index, extents_by_interface};
-use crate::keyed::ByKey;
 use crate::last_grant::last_grant;
 use crate::laws::fault_excludes;
 use crate::leased::Leases;
@@ -27,47 +25,140 @@ use crate::repeats::{Asking, repeats_of};
 use crate::requests::requests_of;
 use crate::telling::first_fault;
 use audit_keys::Credentials;
-use audit_model::SightId;
+use audit_model::{Addr, Payload, Side, SightId, Sighting};
 use audit_sightings::Intake;
 use std::alloc::{AllocError, Global};
+use std::sync::Arc;
 
-/// Whether no Allocate success was captured to a client that asked for the departure.
-fn lacks_beginning(intake: &Intake, asking: Asking<'_>, answers: ByKey<'_>, sight: SightId) -> bool
+/// Whether the fault is the lack of a lease.
+fn is_of_lease(fault: Fault) -> bool
+    ensures { IsTrue result ↔ IsOfLease fault }
+{
+    match fault {
+        Fault::Unallocated => true,
+        Fault::Unpermitted => true,
+        Fault::Unbound => true,
+        Fault::Unasked => false,
+        Fault::Unfit => false,
+        Fault::Unauthentic => false,
+    }
+}
+
+/// Whether the beginning of the allocation of no client that asked for the departure was captured.
+fn lacks_beginning(
+    intake: &Intake,
+    index: &Index<'_>,
+    asking: Asking<'_>,
+    always: &Sighting,
+    sight: SightId,
+) -> bool
+    requires index { IsIndex (taken intake.now) index.now }
     requires asking { AreAsked (taken intake.now) asking }
-    requires answers { AreAnswers (taken intake.now) answers }
+    requires always { always.now.lo ≡ 0 }
     requires there { IsSome (sighting_at (taken intake.now) sight) }
     ensures { IsTrue result ↔ ((given : OneSighting) → sighting_at (taken intake.now) sight ≡ Some given → HasBeginning (taken intake.now) given → ⊥) }
 {
     let Some(given) = intake.sighting(sight) else {
         return false;
     };
-    if has_beginning(intake, asking, answers, given) {
+    if was_begun(
+        intake,
+        asking,
+        index,
+        Fault::Unallocated,
+        always,
+        given,
+        given,
+    ) {
         return false;
     }
     true
 }
 
-/// Whether the captures may have begun after the allocation that a departure without one needs.
+/// Whether the captures began too late for the allocation that a departure without a lease needs.
 fn may_predate(
     intake: &Intake,
+    index: &Index<'_>,
     asking: Asking<'_>,
-    answers: ByKey<'_>,
+    always: &Sighting,
     fault: Fault,
     sight: SightId,
 ) -> bool
+    requires index { IsIndex (taken intake.now) index.now }
     requires asking { AreAsked (taken intake.now) asking }
-    requires answers { AreAnswers (taken intake.now) answers }
+    requires always { always.now.lo ≡ 0 }
     requires there { IsSome (sighting_at (taken intake.now) sight) }
     ensures { IsTrue result ↔ MayPredate (taken intake.now) fault sight }
 {
-    match fault {
-        Fault::Unallocated => lacks_beginning(intake, asking, answers, sight),
-        Fault::Unasked => false,
-        Fault::Unpermitted => false,
-        Fault::Unbound => false,
-        Fault::Unfit => false,
-        Fault::Unauthentic => false,
+    is_of_lease(fault) && lacks_beginning(intake, index, asking, always, sight)
+}
+
+/// When a client that asked for the departure was granted what it lacked.
+fn when(
+    intake: &Intake,
+    index: &Index<'_>,
+    asking: Asking<'_>,
+    always: &Sighting,
+    fault: Fault,
+    given: &Sighting,
+) -> Granted
+    requires index { IsIndex (taken intake.now) index.now }
+    requires asking { AreAsked (taken intake.now) asking }
+    requires first { always.now.lo ≡ 0 }
+    requires last { always.now.hi ≡ 18446744073709551615 }
+    ensures { IsWhen (taken intake.now) fault given.now result }
+{
+    if was_begun(intake, asking, index, fault, always, given, given) {
+        return Granted::Before;
     }
+    if was_begun(intake, asking, index, fault, always, always, given) {
+        return Granted::Later;
+    }
+    Granted::Never
+}
+
+/// The same, where it lacked a lease.
+fn granted_when(
+    intake: &Intake,
+    index: &Index<'_>,
+    asking: Asking<'_>,
+    always: &Sighting,
+    fault: Fault,
+    sight: SightId,
+) -> Option<Granted>
+    requires index { IsIndex (taken intake.now) index.now }
+    requires asking { AreAsked (taken intake.now) asking }
+    requires first { always.now.lo ≡ 0 }
+    requires last { always.now.hi ≡ 18446744073709551615 }
+    requires there { IsSome (sighting_at (taken intake.now) sight) }
+    ensures { TellsWhen (taken intake.now) fault sight result }
+{
+    let Some(given) = intake.sighting(sight) else {
+        return None;
+    };
+    if is_of_lease(fault) {
+        return Some(when(intake, index, asking, always, fault, given));
+    }
+    None
+}
+
+/// A sighting of all moments: no lease is over at its first, and nothing comes after its last.
+fn of_all_moments(alloc: Global) -> Result<Sighting, AllocError>
+    ensures first { IfOk result (λ always. always.lo ≡ 0) }
+    ensures last { IfOk result (λ always. always.hi ≡ 18446744073709551615) }
+{
+    let arena = Arc::new(alloc, Vec::new(alloc))?;
+    let nowhere = Addr { ip: 0, port: 0 };
+    Ok(Sighting {
+        payload: Payload::of(&arena, 0, 0)?,
+        stamp: 0,
+        lo: 0,
+        hi: u64::MAX,
+        id: SightId { iface: 0, index: 0 },
+        from: nowhere,
+        to: nowhere,
+        side: Side::Arrives,
+    })
 }
 
 /// Adds the first fault of the sighting, where it shows one.
@@ -75,25 +166,28 @@ fn add_of_sighting(
     intake: &Intake,
     index: &Index<'_>,
     asking: Asking<'_>,
-    answers: ByKey<'_>,
+    always: &Sighting,
     credentials: &Credentials,
     sight: SightId,
     faults: &mut Vec<ShownFault>,
 ) -> Result<(), AllocError>
     requires index { IsIndex (taken intake.now) index.now }
     requires asking { AreAsked (taken intake.now) asking }
-    requires answers { AreAnswers (taken intake.now) answers }
+    requires first { always.now.lo ≡ 0 }
+    requires last { always.now.hi ≡ 18446744073709551615 }
     requires so_far { AreFaultsBefore (taken intake.now) (key_for credentials.now) sight faults.old.items }
     ensures { OnOk result (AreFaultsBefore (taken intake.now) (key_for credentials.now)
         (record { iface = sight.iface; index = sight.index + 1 }) faults.new.items) }
 {
     if let Some(fault) = first_fault(intake, index, credentials, sight) {
-        let may_predate = may_predate(intake, asking, answers, fault, sight);
+        let may_predate = may_predate(intake, index, asking, always, fault, sight);
+        let granted = granted_when(intake, index, asking, always, fault, sight);
         let last = last_grant(intake, index, asking, credentials, fault, sight);
         faults.push(ShownFault {
             sight,
             fault,
             may_predate,
+            granted,
             last,
         })?;
     }
@@ -105,14 +199,15 @@ fn add_of_interface(
     intake: &Intake,
     index: &Index<'_>,
     asking: Asking<'_>,
-    answers: ByKey<'_>,
+    always: &Sighting,
     credentials: &Credentials,
     iface: u32,
     faults: &mut Vec<ShownFault>,
 ) -> Result<(), AllocError>
     requires index { IsIndex (taken intake.now) index.now }
     requires asking { AreAsked (taken intake.now) asking }
-    requires answers { AreAnswers (taken intake.now) answers }
+    requires first { always.now.lo ≡ 0 }
+    requires last { always.now.hi ≡ 18446744073709551615 }
     requires so_far { AreFaultsBefore (taken intake.now) (key_for credentials.now) (record { iface = iface; index = 0 }) faults.old.items }
     ensures { OnOk result (AreFaultsBefore (taken intake.now) (key_for credentials.now)
         (record { iface = iface + 1; index = 0 }) faults.new.items) }
@@ -122,7 +217,7 @@ fn add_of_interface(
             intake,
             index,
             asking,
-            answers,
+            always,
             credentials,
             sighting.id,
             faults,
@@ -166,13 +261,14 @@ pub fn shown_faults(
         leases: Some(Leases { answers, requests }),
         asking: Some(asking),
     };
+    let always = of_all_moments(alloc)?;
     let mut faults = Vec::new(alloc);
     'interfaces: for iface in 0..intake.interfaces() {
         add_of_interface(
             intake,
             &index,
             asking,
-            answers,
+            &always,
             credentials,
             iface,
             &mut faults,

@@ -24,7 +24,7 @@ last_line (Some last) =
 
 -- a fault, its datagram, its reason, and what was looked at
 abbrev pub fault_lines : Taken → ShownFault → List ℕ
-fault_lines taken shown = title_lines shown ++ sighting_line shown.sight (sighting_at taken shown.sight) ++ reason_of shown.fault ++ last_line shown.last
+fault_lines taken shown = title_lines shown ++ sighting_line shown.sight (sighting_at taken shown.sight) ++ reason_of shown.fault shown.granted ++ last_line shown.last
 
 abbrev pub all_lines : Taken → List ShownFault → List ℕ
 all_lines taken [] = []

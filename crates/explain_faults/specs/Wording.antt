@@ -1,6 +1,8 @@
 -- The words for the faults.
-use Rattle.std.specs.Prelude.{ℕ, List, Bool, true, false, [], codes}
+use Rattle.std.specs.Prelude.{ℕ, List, Bool, true, false, Option, None, Some, [], codes}
 use Rattle.audit_faults.specs.declared.fault.Fault.{Fault}
+use Rattle.audit_faults.specs.declared.fault.Granted.{Granted}
+use Rattle.audit_faults.specs.declared.fault.Granted.TheVariants.{Never, Later, Before}
 use Rattle.audit_faults.specs.declared.fault.Fault.TheVariants.{Unasked, Unallocated, Unpermitted, Unbound, Unfit, Unauthentic}
 
 -- what the server did
@@ -12,24 +14,45 @@ title_of Unbound = codes "relayed without a channel"
 title_of Unfit = codes "responded wrongly"
 title_of Unauthentic = codes "granted without a user's request"
 
--- first whether the captures show the beginning of a client that asked for it, where that matters
+-- first whether the captures have the beginning of the allocation of a client that asked for it, where that matters
 abbrev pub beginning_of : Fault → Bool → List ℕ
 beginning_of Unasked predates = []
-beginning_of Unallocated true = codes "beginning not captured: no Allocate success to a client that asked for it; blame the captures, which may have begun after the allocation\n"
+beginning_of Unallocated true = codes "beginning not captured: the capture began too late for that relayed address; no captured Allocate success told it to a client that asked for it before it\n"
 beginning_of Unallocated false = codes "beginning captured\n"
-beginning_of Unpermitted predates = codes "beginning captured\n"
-beginning_of Unbound predates = codes "beginning captured\n"
+beginning_of Unpermitted true = codes "beginning not captured: the capture began too late for that relayed address; no captured Allocate success told it to a client that asked for it before it\n"
+beginning_of Unpermitted false = codes "beginning captured\n"
+beginning_of Unbound true = codes "beginning not captured: the capture began too late for that relayed address; no captured Allocate success told it to a client that asked for it before it\n"
+beginning_of Unbound false = codes "beginning captured\n"
 beginning_of Unfit predates = []
 beginning_of Unauthentic predates = []
 
--- what no captured arrival had
-abbrev pub reason_of : Fault → List ℕ
-reason_of Unasked = codes "nothing that was captured within hold before it asked for it\n"
-reason_of Unallocated = codes "no captured arrival that asked for it was for a client that was told that relayed address by then\n"
-reason_of Unpermitted = codes "each captured arrival that asked for it came later than 300 seconds and the grace after the last success that granted a permission for the peer's IP\n"
-reason_of Unbound = codes "each captured arrival that asked for it came later than 600 seconds and the grace after the last success that bound the channel to the peer\n"
-reason_of Unfit = codes "what it says fits no captured request that it may answer\n"
-reason_of Unauthentic = codes "no captured request that it may answer is signed by a user of the credentials\n"
+-- when the lease was granted that it lacked
+abbrev pub allocation_reason : Granted → List ℕ
+allocation_reason Never = codes "never granted: no captured success told a client that asked for it that relayed address\n"
+allocation_reason Later = codes "granted later: each captured success that told a client that asked for it that relayed address answers a request that came after it\n"
+allocation_reason Before = codes "no captured arrival that asked for it was for a client that was told that relayed address by then\n"
+
+abbrev pub permission_reason : Granted → List ℕ
+permission_reason Never = codes "never granted: no captured success granted a permission for the peer's IP to a client that asked for it and was told that relayed address\n"
+permission_reason Later = codes "granted later: each captured success that granted a permission for the peer's IP to a client that asked for it and was told that relayed address answers a request that came after it\n"
+permission_reason Before = codes "expired: each captured arrival that asked for it came later than 300 seconds and the grace after the last success that granted a permission for the peer's IP\n"
+
+abbrev pub channel_reason : Granted → List ℕ
+channel_reason Never = codes "never granted: no captured success bound the channel to the peer for a client that asked for it and was told that relayed address\n"
+channel_reason Later = codes "granted later: each captured success that bound the channel to the peer for a client that asked for it and was told that relayed address answers a request that came after it\n"
+channel_reason Before = codes "expired: each captured arrival that asked for it came later than 600 seconds and the grace after the last success that bound the channel to the peer\n"
+
+-- a reason is told of each fault, of a lease by when it was granted
+abbrev pub reason_of : Fault → Option Granted → List ℕ
+reason_of Unasked granted = codes "nothing that was captured within hold before it asked for it\n"
+reason_of Unallocated None = []
+reason_of Unallocated (Some granted) = allocation_reason granted
+reason_of Unpermitted None = []
+reason_of Unpermitted (Some granted) = permission_reason granted
+reason_of Unbound None = []
+reason_of Unbound (Some granted) = channel_reason granted
+reason_of Unfit granted = codes "what it says fits no captured request that it may answer\n"
+reason_of Unauthentic granted = codes "no captured request that it may answer is signed by a user of the credentials\n"
 
 -- whether two faults are the same
 abbrev pub same_fault : Fault → Fault → Bool

@@ -89,7 +89,7 @@ fn lines_of_fault(alloc: Global, intake: &Intake, shown: ShownFault) -> Result<S
     let mut lines = lines_of_title(alloc, shown)?;
     let sighting = intake.sighting(shown.sight);
     lines.push_str(line_of_sighting(alloc, shown.sight, sighting)?.as_str())?;
-    lines.push_str(reason(shown.fault))?;
+    lines.push_str(reason(shown.fault, shown.granted))?;
     lines.push_str(line_of_last(alloc, shown.last)?.as_str())?;
     Ok(lines)
 }

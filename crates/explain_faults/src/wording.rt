@@ -1,9 +1,9 @@
 //! The words for the faults.
 
 ghost use Rattle.std.specs.Prelude.{◌≡◌};
-ghost use Rattle.explain_faults.specs.Wording.{title_of, beginning_of, reason_of, same_fault};
+ghost use Rattle.explain_faults.specs.Wording.{title_of, beginning_of, allocation_reason, permission_reason, channel_reason, reason_of, same_fault};
 
-use audit_faults::Fault;
+use audit_faults::{Fault, Granted};
 
 /// What the server did.
 pub fn title(fault: Fault) -> &'static str
@@ -19,40 +19,75 @@ pub fn title(fault: Fault) -> &'static str
     }
 }
 
-/// Whether the captures show the beginning of a client that asked for it, where that matters.
+/// What is told where the beginning of no client's allocation was captured.
+const NOT_CAPTURED: &str =
+    "beginning not captured: the capture began too late for that relayed address; no captured Allocate success told it to a client that asked for it before it\n";
+
+/// Whether the captures have the beginning of the allocation of a client that asked for it, where that matters.
 pub fn beginning(fault: Fault, predates: bool) -> &'static str
     ensures { result.now ≡ beginning_of fault predates }
 {
-    match fault {
-        Fault::Unallocated => {
-            if predates {
-                "beginning not captured: no Allocate success to a client that asked for it; blame the captures, which may have begun after the allocation\n"
-            } else {
-                "beginning captured\n"
-            }
-        }
-        Fault::Unpermitted => "beginning captured\n",
-        Fault::Unbound => "beginning captured\n",
-        Fault::Unasked => "",
-        Fault::Unfit => "",
-        Fault::Unauthentic => "",
+    match (fault, predates) {
+        (Fault::Unallocated | Fault::Unpermitted | Fault::Unbound, true) => NOT_CAPTURED,
+        (Fault::Unallocated | Fault::Unpermitted | Fault::Unbound, false) => "beginning captured\n",
+        (Fault::Unasked | Fault::Unfit | Fault::Unauthentic, _) => "",
+    }
+}
+
+/// When the address was granted.
+fn of_allocation(granted: Granted) -> &'static str
+    ensures { result.now ≡ allocation_reason granted }
+{
+    match granted {
+        Granted::Never =>
+            "never granted: no captured success told a client that asked for it that relayed address\n",
+        Granted::Later =>
+            "granted later: each captured success that told a client that asked for it that relayed address answers a request that came after it\n",
+        Granted::Before =>
+            "no captured arrival that asked for it was for a client that was told that relayed address by then\n",
+    }
+}
+
+/// When the permission was granted.
+fn of_permission(granted: Granted) -> &'static str
+    ensures { result.now ≡ permission_reason granted }
+{
+    match granted {
+        Granted::Never =>
+            "never granted: no captured success granted a permission for the peer's IP to a client that asked for it and was told that relayed address\n",
+        Granted::Later =>
+            "granted later: each captured success that granted a permission for the peer's IP to a client that asked for it and was told that relayed address answers a request that came after it\n",
+        Granted::Before =>
+            "expired: each captured arrival that asked for it came later than 300 seconds and the grace after the last success that granted a permission for the peer's IP\n",
+    }
+}
+
+/// When the channel was granted.
+fn of_channel(granted: Granted) -> &'static str
+    ensures { result.now ≡ channel_reason granted }
+{
+    match granted {
+        Granted::Never =>
+            "never granted: no captured success bound the channel to the peer for a client that asked for it and was told that relayed address\n",
+        Granted::Later =>
+            "granted later: each captured success that bound the channel to the peer for a client that asked for it and was told that relayed address answers a request that came after it\n",
+        Granted::Before =>
+            "expired: each captured arrival that asked for it came later than 600 seconds and the grace after the last success that bound the channel to the peer\n",
     }
 }
 
 /// What no captured arrival had.
-pub fn reason(fault: Fault) -> &'static str
-    ensures { result.now ≡ reason_of fault }
+pub fn reason(fault: Fault, granted: Option<Granted>) -> &'static str
+    ensures { result.now ≡ reason_of fault granted }
 {
-    match fault {
-        Fault::Unasked => "nothing that was captured within hold before it asked for it\n",
-        Fault::Unallocated =>
-            "no captured arrival that asked for it was for a client that was told that relayed address by then\n",
-        Fault::Unpermitted =>
-            "each captured arrival that asked for it came later than 300 seconds and the grace after the last success that granted a permission for the peer's IP\n",
-        Fault::Unbound =>
-            "each captured arrival that asked for it came later than 600 seconds and the grace after the last success that bound the channel to the peer\n",
-        Fault::Unfit => "what it says fits no captured request that it may answer\n",
-        Fault::Unauthentic =>
+    match (fault, granted) {
+        (Fault::Unasked, _) => "nothing that was captured within hold before it asked for it\n",
+        (Fault::Unallocated, Some(granted)) => of_allocation(granted),
+        (Fault::Unpermitted, Some(granted)) => of_permission(granted),
+        (Fault::Unbound, Some(granted)) => of_channel(granted),
+        (Fault::Unallocated | Fault::Unpermitted | Fault::Unbound, None) => "",
+        (Fault::Unfit, _) => "what it says fits no captured request that it may answer\n",
+        (Fault::Unauthentic, _) =>
             "no captured request that it may answer is signed by a user of the credentials\n",
     }
 }

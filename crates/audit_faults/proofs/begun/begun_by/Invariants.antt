@@ -8,7 +8,7 @@ use Rattle.audit_faults.proofs.begun.begun_by.Given as goal
 abbrev pub invariant-places : goal.invariant-places
 invariant-places l = record {
   bound : l.place ≤ length l.asking.by_key.places.now;
-  none : OnlyWithEarlier (taken l.intake) (Begins (taken l.intake) l.given) l.key l.first l.given.hi l.span.first l.asking.by_key.places.now l.place;
+  none : OnlyWithEarlier (taken l.intake) (Begins (taken l.intake) l.fault l.left.hi l.given) l.key l.first l.given.hi l.span.first l.asking.by_key.places.now l.place;
 }
 
 abbrev pub decreases-places : goal.decreases-places

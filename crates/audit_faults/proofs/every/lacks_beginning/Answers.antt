@@ -4,16 +4,16 @@ use Rattle.audit_sightings.specs.Intake.{taken}
 use Rattle.audit_faults.specs.Beginning.{HasBeginning}
 use Rattle.audit_faults.proofs.every.lacks_beginning.Goals as goal
 
-pub returns-then-has_beginning : goal.returns-then-has_beginning
-returns-then-has_beginning c = (
+pub returns-then-was_begun : goal.returns-then-was_begun
+returns-then-was_begun c = (
   λ h. absurd (let k : false ≡ true = h in cc),
-  λ none. absurd (none c.in-Some.given.now (sym c.in-Some.ensures) (c.has_beginning.ensures.0 c.if-has_beginning.true)),
+  λ none. absurd (none c.in-Some.given.now (sym c.in-Some.ensures) (c.was_begun.ensures.0 c.if-was_begun.true)),
 )
 
 pub returns : goal.returns
 returns c = (
   λ _ given there begins.
       let same : given ≡ c.in-Some.given.now = same_Some given c.in-Some.given.now (sym there ∙ sym c.in-Some.ensures) in
-      let k : true ≡ false = sym (c.has_beginning.ensures.1 (subst (HasBeginning (taken c.args.intake.now)) same begins)) ∙ c.if-has_beginning.false in cc,
+      let k : true ≡ false = sym (c.was_begun.ensures.1 (subst (HasBeginning (taken c.args.intake.now)) same begins)) ∙ c.if-was_begun.false in cc,
   λ _. refl,
 )

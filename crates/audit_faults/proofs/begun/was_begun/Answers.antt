@@ -2,12 +2,12 @@ use Rattle.std.proofs.Common.{◌≡◌, inl, inr, true, false, refl, sym, ◌�
 use Rattle.audit_sightings.specs.Intake.{taken}
 use Rattle.audit_faults.specs.Keyed.{digest_of}
 use Rattle.audit_faults.proofs.Seeking.{begun_has_key}
-use Rattle.audit_faults.proofs.begun.has_beginning.Goals as goal
+use Rattle.audit_faults.proofs.begun.was_begun.Goals as goal
 
 pub returns : goal.returns
 returns c = (
   λ t. c.begun_by_channel.ensures.some t,
-  λ e. elim (begun_has_key (taken c.args.intake.now) e.0 c.args.given.now e.2) [
+  λ e. elim (begun_has_key (taken c.args.intake.now) c.args.fault c.args.left.now.hi e.0 c.args.given.now e.2) [
     | inl a ↦ absurd (let k : true ≡ false = sym (c.begun_by_all_of_it.ensures.all (digest_of c.args.given.now.payload) e.0 a.0 refl e.1 a.1 e.2) ∙ c.if-begun_by_all_of_it.false in cc)
     | inr (inl a) ↦ absurd (let k : true ≡ false = sym (c.begun_by_message.ensures.all a.0 e.0 a.1 e.1 a.2 e.2) ∙ c.if-begun_by_message.false in cc)
     | inr (inr a) ↦ c.begun_by_channel.ensures.all a.0 e.0 a.1 e.1 a.2 e.2
