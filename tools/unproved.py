@@ -23,7 +23,7 @@ import crates
 PROGRAM = "turnaudit"
 BUILT = crates.TOP / "out" / "turnaudit-unproved"
 # The release line's constant, and what an unproved build has in its place.
-RELEASE = crates.TOP / "crates" / "audit_program" / "src" / "commands.rt"
+RELEASE = crates.TOP / "crates" / "audit_program" / "src" / "pages.rt"
 PROVED_WITH = ", proved with "
 # What the one line says of it.
 TOLD = "out/turnaudit-unproved has run-time checks in place of proofs"
@@ -49,8 +49,8 @@ def without_claim(top):
     file = top / RELEASE.relative_to(crates.TOP)
     lines = file.read_text(encoding="utf-8").splitlines(keepends=True)
     for number, line in enumerate(lines):
-        if line.startswith("const VERSION") and PROVED_WITH in line:
-            lines[number] = line.partition(PROVED_WITH)[0] + ', not proved";\n'
+        if line.startswith("const RELEASE") and PROVED_WITH in line:
+            lines[number] = line.partition(PROVED_WITH)[0] + ', not proved\\n";\n'
             file.write_text("".join(lines), encoding="utf-8")
             return
     sys.exit(f"{RELEASE} has no release line that names what it is proved with")

@@ -12,10 +12,11 @@ use Rattle.audit_rules.specs.Keys.{KeyFor}
 use Rattle.audit_sightings.specs.Intake.{Taken}
 use Rattle.audit_program.specs.declared.command_line.Inputs.{Inputs}
 use Rattle.audit_program.specs.declared.command_line.Request.{Request}
-use Rattle.audit_program.specs.declared.command_line.Request.TheVariants.{Check, Audit, Find, Live, Help, Usage}
+use Rattle.audit_program.specs.declared.command_line.Request.TheVariants.{Check, Audit, Find, Live, Help, Release, Usage}
+use Rattle.audit_program.specs.Pages.{page_text, release_text}
 use Rattle.audit_program.specs.Watched.{IsWatched}
 use Rattle.audit_program.specs.Words.{Asks, turnaudit}
-use Rattle.clap.specs.Words.{Text, subcommand_of}
+use Rattle.clap.specs.Words.{Text, fault_of, subcommand_of}
 
 -- the policy and the users that are named have these texts; where no users are named there are none
 pub record HaveTexts (holds : List ℕ → Option (List ℕ)) (inputs : Inputs) (policy users : List ℕ) : Type 0 where
@@ -48,8 +49,9 @@ pub record IsWritten (finds : Taken → Certificate → Type 0) (policy users : 
   pub told : status ≡ 0
 
 module _ (holds : List ℕ → Option (List ℕ)) (given : ℕ → Option (List ℕ)) (finds : Taken → Certificate → Type 0) (streams : Streams) where
-  -- Each command is its own: `check` tells the verdict by the certificate that is named, `audit` by one that is found, `live` that on what the
-  -- captures gave; `find` writes what is found by its one spelling; help goes to standard output alone, and what is no request to standard error alone, with status 5.
+  -- Each command is its own: `check` reports the verdict by the certificate that is named, `audit` by one that is found, `live` that on what the
+  -- captures gave; `find` writes what is found by its one spelling; a page of help, or the line of the release, goes to standard output alone, and what is no
+  -- request to standard error alone, with status 5.
   abbrev pub Answers : Request → Result ℕ Stop → Type 0
   Answers (Check inputs certificate workers) done =
       IsSilent streams × ((policy users text : List ℕ) (captures : List (List ℕ)) → HaveTexts holds inputs policy users → HaveCaptures holds inputs captures → holds certificate.now ≡ Some text →
@@ -63,7 +65,8 @@ module _ (holds : List ℕ → Option (List ℕ)) (given : ℕ → Option (List 
   Answers (Live inputs turns) done =
       IsSilent streams × ((policy users : List ℕ) → HaveTexts holds inputs policy users →
       IfOk done (λ status. (found : Certificate) × IsWatched policy users (length inputs.captures.items) given found streams.before streams.after status))
-  Answers (Help text) done = IsSilent streams × IfOk done (λ status. (status ≡ 0) × (streams.after ≡ followed_by streams.before (string_bytes text)))
+  Answers (Help page) done = IsSilent streams × IfOk done (λ status. (status ≡ 0) × (streams.after ≡ followed_by streams.before (page_text page)))
+  Answers Release done = IsSilent streams × IfOk done (λ status. (status ≡ 0) × (streams.after ≡ followed_by streams.before release_text))
   Answers (Usage text) done = (streams.after ≡ streams.before) × IfOk done (λ status. (status ≡ 5) × (streams.said_after ≡ followed_by streams.said_before (string_bytes text)))
 
 -- the exit status of an answer, or of what stopped it
@@ -71,9 +74,9 @@ abbrev pub status_told : Result ℕ Stop → ℕ
 status_told (Ok status) = status
 status_told (Err stop) = status_of_stop stop
 
--- The request is what the words ask for, and was answered; a line about what stopped it may stand behind on standard error. Or there was no memory for the words.
+-- The request is what the arguments are, and was answered; a line about what stopped it may follow on standard error. Or there was no memory for the words.
 abbrev pub IsRun : List Text → (List ℕ → Option (List ℕ)) → (ℕ → Option (List ℕ)) → (Taken → Certificate → Type 0) → Streams → ℕ → Type 0
 IsRun words holds given finds streams status =
-    ((request : Request) × Asks (subcommand_of turnaudit words) request × (done : Result ℕ Stop) × (said : Option (List ℕ)) × Answers holds given finds (record streams { said_after = said }) request done
+    ((request : Request) × Asks (subcommand_of turnaudit words) (fault_of turnaudit words) request × (done : Result ℕ Stop) × (said : Option (List ℕ)) × Answers holds given finds (record streams { said_after = said }) request done
     × (status ≡ status_told done) × OnOk done (streams.said_after ≡ said))
     ⊎ ((streams.after ≡ streams.before) × (status ≡ 3))

@@ -3,4 +3,5 @@ pub mod Watched
 pub mod Answered
 pub mod Deciding
 pub mod Horizon
+pub mod Pages
 pub mod Words

@@ -1,13 +1,15 @@
 -- What words ask for: the program's commands as they are written, and their values by what `clap` says of such commands.
-use Rattle.std.specs.Prelude.{◌≡◌, ⊤, ℕ, pos, true, List, [], ◌∷◌, Option, Some, Ok, map, option_map, codes}
+use Rattle.std.specs.Prelude.{◌≡◌, ◌≢◌, ◌⊎◌, ⊤, ℕ, pos, true, List, [], ◌∷◌, Option, Some, Ok, map, option_map, codes}
 use Rattle.std.specs.Str.Parse.{ParsesUnsigned}
 use Rattle.clap.specs.Lexer.{usize_max}
-use Rattle.clap.specs.Words.{App, Row, Rule, Text, all_of, first_of, one_of, new_app, new_rule, with_rule, with_subcommand}
+use Rattle.clap.specs.Words.{App, IsAmong, Kinds, Row, Rule, Text, all_of, first_of, one_of, new_app, new_rule, with_rule, with_subcommand}
 use Rattle.clap.specs.declared.builder.action.ArgAction.TheVariants.{Append, Set}
 use Rattle.clap.specs.declared.builder.value_parser.ValueParser.TheVariants.{Signed}
+use Rattle.clap.specs.declared.error.kind.ErrorKind.{ErrorKind}
+use Rattle.clap.specs.declared.error.kind.ErrorKind.TheVariants as kind
 use Rattle.audit_program.specs.declared.command_line.Inputs.{Inputs}
 use Rattle.audit_program.specs.declared.command_line.Request.{Request}
-use Rattle.audit_program.specs.declared.command_line.Request.TheVariants.{Check, Audit, Find, Live, Help, Usage}
+use Rattle.audit_program.specs.declared.command_line.Request.TheVariants.{Check, Audit, Find, Live, Help, Release, Usage}
 
 -- an option that takes a value
 abbrev pub valued : Text → Rule
@@ -76,13 +78,33 @@ pub record AreNamed (rows : List Row) (inputs : Inputs) : Type 0 where
   pub users' : first_of (codes "creds") rows ≡ option_map (λ name. name.now) inputs.credentials
   pub captures' : all_of (codes "captures") rows ≡ Some (map (λ name. name.now) inputs.captures.items)
 
--- The command that the words name, and what they name for it, is the request. Of words that are no command's nothing is said.
-abbrev pub Asks : Option (Text × List Row) → Request → Type 0
-Asks asked (Check inputs certificate workers) = (rows : List Row) × (asked ≡ Some (codes "check", rows)) × AreNamed rows inputs
+-- The command that the words name, and what they name for it, is the request.
+abbrev pub Names : Option (Text × List Row) → Request → Type 0
+Names asked (Check inputs certificate workers) = (rows : List Row) × (asked ≡ Some (codes "check", rows)) × AreNamed rows inputs
     × (first_of (codes "cert") rows ≡ Some certificate.now) × HasNumber (codes "workers") rows workers.count
-Asks asked (Audit inputs workers) = (rows : List Row) × (asked ≡ Some (codes "audit", rows)) × AreNamed rows inputs × HasNumber (codes "workers") rows workers.count
-Asks asked (Find inputs workers) = (rows : List Row) × (asked ≡ Some (codes "find", rows)) × AreNamed rows inputs × HasNumber (codes "workers") rows workers.count
-Asks asked (Live inputs turns) = (rows : List Row) × (asked ≡ Some (codes "live", rows)) × AreNamed rows inputs
+Names asked (Audit inputs workers) = (rows : List Row) × (asked ≡ Some (codes "audit", rows)) × AreNamed rows inputs × HasNumber (codes "workers") rows workers.count
+Names asked (Find inputs workers) = (rows : List Row) × (asked ≡ Some (codes "find", rows)) × AreNamed rows inputs × HasNumber (codes "workers") rows workers.count
+Names asked (Live inputs turns) = (rows : List Row) × (asked ≡ Some (codes "live", rows)) × AreNamed rows inputs
     × HasNumber (codes "idle") rows turns.idle × HasNumber (codes "turns") rows turns.most
-Asks asked (Help text) = ⊤
-Asks asked (Usage text) = ⊤
+Names asked (Help page) = ⊥
+Names asked Release = ⊥
+Names asked (Usage text) = ⊥
+
+-- no command is named with all that it needs
+abbrev pub NamesNothing : Option (Text × List Row) → Type 0
+NamesNothing asked = (request : Request) → Names asked request → ⊥
+
+-- one of the kinds is printed on standard error, which help and the release aren't
+abbrev pub IsRefused : Kinds → Type 0
+IsRefused kinds = (k : ErrorKind) × IsAmong k kinds × (k ≢ kind.DisplayHelp) × (k ≢ kind.DisplayVersion)
+
+-- A command is requested by its name, and help and the release by what stands for them. Words are no request where `clap` refuses them for one
+-- of these kinds, or they name no command with all that it needs.
+abbrev pub Asks : Option (Text × List Row) → Kinds → Request → Type 0
+Asks asked kinds (Help page) = IsAmong kind.DisplayHelp kinds
+Asks asked kinds Release = IsAmong kind.DisplayVersion kinds
+Asks asked kinds (Usage text) = IsRefused kinds ⊎ NamesNothing asked
+Asks asked kinds (Check inputs certificate workers) = Names asked (Check inputs certificate workers)
+Asks asked kinds (Audit inputs workers) = Names asked (Audit inputs workers)
+Asks asked kinds (Find inputs workers) = Names asked (Find inputs workers)
+Asks asked kinds (Live inputs turns) = Names asked (Live inputs turns)

@@ -1,17 +1,20 @@
 //! The command line, as clap reads it. Only this file and that of the commands know clap.
 
-ghost use Rattle.std.specs.Prelude.{◌≡◌, IfOk, IfSome, List, Option, Some, codes, map};
-ghost use Rattle.clap.specs.Words.{Row, Text, found_of, rows_of, subcommand_of, subcommand_rows_of};
-ghost use Rattle.audit_program.specs.Words.{AreNamed, Asks, HasNumber, turnaudit};
+ghost use Rattle.std.specs.Prelude.{◌≡◌, ℕ, IfNone, IfOk, IfSome, List, Option, Some, codes, map};
+ghost use Rattle.clap.specs.Words.{HasKind, Kinds, Row, Text, fault_of, found_of, rows_of, subcommand_of, subcommand_rows_of};
+ghost use Rattle.audit_program.specs.declared.command_line.Inputs.{Inputs as AnyInputs};
+ghost use Rattle.audit_files.specs.declared.workers.Workers.{Workers as AnyWorkers};
+ghost use Rattle.audit_program.specs.Words.{AreNamed, Asks, HasNumber, Names, NamesNothing, turnaudit};
 
 use crate::commands::command;
+use crate::pages::{Page, page_of};
 use audit_files::Workers;
 use clap::error::ErrorKind;
 use clap::{ArgMatches, Error};
 use std::alloc::{AllocError, Global};
 use std::convert::AsStr;
 
-/// What is asked for.
+/// What the arguments request.
 #[derive(Drop)]
 pub enum Request<'a> {
     /// Judge captures by a certificate.
@@ -35,8 +38,10 @@ pub enum Request<'a> {
         inputs: Inputs<'a>,
         turns: Turns,
     },
-    /// Tell how to use the program, or its release, on standard output.
-    Help(String),
+    /// Tell how to use the program, on standard output.
+    Help(Page),
+    /// Tell the release, on standard output.
+    Release,
     /// The words are no request; what clap says of it, for standard error.
     Usage(String),
 }
@@ -61,22 +66,25 @@ pub struct Turns {
 
 /// The request that an error of clap stands for, which is no command's.
 fn refused<'a>(alloc: Global, error: Error) -> Result<Request<'a>, AllocError>
-    ensures { (asked : Option (Text × List Row)) → IfOk result (Asks asked) }
+    ensures { (asked : Option (Text × List Row)) (kinds : Kinds) → HasKind kinds error → IfOk result (Asks asked kinds) }
 {
     let text = format!(in alloc; "{error}")?;
     if error.kind() == ErrorKind::OutOfMemory {
         return Err(AllocError);
     }
-    if error.use_stderr() {
-        Ok(Request::Usage(text))
-    } else {
-        Ok(Request::Help(text))
+    if error.kind() == ErrorKind::DisplayHelp {
+        return Ok(Request::Help(page_of(&text).unwrap_or(Page::Program)));
     }
+    if error.kind() == ErrorKind::DisplayVersion {
+        return Ok(Request::Release);
+    }
+    Ok(Request::Usage(text))
 }
 
 /// The files that the words of a command name.
 fn inputs_of<'a>(alloc: Global, matches: &ArgMatches<'a>) -> Result<Option<Inputs<'a>>, AllocError>
-    ensures { IfOk result (λ inputs. IfSome inputs (AreNamed (rows_of (found_of matches.now)))) }
+    ensures named { IfOk result (λ inputs. IfSome inputs (AreNamed (rows_of (found_of matches.now)))) }
+    ensures none { IfOk result (λ inputs. IfNone inputs ((any : AnyInputs) → AreNamed (rows_of (found_of matches.now)) any → ⊥)) }
 {
     let Some(policy) = matches.get_str("policy") else {
         return Ok(None);
@@ -93,32 +101,43 @@ fn inputs_of<'a>(alloc: Global, matches: &ArgMatches<'a>) -> Result<Option<Input
 
 /// The number that the words of a command give an option.
 fn number_of(matches: &ArgMatches<'_>, name: &str) -> Option<u32>
-    ensures { IfSome result (HasNumber name.now (rows_of (found_of matches.now))) }
+    ensures some { IfSome result (HasNumber name.now (rows_of (found_of matches.now))) }
+    ensures none { IfNone result ((number : ℕ) → HasNumber name.now (rows_of (found_of matches.now)) number → ⊥) }
 {
     matches.get_one::<u32>(name)
 }
 
 /// How many workers the words of a command ask for.
 fn workers_of(matches: &ArgMatches<'_>) -> Option<Workers>
-    ensures { IfSome result (λ workers. HasNumber (codes "workers") (rows_of (found_of matches.now)) workers.count) }
+    ensures some { IfSome result (λ workers. HasNumber (codes "workers") (rows_of (found_of matches.now)) workers.count) }
+    ensures none { IfNone result ((any : AnyWorkers) → HasNumber (codes "workers") (rows_of (found_of matches.now)) any.count → ⊥) }
 {
-    Workers::of(number_of(matches, "workers")?)
+    let Some(number) = number_of(matches, "workers") else {
+        return None;
+    };
+    Workers::of(number)
 }
 
 /// When captures that grow have ended, by the words of a command.
 fn turns_of(matches: &ArgMatches<'_>) -> Option<Turns>
-    ensures { IfSome result (λ turns. HasNumber (codes "idle") (rows_of (found_of matches.now)) turns.idle
+    ensures some { IfSome result (λ turns. HasNumber (codes "idle") (rows_of (found_of matches.now)) turns.idle
         × HasNumber (codes "turns") (rows_of (found_of matches.now)) turns.most) }
+    ensures none { IfNone result ((idle most : ℕ) → HasNumber (codes "idle") (rows_of (found_of matches.now)) idle →
+        HasNumber (codes "turns") (rows_of (found_of matches.now)) most → ⊥) }
 {
-    Some(Turns {
-        idle: number_of(matches, "idle")?,
-        most: number_of(matches, "turns")?,
-    })
+    let Some(idle) = number_of(matches, "idle") else {
+        return None;
+    };
+    let Some(most) = number_of(matches, "turns") else {
+        return None;
+    };
+    Some(Turns { idle, most })
 }
 
 /// The words of a command, where it is the one of this name.
 fn words_of<'m, 'a>(matches: &'m ArgMatches<'a>, name: &str) -> Option<&'m ArgMatches<'a>>
-    ensures { IfSome result (λ command. subcommand_rows_of matches.now ≡ Some (name.now, rows_of (found_of command.now))) }
+    ensures some { IfSome result (λ command. subcommand_rows_of matches.now ≡ Some (name.now, rows_of (found_of command.now))) }
+    ensures none { IfNone result ((rows : List Row) → subcommand_rows_of matches.now ≡ Some (name.now, rows) → ⊥) }
 {
     matches.subcommand_matches(name)
 }
@@ -128,9 +147,13 @@ fn audit_request<'a>(
     alloc: Global,
     matches: &ArgMatches<'a>,
 ) -> Result<Option<Request<'a>>, AllocError>
-    ensures { IfOk result (λ request. IfSome request (Asks (Some (codes "audit", rows_of (found_of matches.now))))) }
+    ensures named { IfOk result (λ request. IfSome request (Names (Some (codes "audit", rows_of (found_of matches.now))))) }
+    ensures none { IfOk result (λ request. IfNone request (NamesNothing (Some (codes "audit", rows_of (found_of matches.now))))) }
 {
-    let (Some(inputs), Some(workers)) = (inputs_of(alloc, matches)?, workers_of(matches)) else {
+    let Some(workers) = workers_of(matches) else {
+        return Ok(None);
+    };
+    let Some(inputs) = inputs_of(alloc, matches)? else {
         return Ok(None);
     };
     Ok(Some(Request::Audit { inputs, workers }))
@@ -141,9 +164,13 @@ fn find_request<'a>(
     alloc: Global,
     matches: &ArgMatches<'a>,
 ) -> Result<Option<Request<'a>>, AllocError>
-    ensures { IfOk result (λ request. IfSome request (Asks (Some (codes "find", rows_of (found_of matches.now))))) }
+    ensures named { IfOk result (λ request. IfSome request (Names (Some (codes "find", rows_of (found_of matches.now))))) }
+    ensures none { IfOk result (λ request. IfNone request (NamesNothing (Some (codes "find", rows_of (found_of matches.now))))) }
 {
-    let (Some(inputs), Some(workers)) = (inputs_of(alloc, matches)?, workers_of(matches)) else {
+    let Some(workers) = workers_of(matches) else {
+        return Ok(None);
+    };
+    let Some(inputs) = inputs_of(alloc, matches)? else {
         return Ok(None);
     };
     Ok(Some(Request::Find { inputs, workers }))
@@ -154,9 +181,13 @@ fn live_request<'a>(
     alloc: Global,
     matches: &ArgMatches<'a>,
 ) -> Result<Option<Request<'a>>, AllocError>
-    ensures { IfOk result (λ request. IfSome request (Asks (Some (codes "live", rows_of (found_of matches.now))))) }
+    ensures named { IfOk result (λ request. IfSome request (Names (Some (codes "live", rows_of (found_of matches.now))))) }
+    ensures none { IfOk result (λ request. IfNone request (NamesNothing (Some (codes "live", rows_of (found_of matches.now))))) }
 {
-    let (Some(inputs), Some(turns)) = (inputs_of(alloc, matches)?, turns_of(matches)) else {
+    let Some(turns) = turns_of(matches) else {
+        return Ok(None);
+    };
+    let Some(inputs) = inputs_of(alloc, matches)? else {
         return Ok(None);
     };
     Ok(Some(Request::Live { inputs, turns }))
@@ -167,13 +198,16 @@ fn check_request<'a>(
     alloc: Global,
     matches: &ArgMatches<'a>,
 ) -> Result<Option<Request<'a>>, AllocError>
-    ensures { IfOk result (λ request. IfSome request (Asks (Some (codes "check", rows_of (found_of matches.now))))) }
+    ensures named { IfOk result (λ request. IfSome request (Names (Some (codes "check", rows_of (found_of matches.now))))) }
+    ensures none { IfOk result (λ request. IfNone request (NamesNothing (Some (codes "check", rows_of (found_of matches.now))))) }
 {
-    let (Some(inputs), Some(certificate), Some(workers)) = (
-        inputs_of(alloc, matches)?,
-        matches.get_str("cert"),
-        workers_of(matches),
-    ) else {
+    let Some(certificate) = matches.get_str("cert") else {
+        return Ok(None);
+    };
+    let Some(workers) = workers_of(matches) else {
+        return Ok(None);
+    };
+    let Some(inputs) = inputs_of(alloc, matches)? else {
         return Ok(None);
     };
     Ok(Some(Request::Check {
@@ -188,7 +222,8 @@ fn request_of<'a>(
     alloc: Global,
     matches: &ArgMatches<'a>,
 ) -> Result<Option<Request<'a>>, AllocError>
-    ensures { IfOk result (λ request. IfSome request (Asks (subcommand_rows_of matches.now))) }
+    ensures named { IfOk result (λ request. IfSome request (Names (subcommand_rows_of matches.now))) }
+    ensures none { IfOk result (λ request. IfNone request (NamesNothing (subcommand_rows_of matches.now))) }
 {
     if let Some(audit) = words_of(matches, "audit") {
         return audit_request(alloc, audit);
@@ -207,7 +242,7 @@ fn request_of<'a>(
 
 /// Reads the words, the first of which is the program's name.
 pub fn read<'a, N: AsStr>(alloc: Global, words: &'a [N]) -> Result<Request<'a>, AllocError>
-    ensures { IfOk result (Asks (subcommand_of turnaudit (map N.text words.now))) }
+    ensures { IfOk result (Asks (subcommand_of turnaudit (map N.text words.now)) (fault_of turnaudit (map N.text words.now))) }
 {
     let matches = match command(alloc)?.try_get_matches_from(words) {
         Ok(matches) => matches,

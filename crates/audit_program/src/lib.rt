@@ -8,6 +8,7 @@ mod growing;
 mod horizon;
 mod live;
 mod outlook;
+mod pages;
 mod running;
 mod writing;
 

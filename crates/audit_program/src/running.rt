@@ -10,6 +10,7 @@ use crate::command_line::{Inputs, Request, read as read_words};
 use crate::finding::{certificate_for, found_either_way};
 use crate::growing::Growing;
 use crate::live::run_live;
+use crate::pages::release;
 use crate::writing::{put_line, put_text};
 use audit_cert::write_parallel;
 use audit_files::{Source, Stop, Workers, check_files, read_files, tell};
@@ -136,8 +137,12 @@ fn run_request<
             *turns,
             out,
         ),
-        Request::Help(text) => {
-            put_text(out, text.as_str())?;
+        Request::Help(page) => {
+            put_text(out, page.text())?;
+            Ok(0)
+        }
+        Request::Release => {
+            put_text(out, release())?;
             Ok(0)
         }
         Request::Usage(text) => {
