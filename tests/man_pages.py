@@ -105,7 +105,8 @@ def section_of(text, title):
 def help_of(program):
     """The program's commands, what the program and each command take, and the statuses, as help tells them."""
     own = said_by(program, "--help").stdout
-    commands = {line.split()[0] for line in section_of(own, "Commands") if line.strip()}
+    # What is said of a command may go on in a line that stands further in.
+    commands = {line.split()[0] for line in section_of(own, "Commands") if re.match(r"  \S", line)}
     statuses = {line.split()[0] for line in section_of(own, "Exit status(?:, that of turnaudit)?") if line.strip()}
     takes = {None: words_of(own)}
     for command in commands - {"help"}:
@@ -113,11 +114,22 @@ def help_of(program):
     return commands, takes, statuses
 
 
+def try_help(tries, called, program, commands):
+    """Each page of help has lines of at most 80 characters, and `help NAME` prints that of `NAME --help`."""
+    for name in sorted(commands - {"help"}):
+        page = said_by(program, name, "--help").stdout
+        tries.same(f"{called} help {name}", page, said_by(program, "help", name).stdout)
+        tries.same(f"{called} help {name} within 80 columns", [], [line for line in page.splitlines() if len(line) > 80])
+    own = said_by(program, "--help").stdout
+    tries.same(f"help of {called}", own, said_by(program, "-h").stdout)
+    tries.same(f"help of {called} within 80 columns", [], [line for line in own.splitlines() if len(line) > 80])
+
+
 def words_of(text):
     """The options that stand in front of what is said of them, each with the name of its value, and under None the name of the arguments."""
     argument = re.search(r"^Arguments:\n  [<\[](\w+)", text, re.M)
     words = {None: argument[1] if argument else ""}
-    for head in (line.strip().partition("  ")[0] for line in section_of(text, "Options")):
+    for head in (line.strip().partition("  ")[0] for line in section_of(text, "Options") if line.lstrip().startswith("-")):
         words.update(dict.fromkeys(OPTION.findall(head), head.partition(" <")[2].rstrip(">")))
     return words
 
@@ -277,6 +289,7 @@ def main():
     tries.same("the commands of the help", set(COMMANDS) | {"help"}, help_of(program)[0])
     for name, each in (("turnaudit", program), ("turnprep", prepares), ("turnexplain", explains)):
         commands, takes, statuses = help_of(each)
+        try_help(tries, name, each, commands)
         try_page(tries, name, commands, takes, statuses)
         with in_scratch():
             for shell in shells:

@@ -1,1 +1,4 @@
 pub mod Explained
+pub mod Pages
+pub mod Words
+pub mod Answered

@@ -1,30 +1,39 @@
 //! The command line, as clap reads it. No file but this one and `commands` knows clap.
 
+ghost use Rattle.std.specs.Prelude.{◌≡◌, ℕ, true, false, IfNone, IfOk, IfSome, List, Option, Some, codes, map, option_map};
+ghost use Rattle.clap.specs.Words.{HasKind, Kinds, Row, Text, fault_of, found_of, rows_of, subcommand_of, subcommand_rows_of};
+ghost use Rattle.explain_program.specs.declared.command_line.Inputs.{Inputs as AnyInputs};
+ghost use Rattle.audit_files.specs.declared.workers.Workers.{Workers as AnyWorkers};
+ghost use Rattle.explain_program.specs.Words.{AreNamed, Asks, HasFlag, HasNumber, HasOptions, Names, NamesNothing, command_name, turnexplain};
+
 use crate::commands::command;
+use crate::pages::{Page, page_of};
 use audit_files::Workers;
 use clap::error::ErrorKind;
 use clap::{ArgMatches, Error};
 use std::alloc::{AllocError, Global};
 use std::convert::AsStr;
 
-/// What is asked for.
+/// What the arguments request.
 #[derive(Drop)]
 pub enum Request<'a> {
-    /// Judge captures, and tell of the verdict what is asked.
+    /// Judge captures, and print what is requested of the verdict.
     Explain { inputs: Inputs<'a>, asked: Asked },
     /// The same, as JSON.
     AsJson { inputs: Inputs<'a>, asked: Asked },
-    /// Tell what no order of the captures explains.
+    /// Print what no order of the captures explains.
     Faults { inputs: Inputs<'a> },
     /// Judge captures, and write the page that is filed to a new file.
     Evidence { inputs: Inputs<'a>, file: &'a str },
-    /// Tell how to use the program, or its release, on standard output.
-    Help(String),
+    /// Print how to use the program, on standard output.
+    Help(Page),
+    /// Print the release, on standard output.
+    Release,
     /// The words are no request; what clap says of it, for standard error.
     Usage(String),
 }
 
-/// What is asked of a verdict.
+/// What is requested of a verdict.
 #[derive(Clone, Copy)]
 pub enum Asked {
     /// What it means.
@@ -47,25 +56,58 @@ pub struct Inputs<'a> {
     pub workers: Workers,
 }
 
-/// The request that an error of clap stands for.
-fn refused<'a>(alloc: Global, error: Error) -> Result<Request<'a>, AllocError> {
+/// The request that an error of clap stands for, which is no command's.
+fn refused<'a>(alloc: Global, error: Error) -> Result<Request<'a>, AllocError>
+    ensures { (named : Option (Text × List Row)) (kinds : Kinds) → HasKind kinds error → IfOk result (Asks named kinds) }
+{
     let text = format!(in alloc; "{error}")?;
     if error.kind() == ErrorKind::OutOfMemory {
         return Err(AllocError);
     }
-    if error.use_stderr() {
-        Ok(Request::Usage(text))
-    } else {
-        Ok(Request::Help(text))
+    if error.kind() == ErrorKind::DisplayHelp {
+        return Ok(Request::Help(page_of(&text).unwrap_or(Page::Program)));
     }
+    if error.kind() == ErrorKind::DisplayVersion {
+        return Ok(Request::Release);
+    }
+    Ok(Request::Usage(text))
 }
 
-/// The files that the words of a command name, beside a certificate.
+/// The number that the words of a command give an option.
+fn number_of(matches: &ArgMatches<'_>, name: &str) -> Option<u32>
+    ensures some { IfSome result (HasNumber name.now (rows_of (found_of matches.now))) }
+    ensures none { IfNone result ((number : ℕ) → HasNumber name.now (rows_of (found_of matches.now)) number → ⊥) }
+{
+    matches.get_one::<u32>(name)
+}
+
+/// Whether the words of a command give an option without a value.
+fn flag_of(matches: &ArgMatches<'_>, name: &str) -> bool
+    ensures { HasFlag name.now (rows_of (found_of matches.now)) result }
+{
+    matches.get_flag(name)
+}
+
+/// How many workers the words of a command ask for.
+fn workers_of(matches: &ArgMatches<'_>) -> Option<Workers>
+    ensures some { IfSome result (λ workers. HasNumber (codes "workers") (rows_of (found_of matches.now)) workers.count) }
+    ensures none { IfNone result ((any : AnyWorkers) → HasNumber (codes "workers") (rows_of (found_of matches.now)) any.count → ⊥) }
+{
+    let Some(number) = number_of(matches, "workers") else {
+        return None;
+    };
+    Workers::of(number)
+}
+
+/// The files that the words of a command name, in addition to a certificate.
 fn inputs_with<'a>(
     alloc: Global,
     matches: &ArgMatches<'a>,
     certificate: Option<&'a str>,
-) -> Result<Option<Inputs<'a>>, AllocError> {
+) -> Result<Option<Inputs<'a>>, AllocError>
+    ensures named { IfOk result (λ inputs. IfSome inputs (λ named. AreNamed (rows_of (found_of matches.now)) named × (named.certificate ≡ certificate.entry))) }
+    ensures none { IfOk result (λ inputs. IfNone inputs ((any : AnyInputs) → AreNamed (rows_of (found_of matches.now)) any → ⊥)) }
+{
     let Some(policy) = matches.get_str("policy") else {
         return Ok(None);
     };
@@ -84,47 +126,70 @@ fn inputs_with<'a>(
     }))
 }
 
-/// The files that the words of a command name.
-fn inputs_of<'a>(
+/// The words of a command, where it is the one of this name.
+fn words_of<'m, 'a>(matches: &'m ArgMatches<'a>, name: &str) -> Option<&'m ArgMatches<'a>>
+    ensures some { IfSome result (λ command. subcommand_rows_of matches.now ≡ Some (name.now, rows_of (found_of command.now))) }
+    ensures none { IfNone result ((rows : List Row) → subcommand_rows_of matches.now ≡ Some (name.now, rows) → ⊥) }
+{
+    matches.subcommand_matches(name)
+}
+
+/// What the words of a command ask of a verdict.
+fn explain_request<'a>(
     alloc: Global,
     matches: &ArgMatches<'a>,
-) -> Result<Option<Inputs<'a>>, AllocError> {
-    inputs_with(alloc, matches, matches.get_str("cert"))
-}
-
-/// How many workers the words of a command ask for.
-fn workers_of(matches: &ArgMatches<'_>) -> Option<Workers> {
-    Workers::of(matches.get_one::<u32>("workers")?)
-}
-
-/// The client that the words of the command `client` ask for.
-fn client_of(matches: &ArgMatches<'_>) -> Option<Asked> {
-    Some(Asked::Client {
-        lane: matches.get_one::<u32>("lane")?,
-        around: matches.get_one::<u32>("around")?,
-    })
-}
-
-/// The request that the words of a command are.
-fn asked_of<'a>(
-    alloc: Global,
-    matches: &ArgMatches<'a>,
-    asked: Option<Asked>,
-) -> Result<Option<Request<'a>>, AllocError> {
-    let (Some(inputs), Some(asked)) = (inputs_of(alloc, matches)?, asked) else {
+    asked: Asked,
+) -> Result<Option<Request<'a>>, AllocError>
+    ensures named { HasOptions (rows_of (found_of matches.now)) asked →
+        IfOk result (λ request. IfSome request (Names (Some (command_name asked, rows_of (found_of matches.now))))) }
+    ensures none { IfOk result (λ request. IfNone request (NamesNothing (Some (command_name asked, rows_of (found_of matches.now))))) }
+{
+    let Some(inputs) = inputs_with(alloc, matches, matches.get_str("cert"))? else {
         return Ok(None);
     };
-    if matches.get_flag("json") {
+    if flag_of(matches, "json") {
         return Ok(Some(Request::AsJson { inputs, asked }));
     }
     Ok(Some(Request::Explain { inputs, asked }))
 }
 
-/// The request that the words of the command `faults` are.
-fn faults_of<'a>(
+/// The request that the words of the command `lanes` are.
+fn lanes_request<'a>(
     alloc: Global,
     matches: &ArgMatches<'a>,
-) -> Result<Option<Request<'a>>, AllocError> {
+) -> Result<Option<Request<'a>>, AllocError>
+    ensures named { IfOk result (λ request. IfSome request (Names (Some (codes "lanes", rows_of (found_of matches.now))))) }
+    ensures none { IfOk result (λ request. IfNone request (NamesNothing (Some (codes "lanes", rows_of (found_of matches.now))))) }
+{
+    let broken = flag_of(matches, "broken");
+    explain_request(alloc, matches, Asked::Lanes { broken })
+}
+
+/// The request that the words of the command `client` are.
+fn client_request<'a>(
+    alloc: Global,
+    matches: &ArgMatches<'a>,
+) -> Result<Option<Request<'a>>, AllocError>
+    ensures named { IfOk result (λ request. IfSome request (Names (Some (codes "client", rows_of (found_of matches.now))))) }
+    ensures none { IfOk result (λ request. IfNone request (NamesNothing (Some (codes "client", rows_of (found_of matches.now))))) }
+{
+    let Some(lane) = number_of(matches, "lane") else {
+        return Ok(None);
+    };
+    let Some(around) = number_of(matches, "around") else {
+        return Ok(None);
+    };
+    explain_request(alloc, matches, Asked::Client { lane, around })
+}
+
+/// The request that the words of the command `faults` are.
+fn faults_request<'a>(
+    alloc: Global,
+    matches: &ArgMatches<'a>,
+) -> Result<Option<Request<'a>>, AllocError>
+    ensures named { IfOk result (λ request. IfSome request (Names (Some (codes "faults", rows_of (found_of matches.now))))) }
+    ensures none { IfOk result (λ request. IfNone request (NamesNothing (Some (codes "faults", rows_of (found_of matches.now))))) }
+{
     let Some(inputs) = inputs_with(alloc, matches, None)? else {
         return Ok(None);
     };
@@ -132,42 +197,52 @@ fn faults_of<'a>(
 }
 
 /// The request that the words of the command `evidence` are.
-fn evidence_of<'a>(
+fn evidence_request<'a>(
     alloc: Global,
     matches: &ArgMatches<'a>,
-) -> Result<Option<Request<'a>>, AllocError> {
-    let (Some(inputs), Some(file)) = (inputs_of(alloc, matches)?, matches.get_str("output")) else {
+) -> Result<Option<Request<'a>>, AllocError>
+    ensures named { IfOk result (λ request. IfSome request (Names (Some (codes "evidence", rows_of (found_of matches.now))))) }
+    ensures none { IfOk result (λ request. IfNone request (NamesNothing (Some (codes "evidence", rows_of (found_of matches.now))))) }
+{
+    let Some(file) = matches.get_str("output") else {
+        return Ok(None);
+    };
+    let Some(inputs) = inputs_with(alloc, matches, matches.get_str("cert"))? else {
         return Ok(None);
     };
     Ok(Some(Request::Evidence { inputs, file }))
 }
 
-/// The request that the words are.
+/// The request that the words of a command are.
 fn request_of<'a>(
     alloc: Global,
     matches: &ArgMatches<'a>,
-) -> Result<Option<Request<'a>>, AllocError> {
-    if let Some(verdict) = matches.subcommand_matches("verdict") {
-        return asked_of(alloc, verdict, Some(Asked::Verdict));
+) -> Result<Option<Request<'a>>, AllocError>
+    ensures named { IfOk result (λ request. IfSome request (Names (subcommand_rows_of matches.now))) }
+    ensures none { IfOk result (λ request. IfNone request (NamesNothing (subcommand_rows_of matches.now))) }
+{
+    if let Some(verdict) = words_of(matches, "verdict") {
+        return explain_request(alloc, verdict, Asked::Verdict);
     }
-    if let Some(lanes) = matches.subcommand_matches("lanes") {
-        let broken = lanes.get_flag("broken");
-        return asked_of(alloc, lanes, Some(Asked::Lanes { broken }));
+    if let Some(lanes) = words_of(matches, "lanes") {
+        return lanes_request(alloc, lanes);
     }
-    if let Some(client) = matches.subcommand_matches("client") {
-        return asked_of(alloc, client, client_of(client));
+    if let Some(client) = words_of(matches, "client") {
+        return client_request(alloc, client);
     }
-    if let Some(faults) = matches.subcommand_matches("faults") {
-        return faults_of(alloc, faults);
+    if let Some(faults) = words_of(matches, "faults") {
+        return faults_request(alloc, faults);
     }
-    if let Some(evidence) = matches.subcommand_matches("evidence") {
-        return evidence_of(alloc, evidence);
+    if let Some(evidence) = words_of(matches, "evidence") {
+        return evidence_request(alloc, evidence);
     }
     Ok(None)
 }
 
 /// Reads the words, the first of which is the program's name.
-pub fn read<'a, N: AsStr>(alloc: Global, words: &'a [N]) -> Result<Request<'a>, AllocError> {
+pub fn read<'a, N: AsStr>(alloc: Global, words: &'a [N]) -> Result<Request<'a>, AllocError>
+    ensures { IfOk result (Asks (subcommand_of turnexplain (map N.text words.now)) (fault_of turnexplain (map N.text words.now))) }
+{
     let matches = match command(alloc)?.try_get_matches_from(words) {
         Ok(matches) => matches,
         Err(error) => return refused(alloc, error),

@@ -1,204 +1,202 @@
-//! The commands and their options, as clap has them. Each option is made where it is added: one that waits in a variable would be let go on
-//! each way out of the function, and each of these is proved.
+//! The commands and their options, as clap has them. Their help is that of the pages. Each option is made where it is added: one that waits
+//! in a variable would be let go on each way out of the function, and each of these is proved.
 
-use crate::help_texts::{
-    ABOUT, ABOUT_CLIENT, ABOUT_EVIDENCE, ABOUT_FAULTS, ABOUT_LANES, ABOUT_VERDICT, EXAMPLE_CLIENT,
-    EXAMPLE_EVIDENCE, EXAMPLE_FAULTS, EXAMPLE_LANES, EXAMPLE_VERDICT, STATUSES, VERSION,
-};
+ghost use Rattle.std.specs.Prelude.{◌≡◌, ◌≤◌, pos, false, IfOk};
+ghost use Rattle.clap.specs.Words.{app_of, rule_of};
+ghost use Rattle.clap.specs.declared.builder.Command.TheViews.{out-Command as fields_of};
+ghost use Rattle.explain_program.specs.Words as words;
+
+use crate::pages::{Page, release};
 use clap::{Arg, ArgAction, Command};
 use std::alloc::{AllocError, Global};
 
 /// An option with the name of a file.
-fn file_option<'a>(alloc: Global, name: &'a str, value: &'a str, help: &'a str) -> Arg<'a> {
+fn file_option<'a>(alloc: Global, name: &'a str, value: &'a str) -> Arg<'a>
+    ensures rule { rule_of result ≡ words.valued name.entry.now }
+    ensures local { result.global ≡ false }
+{
     Arg::new(alloc, name)
         .long(name)
         .value_name(value)
-        .help(help)
         .action(ArgAction::Set)
 }
 
 /// An option without a value.
-fn flag<'a>(alloc: Global, name: &'a str, help: &'a str) -> Arg<'a> {
-    Arg::new(alloc, name)
-        .long(name)
-        .help(help)
-        .action(ArgAction::SetTrue)
+fn flag<'a>(alloc: Global, name: &'a str) -> Arg<'a>
+    ensures rule { rule_of result ≡ words.flag name.entry.now }
+    ensures local { result.global ≡ false }
+{
+    Arg::new(alloc, name).long(name).action(ArgAction::SetTrue)
 }
 
 /// The option with the policy.
-fn policy_option<'a>(alloc: Global) -> Arg<'a> {
-    file_option(
-        alloc,
-        "policy",
-        "POLICY",
-        "Which endpoints are the server's",
-    )
-    .required(true)
+fn policy_option<'a>(alloc: Global) -> Arg<'a>
+    ensures rule { rule_of result ≡ words.policy }
+    ensures local { result.global ≡ false }
+{
+    file_option(alloc, "policy", "POLICY").required(true)
 }
 
 /// The option with the users.
-fn users_option<'a>(alloc: Global) -> Arg<'a> {
-    file_option(
-        alloc,
-        "creds",
-        "CREDENTIALS",
-        "The server's users and their passwords; without it there are none",
-    )
+fn users_option<'a>(alloc: Global) -> Arg<'a>
+    ensures rule { rule_of result ≡ words.users }
+    ensures local { result.global ≡ false }
+{
+    file_option(alloc, "creds", "CREDENTIALS")
 }
 
 /// The option with the certificate.
-fn certificate_option<'a>(alloc: Global) -> Arg<'a> {
-    file_option(
-        alloc,
-        "cert",
-        "CERTIFICATE",
-        "The certificate to judge by; without it one is found, as turnaudit audit does",
-    )
+fn certificate_option<'a>(alloc: Global) -> Arg<'a>
+    ensures rule { rule_of result ≡ words.certificate }
+    ensures local { result.global ≡ false }
+{
+    file_option(alloc, "cert", "CERTIFICATE")
 }
 
 /// The option with the number of workers.
-fn workers_option<'a>(alloc: Global) -> Arg<'a> {
+fn workers_option<'a>(alloc: Global) -> Arg<'a>
+    ensures rule { rule_of result ≡ words.workers }
+    ensures local { result.global ≡ false }
+{
     Arg::new(alloc, "workers")
         .long("workers")
         .value_name("N")
-        .help("How many threads go to work at once, 1 to 256; the answer is the same")
         .default_value("1")
         .action(ArgAction::Set)
         .value_parser(clap::value_parser!(u32).range(1..=256))
 }
 
 /// The captures that a command reads.
-fn captures_argument<'a>(alloc: Global) -> Arg<'a> {
+fn captures_argument<'a>(alloc: Global) -> Arg<'a>
+    ensures rule { rule_of result ≡ words.captures }
+    ensures local { result.global ≡ false }
+{
     Arg::new(alloc, "captures")
         .value_name("CAPTURE")
-        .help(
-            "Captures of the server's interfaces, as dumpcap writes them; their order numbers them from 0",
-        )
         .required(true)
         .num_args(1..)
         .action(ArgAction::Append)
 }
 
 /// The command of that name, with the options that all commands have.
-fn reading_command<'a>(
-    alloc: Global,
-    name: &'a str,
-    about: &'a str,
-    example: &'a str,
-) -> Result<Command<'a>, AllocError> {
+fn reading_command<'a>(alloc: Global, name: &'a str, page: Page) -> Result<Command<'a>, AllocError>
+    ensures app { IfOk result (λ command. app_of command ≡ words.reading name.entry.now) }
+    ensures local { IfOk result (λ command. (fields_of command).has_globals ≡ false) }
+{
     Command::new(alloc, name)
-        .about(about)
-        .after_help(example)
+        .override_help(page.text())
         .arg(policy_option(alloc))?
         .arg(users_option(alloc))
 }
 
 /// The command of that name, which judges captures by a certificate.
-fn command_of<'a>(
-    alloc: Global,
-    name: &'a str,
-    about: &'a str,
-    example: &'a str,
-) -> Result<Command<'a>, AllocError> {
-    reading_command(alloc, name, about, example)?
+fn judging_command<'a>(alloc: Global, name: &'a str, page: Page) -> Result<Command<'a>, AllocError>
+    ensures app { IfOk result (λ command. app_of command ≡ words.judging name.entry.now) }
+    ensures local { IfOk result (λ command. (fields_of command).has_globals ≡ false) }
+{
+    reading_command(alloc, name, page)?
         .arg(certificate_option(alloc))?
         .arg(workers_option(alloc))?
         .arg(captures_argument(alloc))
 }
 
-/// The option by which an answer is JSON.
-fn json_option<'a>(alloc: Global) -> Arg<'a> {
-    flag(
-        alloc,
-        "json",
-        "One JSON object in place of the text (docs/JSON.md)",
-    )
-}
-
 /// The command of that name whose answer may be JSON.
-fn json_command<'a>(
-    alloc: Global,
-    name: &'a str,
-    about: &'a str,
-    example: &'a str,
-) -> Result<Command<'a>, AllocError> {
-    command_of(alloc, name, about, example)?.arg(json_option(alloc))
+fn telling_command<'a>(alloc: Global, name: &'a str, page: Page) -> Result<Command<'a>, AllocError>
+    ensures app { IfOk result (λ command. app_of command ≡ words.telling name.entry.now) }
+    ensures local { IfOk result (λ command. (fields_of command).has_globals ≡ false) }
+{
+    judging_command(alloc, name, page)?.arg(flag(alloc, "json"))
 }
 
-/// The option of `lanes` that leaves out whom no rule is broken for.
-fn broken_option<'a>(alloc: Global) -> Arg<'a> {
-    flag(alloc, "broken", "Only the clients that break a rule")
-}
-
-/// The command `lanes`.
-fn lanes_command<'a>(alloc: Global) -> Result<Command<'a>, AllocError> {
-    json_command(alloc, "lanes", ABOUT_LANES, EXAMPLE_LANES)?.arg(broken_option(alloc))
+/// The command `lanes`, one option of which leaves out whom no rule is broken for.
+fn lanes_command<'a>(alloc: Global) -> Result<Command<'a>, AllocError>
+    ensures app { IfOk result (λ command. app_of command ≡ words.lanes) }
+    ensures local { IfOk result (λ command. (fields_of command).has_globals ≡ false) }
+{
+    telling_command(alloc, "lanes", Page::Lanes)?.arg(flag(alloc, "broken"))
 }
 
 /// The option of `client` with the client's number.
-fn lane_option<'a>(alloc: Global) -> Arg<'a> {
+fn lane_option<'a>(alloc: Global) -> Arg<'a>
+    ensures rule { rule_of result ≡ words.lane }
+    ensures local { result.global ≡ false }
+{
     Arg::new(alloc, "lane")
         .long("lane")
         .value_name("N")
-        .help("The client's lane, as the commands verdict and lanes tell it, 0 to 65535")
         .required(true)
         .action(ArgAction::Set)
         .value_parser(clap::value_parser!(u32).range(0..=65_535))
 }
 
-/// The option of `client` that says how many events are told.
-fn around_option<'a>(alloc: Global) -> Arg<'a> {
+/// The option of `client` that says how many events are printed.
+fn around_option<'a>(alloc: Global) -> Arg<'a>
+    ensures rule { rule_of result ≡ words.around }
+    ensures local { result.global ≡ false }
+{
     Arg::new(alloc, "around")
         .long("around")
         .value_name("N")
-        .help(
-            "How many events each side of its first breach, 0 to 1000000; of a client that passes all are told",
-        )
         .default_value("20")
         .action(ArgAction::Set)
         .value_parser(clap::value_parser!(u32).range(0..=1_000_000))
 }
 
 /// The command `client`.
-fn client_command<'a>(alloc: Global) -> Result<Command<'a>, AllocError> {
-    json_command(alloc, "client", ABOUT_CLIENT, EXAMPLE_CLIENT)?
+fn client_command<'a>(alloc: Global) -> Result<Command<'a>, AllocError>
+    ensures app { IfOk result (λ command. app_of command ≡ words.client) }
+    ensures local { IfOk result (λ command. (fields_of command).has_globals ≡ false) }
+{
+    telling_command(alloc, "client", Page::Client)?
         .arg(lane_option(alloc))?
         .arg(around_option(alloc))
 }
 
 /// The option of `evidence` with the file that is made.
-fn output_option<'a>(alloc: Global) -> Arg<'a> {
-    file_option(
-        alloc,
-        "output",
-        "FILE",
-        "The page, an HTML file; one that is there is never written over",
-    )
-    .short('o')
-    .required(true)
+fn output_option<'a>(alloc: Global) -> Arg<'a>
+    ensures rule { rule_of result ≡ words.output }
+    ensures local { result.global ≡ false }
+{
+    file_option(alloc, "output", "FILE")
+        .short('o')
+        .required(true)
 }
 
 /// The command `evidence`.
-fn evidence_command<'a>(alloc: Global) -> Result<Command<'a>, AllocError> {
-    command_of(alloc, "evidence", ABOUT_EVIDENCE, EXAMPLE_EVIDENCE)?.arg(output_option(alloc))
+fn evidence_command<'a>(alloc: Global) -> Result<Command<'a>, AllocError>
+    ensures app { IfOk result (λ command. app_of command ≡ words.evidence) }
+    ensures local { IfOk result (λ command. (fields_of command).has_globals ≡ false) }
+{
+    judging_command(alloc, "evidence", Page::Evidence)?.arg(output_option(alloc))
 }
 
-/// The command `faults`, which needs no certificate: what it tells holds of each.
-fn faults_command<'a>(alloc: Global) -> Result<Command<'a>, AllocError> {
-    reading_command(alloc, "faults", ABOUT_FAULTS, EXAMPLE_FAULTS)?
+/// The command `faults`, which needs no certificate: what it prints holds of each.
+fn faults_command<'a>(alloc: Global) -> Result<Command<'a>, AllocError>
+    ensures app { IfOk result (λ command. app_of command ≡ words.faults) }
+    ensures local { IfOk result (λ command. (fields_of command).has_globals ≡ false) }
+{
+    reading_command(alloc, "faults", Page::Faults)?
         .arg(workers_option(alloc))?
         .arg(captures_argument(alloc))
 }
 
-/// The whole command line.
-pub fn command<'a>(alloc: Global) -> Result<Command<'a>, AllocError> {
+/// The program, without its commands.
+fn program<'a>(alloc: Global) -> Command<'a>
+    ensures app { app_of result ≡ words.program }
+{
     Command::new(alloc, "turnexplain")
-        .version(VERSION)
-        .about(ABOUT)
-        .after_help(STATUSES)
+        .version(release())
+        .override_help(Page::Program.text())
         .arg_required_else_help(true)
         .subcommand_required(true)
-        .subcommand(json_command(alloc, "verdict", ABOUT_VERDICT, EXAMPLE_VERDICT)?)?
+}
+
+/// The whole command line.
+pub fn command<'a>(alloc: Global) -> Result<Command<'a>, AllocError>
+    ensures { IfOk result (λ command. app_of command ≡ words.turnexplain) }
+{
+    program(alloc)
+        .subcommand(telling_command(alloc, "verdict", Page::Verdict)?)?
         .subcommand(lanes_command(alloc)?)?
         .subcommand(client_command(alloc)?)?
         .subcommand(faults_command(alloc)?)?

@@ -9,12 +9,12 @@ use crate::command_line::Inputs;
 use crate::explaining::{case_of, status};
 use crate::frames::look_up;
 use crate::head::{head, put_answer};
-use crate::help_texts::VERSION;
 use crate::host::PageFile;
 use crate::judged::{Judged, judge_files};
 use crate::lanes::breach_of;
 use crate::named::{NamedFile, NamedUser, named_files, plain_lines, users_in};
 use crate::page_rows::{Clients, bars_of, client_rows, file_rows, picture_of, user_rows};
+use crate::pages::version;
 use crate::picture::{Drawing, drawing_of};
 use crate::reading::{digests_of, text_of};
 use crate::verdict::{story_in, verdict_lines};
@@ -211,7 +211,7 @@ fn page<S: Source>(
         clients: clients.as_slice(),
         all_clients: gathered.clients.all,
         sums: gathered.clients.sums.as_str(),
-        release: VERSION,
+        release: version(),
         program,
         headline: HEADLINE,
         picture,

@@ -1,10 +1,15 @@
 //! The whole program as a function.
 
+ghost use Rattle.std.specs.Prelude.{◌≡◌, OnOk, map};
+ghost use Rattle.audit_model.specs.Sink.{followed_by};
+ghost use Rattle.explain_program.specs.Answered.{Answers, IsRun};
+
 use crate::as_json::explain_as_json;
 use crate::command_line::{Inputs, Request, read as read_words};
 use crate::evidence::evidence;
 use crate::explaining::explain;
 use crate::host::{Explaining, PageFile};
+use crate::pages::release;
 use crate::refusal::refusal;
 use audit_files::Stop;
 use audit_finding::CertificateFinder;
@@ -15,7 +20,15 @@ use std::convert::AsStr;
 use std::sync::Wait;
 use std::thread::Threads;
 
-/// Does what is asked for, and gives the exit status.
+/// Puts a text.
+fn put_text<W: Sink>(sink: &mut W, text: &str) -> Result<(), Stop>
+    ensures { OnOk result (W.taken sink.new ≡ followed_by (W.taken sink.old) text.now) }
+{
+    put_all(sink, text.as_bytes())?;
+    Ok(())
+}
+
+/// Does what is requested, and returns the exit status.
 fn run_request<
     R: Threads + Wait + Sync,
     F: CertificateFinder,
@@ -32,7 +45,10 @@ fn run_request<
     pages: &mut P,
     out: &mut O,
     err: &mut E,
-) -> Result<u8, Stop> {
+) -> Result<u8, Stop>
+    ensures { Answers (S.holds source.old)
+        (record { before = O.taken out.old; after = O.taken out.new; said_before = E.taken err.old; said_after = E.taken err.new }) request.now result }
+{
     match request {
         Request::Explain { inputs, asked } => explain(
             rt,
@@ -73,12 +89,16 @@ fn run_request<
         Request::Evidence { inputs, file } => {
             evidence(rt, alloc, finder, source, inputs, file, pages, out)
         }
-        Request::Help(text) => {
-            put_all(out, text.as_bytes())?;
+        Request::Help(page) => {
+            put_text(out, page.text())?;
+            Ok(0)
+        }
+        Request::Release => {
+            put_text(out, release())?;
             Ok(0)
         }
         Request::Usage(text) => {
-            put_all(err, text.as_bytes())?;
+            put_text(err, text.as_str())?;
             Ok(5)
         }
     }
@@ -91,7 +111,7 @@ fn inputs_of<'r, 'a>(request: &'r Request<'a>) -> Option<&'r Inputs<'a>> {
         | Request::AsJson { inputs, .. }
         | Request::Faults { inputs }
         | Request::Evidence { inputs, .. } => Some(inputs),
-        Request::Help(_) | Request::Usage(_) => None,
+        Request::Help(_) | Request::Release | Request::Usage(_) => None,
     }
 }
 
@@ -145,7 +165,10 @@ pub fn run<
     pages: &mut P,
     out: &mut O,
     err: &mut E,
-) -> u8 {
+) -> u8
+    ensures { IsRun (map N.text words.now) (S.holds source.old)
+        (record { before = O.taken out.old; after = O.taken out.new; said_before = E.taken err.old; said_after = E.taken err.new }) result }
+{
     let request = match read_words(alloc, words) {
         Ok(request) => request,
         Err(_) => {

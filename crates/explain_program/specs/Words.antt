@@ -1,0 +1,151 @@
+-- What words ask for: the program's commands as they are written, and their values by what `clap` says of such commands.
+use Rattle.std.specs.Prelude.{◌≡◌, ◌≢◌, ◌⊎◌, ⊤, ℕ, Bool, pos, true, false, List, [], ◌∷◌, Option, Some, None, Ok, map, option_map, codes}
+use Rattle.std.specs.Str.Parse.{ParsesUnsigned}
+use Rattle.clap.specs.Lexer.{usize_max}
+use Rattle.clap.specs.Words.{App, IsAmong, Kinds, Row, Rule, Text, all_of, first_of, new_app, new_rule, one_of, with_rule, with_subcommand}
+use Rattle.clap.specs.declared.builder.action.ArgAction.TheVariants.{Append, Set, SetTrue}
+use Rattle.clap.specs.declared.builder.value_parser.ValueParser.TheVariants.{Signed}
+use Rattle.clap.specs.declared.error.kind.ErrorKind.{ErrorKind}
+use Rattle.clap.specs.declared.error.kind.ErrorKind.TheVariants as kind
+use Rattle.explain_program.specs.declared.command_line.Asked.{Asked}
+use Rattle.explain_program.specs.declared.command_line.Asked.TheVariants.{Verdict, Lanes, Client}
+use Rattle.explain_program.specs.declared.command_line.Inputs.{Inputs}
+use Rattle.explain_program.specs.declared.command_line.Request.{Request}
+use Rattle.explain_program.specs.declared.command_line.Request.TheVariants.{Explain, AsJson, Faults, Evidence, Help, Release, Usage}
+
+-- an option that takes a value
+abbrev pub valued : Text → Rule
+valued name = record (new_rule name) { long = Some name; value_names = 1; action = Some Set }
+
+-- an option without a value
+abbrev pub flag : Text → Rule
+flag name = record (new_rule name) { long = Some name; action = Some SetTrue }
+
+-- an option that takes a number in a range
+abbrev pub counted : Text → List Text → ℕ → ℕ → Rule
+counted name defaults least most = record (valued name) { defaults = defaults; parser = Some (Signed (pos least) (pos most)) }
+
+abbrev pub policy : Rule
+policy = record (valued (codes "policy")) { required = true }
+
+abbrev pub users : Rule
+users = valued (codes "creds")
+
+abbrev pub certificate : Rule
+certificate = valued (codes "cert")
+
+abbrev pub workers : Rule
+workers = counted (codes "workers") (codes "1" ∷ []) 1 256
+
+abbrev pub lane : Rule
+lane = record (counted (codes "lane") [] 0 65535) { required = true }
+
+abbrev pub around : Rule
+around = counted (codes "around") (codes "20" ∷ []) 0 1000000
+
+-- `-o` or `--output`
+abbrev pub output : Rule
+output = record (valued (codes "output")) { short = Some 111; required = true }
+
+-- one capture or more, which are what is no option
+abbrev pub captures : Rule
+captures = record (new_rule (codes "captures")) {
+  value_names = 1;
+  required = true;
+  action = Some Append;
+  range = Some (record { start_inclusive = 1; end_inclusive = usize_max });
+}
+
+-- a command that reads the policy and the users
+abbrev pub reading : Text → App
+reading name = with_rule (with_rule (new_app name) policy) users
+
+-- a command that judges captures by a certificate
+abbrev pub judging : Text → App
+judging name = with_rule (with_rule (with_rule (reading name) certificate) workers) captures
+
+-- one whose answer may be JSON
+abbrev pub telling : Text → App
+telling name = with_rule (judging name) (flag (codes "json"))
+
+abbrev pub lanes : App
+lanes = with_rule (telling (codes "lanes")) (flag (codes "broken"))
+
+abbrev pub client : App
+client = with_rule (with_rule (telling (codes "client")) lane) around
+
+abbrev pub faults : App
+faults = with_rule (with_rule (reading (codes "faults")) workers) captures
+
+abbrev pub evidence : App
+evidence = with_rule (judging (codes "evidence")) output
+
+abbrev pub program : App
+program =
+    let named = new_app (codes "turnexplain") in
+    record named { top = record named.top { has_version = true; arg_required_else_help = true; subcommand_required = true } }
+
+-- `turnexplain` with its commands
+abbrev pub turnexplain : App
+turnexplain = with_subcommand (with_subcommand (with_subcommand (with_subcommand (with_subcommand program (telling (codes "verdict")).top) lanes.top) client.top) faults.top) evidence.top
+
+-- the number that an option has, as `u32` reads it
+abbrev pub HasNumber : Text → List Row → ℕ → Type 0
+HasNumber name rows number = (text : Text) × (one_of name rows ≡ Some text) × ParsesUnsigned {E = ⊤} 32 10 text (Ok number)
+
+-- an option without a value is given, or isn't
+abbrev pub HasFlag : Text → List Row → Bool → Type 0
+HasFlag name rows true = (one_of name rows ≢ None) × (one_of name rows ≢ Some (codes "false"))
+HasFlag name rows false = one_of name rows ≢ Some (codes "true")
+
+-- the files that every command reads, and the number of workers
+pub record AreNamed (rows : List Row) (inputs : Inputs) : Type 0 where
+  pub policy' : first_of (codes "policy") rows ≡ Some inputs.policy.now
+  pub users' : first_of (codes "creds") rows ≡ option_map (λ name. name.now) inputs.credentials
+  pub captures' : all_of (codes "captures") rows ≡ Some (map (λ name. name.now) inputs.captures.items)
+  pub workers' : HasNumber (codes "workers") rows inputs.workers.count
+
+-- the certificate that is named, if one is
+abbrev pub IsByNamed : List Row → Inputs → Type 0
+IsByNamed rows inputs = first_of (codes "cert") rows ≡ option_map (λ name. name.now) inputs.certificate
+
+-- the command by which part of a verdict is requested
+abbrev pub command_name : Asked → Text
+command_name Verdict = codes "verdict"
+command_name (Lanes broken) = codes "lanes"
+command_name (Client number events) = codes "client"
+
+-- and what its own options say
+abbrev pub HasOptions : List Row → Asked → Type 0
+HasOptions rows Verdict = ⊤
+HasOptions rows (Lanes broken) = HasFlag (codes "broken") rows broken
+HasOptions rows (Client number events) = HasNumber (codes "lane") rows number × HasNumber (codes "around") rows events
+
+-- The command that the words name, and what they name for it, is the request.
+abbrev pub Names : Option (Text × List Row) → Request → Type 0
+Names named (Explain inputs what) = (rows : List Row) × (named ≡ Some (command_name what, rows)) × AreNamed rows inputs × IsByNamed rows inputs × HasOptions rows what × HasFlag (codes "json") rows false
+Names named (AsJson inputs what) = (rows : List Row) × (named ≡ Some (command_name what, rows)) × AreNamed rows inputs × IsByNamed rows inputs × HasOptions rows what × HasFlag (codes "json") rows true
+Names named (Faults inputs) = (rows : List Row) × (named ≡ Some (codes "faults", rows)) × AreNamed rows inputs
+Names named (Evidence inputs file) = (rows : List Row) × (named ≡ Some (codes "evidence", rows)) × AreNamed rows inputs × IsByNamed rows inputs × (first_of (codes "output") rows ≡ Some file.now)
+Names named (Help page) = ⊥
+Names named Release = ⊥
+Names named (Usage text) = ⊥
+
+-- no command is named with all that it needs
+abbrev pub NamesNothing : Option (Text × List Row) → Type 0
+NamesNothing named = (request : Request) → Names named request → ⊥
+
+-- one of the kinds is printed on standard error, which help and the release aren't
+abbrev pub IsRefused : Kinds → Type 0
+IsRefused kinds = (k : ErrorKind) × IsAmong k kinds × (k ≢ kind.DisplayHelp) × (k ≢ kind.DisplayVersion)
+
+-- A command is requested by its name, and help and the release by what stands for them. Words are no request where `clap` refuses them for one
+-- of these kinds, or they name no command with all that it needs.
+abbrev pub Asks : Option (Text × List Row) → Kinds → Request → Type 0
+Asks named kinds (Help page) = IsAmong kind.DisplayHelp kinds
+Asks named kinds Release = IsAmong kind.DisplayVersion kinds
+Asks named kinds (Usage text) = IsRefused kinds ⊎ NamesNothing named
+Asks named kinds (Explain inputs what) = Names named (Explain inputs what)
+Asks named kinds (AsJson inputs what) = Names named (AsJson inputs what)
+Asks named kinds (Faults inputs) = Names named (Faults inputs)
+Asks named kinds (Evidence inputs file) = Names named (Evidence inputs file)
