@@ -14,7 +14,7 @@ use Rattle.prep_join.specs.declared.fault.JoinFault.{JoinFault}
 use Rattle.prep_join.specs.declared.fault.JoinFault.TheVariants as faults
 use Rattle.prep_join.specs.Rings.{is_kept, written_of}
 use Rattle.prep_join.specs.Counted.{counted, counts_of}
-use Rattle.prep_join.specs.Joining.{IsAt, Refuses}
+use Rattle.prep_join.specs.Joining.{IsAt, Fits, AllFit, Refuses}
 use Rattle.prep_join.specs.Joined.{IsJoining, GoesOn, Misfits, IsRefused, IsUndone}
 use Rattle.prep_join.proofs.Written.{written_yes, written_no}
 
@@ -35,11 +35,16 @@ nothing_yet joiner done text current piece out j = record {
 counts_of-one : (current : List Block) (b : Block) → counts_of (current ++ b ∷ []) ≡ counted (counts_of current) b.kind
 counts_of-one current b = fold-append (λ (counts : Counts) (x : Block). counted counts x.kind) (record { interfaces = 0; packets = 0; statistics = 0 }) current (b ∷ [])
 
+fit_one : (done : List (List Block)) (before current : List Block) (b : Block) → AllFit done before current → Fits done (before ++ current) b → AllFit done before (current ++ b ∷ [])
+fit_one done before [] b all one = (subst (λ (bs : List Block). Fits done bs b) (append-nil before) one, tt)
+fit_one done before (first ∷ others) b all one =
+    (all.0, fit_one done (before ++ first ∷ []) others b all.1 (subst (λ (bs : List Block). Fits done bs b) (sym (append_assoc before (first ∷ []) others)) one))
+
 -- one block more, of which this was added
 step : (old new : Joiner) (done : List (List Block)) (text : List ℕ) (current : List Block) (piece rest behind before after after' : List ℕ) (b : Block)
-    → (g : GoesOn old done text current piece rest before after) → Gave new.splitter (text ++ g.taken) (current ++ g.more) rest b behind → IsAt new.ring done ((current ++ g.more) ++ b ∷ [])
+    → (g : GoesOn old done text current piece rest before after) → Gave new.splitter (text ++ g.taken) (current ++ g.more) rest b behind → IsAt new.ring done ((current ++ g.more) ++ b ∷ []) → Fits done (current ++ g.more) b
     → new.counts ≡ counted old.counts b.kind → after' ≡ before ++ written_of done (g.more ++ b ∷ []) → GoesOn new done text current piece behind before after'
-step old new done text current piece rest behind before after after' b g gave at counts added =
+step old new done text current piece rest behind before after after' b g gave at fits counts added =
     let text_so = append_assoc text g.taken gave.taken in
     let blocks_so = append_assoc current g.more (b ∷ []) in
     record {
@@ -48,22 +53,22 @@ step old new done text current piece rest behind before after after' b g gave at
       cut = g.cut ∙ ap (λ (t : List ℕ). g.taken ++ t) gave.cut ∙ sym (append_assoc g.taken gave.taken behind);
       joining = subst (λ (t : List ℕ). IsJoining new done t (current ++ (g.more ++ b ∷ []))) text_so
           (subst (λ (bs : List Block). IsJoining new done ((text ++ g.taken) ++ gave.taken) bs) blocks_so
-          (record { splits = gave.stands; at = at; counts = counts ∙ ap (λ (c : Counts). counted c b.kind) g.joining.counts ∙ sym (counts_of-one (current ++ g.more) b) }));
+          (record { splits = gave.stands; at = at; counts = counts ∙ ap (λ (c : Counts). counted c b.kind) g.joining.counts ∙ sym (counts_of-one (current ++ g.more) b); fits = fit_one done [] (current ++ g.more) b g.joining.fits fits }));
       added = added;
     }
 
 pub step_kept : (old new : Joiner) (done : List (List Block)) (text : List ℕ) (current : List Block) (piece rest behind before after after' : List ℕ) (b : Block)
-    → (g : GoesOn old done text current piece rest before after) → Gave new.splitter (text ++ g.taken) (current ++ g.more) rest b behind → IsAt new.ring done ((current ++ g.more) ++ b ∷ [])
+    → (g : GoesOn old done text current piece rest before after) → Gave new.splitter (text ++ g.taken) (current ++ g.more) rest b behind → IsAt new.ring done ((current ++ g.more) ++ b ∷ []) → Fits done (current ++ g.more) b
     → new.counts ≡ counted old.counts b.kind → is_kept done b ≡ true → after' ≡ after ++ b.bytes → GoesOn new done text current piece behind before after'
-step_kept old new done text current piece rest behind before after after' b g gave at counts kept added =
-    step old new done text current piece rest behind before after after' b g gave at counts
+step_kept old new done text current piece rest behind before after after' b g gave at fits counts kept added =
+    step old new done text current piece rest behind before after after' b g gave at fits counts
     (added ∙ ap (λ (t : List ℕ). t ++ b.bytes) g.added ∙ append_assoc before (written_of done g.more) b.bytes ∙ ap (λ (t : List ℕ). before ++ t) (sym (written_yes done g.more b kept)))
 
 pub step_left : (old new : Joiner) (done : List (List Block)) (text : List ℕ) (current : List Block) (piece rest behind before after after' : List ℕ) (b : Block)
-    → (g : GoesOn old done text current piece rest before after) → Gave new.splitter (text ++ g.taken) (current ++ g.more) rest b behind → IsAt new.ring done ((current ++ g.more) ++ b ∷ [])
+    → (g : GoesOn old done text current piece rest before after) → Gave new.splitter (text ++ g.taken) (current ++ g.more) rest b behind → IsAt new.ring done ((current ++ g.more) ++ b ∷ []) → Fits done (current ++ g.more) b
     → new.counts ≡ counted old.counts b.kind → is_kept done b ≡ false → after' ≡ after → GoesOn new done text current piece behind before after'
-step_left old new done text current piece rest behind before after after' b g gave at counts kept same =
-    step old new done text current piece rest behind before after after' b g gave at counts
+step_left old new done text current piece rest behind before after after' b g gave at fits counts kept same =
+    step old new done text current piece rest behind before after after' b g gave at fits counts
     (same ∙ g.added ∙ ap (λ (t : List ℕ). before ++ t) (sym (written_no done g.more b kept)))
 
 -- the rest of the piece is no whole block
@@ -74,7 +79,7 @@ all_taken old new done text current piece rest before after g stands ring counts
   more = g.more;
   cut = g.cut ∙ sym (append-nil (g.taken ++ rest));
   joining = subst (λ (t : List ℕ). IsJoining new done t (current ++ g.more)) (append_assoc text g.taken rest)
-      (record { splits = stands; at = rw ring g.joining.at; counts = counts ∙ g.joining.counts });
+      (record { splits = stands; at = rw ring g.joining.at; counts = counts ∙ g.joining.counts; fits = g.joining.fits });
   added = g.added;
 }
 

@@ -12,13 +12,14 @@ use Rattle.prep_join.specs.declared.fault.JoinFault.{JoinFault}
 use Rattle.prep_join.specs.declared.fault.JoinFault.TheVariants as faults
 use Rattle.prep_join.specs.Rings.{written_of, interfaces_of, first_of}
 use Rattle.prep_join.specs.Counted.{counts_of}
-use Rattle.prep_join.specs.Joining.{IsAt, Refuses}
+use Rattle.prep_join.specs.Joining.{IsAt, AllFit, Refuses}
 
--- behind captures that are done, and this text of the one that comes, which has these whole blocks
+-- behind captures that are done, and this text of the one that comes, which has these whole blocks, each of which goes on
 pub record IsJoining (joiner : Joiner) (done : List (List Block)) (text : List ℕ) (current : List Block) : Type 0 where
   pub splits : StandsFor joiner.splitter text current
   pub at : IsAt joiner.ring done current
   pub counts : joiner.counts ≡ counts_of current
+  pub fits : AllFit done [] current
 
 -- the piece was taken up to the rest, and of the blocks that are whole now was added what is written
 pub record GoesOn (joiner : Joiner) (done : List (List Block)) (text : List ℕ) (current : List Block) (piece rest before after : List ℕ) : Type 0 where
@@ -46,9 +47,10 @@ IsRefused faults.LateInterface done text current = Misfits faults.LateInterface 
 IsRefused faults.Interfaces done text current = Misfits faults.Interfaces done text current
 IsRefused (faults.Early iface) done text current = Misfits (faults.Early iface) done text current
 
--- the capture was a whole one, and had all interfaces of the first
+-- the capture was a whole one that goes on with those before, and had all interfaces of the first
 pub record IsDone (joiner : Joiner) (done : List (List Block)) (text : List ℕ) (current : List Block) (counts : Counts) : Type 0 where
   pub whole : IsWhole text current
+  pub fits : AllFit done [] current
   pub same : interfaces_of current ≡ interfaces_of (first_of done current)
   pub joining : IsJoining joiner (done ++ current ∷ []) [] []
   pub counted : counts ≡ counts_of current

@@ -1,5 +1,5 @@
 -- What is known behind captures that are done, and blocks of the one that comes.
-use Rattle.std.specs.Prelude.{List, ◌⊎◌}
+use Rattle.std.specs.Prelude.{List, [], ◌∷◌, ◌++◌, ◌⊎◌}
 use Rattle.prep_blocks.specs.declared.block.Block.{Block}
 use Rattle.prep_join.specs.declared.ring.Ring.{Ring}
 use Rattle.prep_join.specs.declared.fault.JoinFault.{JoinFault}
@@ -14,6 +14,16 @@ pub record IsAt (ring : Ring) (done : List (List Block)) (current : List Block) 
 pub record Fits (done : List (List Block)) (current : List Block) (block : Block) : Type 0 where
   pub shape : FitsShape done current block
   pub stamps : FitsStamps done current block
+
+-- each of the blocks goes on with what was before it
+abbrev pub AllFit : List (List Block) → List Block → List Block → Type 0
+AllFit done current [] = Unit {0}
+AllFit done current (block ∷ blocks) = Fits done current block × AllFit done (current ++ block ∷ []) blocks
+
+-- each of the captures goes on with those before it
+abbrev pub GoOn : List (List Block) → List (List Block) → Type 0
+GoOn done [] = Unit {0}
+GoOn done (current ∷ captures) = AllFit done [] current × GoOn (done ++ current ∷ []) captures
 
 -- or it is refused for this
 abbrev pub Refuses : JoinFault → List (List Block) → List Block → Block → Type 0

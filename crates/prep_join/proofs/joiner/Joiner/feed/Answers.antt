@@ -32,11 +32,12 @@ loop-preserved c = λ done text current at.
     let gave = rw c.in-Some.is at (c.in_ok-block.ensures.block _ _ so_far.joining.splits) in
     let rest_short : length c.in-Some.behind.now + (c.loop.counter + 1) ≤ length c.args.piece.now = omega (arith, fits, gave.some, ap length gave.cut, length-append gave.taken c.in-Some.behind.now) in
     let kept = c.in_ok-take.ensures.kept done (current ++ so_far.more) so_far.joining.at in
+    let goes_on = c.in_ok-take.ensures.fits done (current ++ so_far.more) so_far.joining.at in
     let at_ring = c.in_ok-take.ensures.ok done (current ++ so_far.more) so_far.joining.at in (
       (elim c.if-branch.branch [
-        | then-branch+in_ok-extend_from_slice w ↦ step_kept c.loop.self _ done text current c.args.piece.now c.loop.rest.now c.in-Some.behind.now c.args.out.now.items c.loop.out.items c.if-branch.out.items c.in-Some.block so_far gave at_ring c.with-self.ensures
+        | then-branch+in_ok-extend_from_slice w ↦ step_kept c.loop.self _ done text current c.args.piece.now c.loop.rest.now c.in-Some.behind.now c.args.out.now.items c.loop.out.items c.if-branch.out.items c.in-Some.block so_far gave at_ring goes_on c.with-self.ensures
             (sym kept ∙ w.if-branch.true) (rw w.out-is (w.in_ok-extend_from_slice.ensures.items ∙ ap (λ (t : List ℕ). c.loop.out.items ++ t) w.as_slice.ensures))
-        | else-branch w ↦ step_left c.loop.self _ done text current c.args.piece.now c.loop.rest.now c.in-Some.behind.now c.args.out.now.items c.loop.out.items c.if-branch.out.items c.in-Some.block so_far gave at_ring c.with-self.ensures
+        | else-branch w ↦ step_left c.loop.self _ done text current c.args.piece.now c.loop.rest.now c.in-Some.behind.now c.args.out.now.items c.loop.out.items c.if-branch.out.items c.in-Some.block so_far gave at_ring goes_on c.with-self.ensures
             (sym kept ∙ w.if-branch.false) (rw w.out-is refl)
       ]),
       rest_short,
