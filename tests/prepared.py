@@ -6,7 +6,7 @@
 Each line of tests/prepare/judged names a case of tests/prepare/cases, the policy of the audits (or that before, and that
 behind), and what they say: of the captures that the case reads, and of those that it wrote. Where they conform, the list's last line has the same numbers.
 Then each example whose captures conform is cut: they stay byte for byte, and the list names nothing. At last captures are cut in which
-a server relays on behind a Refresh of 0 (tests/hang_ups.py).
+a server relays on behind a Refresh of 0 (tests/hang_ups.py), or breaks a rule where `cut` excludes datagrams (tests/leaks.py).
 """
 
 import pathlib
@@ -15,6 +15,7 @@ import sys
 import tempfile
 
 import hang_ups
+import leaks
 
 TOP = pathlib.Path(__file__).resolve().parent.parent
 HERE = TOP / "tests" / "prepare"
@@ -81,6 +82,20 @@ def check_hang_up(preparer, auditor, relays, time, after):
         return None if said == expected else f"says {said!r} of what was written"
 
 
+def check_leak(preparer, auditor, breach, options, is_reported):
+    """What is wrong with what an audit says of a breach after `cut`, if anything is."""
+    with tempfile.TemporaryDirectory() as room:
+        folder = pathlib.Path(room)
+        captures = leaks.build(folder, breach, options)
+        (folder / "out").mkdir()
+        words = ["--policy", folder / "policy", "-o", folder / "out", *captures]
+        done = subprocess.run([preparer, "cut", *options, *words], capture_output=True, text=True)
+        said = said_of(auditor, folder / "policy", folder / "creds", [folder / "out" / it.name for it in captures])
+        if done.returncode != 0 or said.startswith("refused"):
+            return f"status {done.returncode}, {said!r}"
+        return f"says {said!r} of what was written" if said.startswith("conforming") == is_reported else None
+
+
 def main():
     preparer, auditor = (pathlib.Path(word).resolve() for word in sys.argv[1:])
     cases = dict(line.split(" | ") for line in (HERE / "cases").read_text().splitlines())
@@ -94,6 +109,8 @@ def main():
             faults[example.name] = check_example(preparer, example)
     for relays, time, _, after in hang_ups.CASES:
         faults[f"{relays.__name__} {time}"] = check_hang_up(preparer, auditor, relays, time, after)
+    for breach, options, is_reported in leaks.CASES:
+        faults[f"{breach.__name__} {' '.join(options)}"] = check_leak(preparer, auditor, breach, options, is_reported)
     wrong = {name: fault for name, fault in faults.items() if fault}
     for name, fault in wrong.items():
         print(f"{name}: {fault}")

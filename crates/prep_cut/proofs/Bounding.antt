@@ -1,12 +1,12 @@
 -- What a line of released datagrams leaves out.
-use Rattle.std.proofs.Common.{◌≡◌, ◌<◌, ◌≤◌, ◌+◌, ◌*◌, ◌-◌, min, ℕ, Bool, true, false, not, ◌&&◌, List, Option, Some, None, nat_lt, nat_le, refl, sym, ap, subst, ◌∙◌, arith}
+use Rattle.std.proofs.Common.{◌≡◌, ◌<◌, ◌≤◌, ◌+◌, ◌*◌, ◌-◌, min, ℕ, Bool, true, false, not, ◌&&◌, List, Option, Some, None, nat_lt, nat_le, refl, sym, ap, ◌∙◌, arith}
 use Rattle.std.specs.Prelude.{if◌then◌else◌, slice_get}
 use Rattle.std.proofs.lemmas.Bool.{ltb-true, leb-true}
 use Rattle.std.proofs.Math.Nat.{min-le_left}
 use Rattle.audit_model.specs.declared.address.Addr.{Addr}
 use Rattle.audit_model.specs.declared.pair.Pair.{Pair}
 use Rattle.audit_model.specs.declared.sighting.Side.{Side}
-use Rattle.audit_model.specs.declared.sighting.Side.TheVariants.{Arrives, Leaves}
+use Rattle.audit_model.specs.declared.sighting.Side.TheVariants.{Leaves}
 use Rattle.prep_blocks.specs.declared.block.Block.{Block}
 use Rattle.prep_blocks.specs.declared.block.PacketHead.{PacketHead}
 use Rattle.prep_cut.specs.declared.datagram.Datagram.{Datagram}
@@ -17,7 +17,7 @@ use Rattle.prep_cut.specs.declared.stated.Stated.{Stated}
 use Rattle.prep_cut.specs.Allocating.{is_shown}
 use Rattle.prep_cut.specs.Bounded.{IsBehind, IsBehindRelease}
 use Rattle.prep_cut.specs.Datagrams.{datagram_of_block}
-use Rattle.prep_cut.specs.Guard.{is_stated, is_due, is_named, is_in_time, is_behind, may_leave_datagram}
+use Rattle.prep_cut.specs.Guard.{is_stated, is_due, is_named, is_heard, is_in_time, is_behind, may_leave_datagram}
 use Rattle.prep_cut.specs.Marks.{may_leave_head, may_leave_at, line_of}
 use Rattle.prep_cut.specs.Releasing.{AreReleased, is_released}
 
@@ -41,9 +41,9 @@ of_datagram : (plan : Plan) (captured : List Block) (pair : Pair) (relayed : Add
     → may_leave_datagram plan.stated plan.allocations (Released pair relayed moment) (Some datagram) ≡ true → IsBehind plan captured pair relayed moment datagram
 of_datagram plan captured pair relayed moment datagram shown e =
     let reason : Reason = Released pair relayed moment in
-    let one = both (is_stated plan.stated reason) (is_due plan.stated plan.allocations reason datagram && (is_named reason datagram && not (is_shown plan.allocations datagram))) e in
-    let two = both (is_due plan.stated plan.allocations reason datagram) (is_named reason datagram && not (is_shown plan.allocations datagram)) one.1 in
-    let three = both (is_named reason datagram) (not (is_shown plan.allocations datagram)) two.1 in
+    let one = both (is_stated plan.stated reason) (is_due plan.stated plan.allocations reason datagram && ((is_named reason datagram && is_heard plan.allocations reason) && not (is_shown plan.allocations datagram))) e in
+    let two = both (is_due plan.stated plan.allocations reason datagram) ((is_named reason datagram && is_heard plan.allocations reason) && not (is_shown plan.allocations datagram)) one.1 in
+    let three = both (is_named reason datagram) (is_heard plan.allocations reason) (both (is_named reason datagram && is_heard plan.allocations reason) (not (is_shown plan.allocations datagram)) two.1).0 in
     let four = both (is_released plan.allocations (record { client = pair.client; listen = pair.listen; moment = moment })) (is_in_time datagram.side plan.stated moment datagram.stamp) two.0 in
     let time = λ (leaves : datagram.side ≡ Leaves). both (nat_lt moment datagram.stamp) (nat_le (datagram.stamp - moment) (min (plan.stated.released_ms * 1000000) 18446744073709551615))
     (later plan.stated moment datagram.stamp datagram.side four.1 leaves) in

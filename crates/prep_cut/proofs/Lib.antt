@@ -4,3 +4,4 @@ mod Staying
 mod Noting
 mod Releases
 mod Bounding
+mod Heard

@@ -4,21 +4,18 @@ use Rattle.std.specs.List.{concat}
 use Rattle.std.proofs.lemmas.List.{append-nil, map-append}
 use Rattle.std.proofs.lemmas.List.Elements.{filter-append}
 use Rattle.std.proofs.lemmas.List.Folds.{concat-append}
-use Rattle.std.proofs.lemmas.List.Concat.{flat_map-append}
 use Rattle.std.proofs.lemmas.Grind.{fold-append}
 use Rattle.prep_blocks.specs.declared.block.Block.{Block}
 use Rattle.prep_blocks.specs.Read.{bytes_of}
-use Rattle.prep_cut.specs.declared.datagram.Datagram.{Datagram}
 use Rattle.prep_cut.specs.declared.plan.Plan.{Plan}
 use Rattle.prep_cut.specs.declared.marker.Marker.{Marker}
 use Rattle.prep_cut.specs.declared.tally.Tally.{Tally}
 use Rattle.prep_cut.specs.declared.tally.Tallies.{Tallies}
 use Rattle.prep_cut.specs.declared.tally.Totals.{Totals}
 use Rattle.prep_cut.specs.Datagrams.{datagram_of_block}
-use Rattle.prep_cut.specs.Marks.{Marked, marked, marked_by, behind, proposals_behind, proposed_for, line_of, is_written, written_of, is_of_line, datagrams_at, datagrams_of}
-use Rattle.prep_cut.specs.Marking.{AreTallies, IsAt, totals_of, totals_more, tallied_with}
-use Rattle.prep_cut.specs.Tallied.{no_tally, no_totals, tally_of, tallied}
-use Rattle.std.specs.Option.{option_to_list}
+use Rattle.prep_cut.specs.Marks.{Marked, marked, marked_by, behind, proposals_behind, proposed_for, line_of, is_written, written_of, is_of_line}
+use Rattle.prep_cut.specs.Marking.{AreTallies, IsAt, tally_at, tally_more, totals_of, totals_more, tallied_with}
+use Rattle.prep_cut.specs.Tallied.{no_tally, no_totals}
 
 pub marked-one : (plan : Plan) (proposals : List (Option ℕ)) (current : List Block) (b : Block)
     → marked plan proposals (current ++ b ∷ []) ≡ marked plan proposals current ++ marked_by plan (proposals_behind proposals current) b ∷ []
@@ -33,38 +30,31 @@ pub behind-append : (proposals : List (Option ℕ)) (a b : List Block) → propo
 behind-append proposals [] b = refl
 behind-append proposals (first ∷ others) b = behind-append (behind first.packet proposals) others b
 
-one_at : (plan : Plan) (line n : ℕ) (block : Block) (tally : Tally) (test : Bool) (d : Option Datagram) → (line == n) ≡ test → datagram_of_block plan.policy block ≡ d
-    → fold tallied tally (datagrams_at plan line (record { block = block; line = Some n } ∷ [])) ≡ tallied_with (Some n) d line tally
-one_at plan line n block tally true None e f = rw (e, f) refl
-one_at plan line n block tally true (Some datagram) e f = rw (e, f) refl
-one_at plan line n block tally false None e f = rw e refl
-one_at plan line n block tally false (Some datagram) e f = rw e refl
+one_at : (plan : Plan) (line n : ℕ) (block : Block) (tally : Tally) (test : Bool) → (line == n) ≡ test
+    → fold (tally_more plan) tally (filter (is_of_line line) (record { block = block; line = Some n } ∷ [])) ≡ tallied_with (Some n) block.packet (datagram_of_block plan.policy block) line tally
+one_at plan line n block tally true e = rw e refl
+one_at plan line n block tally false e = rw e refl
 
 last_at : (plan : Plan) (line : ℕ) (block : Block) (tally : Tally) (l : Option ℕ)
-    → fold tallied tally (datagrams_at plan line (record { block = block; line = l } ∷ [])) ≡ tallied_with l (datagram_of_block plan.policy block) line tally
+    → fold (tally_more plan) tally (filter (is_of_line line) (record { block = block; line = l } ∷ [])) ≡ tallied_with l block.packet (datagram_of_block plan.policy block) line tally
 last_at plan line block tally None = refl
-last_at plan line block tally (Some n) = one_at plan line n block tally (line == n) (datagram_of_block plan.policy block) refl refl
-
-datagrams-append : (plan : Plan) (line : ℕ) (a b : List Marked) → datagrams_at plan line (a ++ b) ≡ datagrams_at plan line a ++ datagrams_at plan line b
-datagrams-append plan line a b =
-    ap (datagrams_of plan) (filter-append (is_of_line line) a b)
-    ∙ flat_map-append (λ (one : Marked). option_to_list (datagram_of_block plan.policy one.block)) (filter (is_of_line line) a) (filter (is_of_line line) b)
+last_at plan line block tally (Some n) = one_at plan line n block tally (line == n) refl
 
 tally-one : (plan : Plan) (line : ℕ) (blocks : List Marked) (one : Marked)
-    → tally_of (datagrams_at plan line (blocks ++ one ∷ [])) ≡ tallied_with one.line (datagram_of_block plan.policy one.block) line (tally_of (datagrams_at plan line blocks))
+    → tally_at plan line (blocks ++ one ∷ []) ≡ tallied_with one.line one.block.packet (datagram_of_block plan.policy one.block) line (tally_at plan line blocks)
 tally-one plan line blocks one =
-    ap tally_of (datagrams-append plan line blocks (one ∷ []))
-    ∙ fold-append tallied no_tally (datagrams_at plan line blocks) (datagrams_at plan line (one ∷ []))
-    ∙ last_at plan line one.block (tally_of (datagrams_at plan line blocks)) one.line
+    ap (fold (tally_more plan) no_tally) (filter-append (is_of_line line) blocks (one ∷ []))
+    ∙ fold-append (tally_more plan) no_tally (filter (is_of_line line) blocks) (filter (is_of_line line) (one ∷ []))
+    ∙ last_at plan line one.block (tally_at plan line blocks) one.line
 
 tallies-one : (plan : Plan) (blocks : List Marked) (one : Marked) (old new : Tallies) → AreTallies plan blocks old → length new.lines.items ≡ length old.lines.items
-    → ((other : ℕ) → other < length old.lines.items → get_or new.lines.items other no_tally ≡ tallied_with one.line (datagram_of_block plan.policy one.block) other (get_or old.lines.items other no_tally))
+    → ((other : ℕ) → other < length old.lines.items → get_or new.lines.items other no_tally ≡ tallied_with one.line one.block.packet (datagram_of_block plan.policy one.block) other (get_or old.lines.items other no_tally))
     → AreTallies plan (blocks ++ one ∷ []) new
 tallies-one plan blocks one old new are len added = record {
   len = len ∙ are.len;
   lines = λ line within.
       added line (rw are.len within)
-      ∙ ap (λ (t : Tally). tallied_with one.line (datagram_of_block plan.policy one.block) line t) (are.lines line within)
+      ∙ ap (λ (t : Tally). tallied_with one.line one.block.packet (datagram_of_block plan.policy one.block) line t) (are.lines line within)
       ∙ sym (tally-one plan line blocks one);
 }
 
@@ -77,7 +67,7 @@ pub is_at-one : (old new : Marker) (plan : Plan) (proposals : List (Option ℕ))
     → new.totals ≡ totals_more old.plan.now old.totals (marked_by old.plan.now old.proposals.now b)
     → length new.tallies.lines.items ≡ length old.tallies.lines.items
     → ((other : ℕ) → other < length old.tallies.lines.items → get_or new.tallies.lines.items other no_tally
-    ≡ tallied_with (line_of old.plan.now (proposed_for b.packet old.proposals.now) b) (datagram_of_block old.plan.now.policy b) other (get_or old.tallies.lines.items other no_tally))
+    ≡ tallied_with (line_of old.plan.now (proposed_for b.packet old.proposals.now) b) b.packet (datagram_of_block old.plan.now.policy b) other (get_or old.tallies.lines.items other no_tally))
     → IsAt new plan proposals earlier (current ++ b ∷ [])
 is_at-one old new plan proposals earlier current b at e-plan e-rest e-totals e-len e-lines =
     let one = marked_by plan (proposals_behind proposals current) b in

@@ -11,7 +11,7 @@ use Rattle.prep_blocks.specs.declared.block.Block.{Block}
 use Rattle.prep_cut.specs.declared.release.Release.{Release}
 use Rattle.prep_cut.specs.Releasing.{IsReleaseIn, release_cmp}
 
-both : (a b : Bool) → (a && b) ≡ true → (a ≡ true) × (b ≡ true)
+pub both : (a b : Bool) → (a && b) ≡ true → (a ≡ true) × (b ≡ true)
 both true true e = (refl, refl)
 both true false e = absurd cc
 both false b e = absurd cc
@@ -22,7 +22,7 @@ same_number x y e = eqb-true x y (sym (unsigned_tied x y) ∙ e)
 address : ℕ → ℕ → Addr
 address ip port = record { ip = ip; port = port }
 
-same_address : (a b : Addr) → is_eq (addr_cmp a b) ≡ true → a ≡ b
+pub same_address : (a b : Addr) → is_eq (addr_cmp a b) ≡ true → a ≡ b
 unfolding address
 same_address a b e =
     let parts = both (is_eq (nat_cmp a.ip b.ip)) (is_eq (nat_cmp a.port b.port)) (tied_then (nat_cmp a.ip b.ip) (nat_cmp a.port b.port) ∙ e) in

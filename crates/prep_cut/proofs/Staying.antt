@@ -14,7 +14,7 @@ use Rattle.audit_model.specs.declared.sighting.Side.TheVariants.{Arrives, Leaves
 use Rattle.prep_cut.specs.declared.transaction.Transaction.{Transaction}
 use Rattle.prep_cut.specs.Allocating.{is_noted, is_noted_on, is_shown, is_shown_on}
 use Rattle.prep_cut.specs.Datagrams.{datagram_of_block}
-use Rattle.prep_cut.specs.Guard.{is_stated, is_due, is_named, may_leave_datagram}
+use Rattle.prep_cut.specs.Guard.{is_stated, is_due, is_named, is_heard, may_leave_datagram}
 use Rattle.prep_cut.specs.Marks.{may_leave_head, line_of}
 use Rattle.prep_cut.specs.Kept.{IsMoment, IsOfMoment}
 
@@ -27,7 +27,7 @@ never false b c d e = refl
 barred : (stated : Stated) (allocations : Allocations) (reason : Reason) (found : Option Datagram) (datagram : Datagram) → found ≡ Some datagram
     → is_shown allocations datagram ≡ true → may_leave_datagram stated allocations reason found ≡ false
 barred stated allocations reason found datagram e shown =
-    ap (may_leave_datagram stated allocations reason) e ∙ never (is_stated stated reason) (is_due stated allocations reason datagram) (is_named reason datagram) (is_shown allocations datagram) shown
+    ap (may_leave_datagram stated allocations reason) e ∙ never (is_stated stated reason) (is_due stated allocations reason datagram) (is_named reason datagram && is_heard allocations reason) (is_shown allocations datagram) shown
 
 by_moment : (plan : Plan) (reason : Option Reason) (block : Block) (packet : Option PacketHead) (datagram : Datagram) → datagram_of_block plan.policy block ≡ Some datagram
     → is_shown plan.allocations datagram ≡ true → IsMoment reason ⊎ (may_leave_head plan reason block packet ≡ false)

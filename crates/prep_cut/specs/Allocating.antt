@@ -14,6 +14,7 @@ use Rattle.prep_cut.specs.declared.allocations.Allocations.{Allocations}
 use Rattle.prep_cut.specs.declared.datagram.Datagram.{Datagram}
 use Rattle.prep_cut.specs.Datagrams.{datagram_of_block}
 use Rattle.prep_cut.specs.Releasing.{AreReleased}
+use Rattle.prep_cut.specs.Sending.{AreSenders}
 
 -- the order of transactions
 abbrev pub transaction_cmp : Transaction → Transaction → Ordering
@@ -41,10 +42,11 @@ abbrev pub AreAllNoted : Policy → Allocations → List Block → Type 0
 AreAllNoted policy allocations [] = ⊤
 AreAllNoted policy allocations (first ∷ others) = (is_noted_in policy allocations first ≡ true) × AreAllNoted policy allocations others
 
--- what these blocks ask and grant is noted, and each release that is noted is one of theirs
+-- what these blocks ask and grant is noted; each release that is noted is one of theirs, and each client that is noted sends something in them
 pub record AreNoted (policy : Policy) (allocations : Allocations) (blocks : List Block) : Type 0 where
   pub noted : AreAllNoted policy allocations blocks
   pub released : AreReleased policy allocations blocks
+  pub senders : AreSenders policy allocations blocks
 
 abbrev pub is_shown_on : Side → Allocations → Option Transaction → Bool
 is_shown_on side allocations None = false

@@ -11,6 +11,7 @@ use Rattle.prep_cut.specs.declared.stated.Stated.{Stated}
 use Rattle.prep_cut.specs.declared.allocations.Allocations.{Allocations}
 use Rattle.prep_cut.specs.Allocating.{is_shown}
 use Rattle.prep_cut.specs.Releasing.{is_released}
+use Rattle.prep_cut.specs.Sending.{is_sender}
 
 abbrev pub same : Addr → Addr → Bool
 same a b = (a.ip == b.ip) && (a.port == b.port)
@@ -41,7 +42,8 @@ is_on_side Leaves datagram relayed = same datagram.from relayed
 abbrev pub is_at : Datagram → Addr → Bool
 is_at datagram relayed = is_on_side datagram.side datagram relayed
 
--- with a server that started with the captures there is no client from before, without clients by TCP no address of such a one
+-- If the server started with the captures, there is no client from before. Without clients by TCP, TLS, DTLS or IPv6 there is no address of
+-- such a client, and no DTLS.
 abbrev pub is_stated : Stated → Reason → Bool
 is_stated stated reasons.BeforeSince = true
 is_stated stated (reasons.Client pair) = not stated.is_from_start
@@ -50,7 +52,7 @@ is_stated stated (reasons.AddressOf relayed tenure pair) = not stated.is_from_st
 is_stated stated (reasons.AddressTold relayed tenure client) = not stated.has_no_tcp
 is_stated stated (reasons.Address relayed tenure) = not stated.has_no_tcp
 is_stated stated (reasons.Released pair relayed moment) = nat_lt 0 stated.released_ms
-is_stated stated (reasons.Dtls pair) = true
+is_stated stated (reasons.Dtls pair) = not stated.has_no_tcp
 is_stated stated (reasons.Inner pair peer) = not stated.keeps_inner
 is_stated stated (reasons.Inside from to) = not stated.keeps_inner
 is_stated stated reasons.AfterUntil = true
@@ -83,13 +85,22 @@ is_due stated allocations (reasons.Released pair relayed moment) datagram =
     is_released allocations (record { client = pair.client; listen = pair.listen; moment = moment }) && is_in_time datagram.side stated moment datagram.stamp
 is_due stated allocations other datagram = true
 
+-- the client that the reason names sends something in the captures
+abbrev pub is_heard : Allocations → Reason → Bool
+is_heard allocations (reasons.Client pair) = is_sender allocations pair.client pair.listen
+is_heard allocations (reasons.Answer pair) = is_sender allocations pair.client pair.listen
+is_heard allocations (reasons.Released pair relayed moment) = is_sender allocations pair.client pair.listen
+is_heard allocations (reasons.Dtls pair) = is_sender allocations pair.client pair.listen
+is_heard allocations (reasons.Inner pair peer) = is_sender allocations pair.client pair.listen
+is_heard allocations other = true
+
 abbrev pub may_leave_datagram : Stated → Allocations → Reason → Option Datagram → Bool
 may_leave_datagram stated allocations reason None = false
 may_leave_datagram stated allocations reason (Some datagram) =
-    is_stated stated reason && (is_due stated allocations reason datagram && (is_named reason datagram && not (is_shown allocations datagram)))
+    is_stated stated reason && (is_due stated allocations reason datagram && ((is_named reason datagram && is_heard allocations reason) && not (is_shown allocations datagram)))
 
--- The reason may set aside a packet of this stamp, which holds this datagram or none. Of the Allocates that the captures show with their
--- successes it may not, but outside the moments that are stated.
+-- The reason may exclude a packet of this stamp, which contains this datagram or none. Outside of the stated moments it excludes no Allocate
+-- that the captures show with its success, and nothing for a client that sends nothing in all of the captures.
 abbrev pub may_leave_packet : Stated → Allocations → Reason → ℕ → Option Datagram → Bool
 may_leave_packet stated allocations reasons.BeforeSince stamp datagram = is_early stated.since stamp
 may_leave_packet stated allocations reasons.AfterUntil stamp datagram = is_late stated.until stamp

@@ -1,11 +1,14 @@
 pub mod Identifying
 pub mod Datagrams
 pub mod Releasing
+pub mod Sending
 pub mod Allocating
 pub mod Guard
 pub mod Marks
 pub mod Kept
 pub mod Bounded
+pub mod Heard
 pub mod Tallied
 pub mod Marking
 pub mod Cutting
+pub mod ReasonText

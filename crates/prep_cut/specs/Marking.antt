@@ -1,9 +1,10 @@
 -- What is known behind the blocks of a capture.
-use Rattle.std.specs.Prelude.{◌≡◌, ◌<◌, ◌≤◌, ℕ, ◌^◌, ◌-◌, List, ◌++◌, length, get_or, fold, Option, Some, None}
+use Rattle.std.specs.Prelude.{◌≡◌, ◌<◌, ◌≤◌, ℕ, ◌^◌, ◌-◌, List, ◌++◌, length, get_or, fold, filter, Option, Some, None}
 use Rattle.std.specs.Int.{w64}
 use Rattle.audit_pcapng.specs.declared.block_kind.BlockKind.TheVariants as kinds
 use Rattle.audit_pcapng.specs.Numbers.{number_at}
 use Rattle.prep_blocks.specs.declared.block.Block.{Block}
+use Rattle.prep_blocks.specs.declared.block.PacketHead.{PacketHead}
 use Rattle.prep_cut.specs.declared.datagram.Datagram.{Datagram}
 use Rattle.prep_cut.specs.declared.fault.CutFault.{CutFault}
 use Rattle.prep_cut.specs.declared.fault.CutFault.TheVariants as faults
@@ -13,13 +14,20 @@ use Rattle.prep_cut.specs.declared.tally.Tally.{Tally}
 use Rattle.prep_cut.specs.declared.tally.Tallies.{Tallies}
 use Rattle.prep_cut.specs.declared.tally.Totals.{Totals}
 use Rattle.prep_cut.specs.Datagrams.{datagram_of_block}
-use Rattle.prep_cut.specs.Marks.{Marked, marked, proposals_behind, is_written, datagrams_at}
-use Rattle.prep_cut.specs.Tallied.{no_tally, no_totals, tally_of, tallied_at, totals_with}
+use Rattle.prep_cut.specs.Marks.{Marked, marked, proposals_behind, is_written, is_of_line}
+use Rattle.prep_cut.specs.Tallied.{no_tally, no_totals, tallied_at, tallied_block, totals_with}
 
--- each line's tally is that of the datagrams that are left out by it
+abbrev pub tally_more : Plan → Tally → Marked → Tally
+tally_more plan tally one = tallied_block tally one.block.packet (datagram_of_block plan.policy one.block)
+
+-- of the packets that are left out by a line
+abbrev pub tally_at : Plan → ℕ → List Marked → Tally
+tally_at plan line blocks = fold (tally_more plan) no_tally (filter (is_of_line line) blocks)
+
+-- each line's tally is that of the packets that are left out by it
 pub record AreTallies (plan : Plan) (blocks : List Marked) (tallies : Tallies) : Type 0 where
   pub len : length tallies.lines.items ≡ length plan.lines
-  pub lines : (line : ℕ) → line < length plan.lines → get_or tallies.lines.items line no_tally ≡ tally_of (datagrams_at plan line blocks)
+  pub lines : (line : ℕ) → line < length plan.lines → get_or tallies.lines.items line no_tally ≡ tally_at plan line blocks
 
 abbrev pub totals_more : Plan → Totals → Marked → Totals
 totals_more plan totals one = totals_with totals (is_written one) one.block.packet (datagram_of_block plan.policy one.block)
@@ -29,10 +37,9 @@ abbrev pub totals_of : Plan → List Marked → Totals
 totals_of plan blocks = fold (totals_more plan) no_totals blocks
 
 -- a line's tally, with a block that is left out by a line or by none
-abbrev pub tallied_with : Option ℕ → Option Datagram → ℕ → Tally → Tally
-tallied_with None datagram other tally = tally
-tallied_with (Some line) None other tally = tally
-tallied_with (Some line) (Some datagram) other tally = tallied_at line datagram other tally
+abbrev pub tallied_with : Option ℕ → Option PacketHead → Option Datagram → ℕ → Tally → Tally
+tallied_with None packet datagram other tally = tally
+tallied_with (Some line) packet datagram other tally = tallied_at line packet datagram other tally
 
 -- behind these blocks of a capture, and the blocks of the captures before
 pub record IsAt (marker : Marker) (plan : Plan) (proposals : List (Option ℕ)) (earlier : List Marked) (current : List Block) : Type 0 where

@@ -1,11 +1,8 @@
 -- Which blocks of a capture are left out, and by which line of the list.
 use Rattle.std.specs.Prelude.{ℕ, Bool, false, ◌==◌, if◌then◌else◌, List, [], ◌∷◌, map, filter, drop, Option, Some, None, is_none, slice_get}
-use Rattle.std.specs.List.{flat_map}
-use Rattle.std.specs.Option.{option_to_list}
 use Rattle.prep_blocks.specs.declared.block.Block.{Block}
 use Rattle.prep_blocks.specs.declared.block.PacketHead.{PacketHead}
 use Rattle.prep_blocks.specs.Read.{bytes_of}
-use Rattle.prep_cut.specs.declared.datagram.Datagram.{Datagram}
 use Rattle.prep_cut.specs.declared.plan.Plan.{Plan}
 use Rattle.prep_cut.specs.declared.reason.Reason.{Reason}
 use Rattle.prep_cut.specs.Datagrams.{datagram_of_block}
@@ -71,11 +68,3 @@ is_line line (Some other) = line == other
 
 abbrev pub is_of_line : ℕ → Marked → Bool
 is_of_line line one = is_line line one.line
-
--- the datagrams of the service in blocks
-abbrev pub datagrams_of : Plan → List Marked → List Datagram
-datagrams_of plan blocks = flat_map (λ (one : Marked). option_to_list (datagram_of_block plan.policy one.block)) blocks
-
--- the datagrams of the service that are left out by a line
-abbrev pub datagrams_at : Plan → ℕ → List Marked → List Datagram
-datagrams_at plan line blocks = datagrams_of plan (filter (is_of_line line) blocks)

@@ -1,4 +1,4 @@
--- What a line of the list says of the datagrams that it sets aside.
+-- What a line of the list says of the packets that it sets aside.
 use Rattle.std.specs.Prelude.{◌≡◌, nat_lt, ◌||◌, ℕ, ◌+◌, min, max, ◌==◌, if◌then◌else◌, List, length, get_or, fold, Bool, true, false, Option, Some, None}
 use Rattle.audit_model.specs.declared.sighting.Side.{Side}
 use Rattle.audit_model.specs.declared.sighting.Side.TheVariants.{Arrives, Leaves}
@@ -16,7 +16,7 @@ abbrev pub no_count : Count
 no_count = record { datagrams = 0; bytes = 0 }
 
 abbrev pub no_tally : Tally
-no_tally = record { arrived = no_count; left = no_count; first = 18446744073709551615; last = 0 }
+no_tally = record { arrived = no_count; left = no_count; others = 0; first = 18446744073709551615; last = 0 }
 
 abbrev pub counted : Count → ℕ → Count
 counted count size = record { datagrams = capped (count.datagrams + 1); bytes = capped (count.bytes + size) }
@@ -24,24 +24,30 @@ counted count size = record { datagrams = capped (count.datagrams + 1); bytes = 
 abbrev pub counted_both : Count → Count → Count
 counted_both one other = record { datagrams = capped (one.datagrams + other.datagrams); bytes = capped (one.bytes + other.bytes) }
 
--- some datagram is in it
+-- some packet is in it
 abbrev pub is_counted : Tally → Bool
-is_counted tally = nat_lt 0 tally.arrived.datagrams || nat_lt 0 tally.left.datagrams
+is_counted tally = nat_lt 0 tally.arrived.datagrams || (nat_lt 0 tally.left.datagrams || nat_lt 0 tally.others)
 
 abbrev pub tallied_on : Side → Tally → Datagram → Tally
-tallied_on Arrives tally datagram = record { arrived = counted tally.arrived datagram.size; left = tally.left; first = min tally.first datagram.stamp; last = max tally.last datagram.stamp }
-tallied_on Leaves tally datagram = record { arrived = tally.arrived; left = counted tally.left datagram.size; first = min tally.first datagram.stamp; last = max tally.last datagram.stamp }
+tallied_on Arrives tally datagram = record { arrived = counted tally.arrived datagram.size; left = tally.left; others = tally.others; first = min tally.first datagram.stamp; last = max tally.last datagram.stamp }
+tallied_on Leaves tally datagram = record { arrived = tally.arrived; left = counted tally.left datagram.size; others = tally.others; first = min tally.first datagram.stamp; last = max tally.last datagram.stamp }
 
 abbrev pub tallied : Tally → Datagram → Tally
 tallied tally datagram = tallied_on datagram.side tally datagram
 
--- of datagrams, one after another
-abbrev pub tally_of : List Datagram → Tally
-tally_of datagrams = fold tallied no_tally datagrams
+-- with a packet that is no datagram of the service
+abbrev pub tallied_other : Tally → ℕ → Tally
+tallied_other tally stamp = record { arrived = tally.arrived; left = tally.left; others = capped (tally.others + 1); first = min tally.first stamp; last = max tally.last stamp }
 
--- a line's tally, where the datagram is of this line
-abbrev pub tallied_at : ℕ → Datagram → ℕ → Tally → Tally
-tallied_at line datagram other tally = if other == line then tallied tally datagram else tally
+-- with a block more: its datagram, or else its packet
+abbrev pub tallied_block : Tally → Option PacketHead → Option Datagram → Tally
+tallied_block tally packet (Some datagram) = tallied tally datagram
+tallied_block tally (Some head) None = tallied_other tally head.stamp
+tallied_block tally None None = tally
+
+-- a line's tally, where the block is of this line
+abbrev pub tallied_at : ℕ → Option PacketHead → Option Datagram → ℕ → Tally → Tally
+tallied_at line packet datagram other tally = if other == line then tallied_block tally packet datagram else tally
 
 -- so many lines without a datagram
 pub record AreNone (lines : List Tally) (count : ℕ) : Type 0 where

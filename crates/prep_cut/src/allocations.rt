@@ -1,56 +1,80 @@
-//! Which Allocate requests and successes captures show, and which releases of allocations.
+//! Which Allocate requests and successes captures show, which releases of allocations, and who sends anything.
 
-ghost use Rattle.std.specs.Prelude.{◌≡◌, ◌⊎◌, true, false, OnOk};
+ghost use Rattle.std.specs.Prelude.{◌≡◌, ◌⊎◌, true, false, Some, OnOk};
 ghost use Rattle.prep_cut.specs.declared.datagram.Datagram.{Datagram as AnyDatagram};
 ghost use Rattle.prep_cut.specs.declared.release.Release.{Release as AnyRelease};
 ghost use Rattle.prep_cut.specs.Allocating.{is_noted, is_noted_in, is_shown};
+ghost use Rattle.audit_model.specs.declared.address.Addr.{Addr as AnyAddr};
 ghost use Rattle.prep_cut.specs.Releasing.{IsReleaseIn, is_released};
+ghost use Rattle.prep_cut.specs.Sending.{Sends, SendsIn, is_sender};
 
 use crate::datagram::{Datagram, datagram_in};
 use crate::release::{Release, release_in};
 use crate::transaction::Transaction;
-use audit_model::{Policy, Side};
+use audit_model::{Addr, Pair, Policy, Side};
 use prep_blocks::Block;
 use std::alloc::{AllocError, Global};
 use std::collections::BTreeSet;
 
-/// The Allocate requests and successes of captures, and the releases.
+/// The Allocate requests and successes of captures, the releases, and the senders.
 #[derive(Debug, Drop)]
 pub struct Allocations {
     asked: BTreeSet<Transaction>,
     granted: BTreeSet<Transaction>,
     released: BTreeSet<Release>,
+    /// Who sends a datagram to the service, and where to.
+    senders: BTreeSet<(Addr, Addr)>,
 }
 
 impl Allocations {
     /// Of no capture. It takes no memory.
     pub fn new(alloc: Global) -> Self
-        ensures { (release : AnyRelease) → is_released result release ≡ false }
+        ensures released { (release : AnyRelease) → is_released result release ≡ false }
+        ensures senders { (client listen : AnyAddr) → is_sender result client listen ≡ false }
     {
         Allocations {
             asked: BTreeSet::new(alloc),
             granted: BTreeSet::new(alloc),
             released: BTreeSet::new(alloc),
+            senders: BTreeSet::new(alloc),
         }
     }
 
-    /// Notes what the datagram of a block asks or grants, and the release that it is. The cost is the logarithm of how many are noted.
+    /// Notes what the datagram of a block asks or grants, the release that it is, and its sender. The cost is the logarithm of how many are
+    /// noted.
     pub fn note(&mut self, policy: &Policy, block: &Block) -> Result<(), AllocError>
         ensures noted { OnOk result (is_noted_in policy.now self.new block.now ≡ true) }
         ensures kept { OnOk result ((other : AnyDatagram) → is_noted self.old other ≡ true → is_noted self.new other ≡ true) }
         ensures released { OnOk result ((release : AnyRelease) → is_released self.new release ≡ true →
             (is_released self.old release ≡ true) ⊎ IsReleaseIn policy.now release block.now) }
+        ensures senders { OnOk result ((client listen : AnyAddr) → is_sender self.new client listen ≡ true →
+            (is_sender self.old client listen ≡ true) ⊎ SendsIn policy.now client listen block.now) }
     {
         self.note_release(policy, block)?;
-        match datagram_in(policy, block) {
-            Some(datagram) => self.note_datagram(&datagram),
-            None => Ok(()),
+        let Some(datagram) = datagram_in(policy, block) else {
+            return Ok(());
+        };
+        self.note_sender(&datagram)?;
+        self.note_datagram(&datagram)
+    }
+
+    fn note_sender(&mut self, datagram: &Datagram) -> Result<(), AllocError>
+        ensures asked { self.new.asked ≡ self.old.asked }
+        ensures granted { self.new.granted ≡ self.old.granted }
+        ensures released { self.new.released ≡ self.old.released }
+        ensures senders { OnOk result ((client listen : AnyAddr) → is_sender self.new client listen ≡ true →
+            (is_sender self.old client listen ≡ true) ⊎ Sends client listen (Some datagram.now)) }
+    {
+        if let Side::Arrives = datagram.side {
+            self.senders.insert((datagram.from, datagram.to))?;
         }
+        Ok(())
     }
 
     fn note_release(&mut self, policy: &Policy, block: &Block) -> Result<(), AllocError>
         ensures asked { self.new.asked ≡ self.old.asked }
         ensures granted { self.new.granted ≡ self.old.granted }
+        ensures senders { self.new.senders ≡ self.old.senders }
         ensures released { OnOk result ((release : AnyRelease) → is_released self.new release ≡ true →
             (is_released self.old release ≡ true) ⊎ IsReleaseIn policy.now release block.now) }
     {
@@ -64,6 +88,7 @@ impl Allocations {
         ensures noted { OnOk result (is_noted self.new datagram.now ≡ true) }
         ensures kept { OnOk result ((other : AnyDatagram) → is_noted self.old other ≡ true → is_noted self.new other ≡ true) }
         ensures released { self.new.released ≡ self.old.released }
+        ensures senders { self.new.senders ≡ self.old.senders }
     {
         if let Some(transaction) = datagram.allocate {
             match datagram.side {
@@ -84,6 +109,13 @@ impl Allocations {
             (Some(transaction), Side::Leaves) => self.asked.contains(&transaction),
             (None, _) => false,
         }
+    }
+
+    /// Whether the client sends something to its listen address. The cost is the logarithm of how many do.
+    pub fn has_sender(&self, pair: &Pair) -> bool
+        ensures { result ≡ is_sender self.now pair.now.client pair.now.listen }
+    {
+        self.senders.contains(&(pair.client, pair.listen))
     }
 
     /// Whether a release is noted. The cost is the logarithm of how many are.

@@ -1,6 +1,6 @@
 //! What is kept of allocations, and what is left out behind their releases. It does nothing when it runs.
 
-ghost use Rattle.std.specs.Prelude.{◌≡◌, ℕ, List, Option, Some, slice_get, true};
+ghost use Rattle.std.specs.Prelude.{◌≡◌, ◌⊎◌, ℕ, List, Option, Some, slice_get, true};
 ghost use Rattle.audit_model.specs.declared.sighting.Side.TheVariants.{Arrives, Leaves};
 ghost use Rattle.prep_blocks.specs.declared.block.Block.{Block};
 ghost use Rattle.prep_cut.specs.declared.datagram.Datagram.{Datagram};
@@ -9,12 +9,15 @@ ghost use Rattle.prep_cut.specs.declared.transaction.Transaction.{Transaction};
 ghost use Rattle.prep_cut.specs.Datagrams.{datagram_of_block};
 ghost use Rattle.prep_cut.specs.Allocating.{is_noted};
 ghost use Rattle.prep_cut.specs.Marks.{line_of};
-ghost use Rattle.prep_cut.specs.Kept.{IsOfMoment};
+ghost use Rattle.prep_cut.specs.Kept.{IsMoment, IsOfMoment};
 ghost use Rattle.audit_model.specs.declared.address.Addr.{Addr};
 ghost use Rattle.audit_model.specs.declared.pair.Pair.{Pair};
 ghost use Rattle.prep_cut.specs.declared.reason.Reason.TheVariants.{Released};
 ghost use Rattle.prep_cut.specs.Releasing.{AreReleased};
 ghost use Rattle.prep_cut.specs.Bounded.{IsBehindRelease};
+ghost use Rattle.prep_cut.specs.declared.reason.Reason.{Reason};
+ghost use Rattle.prep_cut.specs.Heard.{IsOfSender};
+ghost use Rattle.prep_cut.specs.Sending.{AreSenders};
 
 /// Of an Allocate request and a success of its transaction, both of which are noted in the plan's allocations, none is left out by any line
 /// but those of the moments that are stated, whatever is proposed for them.
@@ -36,4 +39,15 @@ pub fn released_is_bounded()
     ensures { (plan : Plan) (captured : List Block) (line : ℕ) (block : Block) (pair : Pair) (relayed : Addr) (moment : ℕ) →
         AreReleased plan.policy plan.allocations captured → slice_get plan.lines line ≡ Some (Released pair relayed moment) →
         line_of plan (Some line) block ≡ Some line → IsBehindRelease plan captured pair relayed moment (datagram_of_block plan.policy block) }
+{}
+
+/// A datagram that a line excludes, other than by the moments that are stated, is of the client or the address that the line names. If the
+/// line names a client, the captures show a datagram from that client: whatever is proposed, nothing is excluded that goes to a 5-tuple
+/// which sends nothing. If the operator states that the server started with the captures, or that no client comes by TCP, TLS, DTLS or IPv6,
+/// the lines of such clients exclude nothing.
+pub fn strangers_stay()
+    ensures { (plan : Plan) (captured : List Block) (line : ℕ) (block : Block) (reason : Reason) (datagram : Datagram) →
+        AreSenders plan.policy plan.allocations captured → slice_get plan.lines line ≡ Some reason →
+        datagram_of_block plan.policy block ≡ Some datagram → line_of plan (Some line) block ≡ Some line →
+        IsMoment (Some reason) ⊎ IsOfSender plan captured reason datagram }
 {}

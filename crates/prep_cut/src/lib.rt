@@ -18,7 +18,7 @@ pub use allocations::Allocations;
 pub use cutter::{Cutter, WasCut};
 pub use datagram::{Datagram, datagram_in, frame_in};
 pub use fault::{CutFault, CutRefused};
-pub use laws::{released_is_bounded, shown_allocates_stay};
+pub use laws::{released_is_bounded, shown_allocates_stay, strangers_stay};
 pub use plan::{LineNumber, Plan};
 pub use reason::{FarEnd, Reason, ReasonKind};
 pub use release::Release;

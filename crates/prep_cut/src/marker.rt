@@ -90,15 +90,13 @@ impl<'p> Marker<'p> {
         ensures totals { self.new.totals ≡ totals_with self.old.totals (is_none line) packet datagram }
         ensures len { length self.new.tallies.lines.items ≡ length self.old.tallies.lines.items }
         ensures tallies { (other : ℕ) → other < length self.old.tallies.lines.items →
-            get_or self.new.tallies.lines.items other no_tally ≡ tallied_with line datagram other (get_or self.old.tallies.lines.items other no_tally) }
+            get_or self.new.tallies.lines.items other no_tally ≡ tallied_with line packet datagram other (get_or self.old.tallies.lines.items other no_tally) }
     {
         self.totals = self.totals.with(line.is_none(), packet, datagram);
         let Some(line) = line else {
             return true;
         };
-        if let Some(datagram) = datagram {
-            self.tallies.add(line as usize, &datagram);
-        }
+        self.tallies.add(line as usize, packet, datagram);
         false
     }
 

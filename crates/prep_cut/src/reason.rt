@@ -1,5 +1,8 @@
 //! Why a packet is set aside.
 
+ghost use Rattle.std.specs.Prelude.{◌≡◌};
+ghost use Rattle.prep_cut.specs.ReasonText.{kind_of};
+
 use audit_model::{Addr, Pair};
 use std::fmt;
 
@@ -77,7 +80,9 @@ pub enum ReasonKind {
 
 impl Reason {
     /// What it says, whomever it names.
-    pub fn kind(&self) -> ReasonKind {
+    pub fn kind(&self) -> ReasonKind
+        ensures { result ≡ kind_of self.now }
+    {
         match self {
             Reason::BeforeSince => ReasonKind::BeforeSince,
             Reason::Client(_) => ReasonKind::Client,
@@ -96,6 +101,11 @@ impl Reason {
 
 /// The word that such a line begins with.
 impl fmt::Display for ReasonKind {
+    ghost use Rattle.std.specs.Prelude.{Some};
+    ghost use Rattle.prep_cut.specs.ReasonText.{kind_text};
+
+    ghost output = { λ kind. Some (kind_text kind) };
+
     fn fmt<W: fmt::Write>(&self, f: &mut fmt::Formatter<W>) -> fmt::Result {
         f.write_str(match self {
             ReasonKind::BeforeSince => "before-since",
@@ -113,17 +123,75 @@ impl fmt::Display for ReasonKind {
     }
 }
 
+/// A group of an IPv6 address.
+#[derive(Clone, Copy, Debug)]
+struct Group {
+    number: u16,
+}
+
+/// In lower-case hex.
+impl fmt::Display for Group {
+    ghost use Rattle.std.specs.Prelude.{Some, false};
+    ghost use Rattle.std.specs.Fmt.{digits};
+
+    ghost output = { λ group. Some (digits 16 false group.number) };
+
+    fn fmt<W: fmt::Write>(&self, f: &mut fmt::Formatter<W>) -> fmt::Result {
+        let number = self.number;
+        write!(f, "{number:x}")
+    }
+}
+
+/// Half of an IPv6 address.
+#[derive(Clone, Copy, Debug)]
+struct Half {
+    first: Group,
+    second: Group,
+    third: Group,
+    fourth: Group,
+}
+
+/// As `2001:db8:0:0`.
+impl fmt::Display for Half {
+    ghost use Rattle.std.specs.Prelude.{Some};
+    ghost use Rattle.prep_cut.specs.ReasonText.{half_text};
+
+    ghost output = { λ half. Some (half_text half.first.number half.second.number half.third.number half.fourth.number) };
+
+    fn fmt<W: fmt::Write>(&self, f: &mut fmt::Formatter<W>) -> fmt::Result {
+        let first = self.first;
+        let second = self.second;
+        let third = self.third;
+        let fourth = self.fourth;
+        write!(f, "{first}:{second}:{third}:{fourth}")
+    }
+}
+
 /// As `tcp 198.51.100.8:53281`, or `ipv6 [2001:db8:0:0:0:0:0:1]:40000`.
 impl fmt::Display for FarEnd {
+    ghost use Rattle.std.specs.Prelude.{Some};
+    ghost use Rattle.prep_cut.specs.ReasonText.{far_text};
+
+    ghost output = { λ far. Some (far_text far) };
+
     fn fmt<W: fmt::Write>(&self, f: &mut fmt::Formatter<W>) -> fmt::Result {
         match self {
             FarEnd::Tcp(addr) => write!(f, "tcp {addr}"),
             FarEnd::Ipv6 { ip, port } => {
                 let [a, b, c, d, e, g, h, i] = *ip;
-                write!(
-                    f,
-                    "ipv6 [{a:x}:{b:x}:{c:x}:{d:x}:{e:x}:{g:x}:{h:x}:{i:x}]:{port}"
-                )
+                let front = Half {
+                    first: Group { number: a },
+                    second: Group { number: b },
+                    third: Group { number: c },
+                    fourth: Group { number: d },
+                };
+                let back = Half {
+                    first: Group { number: e },
+                    second: Group { number: g },
+                    third: Group { number: h },
+                    fourth: Group { number: i },
+                };
+                write!(f, "ipv6 [{front}:{back}]:{port}")
             }
         }
     }
@@ -131,39 +199,38 @@ impl fmt::Display for FarEnd {
 
 /// What a line of the list begins with.
 impl fmt::Display for Reason {
+    ghost use Rattle.std.specs.Prelude.{Some};
+    ghost use Rattle.prep_cut.specs.ReasonText.{reason_text};
+
+    ghost output = { λ reason. Some (reason_text reason) };
+
     fn fmt<W: fmt::Write>(&self, f: &mut fmt::Formatter<W>) -> fmt::Result {
         let kind = self.kind();
-        write!(f, "{kind}")?;
         match self {
-            Reason::BeforeSince | Reason::AfterUntil => Ok(()),
+            Reason::BeforeSince | Reason::AfterUntil => write!(f, "{kind}"),
             Reason::Client(pair) | Reason::Answer(pair) | Reason::Dtls(pair) => {
-                write_pair(f, pair)
+                let Pair { client, listen } = *pair;
+                write!(f, "{kind} {client} {listen}")
             }
             Reason::AddressOf { relayed, pair, .. } => {
-                write!(f, " {relayed}")?;
-                write_pair(f, pair)
+                let Pair { client, listen } = *pair;
+                write!(f, "{kind} {relayed} {client} {listen}")
             }
             Reason::AddressTold {
                 relayed,
                 client,
                 ..
-            } => write!(f, " {relayed} {client}"),
-            Reason::Address { relayed, .. } => write!(f, " {relayed}"),
+            } => write!(f, "{kind} {relayed} {client}"),
+            Reason::Address { relayed, .. } => write!(f, "{kind} {relayed}"),
             Reason::Released { pair, relayed, .. } => {
-                write_pair(f, pair)?;
-                write!(f, " {relayed}")
+                let Pair { client, listen } = *pair;
+                write!(f, "{kind} {client} {listen} {relayed}")
             }
             Reason::Inner { pair, peer } => {
-                write_pair(f, pair)?;
-                write!(f, " {peer}")
+                let Pair { client, listen } = *pair;
+                write!(f, "{kind} {client} {listen} {peer}")
             }
-            Reason::Inside { from, to } => write!(f, " {from} {to}"),
+            Reason::Inside { from, to } => write!(f, "{kind} {from} {to}"),
         }
     }
-}
-
-/// A client with its listen address.
-fn write_pair<W: fmt::Write>(f: &mut fmt::Formatter<W>, pair: &Pair) -> fmt::Result {
-    let Pair { client, listen } = *pair;
-    write!(f, " {client} {listen}")
 }

@@ -1,7 +1,7 @@
 //! What the operator states, and which packets each reason may set aside then.
 
 ghost use Rattle.std.specs.Prelude.{◌≡◌};
-ghost use Rattle.prep_cut.specs.Guard.{is_early, is_late, is_of_pair, is_at, is_due, is_in_time, is_behind, is_stated, is_named, may_leave_packet, same};
+ghost use Rattle.prep_cut.specs.Guard.{is_early, is_late, is_of_pair, is_at, is_due, is_in_time, is_behind, is_stated, is_named, is_heard, may_leave_packet, same};
 
 use crate::allocations::Allocations;
 use crate::datagram::Datagram;
@@ -33,7 +33,8 @@ const MILLISECOND: u64 = 1_000_000;
 
 impl Stated {
     /// Whether the reason may set aside a packet of this stamp, which holds this datagram of the service or none: what the operator
-    /// states has to allow the reason, and the packet has to be of the client or the address that the reason names. An Allocate success
+    /// states has to allow the reason, and the packet has to be of the client or the address that the reason names. A client that sends
+    /// nothing in all of the captures has nothing excluded. An Allocate success
     /// whose request is among the allocations, and an Allocate request whose success is, is set aside only by its moment. What is relayed
     /// behind a release is so only where the release is among the allocations, and where it left in the time that is stated.
     pub fn may_leave(
@@ -54,6 +55,7 @@ impl Stated {
                     self.allows(reason)
                         && self.is_due(allocations, reason, &datagram)
                         && is_named(reason, &datagram)
+                        && is_heard(allocations, reason)
                         && !allocations.shows(&datagram)
                 }
             },
@@ -85,9 +87,10 @@ impl Stated {
         ensures { result ≡ is_stated self.now reason.now }
     {
         match reason {
-            Reason::BeforeSince | Reason::AfterUntil | Reason::Dtls(_) => true,
+            Reason::BeforeSince | Reason::AfterUntil => true,
             Reason::Client(_) | Reason::Answer(_) | Reason::AddressOf { .. } => !self.is_from_start,
             Reason::AddressTold { .. } | Reason::Address { .. } => !self.has_no_tcp,
+            Reason::Dtls(_) => !self.has_no_tcp,
             Reason::Released { .. } => self.released_ms > 0,
             Reason::Inner { .. } | Reason::Inside { .. } => !self.keeps_inner,
         }
@@ -148,6 +151,25 @@ fn is_named(reason: &Reason, datagram: &Datagram) -> bool
         Reason::Inside { from, to } => {
             datagram.is_inside && datagram.from == *from && datagram.to == *to
         }
+    }
+}
+
+/// Whether the client that the reason names sends something in the captures.
+fn is_heard(allocations: &Allocations, reason: &Reason) -> bool
+    ensures { result ≡ is_heard allocations.now reason.now }
+{
+    match reason {
+        Reason::Client(pair)
+        | Reason::Answer(pair)
+        | Reason::Released { pair, .. }
+        | Reason::Dtls(pair)
+        | Reason::Inner { pair, .. } => allocations.has_sender(pair),
+        Reason::BeforeSince
+        | Reason::AfterUntil
+        | Reason::AddressOf { .. }
+        | Reason::AddressTold { .. }
+        | Reason::Address { .. }
+        | Reason::Inside { .. } => true,
     }
 }
 

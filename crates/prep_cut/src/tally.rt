@@ -1,7 +1,7 @@
-//! How many datagrams are set aside, and how much they carried.
+//! How many packets are set aside, and how much the datagrams among them carried.
 
 ghost use Rattle.std.specs.Prelude.{◌≡◌, ◌<◌, ℕ, length, get_or, IfOk};
-ghost use Rattle.prep_cut.specs.Tallied.{no_count, no_tally, no_totals, counted, counted_both, tallied, tallied_at, totals_with, is_counted, AreNone};
+ghost use Rattle.prep_cut.specs.Tallied.{no_count, no_tally, no_totals, counted, counted_both, tallied, tallied_at, tallied_block, tallied_other, totals_with, is_counted, AreNone};
 
 use crate::datagram::Datagram;
 use audit_model::Side;
@@ -47,34 +47,37 @@ impl Count {
     }
 }
 
-/// What a line of the list says of its datagrams.
+/// What a line of the list says of its packets.
 #[derive(Clone, Copy, Debug, PartialEq, Eq)]
 pub struct Tally {
     pub arrived: Count,
     pub left: Count,
-    /// The least and the greatest of their moments; of no datagram the greatest u64, and 0.
+    /// Packets that are no datagram of the service: fragments, packets that were captured cut, and what others sent.
+    pub others: u64,
+    /// The least and the greatest of their moments; of no packet the greatest u64, and 0.
     pub first: u64,
     pub last: u64,
 }
 
 impl Tally {
-    /// Of no datagram.
+    /// Of no packet.
     pub fn none() -> Self
         ensures { result ≡ no_tally }
     {
         Tally {
             arrived: Count::none(),
             left: Count::none(),
+            others: 0,
             first: u64::MAX,
             last: 0,
         }
     }
 
-    /// Whether it is of some datagram.
+    /// Whether it is of some packet.
     pub fn is_some(&self) -> bool
         ensures { result ≡ is_counted self.now }
     {
-        self.arrived.datagrams > 0 || self.left.datagrams > 0
+        self.arrived.datagrams > 0 || self.left.datagrams > 0 || self.others > 0
     }
 
     /// With a datagram more.
@@ -87,14 +90,42 @@ impl Tally {
             Side::Arrives => Tally {
                 arrived: self.arrived.with(datagram.size),
                 left: self.left,
+                others: self.others,
                 first,
                 last,
             },
             Side::Leaves => Tally {
                 arrived: self.arrived,
                 left: self.left.with(datagram.size),
+                others: self.others,
                 first,
                 last,
+            },
+        }
+    }
+
+    /// With a packet more that is no datagram of the service.
+    fn with_other(self, stamp: u64) -> Self
+        ensures { result ≡ tallied_other self stamp }
+    {
+        Tally {
+            arrived: self.arrived,
+            left: self.left,
+            others: self.others.saturating_add(1),
+            first: self.first.min(stamp),
+            last: self.last.max(stamp),
+        }
+    }
+
+    /// With a block more: its datagram, or else its packet.
+    fn with_block(self, packet: Option<PacketHead>, datagram: Option<Datagram>) -> Self
+        ensures { result ≡ tallied_block self packet datagram }
+    {
+        match datagram {
+            Some(datagram) => self.with(&datagram),
+            None => match packet {
+                Some(head) => self.with_other(head.stamp),
+                None => self,
             },
         }
     }
@@ -161,7 +192,7 @@ pub struct Tallies {
 }
 
 impl Tallies {
-    /// Of so many lines without a datagram.
+    /// Of so many lines without a packet.
     pub fn new(alloc: Global, lines: usize) -> Result<Self, AllocError>
         ensures { IfOk result (λ tallies. AreNone tallies.lines.items lines) }
     {
@@ -177,14 +208,14 @@ impl Tallies {
         self.lines.as_slice()
     }
 
-    /// Counts a datagram to a line; to no line where there is none of that number.
-    pub fn add(&mut self, line: usize, datagram: &Datagram)
+    /// Counts a block to a line; to no line where there is none of that number.
+    pub fn add(&mut self, line: usize, packet: Option<PacketHead>, datagram: Option<Datagram>)
         ensures len { length self.new.lines.items ≡ length self.old.lines.items }
         ensures lines { (other : ℕ) → other < length self.old.lines.items →
-            get_or self.new.lines.items other no_tally ≡ tallied_at line datagram.now other (get_or self.old.lines.items other no_tally) }
+            get_or self.new.lines.items other no_tally ≡ tallied_at line packet datagram other (get_or self.old.lines.items other no_tally) }
     {
         if line < self.lines.len() {
-            self.lines[line] = self.lines[line].with(datagram);
+            self.lines[line] = self.lines[line].with_block(packet, datagram);
         }
     }
 }

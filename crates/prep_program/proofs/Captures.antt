@@ -9,6 +9,7 @@ use Rattle.prep_blocks.specs.Splitting.{IsWhole}
 use Rattle.prep_join.specs.declared.counts.Counts.{Counts}
 use Rattle.prep_join.specs.declared.joiner.Joiner.{Joiner}
 use Rattle.prep_join.specs.Rings.{interfaces_of, first_of, joined, written_of}
+use Rattle.prep_join.specs.Joining.{AllFit, GoOn}
 use Rattle.prep_join.specs.Joined.{IsJoining, IsDone, GoesOn}
 use Rattle.prep_join.proofs.Written.{joined-one, written_of-append}
 use Rattle.prep_program.specs.declared.stop.Stop.{Stop}
@@ -43,10 +44,11 @@ pub record AreDone (joiner : Joiner) (texts : List (List ℕ)) (before after : O
   pub joining : IsJoining joiner done [] []
   pub spelled : map bytes_of done ≡ texts
   pub parts : AllByRecursion (λ blocks. IsPart done blocks) done
+  pub ring : GoOn [] done
   pub written : after ≡ followed_by before (joined done)
 
 pub none_done : (joiner : Joiner) (before : Option (List ℕ)) → IsJoining joiner [] [] [] → AreDone joiner [] before before
-none_done joiner before joining = record { done = []; joining = joining; spelled = refl; parts = tt; written = followed_none before }
+none_done joiner before joining = record { done = []; joining = joining; spelled = refl; parts = tt; ring = tt; written = followed_none before }
 
 all_then : (P : List Block → Type 0) (xs : List (List Block)) (x : List Block) → AllByRecursion P xs → P x → AllByRecursion P (xs ++ x ∷ [])
 all_then P [] x all one = (one, tt)
@@ -57,6 +59,11 @@ part_more : (done : List (List Block)) (current : List Block) → IsWhole (bytes
 part_more [] current whole same parts = ((whole, same), tt)
 part_more (first ∷ others) current whole same parts = all_then (λ blocks. IsPart (first ∷ others) blocks) (first ∷ others) current parts (whole, same)
 
+go_on_one : (before done : List (List Block)) (current : List Block) → GoOn before done → AllFit (before ++ done) [] current → GoOn before (done ++ current ∷ [])
+go_on_one before [] current all one = (subst (λ (d : List (List Block)). AllFit d [] current) (append-nil before) one, tt)
+go_on_one before (first ∷ others) current all one =
+    (all.0, go_on_one (before ++ first ∷ []) others current all.1 (subst (λ (d : List (List Block)). AllFit d [] current) (sym (append_assoc before (first ∷ []) others)) one))
+
 -- a capture more
 pub one_done : (joiner new : Joiner) (texts : List (List ℕ)) (text : List ℕ) (counts : Counts) (before middle after : Option (List ℕ)) → (d : AreDone joiner texts before middle)
     → Joins new d.done text counts middle after → AreDone new (texts ++ text ∷ []) before after
@@ -65,6 +72,7 @@ one_done joiner new texts text counts before middle after d j = record {
   joining = j.ended.joining;
   spelled = map-append bytes_of d.done (j.current ∷ []) ∙ ap (λ (t : List (List ℕ)). t ++ bytes_of j.current ∷ []) d.spelled ∙ ap (λ (t : List ℕ). texts ++ t ∷ []) (sym j.ended.whole.spelled);
   parts = part_more d.done j.current (subst (λ (t : List ℕ). IsWhole t j.current) j.ended.whole.spelled j.ended.whole) j.ended.same d.parts;
+  ring = go_on_one [] d.done j.current d.ring j.ended.fits;
   written = j.added ∙ ap (λ (m : Option (List ℕ)). followed_by m (written_of d.done j.current)) d.written ∙ followed_twice before (joined d.done) (written_of d.done j.current)
       ∙ ap (λ (o : List ℕ). followed_by before o) (sym (joined-one d.done j.current));
 }

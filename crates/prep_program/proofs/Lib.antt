@@ -4,3 +4,5 @@ pub mod Outer
 pub mod Together
 pub mod CutFiles
 pub mod RecordedFiles
+pub mod AllCuts
+pub mod Texts

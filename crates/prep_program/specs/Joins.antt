@@ -8,6 +8,7 @@ use Rattle.prep_blocks.specs.Splitting.{IsWhole}
 use Rattle.prep_join.specs.declared.counts.Counts.{Counts}
 use Rattle.prep_join.specs.declared.joiner.Joiner.{Joiner}
 use Rattle.prep_join.specs.Rings.{interfaces_of, first_of, joined, written_of}
+use Rattle.prep_join.specs.Joining.{GoOn}
 use Rattle.prep_join.specs.Joined.{IsJoining, IsDone}
 
 -- of a capture's text so far what is joined was written
@@ -26,9 +27,10 @@ pub record Joins (joiner : Joiner) (done : List (List Block)) (text : List ℕ) 
 abbrev pub IsPart : List (List Block) → List Block → Type 0
 IsPart captures blocks = IsWhole (bytes_of blocks) blocks × (interfaces_of blocks ≡ interfaces_of (first_of captures []))
 
--- the texts are whole captures, and what was written is what they are joined
+-- the texts are whole captures, each of which goes on with those before it, and what was written is what they are joined
 pub record JoinsAll (texts : List (List ℕ)) (before after : Option (List ℕ)) : Type 0 where
   pub captures : List (List Block)
   pub spelled : map bytes_of captures ≡ texts
   pub parts : AllByRecursion (λ blocks. IsPart captures blocks) captures
+  pub ring : GoOn [] captures
   pub written : after ≡ followed_by before (joined captures)

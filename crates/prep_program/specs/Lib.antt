@@ -1,3 +1,4 @@
+pub mod Pages
 pub mod Pieces
 pub mod Making
 pub mod Stops
@@ -6,3 +7,6 @@ pub mod Translations
 pub mod Reassemblies
 pub mod Cuts
 pub mod Recordings
+pub mod AllCuts
+pub mod ListText
+pub mod Listing

@@ -14,6 +14,7 @@ use self::reassemble::{reassemble_command, reassemble_request};
 use self::translate::{translate_command, translate_request};
 use self::users::{users_command, users_request};
 use crate::looking::LookRequest;
+use crate::pages::{Page, page_of, release};
 use crate::reassembling::ReassembleRequest;
 use crate::set_aside::CutRequest;
 use crate::translating::TranslateRequest;
@@ -48,30 +49,18 @@ pub enum Request<'a> {
     Reassemble(ReassembleRequest<'a>),
     /// Write credentials.
     Users(UsersRequest<'a>),
-    /// Tell how to use the program, or its release, on standard output.
-    Help(String),
+    /// Print how to use the program, on standard output.
+    Help(Page),
+    /// Print the release, on standard output.
+    Release,
     /// The words are no request; what clap says of it, for standard error.
     Usage(String),
 }
-
-/// The release, and the line of `rt version` that names what it is proved with.
-const VERSION: &str = "0.1.0, proved with rattle-kit-13f logic dac8208d650f15bf";
-
-const ABOUT: &str = "Makes captures and a policy ready for turnaudit. It judges nothing";
-
-const STATUSES: &str =
-    "Exit status:\n  0  done\n  2  an input is refused; its number is told on standard error\n  3  out of memory\n  4  a file can't be read or made, or something can't be written\n  5  wrong words";
-
-const ABOUT_JOIN: &str = "Joins the captures of a ring, in their order, to one capture";
-
-const EXAMPLE_JOIN: &str =
-    "Example:\n  turnprep join -o call.pcapng ring_00001_20261126120000.pcapng ring_00002_20261126120500.pcapng\n\nwrites call.pcapng: the first file whole, and of each other all blocks but the section header and the interfaces.";
 
 /// The captures that a command reads.
 fn captures_argument<'a>(alloc: Global) -> Arg<'a> {
     Arg::new(alloc, "captures")
         .value_name("CAPTURE")
-        .help("Captures, as dumpcap writes them, in their order")
         .required(true)
         .num_args(1..)
         .action(ArgAction::Append)
@@ -82,9 +71,6 @@ fn folder_option<'a>(alloc: Global) -> Arg<'a> {
     Arg::new(alloc, "out")
         .short('o')
         .value_name("DIR")
-        .help(
-            "The folder, which is there, in which files are made; one that is there is never written over",
-        )
         .required(true)
         .action(ArgAction::Set)
 }
@@ -99,7 +85,6 @@ fn file_argument<'a>(alloc: Global) -> Arg<'a> {
     Arg::new(alloc, "out")
         .short('o')
         .value_name("FILE")
-        .help("The file that is made; one that is there is never written over")
         .required(true)
         .action(ArgAction::Set)
 }
@@ -107,8 +92,7 @@ fn file_argument<'a>(alloc: Global) -> Arg<'a> {
 /// The command `join`.
 fn join_command<'a>(alloc: Global) -> Result<Command<'a>, AllocError> {
     Command::new(alloc, "join")
-        .about(ABOUT_JOIN)
-        .after_help(EXAMPLE_JOIN)
+        .override_help(Page::Join.text())
         .arg(file_argument(alloc))?
         .arg(captures_argument(alloc))
 }
@@ -138,9 +122,8 @@ fn command<'a>(alloc: Global) -> Result<Command<'a>, AllocError> {
     let command = with_policy_and_users(
         alloc,
         Command::new(alloc, "turnprep")
-            .version(VERSION)
-            .about(ABOUT)
-            .after_help(STATUSES)
+            .version(release())
+            .override_help(Page::Program.text())
             .arg_required_else_help(true)
             .subcommand_required(true),
     )?;
@@ -153,11 +136,13 @@ fn refused<'a>(alloc: Global, error: Error) -> Result<Request<'a>, AllocError> {
     if error.kind() == ErrorKind::OutOfMemory {
         return Err(AllocError);
     }
-    if error.use_stderr() {
-        Ok(Request::Usage(text))
-    } else {
-        Ok(Request::Help(text))
+    if error.kind() == ErrorKind::DisplayHelp {
+        return Ok(Request::Help(page_of(&text).unwrap_or(Page::Program)));
     }
+    if error.kind() == ErrorKind::DisplayVersion {
+        return Ok(Request::Release);
+    }
+    Ok(Request::Usage(text))
 }
 
 /// The request that the words of the command `join` are.

@@ -1,16 +1,18 @@
 //! Cutting captures that are files.
 
 ghost use Rattle.std.specs.Prelude.{◌≡◌, [], ℕ, List, Option, Some, IfOk};
+ghost use Rattle.std.specs.List.{AllZip};
 ghost use Rattle.prep_blocks.specs.declared.block.Block.{Block};
 ghost use Rattle.prep_cut.specs.Cutting.{IsCut, IsCutting};
 ghost use Rattle.prep_cut.specs.Marks.{Marked};
 ghost use Rattle.prep_cut.specs.declared.plan.Plan.{Plan};
+ghost use Rattle.prep_program.specs.AllCuts.{CutsAll};
 ghost use Rattle.prep_program.specs.Cuts.{Cuts};
+ghost use Rattle.prep_program.specs.Making.{files_of};
 
-use crate::maker::Maker;
+use crate::maker::{Maker, append_all};
 use crate::source::{PIECE, Source};
 use crate::stop::Stop;
-use audit_model::put_all;
 use prep_cut::{Cutter, LineNumber, Plan, Tallies, Totals, WasCut};
 use std::alloc::Global;
 
@@ -24,6 +26,7 @@ pub fn cut_capture<S: Source, M: Maker>(
     made: &mut M,
 ) -> Result<WasCut, Stop>
     ensures kept { S.holds source.new ≡ S.holds source.old }
+    ensures others { M.making made.new ≡ M.making made.old }
     ensures cuts { (text : List ℕ) (plan : Plan) (proposals : List (Option ℕ)) (earlier : List Marked) → S.holds source.old name.now ≡ Some text →
         IsCutting cutter.entry plan proposals earlier [] [] →
         IfOk result (λ cut. Cuts cut plan proposals earlier text (M.taken made.old) (M.taken made.new)) }
@@ -40,7 +43,7 @@ pub fn cut_capture<S: Source, M: Maker>(
         if let Err(fault) = cutter.feed(&piece[..read], &mut out) {
             return Err(Stop::of_cut(capture, fault));
         }
-        put_all(made, &out)?;
+        append_all(made, &out)?;
         out.clear();
         let Some(next) = at.checked_add(read as u64) else {
             return Err(Stop::Read);
@@ -78,14 +81,17 @@ pub struct AllCut {
     pub tallies: Tallies,
 }
 
-/// Cuts captures one after another, each to a file of its own.
+/// Cuts captures one after another, each to a file of its own. The tallies are those of all of them.
 pub fn cut_captures<S: Source, M: Maker>(
     alloc: Global,
     source: &mut S,
     captures: &[ToCut<'_>],
     plan: &Plan,
     made: &mut M,
-) -> Result<AllCut, Stop> {
+) -> Result<AllCut, Stop>
+    ensures { (texts : List (List ℕ)) → AllZip (λ one text. S.holds source.old one.name.now ≡ Some text) captures.now texts →
+        IfOk result (λ all. CutsAll all plan.now captures.now texts (files_of (M.making made.old) (M.taken made.old)) (files_of (M.making made.new) (M.taken made.new))) }
+{
     let mut tallies = Tallies::new(alloc, plan.lines.len())?;
     let mut totals = Vec::new(alloc);
     let mut number = 0u32;

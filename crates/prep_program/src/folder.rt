@@ -1,11 +1,15 @@
 //! Files of a folder that are named as others are.
 
+ghost use Rattle.std.specs.Prelude.{◌≡◌, ◌++◌, IfOk, codes, string_bytes};
+
 use crate::stop::Stop;
 use std::alloc::{AllocError, Global};
 use std::path::Path;
 
 /// The path of a file in a folder.
-pub fn path_in(alloc: Global, folder: &str, name: &str) -> Result<String, AllocError> {
+pub fn path_in(alloc: Global, folder: &str, name: &str) -> Result<String, AllocError>
+    ensures { IfOk result (λ path. string_bytes path ≡ folder.now ++ (codes "/" ++ name.now)) }
+{
     format!(in alloc; "{folder}/{name}")
 }
 

@@ -4,6 +4,7 @@ use crate::command_line::{Request, read as read_words};
 use crate::joining::join_captures;
 use crate::looking::run_look;
 use crate::maker::Maker;
+use crate::pages::release;
 use crate::policy::run_policy;
 use crate::reassembling::run_reassemble;
 use crate::ring_name::gap_in;
@@ -81,12 +82,16 @@ fn run_request<S: Source, M: Maker, O: Sink, E: Sink>(
             run_policy(alloc, file, &asked, source, out, err)
         }
         Request::Look(asked) => run_look(alloc, asked, source, out),
-        Request::Cut(words) => run_cut(alloc, words, source, maker, out),
+        Request::Cut(words) => run_cut(alloc, words, source, maker, out, err),
         Request::Translate(asked) => run_translate(alloc, asked, source, maker, out),
         Request::Reassemble(asked) => run_reassemble(alloc, asked, source, maker, out),
         Request::Users(asked) => run_users(alloc, asked, source, out, err),
-        Request::Help(text) => {
-            put_all(out, text.as_bytes())?;
+        Request::Help(page) => {
+            put_all(out, page.text().as_bytes())?;
+            Ok(0)
+        }
+        Request::Release => {
+            put_all(out, release().as_bytes())?;
             Ok(0)
         }
         Request::Usage(text) => {

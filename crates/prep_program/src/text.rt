@@ -1,11 +1,16 @@
 //! Texts that are read whole.
 
+ghost use Rattle.std.specs.Prelude.{◌≡◌, ℕ, List, Some, IfOk};
+
 use crate::source::{PIECE, Source};
 use crate::stop::Stop;
 use std::alloc::Global;
 
 /// The bytes of a file, from its first to its last.
-pub fn read_text<S: Source>(alloc: Global, source: &mut S, name: &str) -> Result<Vec<u8>, Stop> {
+pub fn read_text<S: Source>(alloc: Global, source: &mut S, name: &str) -> Result<Vec<u8>, Stop>
+    ensures kept { S.holds source.new ≡ S.holds source.old }
+    ensures whole { (bytes : List ℕ) → S.holds source.old name.now ≡ Some bytes → IfOk result (λ text. text.items ≡ bytes) }
+{
     let mut piece = vec![in alloc; 0u8; PIECE]?;
     let mut text = Vec::new(alloc);
     let mut at = 0u64;

@@ -2,9 +2,10 @@
 
 use crate::hang_ups::HangUps;
 use crate::pool::Pool;
+use crate::responses::Shown;
 use crate::sheet::Sheet;
 use crate::strays::{Cause, Stray, Strays, find_strays, relayed_in};
-use crate::tenures::Tenures;
+use crate::unread::Unread;
 use audit_model::{Addr, Side};
 use prep_cut::Reason;
 use prep_records::Record;
@@ -17,11 +18,14 @@ type LeftOf = BTreeSet<(Addr, u32)>;
 /// Sets aside what leaves relayed addresses that nobody was given, and what arrives there.
 pub(crate) fn leave_addresses(
     sheet: &mut Sheet<'_>,
-    tenures: &Tenures,
+    shown: &Shown,
     hang_ups: &HangUps,
     by_client: Pool,
+    unread: Unread,
 ) -> Result<(), AllocError> {
-    let found = find_strays(sheet, tenures, hang_ups, by_client)?;
+    let mut unread = unread;
+    unread.rewind();
+    let found = find_strays(sheet, &shown.tenures, hang_ups, by_client)?;
     let mut left: LeftOf = BTreeSet::new(sheet.alloc);
     for side in [Side::Leaves, Side::Arrives] {
         for place in 0..found.all.len() {
@@ -30,7 +34,7 @@ pub(crate) fn leave_addresses(
             };
             if let Some(record) = sheet.record(stray.record as usize) {
                 if record.side == side {
-                    leave_record(sheet, tenures, stray, &found, &mut left)?;
+                    leave_record(sheet, shown, stray, &found, &mut left, &mut unread)?;
                 }
             }
         }
@@ -41,10 +45,11 @@ pub(crate) fn leave_addresses(
 /// Sets aside a record at an address that nobody was given, where it looks like what can't be judged.
 fn leave_record(
     sheet: &mut Sheet<'_>,
-    tenures: &Tenures,
+    shown: &Shown,
     stray: Stray,
     found: &Strays,
     left: &mut LeftOf,
+    unread: &mut Unread,
 ) -> Result<(), AllocError> {
     let at = stray.record as usize;
     let Some(record) = sheet.record(at) else {
@@ -53,12 +58,17 @@ fn leave_record(
     let Some(relayed) = relayed_in(&record) else {
         return Ok(());
     };
-    let tenure = tenures.begun(relayed, record.stamp);
+    let tenure = shown.tenures.begun(relayed, record.stamp);
     let leaves = matches!(record.side, Side::Leaves);
     let client = match stray.cause {
         Cause::Judged => return Ok(()),
         Cause::FromBefore(client) => Some(client),
-        Cause::Nobody if leaves => None,
+        Cause::Nobody if leaves => {
+            if !unread.explains(sheet, shown, &record)? {
+                return Ok(());
+            }
+            None
+        }
         Cause::Nobody => found.owners.get(&relayed).copied(),
     };
     let pair = match client {

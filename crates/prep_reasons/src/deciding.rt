@@ -6,10 +6,10 @@ use crate::from_before::leave_clients;
 use crate::hang_ups::{HangUps, leave_hang_ups};
 use crate::inner::{leave_dtls, leave_inner, pool_of_arrivals};
 use crate::members::Members;
-use crate::pool::Grouping;
 use crate::proposals::{Proposed, propose};
 use crate::responses::read_responses;
 use crate::sheet::Sheet;
+use crate::unread::Unread;
 use audit_model::Policy;
 use prep_cut::Stated;
 use prep_records::Records;
@@ -48,13 +48,14 @@ pub fn sort_out<'a>(
     }
     let hang_ups = HangUps::new(&sheet)?;
     sheet.members = Members::new(alloc);
-    let mut by_client = pool_of_arrivals(&sheet, Grouping::ByClient)?;
+    let mut by_client = pool_of_arrivals(&sheet)?;
+    let mut unread = Unread::new(&mut sheet)?;
     if !stated.keeps_inner {
-        leave_inner(&mut sheet, &shown, &mut by_client)?;
+        leave_inner(&mut sheet, &shown, &mut by_client, &mut unread)?;
     }
     leave_dtls(&mut sheet)?;
     leave_hang_ups(&mut sheet, &shown.tenures, &hang_ups)?;
-    leave_addresses(&mut sheet, &shown.tenures, &hang_ups, by_client)?;
-    leave_clients(&mut sheet, &times)?;
+    leave_addresses(&mut sheet, &shown, &hang_ups, by_client, unread)?;
+    leave_clients(&mut sheet, &times, &shown)?;
     Ok(sheet)
 }

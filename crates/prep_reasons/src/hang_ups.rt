@@ -1,7 +1,7 @@
 //! What is relayed for clients behind their releases, where the operator states for how long.
 
 use crate::inner::{is_data, wanted_of};
-use crate::pool::{Group, Grouping, Pool, Wanted};
+use crate::pool::{Group, Grouping, Pool};
 use crate::releases::{Released, find_released};
 use crate::sheet::Sheet;
 use crate::tenures::Tenures;
@@ -21,27 +21,26 @@ pub(crate) struct HangUps {
 
 /// A line that sets aside what is relayed behind a release.
 #[derive(Clone, Copy)]
-pub(crate) struct Allowed {
-    pub(crate) client: u32,
+struct Allowed {
+    client: u32,
     relayed: Addr,
+    peer: Addr,
     reason: Reason,
 }
 
 impl Allowed {
-    /// Sets aside a departure, with the arrival that is wanted for it.
-    pub(crate) fn leave(
-        &self,
-        sheet: &mut Sheet<'_>,
-        at: usize,
-        pool: &mut Pool,
-        wanted: Wanted,
-    ) -> Result<(), AllocError> {
-        let arrival = pool.take(sheet, wanted);
-        sheet.leave(at, self.reason)?;
-        match arrival {
-            Some(arrival) => sheet.leave(arrival, self.reason),
-            None => Ok(()),
+    /// Where the arrival of data that leaves for the client is.
+    fn group(&self) -> Group {
+        Group::Between {
+            relayed: self.relayed,
+            peer: self.peer,
         }
+    }
+
+    /// Excludes a departure with its arrival.
+    fn leave(&self, sheet: &mut Sheet<'_>, at: usize, arrival: usize) -> Result<(), AllocError> {
+        sheet.leave(at, self.reason)?;
+        sheet.leave(arrival, self.reason)
     }
 }
 
@@ -80,14 +79,14 @@ impl HangUps {
         }
     }
 
-    /// The relayed address of which a client lets go next.
-    fn next_of(&self, client: u32, stamp: u64) -> Option<Addr> {
+    /// What a client lets go of next.
+    fn next_of(&self, client: u32, stamp: u64) -> Option<&Released> {
         let behind = self
             .all
             .partition_point(|one| (one.client, one.moment) < (client, stamp));
         let one = self.all.get(behind)?;
         if one.client == client {
-            Some(one.relayed)
+            Some(one)
         } else {
             None
         }
@@ -126,16 +125,38 @@ impl HangUps {
         allowed_by(sheet, tenures, one, peer, record.stamp)
     }
 
-    /// The line of data that leaves a relayed address for a peer.
-    pub(crate) fn to_peer(
+    /// Excludes data that leaves a relayed address for a peer behind a release that would have allowed it, with its arrival: the same data
+    /// of that client for that peer. Without one it stays in. It tells whether it is behind such a release.
+    pub(crate) fn leave_to_peer(
         &self,
-        sheet: &Sheet<'_>,
+        sheet: &mut Sheet<'_>,
         tenures: &Tenures,
-        record: &Record,
-    ) -> Option<Allowed> {
-        let one = self.last_at(record.from, record.stamp)?;
-        allowed_by(sheet, tenures, one, record.to, record.stamp)
+        at: usize,
+        by_client: &mut Pool,
+    ) -> Result<bool, AllocError> {
+        let Some(record) = sheet.record(at) else {
+            return Ok(false);
+        };
+        let Some(one) = self.last_at(record.from, record.stamp) else {
+            return Ok(false);
+        };
+        let Some(allowed) = allowed_by(sheet, tenures, one, record.to, record.stamp) else {
+            return Ok(false);
+        };
+        let wanted = wanted_of(sheet, &record, Group::Client(allowed.client));
+        if let Some(arrival) = by_client.take(sheet, wanted) {
+            if sent_to(sheet, one, arrival) == Some(allowed.peer) {
+                allowed.leave(sheet, at, arrival)?;
+            }
+        }
+        Ok(true)
     }
+}
+
+/// For whom a client's data is, by what the client had.
+fn sent_to(sheet: &Sheet<'_>, one: &Released, arrival: usize) -> Option<Addr> {
+    let sent = sheet.record(arrival)?;
+    one.peer_of(sent.content, sent.stamp.saturating_sub(sheet.slack))
 }
 
 fn key_at(all: &[Released], place: u32) -> Option<(Addr, u64)> {
@@ -168,6 +189,7 @@ fn allowed_by(
     Some(Allowed {
         client: one.client,
         relayed: one.relayed,
+        peer,
         reason: Reason::Released {
             pair,
             relayed: one.relayed,
@@ -191,7 +213,19 @@ fn arrivals_at(sheet: &Sheet<'_>, hang_ups: &HangUps) -> Result<Pool, AllocError
             arrivals.push(u32::try_from(at).unwrap_or(u32::MAX))?;
         }
     }
-    Pool::new(sheet, Grouping::ByAddress, arrivals)
+    Pool::new(sheet, Grouping::ByEnds, arrivals)
+}
+
+/// Has data that leaves for a client before its release take its arrival.
+fn take_own(sheet: &mut Sheet<'_>, one: &Released, record: &Record, pool: &mut Pool) {
+    if let Some(peer) = one.peer_of(record.content, record.stamp) {
+        let group = Group::Between {
+            relayed: one.relayed,
+            peer,
+        };
+        let wanted = wanted_of(sheet, record, group);
+        let _ = pool.take(sheet, wanted);
+    }
 }
 
 /// Sets aside data that leaves for clients behind their releases, with its arrivals. What left before takes its own arrivals first.
@@ -216,11 +250,12 @@ pub(crate) fn leave_hang_ups(
             continue;
         }
         if let Some(allowed) = hang_ups.to_client(sheet, tenures, client, &record) {
-            let wanted = wanted_of(sheet, &record, Group::At(allowed.relayed));
-            allowed.leave(sheet, at, &mut pool, wanted)?;
-        } else if let Some(relayed) = hang_ups.next_of(client, record.stamp) {
-            let wanted = wanted_of(sheet, &record, Group::At(relayed));
-            let _ = pool.take(sheet, wanted);
+            let wanted = wanted_of(sheet, &record, allowed.group());
+            if let Some(arrival) = pool.take(sheet, wanted) {
+                allowed.leave(sheet, at, arrival)?;
+            }
+        } else if let Some(one) = hang_ups.next_of(client, record.stamp) {
+            take_own(sheet, one, &record, &mut pool);
         }
     }
     Ok(())

@@ -1,9 +1,12 @@
 //! Data between addresses of the service, and DTLS.
 
 use crate::channels::Channels;
+use crate::peer_data::may_be_inner;
 use crate::pool::{Group, Grouping, Pool, Wanted};
 use crate::responses::Shown;
 use crate::sheet::Sheet;
+use crate::state_before::StateBefore;
+use crate::unread::Unread;
 use audit_model::{Addr, Side};
 use prep_cut::Reason;
 use prep_records::{Content, Record};
@@ -18,7 +21,7 @@ pub(crate) fn is_data(record: &Record) -> bool {
 }
 
 /// The address of the service with which a client exchanges data.
-fn inner_peer(sheet: &Sheet<'_>, channels: &Channels, at: usize) -> Option<Addr> {
+pub(crate) fn inner_peer(sheet: &Sheet<'_>, channels: &Channels, at: usize) -> Option<Addr> {
     let record = sheet.record(at)?;
     let pair = sheet.pair_number(at)?;
     let peer = match record.content {
@@ -35,8 +38,8 @@ fn inner_peer(sheet: &Sheet<'_>, channels: &Channels, at: usize) -> Option<Addr>
     }
 }
 
-/// The data of clients that stays in, all together or each client's apart.
-pub(crate) fn pool_of_arrivals(sheet: &Sheet<'_>, grouping: Grouping) -> Result<Pool, AllocError> {
+/// The data that clients sent, each client's apart.
+pub(crate) fn pool_of_arrivals(sheet: &Sheet<'_>) -> Result<Pool, AllocError> {
     let mut arrivals = Vec::new(sheet.alloc);
     for at in 0..sheet.records.len() {
         let (Some(record), Some(_)) = (sheet.record(at), sheet.pair_number(at)) else {
@@ -46,11 +49,31 @@ pub(crate) fn pool_of_arrivals(sheet: &Sheet<'_>, grouping: Grouping) -> Result<
             arrivals.push(u32::try_from(at).unwrap_or(u32::MAX))?;
         }
     }
-    Pool::new(sheet, grouping, arrivals)
+    Pool::new(sheet, Grouping::ByClient, arrivals)
+}
+
+/// What clients from before sent to addresses of the service.
+fn pool_from_before(sheet: &Sheet<'_>, channels: &Channels) -> Result<Pool, AllocError> {
+    let mut arrivals = Vec::new(sheet.alloc);
+    for at in 0..sheet.records.len() {
+        let Some(record) = sheet.record(at) else {
+            continue;
+        };
+        let is_from_before = sheet.state_before(at) == StateBefore::Explains
+            && matches!(record.side, Side::Arrives);
+        if is_from_before
+            && is_data(&record)
+            && !is_outside(sheet, at)
+            && may_be_inner(sheet, channels, at)
+        {
+            arrivals.push(u32::try_from(at).unwrap_or(u32::MAX))?;
+        }
+    }
+    Pool::new(sheet, Grouping::Together, arrivals)
 }
 
 /// Whether a record is outside the moments that are stated.
-fn is_outside(sheet: &Sheet<'_>, at: usize) -> bool {
+pub(crate) fn is_outside(sheet: &Sheet<'_>, at: usize) -> bool {
     match sheet.line_of(at) {
         Some(line) => matches!(
             sheet.lines.reasons.get(line as usize),
@@ -76,6 +99,7 @@ pub(crate) fn leave_inner(
     sheet: &mut Sheet<'_>,
     shown: &Shown,
     by_client: &mut Pool,
+    unread: &mut Unread,
 ) -> Result<(), AllocError> {
     for at in 0..sheet.records.len() {
         let Some(record) = sheet.record(at) else {
@@ -88,17 +112,19 @@ pub(crate) fn leave_inner(
             leave_data(sheet, &shown.channels, at)?;
         }
     }
-    leave_inner_departures(sheet, shown, by_client)
+    leave_inner_departures(sheet, shown, by_client, unread)
 }
 
-/// Sets aside the data that leaves for clients from addresses of the service: from a client's own where that client sent it.
+/// Excludes the data that leaves for clients from addresses of the service: from an address that a client has if that client sent it to this
+/// one, and from another one if a client from before did, or one by TCP, TLS, DTLS or IPv6 may have.
 fn leave_inner_departures(
     sheet: &mut Sheet<'_>,
     shown: &Shown,
     by_client: &mut Pool,
+    unread: &mut Unread,
 ) -> Result<(), AllocError> {
     // It is made where it is needed first, since most captures have no such data.
-    let mut all: Option<Pool> = None;
+    let mut from_before: Option<Pool> = None;
     for at in 0..sheet.records.len() {
         let (Some(record), true) = (sheet.record(at), sheet.is_kept(at)) else {
             continue;
@@ -112,17 +138,17 @@ fn leave_inner_departures(
         let leaves = match shown.tenures.holder(peer, record.stamp) {
             Some(client) => {
                 let wanted = wanted_of(sheet, &record, Group::Client(client));
-                by_client.take(sheet, wanted).is_some()
+                take_inner(sheet, shown, by_client, at, wanted)
             }
             None => {
-                let mut pool = match all {
+                let mut pool = match from_before {
                     Some(pool) => pool,
-                    None => pool_of_arrivals(sheet, Grouping::Together)?,
+                    None => pool_from_before(sheet, &shown.channels)?,
                 };
                 let wanted = wanted_of(sheet, &record, Group::All);
-                let _ = pool.take(sheet, wanted);
-                all = Some(pool);
-                true
+                let is_sent = take_inner(sheet, shown, &mut pool, at, wanted);
+                from_before = Some(pool);
+                is_sent || unread.explains(sheet, shown, &record)?
             }
         };
         if leaves {
@@ -130,6 +156,29 @@ fn leave_inner_departures(
         }
     }
     Ok(())
+}
+
+/// Takes the arrival that is wanted for data that leaves for a client, and tells whether it was sent to an address that this client may have.
+fn take_inner(
+    sheet: &mut Sheet<'_>,
+    shown: &Shown,
+    pool: &mut Pool,
+    at: usize,
+    wanted: Wanted,
+) -> bool {
+    let Some(arrival) = pool.take(sheet, wanted) else {
+        return false;
+    };
+    let Some(record) = sheet.record(arrival) else {
+        return false;
+    };
+    match inner_peer(sheet, &shown.channels, arrival) {
+        Some(target) => match shown.tenures.holder(target, record.stamp) {
+            Some(client) => sheet.pair_number(at) == Some(client),
+            None => true,
+        },
+        None => may_be_inner(sheet, &shown.channels, arrival),
+    }
 }
 
 fn leave_data(sheet: &mut Sheet<'_>, channels: &Channels, at: usize) -> Result<(), AllocError> {
@@ -145,8 +194,11 @@ fn leave_data(sheet: &mut Sheet<'_>, channels: &Channels, at: usize) -> Result<(
     sheet.leave(at, Reason::Inner { pair, peer })
 }
 
-/// Sets aside DTLS with clients from which some has arrived.
+/// Excludes DTLS with clients from which some has arrived, unless the operator states that no client comes by DTLS.
 pub(crate) fn leave_dtls(sheet: &mut Sheet<'_>) -> Result<(), AllocError> {
+    if sheet.stated.has_no_tcp {
+        return Ok(());
+    }
     let mut speaks = vec![in sheet.alloc; false; sheet.pairs.len()]?;
     for at in 0..sheet.records.len() {
         let (Some(record), Some(pair)) = (sheet.record(at), sheet.pair_number(at)) else {

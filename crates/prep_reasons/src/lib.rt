@@ -4,6 +4,7 @@
 
 mod addresses;
 mod before;
+mod carriers;
 mod channels;
 mod deciding;
 mod exchanged;
@@ -12,6 +13,7 @@ mod hang_ups;
 mod inner;
 mod lines;
 mod members;
+mod peer_data;
 mod pool;
 mod proposals;
 mod releases;
@@ -20,6 +22,7 @@ mod sheet;
 mod state_before;
 mod strays;
 mod tenures;
+mod unread;
 
 pub use deciding::{decide, sort_out};
 pub use exchanged::Exchanged;

@@ -14,8 +14,8 @@ pub(crate) enum Grouping {
     ByClient,
     /// Those that a state from before may explain.
     ByState,
-    /// Those that arrive at each relayed address.
-    ByAddress,
+    /// Those that arrive at each relayed address from each peer.
+    ByEnds,
 }
 
 /// One of the groups of a pool.
@@ -23,7 +23,7 @@ pub(crate) enum Grouping {
 pub(crate) enum Group {
     All,
     Client(u32),
-    At(Addr),
+    Between { relayed: Addr, peer: Addr },
     /// Whatever was before.
     Judged,
     /// By a state from before.
@@ -192,7 +192,10 @@ fn place_of(sheet: &Sheet<'_>, grouping: Grouping, at: u32) -> Place {
             StateBefore::Explains => Group::Explained,
             _ => Group::Judged,
         },
-        Grouping::ByAddress => Group::At(record.to),
+        Grouping::ByEnds => Group::Between {
+            relayed: record.to,
+            peer: record.from,
+        },
     };
     Place {
         digest: record.digest,

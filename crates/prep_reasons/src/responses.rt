@@ -18,6 +18,23 @@ struct RequestKey {
     low: u32,
 }
 
+/// The requests of a transaction that arrived so far.
+#[derive(Clone, Copy)]
+struct Asked {
+    /// The last one.
+    last: usize,
+    /// How many of them no response answers.
+    waiting: u32,
+}
+
+impl Asked {
+    /// The request that one more response answers, if one waits for it.
+    fn answer(&mut self) -> Option<usize> {
+        self.waiting = self.waiting.checked_sub(1)?;
+        Some(self.last)
+    }
+}
+
 /// The lease that a client has.
 #[derive(Clone, Copy)]
 struct Lease {
@@ -69,7 +86,7 @@ pub(crate) fn read_responses(sheet: &mut Sheet<'_>) -> Result<Shown, AllocError>
 }
 
 fn read_pair(sheet: &mut Sheet<'_>, pair: u32, reading: &mut Reading) -> Result<(), AllocError> {
-    let mut asked: BTreeMap<RequestKey, usize> = BTreeMap::new(sheet.alloc);
+    let mut asked: BTreeMap<RequestKey, Asked> = BTreeMap::new(sheet.alloc);
     let mut lease: Option<Lease> = None;
     let count = sheet.of_pair(pair).len();
     for place in 0..count {
@@ -83,10 +100,17 @@ fn read_pair(sheet: &mut Sheet<'_>, pair: u32, reading: &mut Reading) -> Result<
         let key = key_of(&exchanged);
         if matches!(exchanged.record.side, Side::Arrives) {
             if matches!(exchanged.stun.class, Class::Request) {
-                asked.insert(key, at)?;
+                let waiting = match asked.get(&key) {
+                    Some(earlier) => earlier.waiting.saturating_add(1),
+                    None => 1,
+                };
+                asked.insert(key, Asked { last: at, waiting })?;
             }
         } else if exchanged.is_answer() {
-            let request = asked.get(&key).copied();
+            let request = match asked.get_mut(&key) {
+                Some(requests) => requests.answer(),
+                None => None,
+            };
             sheet.note_request(at, request);
             let request = match request {
                 Some(request) => sheet.exchanged(request),

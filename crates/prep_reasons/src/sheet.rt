@@ -6,7 +6,7 @@ use crate::members::Members;
 use crate::state_before::StateBefore;
 use audit_model::{Addr, Pair, Policy, Side};
 use prep_cut::{LineNumber, Reason, Stated};
-use prep_records::{Content, Kept, MaybeNumber, Record, Records, Stun, Told, slack_of};
+use prep_records::{Carrier, Content, Kept, MaybeNumber, Record, Records, Stun, Told, slack_of};
 use std::alloc::{AllocError, Global};
 use std::collections::BTreeMap;
 
@@ -32,6 +32,8 @@ pub struct Sheet<'a> {
     pub(crate) peers: Vec<Addr>,
     /// By address and moment.
     pub(crate) told: Vec<Told>,
+    /// What may carry data that isn't read.
+    pub(crate) carriers: Vec<Carrier>,
     pub(crate) pairs: Vec<Pair>,
     pub(crate) lines: Lines,
     /// Of each record the line by which it is set aside.
@@ -58,6 +60,7 @@ impl<'a> Sheet<'a> {
             stun,
             peers,
             mut told,
+            carriers,
             captures: _,
             first,
             allocations: _,
@@ -81,6 +84,7 @@ impl<'a> Sheet<'a> {
             stun,
             peers,
             told,
+            carriers,
             pairs: Vec::new(alloc),
             lines: Lines::new(alloc),
             why: vec![in alloc; MaybeNumber::none(); count]?,

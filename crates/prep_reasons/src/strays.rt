@@ -89,9 +89,7 @@ fn strays_of(
             continue;
         };
         if matches!(record.side, Side::Leaves) {
-            if let Some(allowed) = hang_ups.to_peer(sheet, tenures, &record) {
-                let wanted = wanted_of(sheet, &record, Group::Client(allowed.client));
-                allowed.leave(sheet, at, &mut by_client, wanted)?;
+            if hang_ups.leave_to_peer(sheet, tenures, at, &mut by_client)? {
                 continue;
             }
         }
@@ -166,7 +164,12 @@ fn cause_of(sheet: &mut Sheet<'_>, record: &Record, pool: &mut Pool) -> Cause {
     }
     let explained = wanted_of(sheet, record, Group::Explained);
     let Some(cause) = pool.take(sheet, explained) else {
-        return Cause::Nobody;
+        // A copy of what left already is still data of a judged client.
+        let copied = wanted_of(sheet, record, Group::Judged);
+        return match pool.first(sheet, copied) {
+            Some(_) => Cause::Judged,
+            None => Cause::Nobody,
+        };
     };
     match sheet.pair_number(cause) {
         Some(client) => Cause::FromBefore(client),

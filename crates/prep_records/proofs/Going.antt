@@ -10,6 +10,8 @@ use Rattle.prep_cut.specs.Datagrams.{datagram_of_block}
 use Rattle.prep_cut.specs.declared.release.Release.{Release}
 use Rattle.prep_cut.specs.Allocating.{is_noted, is_noted_if, is_noted_in, AreNoted, AreAllNoted}
 use Rattle.prep_cut.specs.Releasing.{AreReleased, IsReleaseIn, IsShownBy, is_released}
+use Rattle.prep_cut.specs.Sending.{AreSenders, IsSentIn, SendsIn, is_sender}
+use Rattle.audit_model.specs.declared.address.Addr.{Addr}
 use Rattle.prep_records.specs.declared.recorder.Recorder.{Recorder}
 use Rattle.prep_records.specs.Recording.{IsRecording, GoesOn, Ended}
 
@@ -47,11 +49,30 @@ shown_by_all : (policy : Policy) (old : Allocations) (release : Release) (blocks
 shown_by_all policy old release blocks b released (inl had) = shown_before policy release blocks b (released release had)
 shown_by_all policy old release blocks b released (inr is) = shown_last policy release blocks b is
 
+-- each sender that is new sends in the block
+abbrev pub Joins : Policy → Allocations → Allocations → Block → Type 0
+Joins policy old new b = (client listen : Addr) → is_sender new client listen ≡ true → (is_sender old client listen ≡ true) ⊎ SendsIn policy client listen b
+
+sent_before : (policy : Policy) (client listen : Addr) (blocks : List Block) (b : Block) → IsSentIn policy client listen blocks → IsSentIn policy client listen (blocks ++ b ∷ [])
+sent_before policy client listen [] b sent = absurd sent
+sent_before policy client listen (first ∷ others) b (inl one) = inl one
+sent_before policy client listen (first ∷ others) b (inr other) = inr (sent_before policy client listen others b other)
+
+sent_last : (policy : Policy) (client listen : Addr) (blocks : List Block) (b : Block) → SendsIn policy client listen b → IsSentIn policy client listen (blocks ++ b ∷ [])
+sent_last policy client listen [] b is = inl is
+sent_last policy client listen (first ∷ others) b is = inr (sent_last policy client listen others b is)
+
+sent_by_all : (policy : Policy) (old : Allocations) (client listen : Addr) (blocks : List Block) (b : Block) → AreSenders policy old blocks
+    → (is_sender old client listen ≡ true) ⊎ SendsIn policy client listen b → IsSentIn policy client listen (blocks ++ b ∷ [])
+sent_by_all policy old client listen blocks b senders (inl had) = sent_before policy client listen blocks b (senders client listen had)
+sent_by_all policy old client listen blocks b senders (inr is) = sent_last policy client listen blocks b is
+
 noted_more : (policy : Policy) (old new : Allocations) (blocks : List Block) (b : Block) → AreNoted policy old blocks → is_noted_in policy new b ≡ true → Keeps old new
-    → Adds policy old new b → AreNoted policy new (blocks ++ b ∷ [])
-noted_more policy old new blocks b noted one keeps adds = record {
+    → Adds policy old new b → Joins policy old new b → AreNoted policy new (blocks ++ b ∷ [])
+noted_more policy old new blocks b noted one keeps adds joins = record {
   noted = one_more policy new blocks b (kept_all policy old new keeps blocks noted.noted) one;
   released = λ release is. shown_by_all policy old release blocks b noted.released (adds release is);
+  senders = λ client listen is. sent_by_all policy old client listen blocks b noted.senders (joins client listen is);
 }
 
 pub nothing_yet : (recorder : Recorder) (policy : Policy) (earlier : List Block) (text : List ℕ) (current : List Block) (piece : List ℕ)
@@ -62,13 +83,14 @@ nothing_yet recorder policy earlier text current piece r = record { taken = []; 
 pub step : (old new : Recorder) (policy : Policy) (earlier : List Block) (text : List ℕ) (current : List Block) (piece rest behind : List ℕ) (b : Block)
     → (g : GoesOn old policy earlier text current piece rest) → Gave new.splitter (text ++ g.taken) (current ++ g.more) rest b behind
     → new.policy.now ≡ old.policy.now → is_noted_in old.policy.now new.allocations b ≡ true → Keeps old.allocations new.allocations
-    → Adds old.policy.now old.allocations new.allocations b → GoesOn new policy earlier text current piece behind
-step old new policy earlier text current piece rest behind b g gave same noted keeps adds =
+    → Adds old.policy.now old.allocations new.allocations b → Joins old.policy.now old.allocations new.allocations b → GoesOn new policy earlier text current piece behind
+step old new policy earlier text current piece rest behind b g gave same noted keeps adds joins =
     let text_so = append_assoc text g.taken gave.taken in
     let blocks_so = append_assoc current g.more (b ∷ []) in
     let one : is_noted_in policy new.allocations b ≡ true = ap (λ (p : Policy). is_noted_in p new.allocations b) (sym g.recording.policy_is) ∙ noted in
     let more : Adds policy old.allocations new.allocations b = subst (λ (p : Policy). Adds p old.allocations new.allocations b) g.recording.policy_is adds in
-    let all = noted_more policy old.allocations new.allocations (earlier ++ (current ++ g.more)) b g.recording.noted one keeps more in
+    let most : Joins policy old.allocations new.allocations b = subst (λ (p : Policy). Joins p old.allocations new.allocations b) g.recording.policy_is joins in
+    let all = noted_more policy old.allocations new.allocations (earlier ++ (current ++ g.more)) b g.recording.noted one keeps more most in
     let noted_so : AreNoted policy new.allocations (earlier ++ ((current ++ g.more) ++ b ∷ [])) =
     subst (λ (bs : List Block). AreNoted policy new.allocations bs) (append_assoc earlier (current ++ g.more) (b ∷ [])) all in
     record {
@@ -108,8 +130,13 @@ differ : {b : Bool} → b ≡ true → b ≡ false → ⊥
 differ e f = absurd cc
 
 pub first : (recorder : Recorder) (policy : Policy) → recorder.policy.now ≡ policy → StandsFor recorder.splitter [] []
-    → ((release : Release) → is_released recorder.allocations release ≡ false) → IsRecording recorder policy [] [] []
-first recorder policy same stands none = record { policy_is = same; splits = stands; noted = record { noted = tt; released = λ release is. absurd (differ is (none release)) } }
+    → ((release : Release) → is_released recorder.allocations release ≡ false)
+    → ((client listen : Addr) → is_sender recorder.allocations client listen ≡ false) → IsRecording recorder policy [] [] []
+first recorder policy same stands none nobody = record {
+  policy_is = same;
+  splits = stands;
+  noted = record { noted = tt; released = λ release is. absurd (differ is (none release)); senders = λ client listen is. absurd (differ is (nobody client listen)) };
+}
 
 pub finished : (recorder : Recorder) (policy : Policy) (earlier : List Block) → IsRecording recorder policy earlier [] [] → AreNoted policy recorder.allocations earlier
 finished recorder policy earlier r = subst (λ (bs : List Block). AreNoted policy recorder.allocations bs) (append-nil earlier) r.noted

@@ -51,7 +51,7 @@ fn relayed_in(bytes: &[u8]) -> Option<Addr> {
 }
 
 /// What follows the Ethernet header and up to two VLAN tags, with its type.
-fn behind_ethernet(frame: &[u8]) -> Option<(u16, &[u8])> {
+pub(crate) fn behind_ethernet(frame: &[u8]) -> Option<(u16, &[u8])> {
     let mut rest = frame.get(12..)?;
     for _ in 0..3 {
         let [high, low, behind @ ..] = rest else {

@@ -2,9 +2,10 @@
 
 ghost use Rattle.std.specs.Prelude.{◌≡◌};
 
+use crate::carrier::{Carrier, carrier_in};
 use crate::elsewhere::note_told;
 use crate::kept::Kept;
-use crate::payload::{content_of, digest_of};
+use crate::payload::{Read, read_payload};
 use crate::record::{CapturePackets, Content, Outside, Record, Records};
 use audit_model::{Addr, Policy, Side};
 use audit_packets::{Seen, slice_datagram};
@@ -106,10 +107,29 @@ impl<'p> Keeper<'p> {
                 to,
                 payload,
             })?,
-            Seen::Other => note_told(self.policy, head.stamp, frame, &mut self.all.told)?,
+            Seen::Other => self.take_elsewhere(head.stamp, frame)?,
             Seen::Fragment { .. } | Seen::Cut { .. } => {}
         }
         self.packets.count = self.packets.count.saturating_add(1);
+        Ok(())
+    }
+
+    /// Takes a frame that is no UDP over IPv4.
+    fn take_elsewhere(&mut self, stamp: u64, frame: &[u8]) -> Result<(), AllocError> {
+        if let Some(carrier) = carrier_in(self.policy, stamp, frame) {
+            self.all.carriers.push(carrier)?;
+        }
+        note_told(self.policy, stamp, frame, &mut self.all.told)
+    }
+
+    /// Takes a DTLS record that comes to an address of the server.
+    fn take_dtls(&mut self, stamp: u64, payload: &[u8]) -> Result<(), AllocError> {
+        self.all.carriers.push(Carrier {
+            stamp,
+            bytes: u32::try_from(payload.len()).unwrap_or(u32::MAX),
+            connection: 0,
+            goes_on: false,
+        })?;
         Ok(())
     }
 
@@ -136,30 +156,34 @@ impl<'p> Keeper<'p> {
         } = found;
         let leaves = self.policy.listens(from) || self.policy.relays(from);
         let arrives = self.policy.listens(to) || self.policy.relays(to);
+        let is_dtls = matches!(payload, [20..=63, ..]);
+        if is_dtls && !leaves && self.policy.service_ip(to.ip) && !self.policy.relays(to) {
+            self.take_dtls(head.stamp, payload)?;
+        }
         if !leaves && !arrives {
             return Ok(());
         }
         let own = if leaves { from } else { to };
-        let (content, digest) = if leaves && arrives {
-            (Content::Inside, 0)
+        let read = if leaves && arrives {
+            Read::without_data(Content::Inside)
         } else if self.policy.listens(own) {
-            let is_dtls = matches!(payload, [20..=63, ..]);
-            content_of(payload, is_dtls, &mut self.all)?
+            read_payload(payload, is_dtls, &mut self.all)?
         } else {
-            (Content::Relayed, digest_of(payload))
+            Read::of_data(Content::Relayed, payload)
         };
         let iface = u32::from(self.capture)
             .saturating_mul(64)
             .saturating_add(head.iface);
         self.all.records.push(Kept::new(Record {
             stamp: head.stamp,
-            digest,
+            digest: read.digest,
             from,
             to,
             packet: self.packets.count,
             iface: u16::try_from(iface).unwrap_or(u16::MAX),
             side: if leaves { Side::Leaves } else { Side::Arrives },
-            content,
+            least: read.length,
+            content: read.content,
         }))?;
         Ok(())
     }

@@ -18,6 +18,8 @@ pub struct Kept {
     pub client: MaybeNumber,
     iface: u16,
     side: Side,
+    /// How many times 8 bytes its data has.
+    eights: u8,
     content: KeptContent,
 }
 
@@ -47,6 +49,7 @@ impl Kept {
             packet,
             iface,
             side,
+            least,
             content,
         } = record;
         Kept {
@@ -60,6 +63,7 @@ impl Kept {
             client: MaybeNumber::none(),
             iface,
             side,
+            eights: u8::try_from(least / 8).unwrap_or(u8::MAX),
             content: KeptContent::new(content),
         }
     }
@@ -85,6 +89,7 @@ impl Kept {
             packet: self.packet,
             iface: self.iface,
             side: self.side,
+            least: u16::from(self.eights).saturating_mul(8),
             content: self.content.content(),
         }
     }

@@ -1,6 +1,7 @@
 //! A record of each datagram of the service, for what is to be set aside. Nothing rests on it but on the Allocates: what else it holds is only proposed.
 #![tactic(auto)]
 
+mod carrier;
 mod elsewhere;
 mod keeper;
 mod kept;
@@ -9,6 +10,7 @@ mod payload;
 mod record;
 mod recorder;
 
+pub use carrier::Carrier;
 pub use elsewhere::note_told;
 pub use keeper::slack_of;
 pub use kept::Kept;

@@ -10,47 +10,76 @@ use std::alloc::AllocError;
 use std::hash::{DefaultHasher, Hasher};
 
 /// A digest of data. Who makes two data of one digest changes only what is proposed.
-pub(crate) fn digest_of(data: &[u8]) -> u64 {
+fn digest_of(data: &[u8]) -> u64 {
     let mut hasher = DefaultHasher::new();
     hasher.write(data);
     hasher.finish()
 }
 
-/// The content and the digest of a payload, whose request or response is added to those of all.
-pub(crate) fn content_of(
-    payload: &[u8],
-    is_dtls: bool,
-    all: &mut Records,
-) -> Result<(Content, u64), AllocError> {
-    if is_dtls {
-        return Ok((Content::Dtls, 0));
+/// What a payload is, with its data.
+#[derive(Clone, Copy)]
+pub(crate) struct Read {
+    pub(crate) content: Content,
+    pub(crate) digest: u64,
+    /// How many bytes the data has, as far as 16 bits count.
+    pub(crate) length: u16,
+}
+
+impl Read {
+    /// Of no data.
+    pub(crate) fn without_data(content: Content) -> Self {
+        Read {
+            content,
+            digest: 0,
+            length: 0,
+        }
     }
-    if let Some((number, data, _)) = channel_data(payload) {
-        return Ok((Content::Channel { number }, digest_of(data)));
-    }
-    let Some(message) = message(payload) else {
-        return Ok((Content::Other, 0));
-    };
-    match message.class() {
-        Class::Indication => Ok(of_indication(&message)),
-        _ => Ok((of_message(&message, all)?, 0)),
+
+    /// Of this data.
+    pub(crate) fn of_data(content: Content, data: &[u8]) -> Self {
+        Read {
+            content,
+            digest: digest_of(data),
+            length: u16::try_from(data.len()).unwrap_or(u16::MAX),
+        }
     }
 }
 
-fn of_indication(message: &Message<'_>) -> (Content, u64) {
+/// What a payload is, whose request or response is added to those of all.
+pub(crate) fn read_payload(
+    payload: &[u8],
+    is_dtls: bool,
+    all: &mut Records,
+) -> Result<Read, AllocError> {
+    if is_dtls {
+        return Ok(Read::without_data(Content::Dtls));
+    }
+    if let Some((number, data, _)) = channel_data(payload) {
+        return Ok(Read::of_data(Content::Channel { number }, data));
+    }
+    let Some(message) = message(payload) else {
+        return Ok(Read::without_data(Content::Other));
+    };
+    match message.class() {
+        Class::Indication => Ok(of_indication(&message)),
+        _ => Ok(Read::without_data(of_message(&message, all)?)),
+    }
+}
+
+fn of_indication(message: &Message<'_>) -> Read {
     let method = message.method();
     if method != method::SEND && method != method::DATA {
-        return (Content::Other, 0);
+        return Read::without_data(Content::Other);
     }
     let peer = match message.first(XOR_PEER_ADDRESS) {
         Some(value) => address(value),
         None => None,
     };
-    let digest = match message.first(DATA) {
-        Some(data) => digest_of(data),
-        None => digest_of(b""),
-    };
-    (Content::Data { peer }, digest)
+    let content = Content::Data { peer };
+    match message.first(DATA) {
+        Some(data) => Read::of_data(content, data),
+        None => Read::of_data(content, b""),
+    }
 }
 
 fn of_message(message: &Message<'_>, all: &mut Records) -> Result<Content, AllocError> {

@@ -2,6 +2,7 @@
 
 ghost use Rattle.std.specs.Prelude.{◌≡◌, ◌/◌};
 
+use crate::carrier::Carrier;
 use crate::kept::Kept;
 use audit_model::{Addr, Side};
 use audit_stun::Class;
@@ -22,6 +23,8 @@ pub struct Record {
     /// 64 times the capture's number, plus the interface's number in the capture, which is less than 64.
     pub iface: u16,
     pub side: Side,
+    /// The data has at least so many bytes: its length, rounded down to a multiple of 8, and at most 2,040.
+    pub least: u16,
     pub content: Content,
 }
 
@@ -96,6 +99,8 @@ pub struct Records {
     pub stun: Vec<Stun>,
     pub peers: Vec<Addr>,
     pub told: Vec<Told>,
+    /// What may carry data that isn't read.
+    pub carriers: Vec<Carrier>,
     pub captures: Vec<CapturePackets>,
     /// The least moment of a packet.
     pub first: Option<u64>,
@@ -111,6 +116,7 @@ impl Records {
             stun: Vec::new(alloc),
             peers: Vec::new(alloc),
             told: Vec::new(alloc),
+            carriers: Vec::new(alloc),
             captures: Vec::new(alloc),
             first: None,
             allocations: Allocations::new(alloc),

@@ -3,23 +3,17 @@ use Rattle.std.proofs.Common.{◌≡◌, ◌<◌, ◌+◌, ◌*◌, ◌==◌, �
 use Rattle.std.specs.Prelude.{slice_index_or}
 use Rattle.std.proofs.lemmas.Bool.{cases_lt}
 use Rattle.std.proofs.lemmas.List.{length-map, get_or-map, get_or_past}
-use Rattle.audit_files.specs.Judged.{IsAudited, status_of}
+use Rattle.audit_files.specs.Judged.{IsAudited}
+use Rattle.audit_files.proofs.Audited.{told_conforming}
 use Rattle.audit_model.specs.declared.certificate.Certificate.{Certificate}
-use Rattle.audit_model.specs.declared.verdict.Verdict.{Verdict}
-use Rattle.audit_model.specs.declared.verdict.Verdict.TheVariants.{Conforming, NotShown}
 use Rattle.audit_pcapng.specs.declared.packet.Packet.{Packet}
 use Rattle.audit_pcapng.specs.Captures.{IsCapture}
 use Rattle.audit_sightings.specs.Files.{Fed, not_fed, fed_at, packets_of}
 use Rattle.audit_sightings.specs.Sightings.{sightings_of}
-use Rattle.audit_verdict.specs.Verdicts.{IsConforming}
 use Rattle.prep_cut.specs.declared.plan.Plan.{Plan}
 use Rattle.prep_verdict.specs.Audited.{no_capture, capture_at, AreWhole, ExplainsTheRest}
 use Rattle.prep_verdict.specs.Rest.{Capture, packets_in, stays, written}
 use Rattle.prep_verdict.proofs.Stays.{written_has}
-
-told_conforming : (verdict : Verdict) → 0 ≡ status_of verdict → IsConforming verdict
-told_conforming (Conforming datagrams lanes) e = tt
-told_conforming (NotShown breach) e = absurd (omega (arith, e))
 
 module _ (plan : Plan) (captures : List Capture) (files : List Fed) (same : map (λ (fed : Fed). fed.text) files ≡ map (written plan) captures) where
   as_many : length files ≡ length captures

@@ -82,6 +82,10 @@ impl<R: Files<File = File>> Sink for HostMaker<'_, R> {
 }
 
 impl<R: Files<File = File>> Maker for HostMaker<'_, R> {
+    ghost use Rattle.std.specs.Prelude.{None};
+
+    ghost making = { λ _. None };
+
     fn make(&mut self, name: &str) -> Result<(), MakeFault> {
         match File::create_new(self.rt, name) {
             Ok(file) => {
@@ -91,6 +95,10 @@ impl<R: Files<File = File>> Maker for HostMaker<'_, R> {
             Err(error) if error.kind() == ErrorKind::AlreadyExists => Err(MakeFault::Exists),
             Err(_) => Err(MakeFault::Failed),
         }
+    }
+
+    fn append(&mut self, piece: &[u8]) -> Result<usize, SinkFailed> {
+        self.put(piece)
     }
 }
 

@@ -1,16 +1,13 @@
 //! The words of the command `cut`.
 
 use super::{Request, captures_argument, folder_option, usage};
-use crate::set_aside::{CutRequest, USUAL_LIFETIME};
+use crate::list_head::USUAL_LIFETIME;
+use crate::pages::Page;
+use crate::set_aside::CutRequest;
 use audit_text::number;
 use clap::{Arg, ArgAction, ArgMatches, Command};
 use prep_cut::Stated;
 use std::alloc::{AllocError, Global};
-
-const ABOUT: &str = "Leaves out of captures what can't be judged, and lists it";
-
-const EXAMPLE: &str =
-    "Example:\n  turnprep cut --policy policy -o ready call.pcapng\n\nwrites ready/call.pcapng, and ready/set-aside, the list of what was left out, which is told as well.";
 
 /// The longest lifetime of an allocation that is asked for, in seconds.
 pub(super) const LONGEST: u64 = 1_000_000_000;
@@ -30,58 +27,44 @@ const TOO_MANY: &str = "turnprep: cut takes 16 captures at the most\n";
 pub(super) const MAX_CAPTURES: usize = 16;
 
 /// An option with one value.
-pub(super) fn value<'a>(alloc: Global, name: &'a str, shown: &'a str, help: &'a str) -> Arg<'a> {
+pub(super) fn value<'a>(alloc: Global, name: &'a str, shown: &'a str) -> Arg<'a> {
     Arg::new(alloc, name)
         .long(name)
         .value_name(shown)
-        .help(help)
         .action(ArgAction::Set)
 }
 
 /// A switch.
-fn switch<'a>(alloc: Global, name: &'a str, help: &'a str) -> Arg<'a> {
-    Arg::new(alloc, name)
-        .long(name)
-        .help(help)
-        .action(ArgAction::SetTrue)
+fn switch<'a>(alloc: Global, name: &'a str) -> Arg<'a> {
+    Arg::new(alloc, name).long(name).action(ArgAction::SetTrue)
 }
 
 /// Adds the options with numbers.
 fn with_numbers<'a>(alloc: Global, command: Command<'a>) -> Result<Command<'a>, AllocError> {
-    let since = "Leave out what is before, in nanoseconds since 1970";
-    let until = "Leave out what is after, in nanoseconds since 1970";
-    let lifetime =
-        "The longest lifetime of an allocation from before, in seconds: 3600 unless said";
-    let released =
-        "Leave out what is relayed for a client for so long behind its Refresh of 0, up to 60000";
     command
-        .arg(value(alloc, "since", "MOMENT", since))?
-        .arg(value(alloc, "until", "MOMENT", until))?
-        .arg(value(alloc, "lifetime", "SECONDS", lifetime))?
-        .arg(value(alloc, "released-ms", "MS", released))
+        .arg(value(alloc, "since", "MOMENT"))?
+        .arg(value(alloc, "until", "MOMENT"))?
+        .arg(value(alloc, "lifetime", "SECONDS"))?
+        .arg(value(alloc, "released-ms", "MS"))
 }
 
 /// Adds the switches.
 fn with_switches<'a>(alloc: Global, command: Command<'a>) -> Result<Command<'a>, AllocError> {
-    let from_start = "The server started with the captures, or at the moment of --since";
-    let no_tcp = "No client comes by TCP, TLS, DTLS or IPv6";
-    let keep_inner = "Data between the server's own addresses stays in";
     command
-        .arg(switch(alloc, "from-start", from_start))?
-        .arg(switch(alloc, "no-tcp", no_tcp))?
-        .arg(switch(alloc, "keep-inner", keep_inner))
+        .arg(switch(alloc, "from-start"))?
+        .arg(switch(alloc, "no-tcp"))?
+        .arg(switch(alloc, "keep-inner"))
 }
 
 /// The option with the policy.
 fn policy_option<'a>(alloc: Global) -> Arg<'a> {
-    value(alloc, "policy", "FILE", "The policy of the audit").required(true)
+    value(alloc, "policy", "FILE").required(true)
 }
 
 /// The command with its name and its files.
 fn begun<'a>(alloc: Global) -> Result<Command<'a>, AllocError> {
     Command::new(alloc, "cut")
-        .about(ABOUT)
-        .after_help(EXAMPLE)
+        .override_help(Page::Cut.text())
         .arg(policy_option(alloc))?
         .arg(folder_option(alloc))
 }

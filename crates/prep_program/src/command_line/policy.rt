@@ -1,23 +1,18 @@
 //! The words of the command `policy`.
 
 use super::{Request, usage};
+use crate::pages::Page;
 use audit_model::read_ip;
 use clap::{Arg, ArgAction, ArgMatches, Command};
 use std::alloc::{AllocError, Global};
 
-const ABOUT: &str = "Writes the policy that coturn's configuration comes to";
-
-const EXAMPLE: &str =
-    "Example:\n  turnprep policy --turnserver-conf /etc/turnserver.conf > policy\n\nwrites a listen line for each address and port at which coturn takes UDP, and a relay line for each relay address.";
-
 const NOT_AN_ADDRESS: &str = "turnprep: --listening-ip and --relay-ip are IPv4 addresses\n";
 
 /// An option with addresses.
-fn addresses_option<'a>(alloc: Global, name: &'a str, help: &'a str) -> Arg<'a> {
+fn addresses_option<'a>(alloc: Global, name: &'a str) -> Arg<'a> {
     Arg::new(alloc, name)
         .long(name)
         .value_name("IP")
-        .help(help)
         .action(ArgAction::Append)
 }
 
@@ -26,7 +21,6 @@ fn configuration_option<'a>(alloc: Global) -> Arg<'a> {
     Arg::new(alloc, "turnserver-conf")
         .long("turnserver-conf")
         .value_name("FILE")
-        .help("coturn's configuration")
         .required(true)
         .action(ArgAction::Set)
 }
@@ -35,26 +29,16 @@ fn configuration_option<'a>(alloc: Global) -> Arg<'a> {
 fn translated_option<'a>(alloc: Global) -> Arg<'a> {
     Arg::new(alloc, "translated")
         .long("translated")
-        .help("The captures are those with external-ip's addresses put in")
         .action(ArgAction::SetTrue)
 }
 
 /// The command `policy`.
 pub(super) fn policy_command<'a>(alloc: Global) -> Result<Command<'a>, AllocError> {
     Command::new(alloc, "policy")
-        .about(ABOUT)
-        .after_help(EXAMPLE)
+        .override_help(Page::Policy.text())
         .arg(configuration_option(alloc))?
-        .arg(addresses_option(
-            alloc,
-            "listening-ip",
-            "An address at which coturn listens, which its configuration doesn't say",
-        ))?
-        .arg(addresses_option(
-            alloc,
-            "relay-ip",
-            "An address from which coturn relays, which its configuration doesn't say",
-        ))?
+        .arg(addresses_option(alloc, "listening-ip"))?
+        .arg(addresses_option(alloc, "relay-ip"))?
         .arg(translated_option(alloc))
 }
 

@@ -1,14 +1,10 @@
 //! The words of the command `reassemble`.
 
 use super::{Request, captures_argument, folder_option, usage};
+use crate::pages::Page;
 use crate::reassembling::ReassembleRequest;
 use clap::{ArgMatches, Command};
 use std::alloc::{AllocError, Global};
-
-const ABOUT: &str = "Puts the fragments of UDP datagrams over IPv4 together, in captures";
-
-const EXAMPLE: &str =
-    "Example:\n  turnprep reassemble -o whole call.pcapng\n\nwrites whole/call.pcapng: all blocks as they are, but in the place of a datagram's last fragment the whole datagram, and no other fragment.";
 
 const TOO_MANY: &str = "turnprep: reassemble takes 16 captures at the most\n";
 
@@ -18,8 +14,7 @@ const MAX_CAPTURES: usize = 16;
 /// The command.
 pub(super) fn reassemble_command<'a>(alloc: Global) -> Result<Command<'a>, AllocError> {
     Command::new(alloc, "reassemble")
-        .about(ABOUT)
-        .after_help(EXAMPLE)
+        .override_help(Page::Reassemble.text())
         .arg(folder_option(alloc))?
         .arg(captures_argument(alloc))
 }

@@ -1,16 +1,11 @@
 //! The words of the command `translate`.
 
 use super::{Request, captures_argument, folder_option, usage};
+use crate::pages::Page;
 use crate::translating::TranslateRequest;
 use clap::{Arg, ArgAction, ArgMatches, Command};
 use prep_translate::Translation;
 use std::alloc::{AllocError, Global};
-
-const ABOUT: &str =
-    "Puts the public address of a one-to-one translation in the place of the private one, in captures";
-
-const EXAMPLE: &str =
-    "Example:\n  turnprep translate --policy policy --external-ip 198.18.0.1/192.0.2.1 -o outer call.pcapng\n\nwrites outer/call.pcapng and outer/translated. The policy has the relay ranges of the public address.";
 
 const NOT_A_PAIR: &str = "turnprep: --external-ip is PUBLIC/PRIVATE, two IPv4 addresses\n";
 
@@ -28,7 +23,6 @@ fn policy_option<'a>(alloc: Global) -> Arg<'a> {
     Arg::new(alloc, "policy")
         .long("policy")
         .value_name("FILE")
-        .help("The policy, with the relay ranges of the public addresses")
         .required(true)
         .action(ArgAction::Set)
 }
@@ -38,7 +32,6 @@ fn external_option<'a>(alloc: Global) -> Arg<'a> {
     Arg::new(alloc, "external-ip")
         .long("external-ip")
         .value_name("PUBLIC/PRIVATE")
-        .help("A public address, and the one in the captures that it stands for")
         .required(true)
         .action(ArgAction::Append)
 }
@@ -46,8 +39,7 @@ fn external_option<'a>(alloc: Global) -> Arg<'a> {
 /// The command.
 pub(super) fn translate_command<'a>(alloc: Global) -> Result<Command<'a>, AllocError> {
     Command::new(alloc, "translate")
-        .about(ABOUT)
-        .after_help(EXAMPLE)
+        .override_help(Page::Translate.text())
         .arg(policy_option(alloc))?
         .arg(external_option(alloc))?
         .arg(folder_option(alloc))?

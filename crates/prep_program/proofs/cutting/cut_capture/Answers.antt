@@ -11,6 +11,7 @@ pub pieces-init : goal.pieces-init
 pieces-init g c = record {
   room = omega (arith, c.in_ok-piece.ensures.len);
   same = refl;
+  others = refl;
   empty = c.new-out.ensures.items;
   fed = λ text plan proposals earlier holds cutting. nothing_cut _ plan proposals earlier _ cutting;
 }
@@ -27,6 +28,7 @@ pub pieces-preserved : goal.pieces-preserved
 pieces-preserved g c = record {
   room = c.pieces.invariant.room;
   same = c.piece.ensures.kept ∙ c.pieces.invariant.same;
+  others = c.append_all.ensures.others ∙ c.pieces.invariant.others;
   empty = c.clear.ensures.items;
   fed = λ text plan proposals earlier holds cutting.
       let at = c.pieces.at in
@@ -37,7 +39,7 @@ pieces-preserved g c = record {
       let piece : IsPieceAt text at read c.piece.new.into = c.in_ok-read.ensures.bytes text now in
       let s = c.pieces.invariant.fed text plan proposals earlier holds cutting in
       let on = rw c.pieces.invariant.empty at (c.in_default.ensures.ok plan proposals earlier (take at text) s.current s.cutting) in
-      subst (λ (t : List ℕ). CutSoFar c.feed.new.self plan proposals earlier t (g.M.Sink.taken c.args.made.now) (g.M.Sink.taken c.put_all.new.sink))
+      subst (λ (t : List ℕ). CutSoFar c.feed.new.self plan proposals earlier t (g.M.Sink.taken c.args.made.now) (g.M.Sink.taken c.append_all.new.maker))
       (ap (λ (l : List ℕ). take at text ++ take read l) c.deref.ensures.value ∙ ap (λ (l : List ℕ). take at text ++ l) (read_of c.piece.new.into _ c.pieces.piece.len read short within_piece) ∙ fed_more text c.piece.new.into at read piece.same ∙ ap (λ (n : ℕ). take n text) (sym c.in-Some.ensures.1))
-      (cut_more c.pieces.cutter c.feed.new.self plan proposals earlier (take at text) _ c.feed.new.out.items _ _ _ s on (c.in_ok-put_all.ensures.ok ∙ ap (λ (o : List ℕ). followed_by (g.M.Sink.taken c.pieces.made) o) c.deref-in-pieces.ensures.value));
+      (cut_more c.pieces.cutter c.feed.new.self plan proposals earlier (take at text) _ c.feed.new.out.items _ _ _ s on (c.in_ok-append_all.ensures.ok ∙ ap (λ (o : List ℕ). followed_by (g.M.Sink.taken c.pieces.made) o) c.deref-in-pieces.ensures.value));
 }

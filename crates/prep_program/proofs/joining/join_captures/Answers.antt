@@ -30,4 +30,4 @@ returns g c = λ texts all.
     let index = c.loop-name.name-index in
     let done = c.loop-name.invariant.fed texts all in
     let past : length texts ≤ index = omega (arith, c.loop-name-test.false, zip_len (λ name text. g.S.Source.holds c.args.source.now name.now ≡ Some text) c.args.names.now texts all) in
-    record { captures = done.done; spelled = done.spelled ∙ take_all index texts past; parts = done.parts; written = done.written }
+    record { captures = done.done; spelled = done.spelled ∙ take_all index texts past; parts = done.parts; ring = done.ring; written = done.written }

@@ -17,4 +17,4 @@ returns-clause-ok c = λ plan proposals earlier current at.
     (rw (counted.totals, line.totals, line.line, c.datagram_in-datagram.ensures) (ap (λ (p : Bor Plan). totals_with c.args.self.now.totals
     (is_none (line_of c.args.self.now.plan.now (proposed_for c.args.block.now.packet c.args.self.now.proposals.now) c.args.block.now)) c.args.block.now.packet (datagram_of_block p.now.policy c.args.block.now)) line.plan))
     (rw (counted.len, line.tallies) refl)
-    (λ other within. counted.tallies other (rw line.tallies within) ∙ rw (line.line, c.datagram_in-datagram.ensures, line.tallies) (ap (λ (p : Bor Plan). tallied_with (line_of c.args.self.now.plan.now (proposed_for c.args.block.now.packet c.args.self.now.proposals.now) c.args.block.now) (datagram_of_block p.now.policy c.args.block.now) other (get_or c.args.self.now.tallies.lines.items other no_tally)) line.plan))
+    (λ other within. counted.tallies other (rw line.tallies within) ∙ rw (line.line, c.datagram_in-datagram.ensures, line.tallies) (ap (λ (p : Bor Plan). tallied_with (line_of c.args.self.now.plan.now (proposed_for c.args.block.now.packet c.args.self.now.proposals.now) c.args.block.now) c.args.block.now.packet (datagram_of_block p.now.policy c.args.block.now) other (get_or c.args.self.now.tallies.lines.items other no_tally)) line.plan))

@@ -1,0 +1,66 @@
+use Rattle.std.proofs.Common.{◌≡◌, ◌≤◌, ◌<◌, ◌∙◌, ◌++◌, ◌+◌, ◌∷◌, [], ℕ, List, Option, Some, length, refl, get_or, take, ap, sym, subst, arith, Bor, string_bytes}
+use Rattle.std.proofs.lemmas.List.{take_all}
+use Rattle.std.proofs.lemmas.Grind.{take_at_read}
+use Rattle.audit_model.specs.Sink.{followed_by}
+use Rattle.prep_cut.specs.declared.tally.Totals.{Totals}
+use Rattle.prep_cut.specs.Cutting.{IsCutting}
+use Rattle.prep_cut.specs.Tallied.{AreNone}
+use Rattle.prep_program.specs.declared.cutting.ToCut.{ToCut}
+use Rattle.prep_program.specs.AllCuts.{marks_of, all_marks}
+use Rattle.prep_program.specs.Making.{FileMade, emptied, files_of, opened_by, with_files}
+use Rattle.prep_program.proofs.Pieces.{zip_at, zip_len}
+use Rattle.prep_program.proofs.AllCuts.{AreCut, none_cut, one_cut, file_made}
+use Rattle.prep_program.proofs.cutting.cut_captures.Goals as goal
+
+pub loop-one-init : goal.loop-one-init
+loop-one-init g c = record {
+  same = refl;
+  fed = λ texts all.
+      let before = files_of (g.M.Maker.making c.args.made.now) (g.M.Sink.taken c.args.made.now) in
+      let none : AreNone c.in_ok-tallies.tallies.lines.items (length c.args.plan.now.lines) = subst (λ (n : ℕ). AreNone c.in_ok-tallies.tallies.lines.items n) c.len.ensures c.in_ok-tallies.ensures in
+      subst (λ (t : List Totals). AreCut t c.in_ok-tallies.tallies c.args.plan.now [] [] before before) (sym c.new-totals.ensures.items) (none_cut c.in_ok-tallies.tallies c.args.plan.now before none);
+}
+
+pub loop-one-preserved : goal.loop-one-preserved
+loop-one-preserved g c = record {
+  same = c.cut_capture.ensures.kept ∙ c.loop-one.invariant.same;
+  fed = λ texts all.
+      let index = c.loop-one.one-index in
+      let plan = c.args.plan.now in
+      let one : ToCut = c.one-item.result in
+      let asked = c.args.captures.now in
+      let m0 = g.M.Maker.making c.loop-one.made in
+      let t0 = g.M.Sink.taken c.loop-one.made in
+      let m1 = g.M.Maker.making c.make.new.self in
+      let t1 = g.M.Sink.taken c.make.new.self in
+      let m2 = g.M.Maker.making c.cut_capture.new.made in
+      let t2 = g.M.Sink.taken c.cut_capture.new.made in
+      let first = files_of (g.M.Maker.making c.args.made.now) (g.M.Sink.taken c.args.made.now) in
+      let before = c.loop-one.invariant.fed texts all in
+      let at = zip_at (λ (each : ToCut) (text : List ℕ). g.S.Source.holds c.args.source.now each.name.now ≡ Some text) asked texts index one [] all c.loop-one-test.true in
+      let text : List ℕ = get_or texts index [] in
+      let e : get_or asked index one ≡ one = sym c.one-item.is in
+      let holds : g.S.Source.holds c.loop-one.source one.name.now ≡ Some text =
+      ap (λ (h : List ℕ → Option (List ℕ)). h one.name.now) c.loop-one.invariant.same ∙ subst (λ (each : ToCut). g.S.Source.holds c.args.source.now each.name.now ≡ Some text) e at.1 in
+      let earlier = all_marks (marks_of plan (take index asked) before.done) in
+      let cutting = subst (λ (ps : List (Option ℕ)). IsCutting c.new-cutter.result plan ps earlier [] []) c.deref.ensures.value (c.new-cutter.ensures earlier before.tallies_are) in
+      let cuts = c.in_ok-cut.ensures.cuts text plan one.proposals.items earlier holds cutting in
+      let opened : m1 ≡ opened_by (string_bytes one.file) (files_of m0 t0) = c.in_ok-make.ensures.opened ∙ ap (λ (n : List ℕ). opened_by n (files_of m0 t0)) c.as_str.ensures.value in
+      let more = one_cut c.loop-one.totals.items c.loop-one.tallies plan (take index asked) (take index texts) first (files_of m0 t0) (files_of m2 t2) one text c.in_ok-cut.cut t1 t2 before cuts
+      (λ bytes took. file_made m0 m1 m2 t0 t1 t2 (string_bytes one.file) bytes opened c.in_ok-make.ensures.empty c.cut_capture.ensures.others took) in
+      let whole : take (index + 1) asked ≡ take index asked ++ one ∷ [] = (take_at_read asked index one c.loop-one-test.true).1 ∙ ap (λ (each : ToCut). take index asked ++ each ∷ []) e in
+      subst (λ (t : List (List ℕ)). AreCut c.push.new.self.items c.in_ok-cut.cut.tallies plan (take (index + 1) asked) t first (files_of m2 t2)) (sym (take_at_read texts index [] at.0).1)
+      (subst (λ (a : List ToCut). AreCut c.push.new.self.items c.in_ok-cut.cut.tallies plan a (take index texts ++ text ∷ []) first (files_of m2 t2)) (sym whole)
+      (subst (λ (t : List Totals). AreCut t c.in_ok-cut.cut.tallies plan (take index asked ++ one ∷ []) (take index texts ++ text ∷ []) first (files_of m2 t2)) (sym c.in_ok-push.ensures.items) more));
+}
+
+pub returns : goal.returns
+returns g c = λ texts all.
+    let index = c.loop-one.one-index in
+    let d = c.loop-one.invariant.fed texts all in
+    let past : length texts ≤ index = omega (arith, c.loop-one-test.false, zip_len (λ one text. g.S.Source.holds c.args.source.now one.name.now ≡ Some text) c.args.captures.now texts all) in
+    let whole = take_all index c.args.captures.now (omega (arith, c.loop-one-test.false)) in
+    let e : AreCut c.loop-one.totals.items c.loop-one.tallies c.args.plan.now c.args.captures.now texts _ _ =
+    subst (λ (t : List (List ℕ)). AreCut c.loop-one.totals.items c.loop-one.tallies c.args.plan.now c.args.captures.now t (files_of (g.M.Maker.making c.args.made.now) (g.M.Sink.taken c.args.made.now)) (files_of (g.M.Maker.making c.loop-one.made) (g.M.Sink.taken c.loop-one.made))) (take_all index texts past)
+    (subst (λ (a : List ToCut). AreCut c.loop-one.totals.items c.loop-one.tallies c.args.plan.now a (take index texts) (files_of (g.M.Maker.making c.args.made.now) (g.M.Sink.taken c.args.made.now)) (files_of (g.M.Maker.making c.loop-one.made) (g.M.Sink.taken c.loop-one.made))) whole d) in
+    record { captures = e.done; spelled = e.spelled; wholes = e.wholes; totals = e.totals_are; tallies = e.tallies_are; files = e.files }

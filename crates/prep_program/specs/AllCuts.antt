@@ -1,0 +1,38 @@
+-- Captures that are cut, each to a file of its own.
+use Rattle.std.specs.Prelude.{◌≡◌, ℕ, List, [], ◌∷◌, ◌++◌, map, Option, string_bytes}
+use Rattle.std.specs.List.{AllByRecursion}
+use Rattle.prep_blocks.specs.declared.block.Block.{Block}
+use Rattle.prep_blocks.specs.Read.{bytes_of}
+use Rattle.prep_blocks.specs.Splitting.{IsWhole}
+use Rattle.prep_cut.specs.declared.plan.Plan.{Plan}
+use Rattle.prep_cut.specs.Marks.{Marked, marked, written_of}
+use Rattle.prep_cut.specs.Marking.{AreTallies, totals_of}
+use Rattle.prep_program.specs.declared.cutting.AllCut.{AllCut}
+use Rattle.prep_program.specs.declared.cutting.ToCut.{ToCut}
+use Rattle.prep_program.specs.Making.{FileMade, with_files}
+
+-- the blocks of each capture, each with its line
+abbrev pub marks_of : Plan → List ToCut → List (List Block) → List (List Marked)
+marks_of plan [] captures = []
+marks_of plan (one ∷ others) [] = []
+marks_of plan (one ∷ others) (blocks ∷ captures) = marked plan one.proposals.items blocks ∷ marks_of plan others captures
+
+-- those of all captures, one after another
+abbrev pub all_marks : List (List Marked) → List Marked
+all_marks [] = []
+all_marks (first ∷ others) = first ++ all_marks others
+
+-- a file of what is not left out of each
+abbrev pub files_cut : List ToCut → List (List Marked) → List FileMade
+files_cut [] marks = []
+files_cut (one ∷ others) [] = []
+files_cut (one ∷ others) (blocks ∷ marks) = record { name = string_bytes one.file; bytes = written_of blocks } ∷ files_cut others marks
+
+-- the texts are whole captures, each of which was cut to its file. The tallies are those of all of them.
+pub record CutsAll (all : AllCut) (plan : Plan) (asked : List ToCut) (texts : List (List ℕ)) (before after : Option (List FileMade)) : Type 0 where
+  pub captures : List (List Block)
+  pub spelled : map bytes_of captures ≡ texts
+  pub wholes : AllByRecursion (λ blocks. IsWhole (bytes_of blocks) blocks) captures
+  pub totals : all.totals.items ≡ map (totals_of plan) (marks_of plan asked captures)
+  pub tallies : AreTallies plan (all_marks (marks_of plan asked captures)) all.tallies
+  pub files : after ≡ with_files before (files_cut asked (marks_of plan asked captures))

@@ -1,0 +1,152 @@
+-- The list of what is set aside, line by line. A decimal number has no leading zero, and moments are nanoseconds.
+use Rattle.std.specs.Prelude.{ℕ, ◌+◌, ◌*◌, ◌-◌, ◌/◌, nat_lt, ◌==◌, if◌then◌else◌, Bool, true, false, not, List, [], ◌∷◌, ◌++◌, Option, Some, None, codes, decimal}
+use Rattle.prep_cut.specs.declared.plan.Plan.{Plan}
+use Rattle.prep_cut.specs.declared.reason.Reason.{Reason}
+use Rattle.prep_cut.specs.declared.reason.Reason.TheVariants as reasons
+use Rattle.prep_cut.specs.declared.stated.Stated.{Stated}
+use Rattle.prep_cut.specs.declared.tally.Count.{Count}
+use Rattle.prep_cut.specs.declared.tally.Tally.{Tally}
+use Rattle.prep_cut.specs.declared.tally.Totals.{Totals}
+use Rattle.prep_cut.specs.ReasonText.{reason_text}
+use Rattle.prep_cut.specs.Tallied.{capped, counted_both, is_counted, no_count}
+use Rattle.prep_program.specs.declared.cutting.AllCut.{AllCut}
+use Rattle.prep_program.specs.declared.list_totals.Sums.{Sums}
+use Rattle.prep_program.specs.declared.list_totals.Told.{Told}
+
+-- `WORD MOMENT`, where one is stated
+abbrev pub moment_line : List ℕ → Option ℕ → List ℕ
+moment_line word None = []
+moment_line word (Some moment) = word ++ (codes " " ++ (decimal moment ++ codes "\n"))
+
+-- `WORD NUMBER`, if it is printed
+abbrev pub number_line : List ℕ → Bool → ℕ → List ℕ
+number_line word false number = []
+number_line word true number = word ++ (codes " " ++ (decimal number ++ codes "\n"))
+
+-- the line, if it is printed
+abbrev pub told_line : Bool → List ℕ → List ℕ
+told_line false line = []
+told_line true line = line
+
+-- `begin MOMENT`, and the moments that are stated
+abbrev pub moments_text : Stated → ℕ → List ℕ
+moments_text stated begin =
+    ((codes "turnprep-set-aside 1\nbegin " ++ (decimal begin ++ codes "\n")) ++ moment_line (codes "since") stated.since) ++ moment_line (codes "until") stated.until
+
+-- all that the operator states; of a lifetime only one that isn't the usual one
+abbrev pub head_text : Stated → ℕ → List ℕ
+head_text stated begin =
+    ((((moments_text stated begin
+    ++ told_line stated.is_from_start (codes "from-start\n"))
+    ++ told_line stated.has_no_tcp (codes "no-tcp\n"))
+    ++ number_line (codes "lifetime") (not (stated.lifetime == 3600)) stated.lifetime)
+    ++ number_line (codes "released-ms") (nat_lt 0 stated.released_ms) stated.released_ms)
+    ++ told_line stated.keeps_inner (codes "keep-inner\n")
+
+-- ` in DATAGRAMS BYTES out DATAGRAMS BYTES`
+abbrev pub counts_text : Count → Count → List ℕ
+counts_text arrived left =
+    codes " in " ++ (decimal arrived.datagrams ++ (codes " " ++ (decimal arrived.bytes ++ (codes " out " ++ (decimal left.datagrams ++ (codes " " ++ decimal left.bytes))))))
+
+-- packets that are no datagrams of the service, where there are any
+abbrev pub others_text : Bool → ℕ → List ℕ
+others_text false others = []
+others_text true others = codes " other " ++ decimal others
+
+-- the longest time after a release, in microseconds
+abbrev pub longest_text : Reason → ℕ → List ℕ
+longest_text (reasons.Released pair relayed moment) last = codes " longest-us " ++ decimal ((last - moment) / 1000)
+longest_text other last = []
+
+-- `REASON from FIRST to LAST`, and what it counts
+abbrev pub line_text : Reason → Tally → List ℕ
+line_text reason tally =
+    ((((reason_text reason ++ (codes " from " ++ (decimal tally.first ++ (codes " to " ++ decimal tally.last))))
+    ++ counts_text tally.arrived tally.left)
+    ++ others_text (nat_lt 0 tally.others) tally.others)
+    ++ longest_text reason tally.last)
+    ++ codes "\n"
+
+-- of a line that counts nothing there is none
+abbrev pub counted_line : Bool → Reason → Tally → List ℕ
+counted_line false reason tally = []
+counted_line true reason tally = line_text reason tally
+
+abbrev pub lines_text : List Reason → List Tally → List ℕ
+lines_text [] tallies = []
+lines_text (reason ∷ lines) [] = []
+lines_text (reason ∷ lines) (tally ∷ tallies) = counted_line (is_counted tally) reason tally ++ lines_text lines tallies
+
+-- `capture NUMBER packets WRITTEN left LEFT`
+abbrev pub capture_text : ℕ → Totals → List ℕ
+capture_text number totals =
+    codes "capture " ++ (decimal number ++ (codes " packets " ++ (decimal totals.written ++ (codes " left " ++ (decimal totals.left ++ codes "\n")))))
+
+-- numbered in their order
+abbrev pub captures_text : ℕ → List Totals → List ℕ
+captures_text number [] = []
+captures_text number (first ∷ others) = capture_text number first ++ captures_text (capped (number + 1)) others
+
+-- with these tallies
+abbrev pub sums_with : Sums → List Tally → Sums
+sums_with sums [] = sums
+sums_with sums (first ∷ others) =
+    sums_with (record { arrived = counted_both sums.arrived first.arrived; left = counted_both sums.left first.left; others = capped (sums.others + first.others) }) others
+
+abbrev pub sums_of : List Tally → Sums
+sums_of tallies = sums_with (record { arrived = no_count; left = no_count; others = 0 }) tallies
+
+-- of all that is set aside
+abbrev pub sums_text : Sums → List ℕ
+sums_text sums = ((codes "aside" ++ counts_text sums.arrived sums.left) ++ others_text (nat_lt 0 sums.others) sums.others) ++ codes "\n"
+
+-- the datagrams that are kept, with these
+abbrev pub kept_with : ℕ → List Totals → ℕ
+kept_with kept [] = kept
+kept_with kept (first ∷ others) = kept_with (capped (kept + first.datagrams)) others
+
+abbrev pub kept_of : List Totals → ℕ
+kept_of totals = kept_with 0 totals
+
+-- what isn't in a lane, and what is kept
+abbrev pub kept_text : Told → ℕ → List ℕ
+kept_text told kept =
+    codes "beyond " ++ (decimal told.beyond ++ (codes "\nkept " ++ (decimal kept ++ (codes " datagrams " ++ (decimal told.lanes ++ codes " lanes\n")))))
+
+-- in percent, rounded up
+abbrev pub share_of : ℕ → ℕ → ℕ
+share_of part whole = if whole == 0 then 0 else (part * 100 + (whole - 1)) / whole
+
+-- the line names a client from before, and counts something
+abbrev pub is_client : Reason → Tally → Bool
+is_client (reasons.Client pair) tally = is_counted tally
+is_client other tally = false
+
+-- how many such lines there are, with these
+abbrev pub clients_with : ℕ → List Reason → List Tally → ℕ
+clients_with clients [] tallies = clients
+clients_with clients (reason ∷ lines) [] = clients
+clients_with clients (reason ∷ lines) (tally ∷ tallies) = clients_with (if is_client reason tally then capped (clients + 1) else clients) lines tallies
+
+-- the datagrams that are set aside
+abbrev pub excluded_of : Sums → ℕ
+excluded_of sums = capped (sums.arrived.datagrams + sums.left.datagrams)
+
+-- `excluded N of ALL datagrams SHARE percent departures N clients N`
+abbrev pub excluded_text : Sums → ℕ → ℕ → List ℕ
+excluded_text sums all clients =
+    codes "excluded "
+    ++ (decimal (excluded_of sums)
+    ++ (codes " of "
+    ++ (decimal all ++ (codes " datagrams " ++ (decimal (share_of (excluded_of sums) all) ++ (codes " percent departures " ++ (decimal sums.left.datagrams ++ (codes " clients " ++ (decimal clients ++ codes "\n")))))))))
+
+-- the lines of all of them together
+abbrev pub totals_text : Told → Sums → ℕ → ℕ → List ℕ
+totals_text told sums kept clients = (sums_text sums ++ excluded_text sums (capped (excluded_of sums + kept)) clients) ++ kept_text told kept
+
+-- the whole list of a plan, whose captures were cut
+abbrev pub list_text : Plan → Told → AllCut → List ℕ
+list_text plan told all =
+    ((head_text plan.stated told.begin ++ lines_text plan.lines all.tallies.lines.items)
+    ++ captures_text 0 all.totals.items)
+    ++ totals_text told (sums_of all.tallies.lines.items) (kept_of all.totals.items) (clients_with 0 plan.lines all.tallies.lines.items)

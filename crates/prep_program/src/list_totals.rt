@@ -1,0 +1,175 @@
+//! The end of the list of what is set aside: what its lines and captures add up to.
+
+ghost use Rattle.std.specs.Prelude.{◌≡◌, IfOk, string_bytes};
+ghost use Rattle.prep_program.specs.ListText.{counts_text, others_text, sums_of, sums_text, kept_of, kept_text, share_of, is_client, clients_with, excluded_of, excluded_text, totals_text};
+
+use prep_cut::{Count, Reason, Tally, Totals};
+use std::alloc::{AllocError, Global};
+
+/// What the list has in addition to counts.
+#[derive(Clone, Copy)]
+pub struct Told {
+    pub begin: u64,
+    pub beyond: u64,
+    pub lanes: u64,
+}
+
+/// All that is set aside.
+#[derive(Clone, Copy)]
+pub struct Sums {
+    pub arrived: Count,
+    pub left: Count,
+    /// Packets that are no datagrams of the service.
+    pub others: u64,
+}
+
+/// What a line counts, as ` in 3 4 out 5 6`.
+pub fn text_of_counts(alloc: Global, arrived: Count, left: Count) -> Result<String, AllocError>
+    ensures { IfOk result (λ text. string_bytes text ≡ counts_text arrived left) }
+{
+    let arrivals = arrived.datagrams;
+    let in_bytes = arrived.bytes;
+    let departures = left.datagrams;
+    let out_bytes = left.bytes;
+    format!(in alloc; " in {arrivals} {in_bytes} out {departures} {out_bytes}")
+}
+
+/// Packets that are no datagrams of the service, where there are any.
+pub fn text_of_others(alloc: Global, is_told: bool, others: u64) -> Result<String, AllocError>
+    ensures { IfOk result (λ text. string_bytes text ≡ others_text is_told others) }
+{
+    if is_told {
+        format!(in alloc; " other {others}")
+    } else {
+        Ok(String::new(alloc))
+    }
+}
+
+/// All that is set aside.
+pub fn add_up(tallies: &[Tally]) -> Sums
+    ensures { result ≡ sums_of tallies.now }
+{
+    let mut sums = Sums {
+        arrived: Count::none(),
+        left: Count::none(),
+        others: 0,
+    };
+    for tally in tallies {
+        sums = Sums {
+            arrived: sums.arrived.plus(tally.arrived),
+            left: sums.left.plus(tally.left),
+            others: sums.others.saturating_add(tally.others),
+        };
+    }
+    sums
+}
+
+/// The line of all that is set aside.
+fn line_of_sums(alloc: Global, sums: &Sums) -> Result<String, AllocError>
+    ensures { IfOk result (λ line. string_bytes line ≡ sums_text sums.now) }
+{
+    let mut line = String::from_str(alloc, "aside")?;
+    line.push_str(text_of_counts(alloc, sums.arrived, sums.left)?.as_str())?;
+    line.push_str(text_of_others(alloc, sums.others > 0, sums.others)?.as_str())?;
+    line.push_str("\n")?;
+    Ok(line)
+}
+
+/// The datagrams that are kept.
+pub fn kept_in(totals: &[Totals]) -> u64
+    ensures { result ≡ kept_of totals.now }
+{
+    let mut kept = 0u64;
+    for one in totals {
+        kept = kept.saturating_add(one.datagrams);
+    }
+    kept
+}
+
+/// The lines of what is kept.
+fn lines_of_kept(alloc: Global, told: &Told, kept: u64) -> Result<String, AllocError>
+    ensures { IfOk result (λ lines. string_bytes lines ≡ kept_text told.now kept) }
+{
+    let beyond = told.beyond;
+    let lanes = told.lanes;
+    format!(in alloc; "beyond {beyond}\nkept {kept} datagrams {lanes} lanes\n")
+}
+
+/// A part in percent, rounded up.
+fn share(part: u64, whole: u64) -> u128
+    ensures { result ≡ share_of part whole }
+{
+    if whole == 0 {
+        return 0;
+    }
+    (u128::from(part) * 100 + u128::from(whole - 1)) / u128::from(whole)
+}
+
+/// Whether a line names a client from before, and counts something.
+fn names_client(reason: &Reason, tally: &Tally) -> bool
+    ensures { result ≡ is_client reason.now tally.now }
+{
+    match reason {
+        Reason::Client(_) => tally.is_some(),
+        _ => false,
+    }
+}
+
+/// How many clients from before the lines name.
+pub fn clients_in(lines: &[Reason], tallies: &[Tally]) -> u64
+    ensures { result ≡ clients_with 0 lines.now tallies.now }
+{
+    let mut clients = 0u64;
+    let mut rest = tallies;
+    for reason in lines {
+        let Some((tally, behind)) = rest.split_first() else {
+            return clients;
+        };
+        if names_client(reason, tally) {
+            clients = clients.saturating_add(1);
+        }
+        rest = behind;
+    }
+    clients
+}
+
+/// The line of the datagrams that are set aside, with their share.
+fn line_of_excluded(
+    alloc: Global,
+    sums: &Sums,
+    all: u64,
+    clients: u64,
+) -> Result<String, AllocError>
+    ensures { IfOk result (λ line. string_bytes line ≡ excluded_text sums.now all clients) }
+{
+    let excluded = excluded_in(sums);
+    let share = share(excluded, all);
+    let departures = sums.left.datagrams;
+    format!(in alloc;
+        "excluded {excluded} of {all} datagrams {share} percent departures {departures} clients {clients}\n"
+    )
+}
+
+/// The datagrams that are set aside.
+fn excluded_in(sums: &Sums) -> u64
+    ensures { result ≡ excluded_of sums.now }
+{
+    sums.arrived.datagrams.saturating_add(sums.left.datagrams)
+}
+
+/// The last lines of the list, of all lines together.
+pub fn lines_of_totals(
+    alloc: Global,
+    told: &Told,
+    sums: &Sums,
+    kept: u64,
+    clients: u64,
+) -> Result<String, AllocError>
+    ensures { IfOk result (λ lines. string_bytes lines ≡ totals_text told.now sums.now kept clients) }
+{
+    let all = excluded_in(sums).saturating_add(kept);
+    let mut lines = line_of_sums(alloc, sums)?;
+    lines.push_str(line_of_excluded(alloc, sums, all, clients)?.as_str())?;
+    lines.push_str(lines_of_kept(alloc, told, kept)?.as_str())?;
+    Ok(lines)
+}
