@@ -66,6 +66,7 @@ test:
 	tools/edits.py --with rt ci
 	tests/captures.sh $(PROGRAM)
 	tests/workers.sh $(PROGRAM)
+	python3 tests/answers.py $(PROGRAM)
 	python3 tests/beside_plain.py $(PROGRAM) examples/*
 	python3 tests/second_opinion.py $(PROGRAM)
 	python3 tests/hostile.py $(PROGRAM)
