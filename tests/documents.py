@@ -15,6 +15,8 @@ Of each document:
   `tests/edits/CRATE`, stands for any name, and so does NAME before a point. Below a folder `out` everything is built.
 
 docs/README.md has one line with a link to each other file of docs/ and its folders. With --measures it prints the numbers of each document.
+Words that the RFCs and the field don't use in this sense (`told`, `asked`, `behind` and the like; docs/TERMS.md has the terms) are counted over
+all documents, outside of code, and may not become more than they are.
 It imports no other file of this repository. The status is 1 where something fails.
 """
 
@@ -26,6 +28,8 @@ import sys
 
 TOP = pathlib.Path(__file__).resolve().parent.parent
 LONGEST_LINE, README_LINES, MEDIAN, NINE_OF_TEN = 100, 100, 25, 35
+# Lower it when a page is rewritten, and never raise it.
+MOST_OF_DIALECT = 151
 # Words before a point that doesn't end a sentence: always, and where a small letter or a number follows.
 NEVER_LAST = {"e.g", "i.e", "cf", "vs", "approx", "resp"}
 SELDOM_LAST = {"etc", "no", "sec", "fig", "al", "incl"}
@@ -36,6 +40,7 @@ LINK = re.compile(r"\[([^\]]*)\]\(([^)\s]*)\)")
 URL = re.compile(r"https?://\S+")
 COMMENT = re.compile(r"<!--.*?-->", re.DOTALL)
 END = re.compile(r"[.!?][\"')\]]*(?=\s|$)")
+DIALECT = re.compile(r"\b(?:tells?|told|asks?|asked|behind|beside|gives?|given)\b", re.IGNORECASE)
 WORD = re.compile(r"\S*\w\S*")
 PATH = re.compile(r"(?<![\w/.~-])((?:\.\./)?(?:docs|tests|bench|tools|crates|examples)/[\w.*/-]+)")
 NAMED = re.compile(r"`(?:docs/)?([A-Z]+\.md)`")
@@ -216,6 +221,14 @@ def checks_of(file, has_measures):
         yield wrong_list(file)
 
 
+def dialect_in(file):
+    """How often the words of the dialect stand in a document's text, tables and headings among it."""
+    text = file.read_text(encoding="utf-8")
+    code, _ = blocks_of(text)
+    lines = [line for number, line in enumerate(text.split("\n"), 1) if number not in code]
+    return len(DIALECT.findall(masked("\n".join(lines))))
+
+
 def main(words):
     has_measures = "--measures" in words
     named = [pathlib.Path(word).resolve() for word in words if word != "--measures"]
@@ -228,6 +241,13 @@ def main(words):
                 failed += 1
             else:
                 passed += 1
+    if not named:
+        dialect = sum(map(dialect_in, [TOP / "README.md", *(TOP / "docs").rglob("*.md")]))
+        if dialect > MOST_OF_DIALECT:
+            print(f"words of the dialect: {dialect}, at most {MOST_OF_DIALECT}")
+            failed += 1
+        else:
+            passed += 1
     print(f"documents: {passed} passed, {failed} failed")
     return 1 if failed else 0
 

@@ -6,7 +6,7 @@
                                       ended. Then prints what LOG says
     tools/gate_times.py LOG           prints what LOG says: for each crate the seconds of its proof, of its tests and of its edits, and
                                       the longest chain
-    tools/gate_times.py --page LOG    writes that to docs/GATE.md
+    tools/gate_times.py --page LOG    writes that to docs/GATE.md, with the ten crates that took longest
 
 A check is a process of `rattle` in the same session, which is seen in /proc five times a second, so that a check is told to a fifth of a
 second; run by `setsid`, checks that others run on the machine aren't counted. Its exit status is that of `rt ci`. On a machine that does other work, the processor seconds are the ones to compare.
@@ -28,6 +28,8 @@ import crates
 GATE = ["tools/edits.py", "--with", "rt", "ci"]
 # Where the times stand in docs/GATE.md.
 BEGIN, END = "<!-- what tools/gate_times.py writes begins -->", "<!-- and ends -->"
+# How many crates stand there.
+PAGE_ROWS = 10
 # What `rt ci` runs for a crate.
 PROOF, TESTS, EDIT, COMPILE = "proof", "tests", "edit", "compile"
 CHECK = re.compile(r"\s*[\d.]+ @ (?P<crate>\w+) (?P<kind>\w+) (?P<wall>[\d.]+) s (?P<cpu>[\d.]+) cpu (?P<memory>\d+) MB$")
@@ -180,11 +182,11 @@ def chains(seen, uses, seconds):
         yield total + beyond + took[EDIT] + took[COMPILE], names
 
 
-def rows(seen):
-    """The table of what the gate took, the crates that took longest first."""
+def rows(seen, most=None):
+    """The table of what the gate took, the crates that took longest first, at most so many."""
     yield "| crate | proof | tests | edits | seconds of the edits | an edit | processor | MB |"
     yield "|---|---|---|---|---|---|---|---|"
-    for name, it in sorted(seen.items(), key=lambda it: -sum(it[1].wall.values())):
+    for name, it in sorted(seen.items(), key=lambda it: -sum(it[1].wall.values()))[:most]:
         # (one check more than there are edits: that the crate itself is proved over what the edits left)
         edits = max(it.edits - 1, 0) if it.edits > 1 else it.edits
         each = f"{(it.wall[EDIT] - it.first_edit) / (it.edits - 1):.0f}" if it.edits > 1 else ""
@@ -192,8 +194,8 @@ def rows(seen):
         yield f"| {name} | " + " | ".join(f"{c:.0f}" if isinstance(c, float) else f"{c}" for c in cells) + " |"
 
 
-def said(log):
-    """What a log says, line by line."""
+def said(log, most=None):
+    """What a log says, line by line, of at most so many crates."""
     seen, last = read(log)
     minutes = {kind: sum(it.cpu[kind] for it in seen.values()) / 60 for kind in (PROOF, TESTS, EDIT, COMPILE)}
     parts = ", ".join(f"{kind} {it:.0f}" for kind, it in minutes.items())
@@ -206,7 +208,7 @@ def said(log):
     )
     yield from textwrap.wrap(chain, 100)
     yield ""
-    yield from rows(seen)
+    yield from rows(seen, most)
 
 
 def write_page(log):
@@ -214,7 +216,7 @@ def write_page(log):
     page = crates.TOP / "docs" / "GATE.md"
     front, _, rest = page.read_text(encoding="utf-8").partition(BEGIN)
     _, _, back = rest.partition(END)
-    page.write_text(front + BEGIN + "\n".join(["", *said(log), ""]) + END + back, encoding="utf-8")
+    page.write_text(front + BEGIN + "\n".join(["", *said(log, PAGE_ROWS), ""]) + END + back, encoding="utf-8")
 
 
 def main(words):
