@@ -200,6 +200,7 @@ fn page<S: Source>(
     let rows = bars_of(alloc, &gathered.drawing, grace)?;
     let picture = picture_of(&gathered.drawing, rows.as_slice());
     let program = digests_of(alloc, source, SELF)?;
+    let release = String::from_str(alloc, version())?;
     let facts = Facts {
         head: head.as_str(),
         is_conforming: breach_of(&judged.verdict).is_none(),
@@ -211,7 +212,7 @@ fn page<S: Source>(
         clients: clients.as_slice(),
         all_clients: gathered.clients.all,
         sums: gathered.clients.sums.as_str(),
-        release: version(),
+        release: release.as_str(),
         program,
         headline: HEADLINE,
         picture,
