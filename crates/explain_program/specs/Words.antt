@@ -4,7 +4,7 @@ use Rattle.std.specs.Str.Parse.{ParsesUnsigned}
 use Rattle.clap.specs.Lexer.{usize_max}
 use Rattle.clap.specs.Words.{App, IsAmong, Kinds, Row, Rule, Text, all_of, first_of, new_app, new_rule, one_of, with_rule, with_subcommand}
 use Rattle.clap.specs.declared.builder.action.ArgAction.TheVariants.{Append, Set, SetTrue}
-use Rattle.clap.specs.declared.builder.value_parser.ValueParser.TheVariants.{Signed}
+use Rattle.clap.specs.declared.builder.value_parser.ValueParser.TheVariants.{NonEmptyString, Signed}
 use Rattle.clap.specs.declared.error.kind.ErrorKind.{ErrorKind}
 use Rattle.clap.specs.declared.error.kind.ErrorKind.TheVariants as kind
 use Rattle.explain_program.specs.declared.command_line.Asked.{Asked}
@@ -17,6 +17,10 @@ use Rattle.explain_program.specs.declared.command_line.Request.TheVariants.{Expl
 abbrev pub valued : Text → Rule
 valued name = record (new_rule name) { long = Some name; value_names = 1; action = Some Set }
 
+-- an option with the name of a file, which isn't empty
+abbrev pub file : Text → Rule
+file name = record (valued name) { parser = Some NonEmptyString }
+
 -- an option without a value
 abbrev pub flag : Text → Rule
 flag name = record (new_rule name) { long = Some name; action = Some SetTrue }
@@ -26,13 +30,13 @@ abbrev pub counted : Text → List Text → ℕ → ℕ → Rule
 counted name defaults least most = record (valued name) { defaults = defaults; parser = Some (Signed (pos least) (pos most)) }
 
 abbrev pub policy : Rule
-policy = record (valued (codes "policy")) { required = true }
+policy = record (file (codes "policy")) { required = true }
 
 abbrev pub users : Rule
-users = valued (codes "creds")
+users = file (codes "creds")
 
 abbrev pub certificate : Rule
-certificate = valued (codes "cert")
+certificate = file (codes "cert")
 
 abbrev pub workers : Rule
 workers = counted (codes "workers") (codes "1" ∷ []) 1 256
@@ -45,7 +49,7 @@ around = counted (codes "around") (codes "20" ∷ []) 0 1000000
 
 -- `-o` or `--output`
 abbrev pub output : Rule
-output = record (valued (codes "output")) { short = Some 111; required = true }
+output = record (file (codes "output")) { short = Some 111; required = true }
 
 -- one capture or more, which are what is no option
 abbrev pub captures : Rule
@@ -53,6 +57,7 @@ captures = record (new_rule (codes "captures")) {
   value_names = 1;
   required = true;
   action = Some Append;
+  parser = Some NonEmptyString;
   range = Some (record { start_inclusive = 1; end_inclusive = usize_max });
 }
 

@@ -7,18 +7,20 @@ ghost use Rattle.clap.specs.declared.builder.Command.TheViews.{out-Command as fi
 ghost use Rattle.explain_program.specs.Words as words;
 
 use crate::pages::{Page, release};
+use clap::builder::ValueParser;
 use clap::{Arg, ArgAction, Command};
 use std::alloc::{AllocError, Global};
 
-/// An option with the name of a file.
+/// An option with the name of a file, which isn't empty.
 fn file_option<'a>(alloc: Global, name: &'a str, value: &'a str) -> Arg<'a>
-    ensures rule { rule_of result ≡ words.valued name.entry.now }
+    ensures rule { rule_of result ≡ words.file name.entry.now }
     ensures local { result.global ≡ false }
 {
     Arg::new(alloc, name)
         .long(name)
         .value_name(value)
         .action(ArgAction::Set)
+        .value_parser(ValueParser::NonEmptyString)
 }
 
 /// An option without a value.
@@ -76,6 +78,7 @@ fn captures_argument<'a>(alloc: Global) -> Arg<'a>
         .required(true)
         .num_args(1..)
         .action(ArgAction::Append)
+        .value_parser(ValueParser::NonEmptyString)
 }
 
 /// The command of that name, with the options that all commands have.

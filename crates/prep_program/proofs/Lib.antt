@@ -6,3 +6,4 @@ pub mod CutFiles
 pub mod RecordedFiles
 pub mod AllCuts
 pub mod Texts
+pub mod Naming

@@ -10,3 +10,6 @@ pub mod Recordings
 pub mod AllCuts
 pub mod ListText
 pub mod Listing
+pub mod Words
+pub mod Requests
+pub mod Answered

@@ -1,30 +1,40 @@
 //! The command line, as clap reads it. No file but this one and those in `command_line/` knows clap.
 
+ghost use Rattle.std.specs.Prelude.{◌≡◌, IfNone, IfOk, IfSome, List, Option, Some, codes, map};
+ghost use Rattle.clap.specs.Words.{HasKind, Kinds, Row, Text, fault_of, found_of, rows_of, subcommand_of, subcommand_rows_of};
+ghost use Rattle.prep_program.specs.Requests.{Asks, NamesNothing, Requests};
+ghost use Rattle.prep_program.specs.Words.{turnprep};
+
+mod commands;
 mod cut;
 mod look;
+mod options;
 mod policy;
 mod reassemble;
 mod translate;
 mod users;
+mod values;
 
-use self::cut::{cut_command, cut_request};
-use self::look::{look_command, look_request};
-use self::policy::{policy_command, policy_request};
-use self::reassemble::{reassemble_command, reassemble_request};
-use self::translate::{translate_command, translate_request};
-use self::users::{users_command, users_request};
+use self::commands::command;
+use self::cut::cut_request;
+use self::look::look_request;
+use self::policy::policy_request;
+use self::reassemble::reassemble_request;
+use self::translate::translate_request;
+use self::users::users_request;
+use self::values::{all_values, value_of};
 use crate::looking::LookRequest;
-use crate::pages::{Page, page_of, release};
+use crate::pages::{Page, page_of};
 use crate::reassembling::ReassembleRequest;
 use crate::set_aside::CutRequest;
 use crate::translating::TranslateRequest;
 use crate::users::UsersRequest;
 use clap::error::ErrorKind;
-use clap::{Arg, ArgAction, ArgMatches, Command, Error};
+use clap::{ArgMatches, Error};
 use std::alloc::{AllocError, Global};
 use std::convert::AsStr;
 
-/// What is asked for.
+/// What the arguments request.
 #[derive(Drop)]
 pub enum Request<'a> {
     /// Join captures to a new file.
@@ -39,7 +49,7 @@ pub enum Request<'a> {
         relaying: Vec<u32>,
         is_translated: bool,
     },
-    /// Tell what captures hold.
+    /// Print what captures hold.
     Look(LookRequest<'a>),
     /// Leave out of captures what can't be judged.
     Cut(CutRequest<'a>),
@@ -53,85 +63,22 @@ pub enum Request<'a> {
     Help(Page),
     /// Print the release, on standard output.
     Release,
-    /// The words are no request; what clap says of it, for standard error.
+    /// The arguments are no request; what is wrong with them, for standard error.
     Usage(String),
 }
 
-/// The captures that a command reads.
-fn captures_argument<'a>(alloc: Global) -> Arg<'a> {
-    Arg::new(alloc, "captures")
-        .value_name("CAPTURE")
-        .required(true)
-        .num_args(1..)
-        .action(ArgAction::Append)
-}
-
-/// The folder in which files are made.
-fn folder_option<'a>(alloc: Global) -> Arg<'a> {
-    Arg::new(alloc, "out")
-        .short('o')
-        .value_name("DIR")
-        .required(true)
-        .action(ArgAction::Set)
-}
-
-/// Words that are no request.
-fn usage<'a>(alloc: Global, text: &str) -> Result<Option<Request<'a>>, AllocError> {
+/// Arguments of a command that are no request.
+fn usage<'a>(alloc: Global, text: &str) -> Result<Option<Request<'a>>, AllocError>
+    ensures some { (named : Option (Text × List Row)) → NamesNothing named → IfOk result (λ found. IfSome found (Requests named)) }
+    ensures none { (named : Option (Text × List Row)) → NamesNothing named → IfOk result (λ found. IfNone found (NamesNothing named)) }
+{
     Ok(Some(Request::Usage(String::from_str(alloc, text)?)))
 }
 
-/// The file that is made.
-fn file_argument<'a>(alloc: Global) -> Arg<'a> {
-    Arg::new(alloc, "out")
-        .short('o')
-        .value_name("FILE")
-        .required(true)
-        .action(ArgAction::Set)
-}
-
-/// The command `join`.
-fn join_command<'a>(alloc: Global) -> Result<Command<'a>, AllocError> {
-    Command::new(alloc, "join")
-        .override_help(Page::Join.text())
-        .arg(file_argument(alloc))?
-        .arg(captures_argument(alloc))
-}
-
-/// Adds the commands that make a policy and credentials.
-fn with_policy_and_users<'a>(
-    alloc: Global,
-    command: Command<'a>,
-) -> Result<Command<'a>, AllocError> {
-    command
-        .subcommand(policy_command(alloc)?)?
-        .subcommand(users_command(alloc)?)
-}
-
-/// Adds the commands that read captures and make others of them.
-fn with_captures<'a>(alloc: Global, command: Command<'a>) -> Result<Command<'a>, AllocError> {
-    command
-        .subcommand(join_command(alloc)?)?
-        .subcommand(reassemble_command(alloc)?)?
-        .subcommand(translate_command(alloc)?)?
-        .subcommand(look_command(alloc)?)?
-        .subcommand(cut_command(alloc)?)
-}
-
-/// The whole command line.
-fn command<'a>(alloc: Global) -> Result<Command<'a>, AllocError> {
-    let command = with_policy_and_users(
-        alloc,
-        Command::new(alloc, "turnprep")
-            .version(release())
-            .override_help(Page::Program.text())
-            .arg_required_else_help(true)
-            .subcommand_required(true),
-    )?;
-    with_captures(alloc, command)
-}
-
-/// The request that an error of clap stands for.
-fn refused<'a>(alloc: Global, error: Error) -> Result<Request<'a>, AllocError> {
+/// The request that an error of clap stands for, which is no command's.
+fn refused<'a>(alloc: Global, error: Error) -> Result<Request<'a>, AllocError>
+    ensures { (named : Option (Text × List Row)) (kinds : Kinds) → HasKind kinds error → IfOk result (Asks named kinds) }
+{
     let text = format!(in alloc; "{error}")?;
     if error.kind() == ErrorKind::OutOfMemory {
         return Err(AllocError);
@@ -145,12 +92,18 @@ fn refused<'a>(alloc: Global, error: Error) -> Result<Request<'a>, AllocError> {
     Ok(Request::Usage(text))
 }
 
-/// The request that the words of the command `join` are.
+/// The request that the arguments of the command `join` are.
 fn join_request<'a>(
     alloc: Global,
     matches: &ArgMatches<'a>,
-) -> Result<Option<Request<'a>>, AllocError> {
-    let (Some(file), Some(names)) = (matches.get_str("out"), matches.get_strs("captures")) else {
+) -> Result<Option<Request<'a>>, AllocError>
+    ensures some { IfOk result (λ found. IfSome found (Requests (Some (codes "join", rows_of (found_of matches.now))))) }
+    ensures none { IfOk result (λ found. IfNone found (NamesNothing (Some (codes "join", rows_of (found_of matches.now))))) }
+{
+    let Some(file) = value_of(matches, "out") else {
+        return Ok(None);
+    };
+    let Some(names) = all_values(matches, "captures") else {
         return Ok(None);
     };
     Ok(Some(Request::Join {
@@ -159,37 +112,50 @@ fn join_request<'a>(
     }))
 }
 
-/// The request that the words of a command are.
+/// The arguments of a command, where it is the one of this name.
+fn arguments_of<'m, 'a>(matches: &'m ArgMatches<'a>, name: &str) -> Option<&'m ArgMatches<'a>>
+    ensures some { IfSome result (λ command. subcommand_rows_of matches.now ≡ Some (name.now, rows_of (found_of command.now))) }
+    ensures none { IfNone result ((rows : List Row) → subcommand_rows_of matches.now ≡ Some (name.now, rows) → ⊥) }
+{
+    matches.subcommand_matches(name)
+}
+
+/// The request that the arguments of a command are.
 fn request_of<'a>(
     alloc: Global,
     matches: &ArgMatches<'a>,
-) -> Result<Option<Request<'a>>, AllocError> {
-    if let Some(join) = matches.subcommand_matches("join") {
+) -> Result<Option<Request<'a>>, AllocError>
+    ensures some { IfOk result (λ found. IfSome found (Requests (subcommand_rows_of matches.now))) }
+    ensures none { IfOk result (λ found. IfNone found (NamesNothing (subcommand_rows_of matches.now))) }
+{
+    if let Some(join) = arguments_of(matches, "join") {
         return join_request(alloc, join);
     }
-    if let Some(policy) = matches.subcommand_matches("policy") {
+    if let Some(policy) = arguments_of(matches, "policy") {
         return policy_request(alloc, policy);
     }
-    if let Some(look) = matches.subcommand_matches("look") {
+    if let Some(look) = arguments_of(matches, "look") {
         return look_request(alloc, look);
     }
-    if let Some(cut) = matches.subcommand_matches("cut") {
+    if let Some(cut) = arguments_of(matches, "cut") {
         return cut_request(alloc, cut);
     }
-    if let Some(translate) = matches.subcommand_matches("translate") {
+    if let Some(translate) = arguments_of(matches, "translate") {
         return translate_request(alloc, translate);
     }
-    if let Some(users) = matches.subcommand_matches("users") {
+    if let Some(users) = arguments_of(matches, "users") {
         return users_request(alloc, users);
     }
-    if let Some(reassemble) = matches.subcommand_matches("reassemble") {
+    if let Some(reassemble) = arguments_of(matches, "reassemble") {
         return reassemble_request(alloc, reassemble);
     }
     Ok(None)
 }
 
-/// Reads the words, the first of which is the program's name.
-pub fn read<'a, N: AsStr>(alloc: Global, words: &'a [N]) -> Result<Request<'a>, AllocError> {
+/// Reads the arguments, the first of which is the program's name.
+pub fn read<'a, N: AsStr>(alloc: Global, words: &'a [N]) -> Result<Request<'a>, AllocError>
+    ensures { IfOk result (Asks (subcommand_of turnprep (map N.text words.now)) (fault_of turnprep (map N.text words.now))) }
+{
     let matches = match command(alloc)?.try_get_matches_from(words) {
         Ok(matches) => matches,
         Err(error) => return refused(alloc, error),

@@ -1,5 +1,7 @@
 //! The command `look`.
 
+ghost use Rattle.prep_program.specs.Answered.{IsSuccess};
+
 use crate::recording::record_captures;
 use crate::source::Source;
 use crate::stop::Stop;
@@ -34,7 +36,9 @@ pub fn run_look<S: Source, O: Sink>(
     request: &LookRequest<'_>,
     source: &mut S,
     out: &mut O,
-) -> Result<u8, Stop> {
+) -> Result<u8, Stop>
+    ensures { IsSuccess result }
+{
     let given = match request.policy {
         Some(name) => Some(policy_in(alloc, name, source)?),
         None => None,

@@ -1,5 +1,7 @@
 //! A policy out of a configuration that is a file.
 
+ghost use Rattle.prep_program.specs.Answered.{IsSuccess};
+
 use crate::source::Source;
 use crate::stop::Stop;
 use crate::text::read_text;
@@ -15,7 +17,9 @@ pub fn run_policy<S: Source, O: Sink, E: Sink>(
     source: &mut S,
     out: &mut O,
     err: &mut E,
-) -> Result<u8, Stop> {
+) -> Result<u8, Stop>
+    ensures { IsSuccess result }
+{
     let text = read_text(alloc, source, file)?;
     let prepared = prepare(alloc, &text, asked)?;
     put_all(out, prepared.policy.as_bytes())?;

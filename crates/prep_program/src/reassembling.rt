@@ -4,6 +4,7 @@ ghost use Rattle.std.specs.Prelude.{◌≡◌, ℕ, List, Some, OnOk};
 ghost use Rattle.prep_blocks.specs.declared.block.Block.{Block};
 ghost use Rattle.prep_fragments.specs.Reassembling.{IsDone, IsReassembling};
 ghost use Rattle.prep_program.specs.Reassemblies.{Reassembles};
+ghost use Rattle.prep_program.specs.Answered.{IsSuccess};
 
 use crate::folder::{check_parts, last_part, path_in};
 use crate::maker::Maker;
@@ -84,7 +85,9 @@ pub fn run_reassemble<S: Source, M: Maker, O: Sink>(
     source: &mut S,
     maker: &mut M,
     out: &mut O,
-) -> Result<u8, Stop> {
+) -> Result<u8, Stop>
+    ensures { IsSuccess result }
+{
     check_parts(&request.captures)?;
     let mut report = String::from_str(alloc, "turnprep-reassembled 1\n")?;
     let mut capture = 0u32;

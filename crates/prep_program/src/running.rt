@@ -1,5 +1,9 @@
 //! The whole program as a function.
 
+ghost use Rattle.std.specs.Prelude.{◌≡◌, OnOk, map};
+ghost use Rattle.audit_model.specs.Sink.{followed_by};
+ghost use Rattle.prep_program.specs.Answered.{Answers, IsSuccess, IsRun};
+
 use crate::command_line::{Request, read as read_words};
 use crate::joining::join_captures;
 use crate::looking::run_look;
@@ -30,7 +34,15 @@ fn put_line<W: Sink>(alloc: Global, sink: &mut W, stop: &Stop) {
     }
 }
 
-/// Joins captures to a new file, and tells how many blocks each has.
+/// Puts a text.
+fn put_text<W: Sink>(sink: &mut W, text: &str) -> Result<(), Stop>
+    ensures { OnOk result (W.taken sink.new ≡ followed_by (W.taken sink.old) text.now) }
+{
+    put_all(sink, text.as_bytes())?;
+    Ok(())
+}
+
+/// Joins captures to a new file, and prints how many blocks each has.
 fn run_join<S: Source, M: Maker, O: Sink>(
     alloc: Global,
     captures: &[&str],
@@ -38,7 +50,9 @@ fn run_join<S: Source, M: Maker, O: Sink>(
     source: &mut S,
     maker: &mut M,
     out: &mut O,
-) -> Result<u8, Stop> {
+) -> Result<u8, Stop>
+    ensures { IsSuccess result }
+{
     if let Some(gap) = gap_in(captures) {
         return Err(Stop::Missing(gap));
     }
@@ -57,7 +71,7 @@ fn run_join<S: Source, M: Maker, O: Sink>(
     Ok(0)
 }
 
-/// Does what is asked for, and gives the exit status.
+/// Does what is requested, and returns the exit status.
 fn run_request<S: Source, M: Maker, O: Sink, E: Sink>(
     alloc: Global,
     request: &Request<'_>,
@@ -65,7 +79,9 @@ fn run_request<S: Source, M: Maker, O: Sink, E: Sink>(
     maker: &mut M,
     out: &mut O,
     err: &mut E,
-) -> Result<u8, Stop> {
+) -> Result<u8, Stop>
+    ensures { Answers (record { before = O.taken out.old; after = O.taken out.new; said_before = E.taken err.old; said_after = E.taken err.new }) request.now result }
+{
     match request {
         Request::Join { captures, file } => run_join(alloc, captures, file, source, maker, out),
         Request::Policy {
@@ -87,15 +103,15 @@ fn run_request<S: Source, M: Maker, O: Sink, E: Sink>(
         Request::Reassemble(asked) => run_reassemble(alloc, asked, source, maker, out),
         Request::Users(asked) => run_users(alloc, asked, source, out, err),
         Request::Help(page) => {
-            put_all(out, page.text().as_bytes())?;
+            put_text(out, page.text())?;
             Ok(0)
         }
         Request::Release => {
-            put_all(out, release().as_bytes())?;
+            put_text(out, release())?;
             Ok(0)
         }
         Request::Usage(text) => {
-            put_all(err, text.as_bytes())?;
+            put_text(err, text.as_str())?;
             Ok(5)
         }
     }
@@ -111,12 +127,18 @@ pub fn run<N: AsStr, S: Source, M: Maker, O: Sink, E: Sink>(
     maker: &mut M,
     out: &mut O,
     err: &mut E,
-) -> u8 {
-    let done = match read_words(alloc, words) {
-        Ok(request) => run_request(alloc, &request, source, maker, out, err),
-        Err(error) => Err(Stop::from(error)),
+) -> u8
+    ensures { IsRun (map N.text words.now)
+        (record { before = O.taken out.old; after = O.taken out.new; said_before = E.taken err.old; said_after = E.taken err.new }) result }
+{
+    let request = match read_words(alloc, words) {
+        Ok(request) => request,
+        Err(_) => {
+            put_line(alloc, err, &Stop::Memory);
+            return Stop::Memory.status();
+        }
     };
-    match done {
+    match run_request(alloc, &request, source, maker, out, err) {
         Ok(status) => status,
         Err(stop) => {
             put_line(alloc, err, &stop);

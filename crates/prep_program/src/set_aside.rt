@@ -4,6 +4,7 @@ ghost use Rattle.std.specs.Prelude.{◌≡◌, IfOk, OnOk, map};
 ghost use Rattle.audit_model.specs.Sink.{followed_by};
 ghost use Rattle.prep_program.specs.Listing.{list_file};
 ghost use Rattle.prep_program.specs.Making.{files_of, with_files};
+ghost use Rattle.prep_program.specs.Answered.{IsSuccess};
 
 use crate::cutting::{ToCut, cut_captures};
 use crate::folder::{check_parts, last_part, path_in};
@@ -51,7 +52,9 @@ pub fn run_cut<S: Source, M: Maker, O: Sink, E: Sink>(
     maker: &mut M,
     out: &mut O,
     err: &mut E,
-) -> Result<u8, Stop> {
+) -> Result<u8, Stop>
+    ensures { IsSuccess result }
+{
     check_parts(&request.captures)?;
     let Planned {
         plan,

@@ -4,6 +4,7 @@ ghost use Rattle.std.specs.Prelude.{◌≡◌, ℕ, List, Some, IfOk};
 ghost use Rattle.prep_blocks.specs.declared.block.Block.{Block};
 ghost use Rattle.prep_translate.specs.Translating.{IsDone, IsTranslating};
 ghost use Rattle.prep_program.specs.Translations.{Translates};
+ghost use Rattle.prep_program.specs.Answered.{IsSuccess};
 
 use crate::folder::{check_parts, last_part, path_in};
 use crate::maker::Maker;
@@ -131,7 +132,9 @@ pub fn run_translate<S: Source, M: Maker, O: Sink>(
     source: &mut S,
     maker: &mut M,
     out: &mut O,
-) -> Result<u8, Stop> {
+) -> Result<u8, Stop>
+    ensures { IsSuccess result }
+{
     let text = read_text(alloc, source, request.policy)?;
     let policy = read_policy(alloc, &text)?;
     let renaming = renaming_of(alloc, policy, &request.translations)?;

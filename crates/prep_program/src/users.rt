@@ -1,5 +1,7 @@
 //! Users out of a configuration, or out of a secret and captures.
 
+ghost use Rattle.prep_program.specs.Answered.{IsSuccess};
+
 use crate::source::{PIECE, Source};
 use crate::stop::Stop;
 use crate::text::read_text;
@@ -66,7 +68,9 @@ fn write_signed<S: Source, O: Sink, E: Sink>(
     source: &mut S,
     out: &mut O,
     err: &mut E,
-) -> Result<u8, Stop> {
+) -> Result<u8, Stop>
+    ensures { IsSuccess result }
+{
     if captures.is_empty() {
         return Err(Stop::Words("users of a secret need captures"));
     }
@@ -89,7 +93,9 @@ pub fn run_users<S: Source, O: Sink, E: Sink>(
     source: &mut S,
     out: &mut O,
     err: &mut E,
-) -> Result<u8, Stop> {
+) -> Result<u8, Stop>
+    ensures { IsSuccess result }
+{
     let captures = request.captures.as_slice();
     match request.source {
         UsersSource::Secret(secret) => {

@@ -1,43 +1,38 @@
-//! The words of the command `look`.
+//! The arguments of the command `look`.
 
-use super::cut::{LONGEST, MAX_CAPTURES, number_of, value};
-use super::{Request, captures_argument, usage};
+ghost use Rattle.std.specs.Prelude.{IfNone, IfOk, IfSome, Some, codes};
+ghost use Rattle.clap.specs.Words.{found_of, rows_of};
+ghost use Rattle.prep_program.specs.Requests.{NamesNothing, Requests};
+
+use super::cut::LONGEST;
+use super::values::{captures_of, number_of, value_of};
+use super::{Request, usage};
 use crate::list_head::USUAL_LIFETIME;
 use crate::looking::LookRequest;
-use crate::pages::Page;
-use clap::{ArgMatches, Command};
+use clap::ArgMatches;
 use std::alloc::{AllocError, Global};
 
 const NOT_A_NUMBER: &str = "turnprep: --lifetime is a number\n";
 
 const TOO_MANY: &str = "turnprep: look takes 16 captures at the most\n";
 
-/// The command `look`.
-pub(super) fn look_command<'a>(alloc: Global) -> Result<Command<'a>, AllocError> {
-    Command::new(alloc, "look")
-        .override_help(Page::Look.text())
-        .arg(value(alloc, "policy", "FILE"))?
-        .arg(value(alloc, "lifetime", "SECONDS"))?
-        .arg(captures_argument(alloc))
-}
-
-/// The request that the words of the command `look` are.
-pub(super) fn look_request<'a>(
+/// The request that the arguments of the command `look` are.
+pub fn look_request<'a>(
     alloc: Global,
     matches: &ArgMatches<'a>,
-) -> Result<Option<Request<'a>>, AllocError> {
-    let Some(captures) = matches.get_strs("captures") else {
-        return Ok(None);
-    };
-    if captures.len() > MAX_CAPTURES {
+) -> Result<Option<Request<'a>>, AllocError>
+    ensures some { IfOk result (λ found. IfSome found (Requests (Some (codes "look", rows_of (found_of matches.now))))) }
+    ensures none { IfOk result (λ found. IfNone found (NamesNothing (Some (codes "look", rows_of (found_of matches.now))))) }
+{
+    let Some(captures) = captures_of(alloc, matches)? else {
         return usage(alloc, TOO_MANY);
-    }
+    };
     let Some(lifetime) = number_of(matches, "lifetime", LONGEST) else {
         return usage(alloc, NOT_A_NUMBER);
     };
     Ok(Some(Request::Look(LookRequest {
-        policy: matches.get_str("policy"),
+        policy: value_of(matches, "policy"),
         lifetime: lifetime.unwrap_or(USUAL_LIFETIME),
-        captures: Vec::from_slice(alloc, captures)?,
+        captures,
     })))
 }

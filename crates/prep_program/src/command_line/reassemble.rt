@@ -1,38 +1,30 @@
-//! The words of the command `reassemble`.
+//! The arguments of the command `reassemble`.
 
-use super::{Request, captures_argument, folder_option, usage};
-use crate::pages::Page;
+ghost use Rattle.std.specs.Prelude.{IfNone, IfOk, IfSome, Some, codes};
+ghost use Rattle.clap.specs.Words.{found_of, rows_of};
+ghost use Rattle.prep_program.specs.Requests.{NamesNothing, Requests};
+
+use super::values::{captures_of, value_of};
+use super::{Request, usage};
 use crate::reassembling::ReassembleRequest;
-use clap::{ArgMatches, Command};
+use clap::ArgMatches;
 use std::alloc::{AllocError, Global};
 
 const TOO_MANY: &str = "turnprep: reassemble takes 16 captures at the most\n";
 
-/// So many captures may be audited together.
-const MAX_CAPTURES: usize = 16;
-
-/// The command.
-pub(super) fn reassemble_command<'a>(alloc: Global) -> Result<Command<'a>, AllocError> {
-    Command::new(alloc, "reassemble")
-        .override_help(Page::Reassemble.text())
-        .arg(folder_option(alloc))?
-        .arg(captures_argument(alloc))
-}
-
-/// The request that the words are.
-pub(super) fn reassemble_request<'a>(
+/// The request that the arguments are.
+pub fn reassemble_request<'a>(
     alloc: Global,
     matches: &ArgMatches<'a>,
-) -> Result<Option<Request<'a>>, AllocError> {
-    let (Some(folder), Some(captures)) = (matches.get_str("out"), matches.get_strs("captures"))
-    else {
+) -> Result<Option<Request<'a>>, AllocError>
+    ensures some { IfOk result (λ found. IfSome found (Requests (Some (codes "reassemble", rows_of (found_of matches.now))))) }
+    ensures none { IfOk result (λ found. IfNone found (NamesNothing (Some (codes "reassemble", rows_of (found_of matches.now))))) }
+{
+    let Some(folder) = value_of(matches, "out") else {
         return Ok(None);
     };
-    if captures.len() > MAX_CAPTURES {
+    let Some(captures) = captures_of(alloc, matches)? else {
         return usage(alloc, TOO_MANY);
-    }
-    Ok(Some(Request::Reassemble(ReassembleRequest {
-        folder,
-        captures: Vec::from_slice(alloc, captures)?,
-    })))
+    };
+    Ok(Some(Request::Reassemble(ReassembleRequest { folder, captures })))
 }

@@ -1,9 +1,14 @@
-//! The words of the command `translate`.
+//! The arguments of the command `translate`.
 
-use super::{Request, captures_argument, folder_option, usage};
-use crate::pages::Page;
+ghost use Rattle.std.specs.Prelude.{◌≡◌, IfNone, IfOk, IfSome, Some, codes, map, option_map};
+ghost use Rattle.clap.specs.Words.{found_of, rows_of};
+ghost use Rattle.prep_program.specs.Requests.{NamesNothing, Requests, all_read};
+ghost use Rattle.prep_translate.specs.Words.{pair_of};
+
+use super::values::{captures_of, value_of, values};
+use super::{Request, usage};
 use crate::translating::TranslateRequest;
-use clap::{Arg, ArgAction, ArgMatches, Command};
+use clap::ArgMatches;
 use prep_translate::Translation;
 use std::alloc::{AllocError, Global};
 
@@ -12,42 +17,13 @@ const NOT_A_PAIR: &str = "turnprep: --external-ip is PUBLIC/PRIVATE, two IPv4 ad
 const TOO_MANY: &str =
     "turnprep: translate takes 16 captures and 64 words of --external-ip at the most\n";
 
-/// So many captures may be audited together.
-const MAX_CAPTURES: usize = 16;
-
 /// A policy has so many relay ranges at the most.
 const MAX_TRANSLATIONS: usize = 64;
 
-/// The option with the policy.
-fn policy_option<'a>(alloc: Global) -> Arg<'a> {
-    Arg::new(alloc, "policy")
-        .long("policy")
-        .value_name("FILE")
-        .required(true)
-        .action(ArgAction::Set)
-}
-
-/// The option with addresses that stand for others.
-fn external_option<'a>(alloc: Global) -> Arg<'a> {
-    Arg::new(alloc, "external-ip")
-        .long("external-ip")
-        .value_name("PUBLIC/PRIVATE")
-        .required(true)
-        .action(ArgAction::Append)
-}
-
-/// The command.
-pub(super) fn translate_command<'a>(alloc: Global) -> Result<Command<'a>, AllocError> {
-    Command::new(alloc, "translate")
-        .override_help(Page::Translate.text())
-        .arg(policy_option(alloc))?
-        .arg(external_option(alloc))?
-        .arg(folder_option(alloc))?
-        .arg(captures_argument(alloc))
-}
-
-/// The translations that the words spell, or nothing where one of them is none.
-fn translations_of(alloc: Global, words: &[&str]) -> Result<Option<Vec<Translation>>, AllocError> {
+/// The translations that words are, or nothing where one of them is none.
+fn translations_in(alloc: Global, words: &[&str]) -> Result<Option<Vec<Translation>>, AllocError>
+    ensures { IfOk result (λ found. option_map (λ translations. translations.items) found ≡ all_read pair_of (map (λ word. word.now) words.now)) }
+{
     let mut translations = Vec::new(alloc);
     for word in words {
         match Translation::read(word.as_bytes()) {
@@ -58,30 +34,34 @@ fn translations_of(alloc: Global, words: &[&str]) -> Result<Option<Vec<Translati
     Ok(Some(translations))
 }
 
-/// The request that the words are.
-pub(super) fn translate_request<'a>(
+/// The request that the arguments are.
+pub fn translate_request<'a>(
     alloc: Global,
     matches: &ArgMatches<'a>,
-) -> Result<Option<Request<'a>>, AllocError> {
-    let (Some(policy), Some(folder)) = (matches.get_str("policy"), matches.get_str("out")) else {
+) -> Result<Option<Request<'a>>, AllocError>
+    ensures some { IfOk result (λ found. IfSome found (Requests (Some (codes "translate", rows_of (found_of matches.now))))) }
+    ensures none { IfOk result (λ found. IfNone found (NamesNothing (Some (codes "translate", rows_of (found_of matches.now))))) }
+{
+    let Some(policy) = value_of(matches, "policy") else {
         return Ok(None);
     };
-    let (Some(words), Some(captures)) = (
-        matches.get_strs("external-ip"),
-        matches.get_strs("captures"),
-    ) else {
+    let Some(folder) = value_of(matches, "out") else {
         return Ok(None);
     };
-    if captures.len() > MAX_CAPTURES || words.len() > MAX_TRANSLATIONS {
+    let Some(captures) = captures_of(alloc, matches)? else {
+        return usage(alloc, TOO_MANY);
+    };
+    let words = values(alloc, matches, "external-ip")?;
+    if words.len() > MAX_TRANSLATIONS {
         return usage(alloc, TOO_MANY);
     }
-    let Some(translations) = translations_of(alloc, words)? else {
+    let Some(translations) = translations_in(alloc, words.as_slice())? else {
         return usage(alloc, NOT_A_PAIR);
     };
     Ok(Some(Request::Translate(TranslateRequest {
         policy,
         translations,
         folder,
-        captures: Vec::from_slice(alloc, captures)?,
+        captures,
     })))
 }

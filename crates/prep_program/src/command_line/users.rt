@@ -1,59 +1,47 @@
-//! The words of the command `users`.
+//! The arguments of the command `users`.
 
+ghost use Rattle.std.specs.Prelude.{IfNone, IfOk, IfSome, Some, codes};
+ghost use Rattle.clap.specs.Words.{found_of, rows_of};
+ghost use Rattle.prep_program.specs.Requests.{HasSource, NamesNothing, Requests};
+ghost use Rattle.prep_program.specs.declared.users.UsersSource.{UsersSource as AnySource};
+
+use super::values::{value_of, values};
 use super::{Request, usage};
-use crate::pages::Page;
 use crate::users::{UsersRequest, UsersSource};
-use clap::{Arg, ArgAction, ArgMatches, Command};
+use clap::ArgMatches;
 use std::alloc::{AllocError, Global};
 
 const ONE_SOURCE: &str = "turnprep: users takes --turnserver-conf or --secret, and not both\n";
 
-/// An option with one value.
-fn value_option<'a>(alloc: Global, name: &'a str, value: &'a str) -> Arg<'a> {
-    Arg::new(alloc, name)
-        .long(name)
-        .value_name(value)
-        .action(ArgAction::Set)
+/// Where the users come from, if it is one of both.
+fn source_of<'a>(matches: &ArgMatches<'a>) -> Option<UsersSource<'a>>
+    ensures some { IfSome result (HasSource (rows_of (found_of matches.now))) }
+    ensures none { IfNone result ((any : AnySource) → HasSource (rows_of (found_of matches.now)) any → ⊥) }
+{
+    match (
+        value_of(matches, "turnserver-conf"),
+        value_of(matches, "secret"),
+    ) {
+        (Some(file), None) => Some(UsersSource::Configuration(file)),
+        (None, Some(secret)) => Some(UsersSource::Secret(secret)),
+        _ => None,
+    }
 }
 
-/// The captures with requests of users.
-fn captures_option<'a>(alloc: Global) -> Arg<'a> {
-    Arg::new(alloc, "captures")
-        .value_name("CAPTURE")
-        .num_args(1..)
-        .action(ArgAction::Append)
-}
-
-/// The command.
-pub(super) fn users_command<'a>(alloc: Global) -> Result<Command<'a>, AllocError> {
-    Command::new(alloc, "users")
-        .override_help(Page::Users.text())
-        .arg(value_option(alloc, "turnserver-conf", "FILE"))?
-        .arg(value_option(alloc, "secret", "S"))?
-        .arg(value_option(alloc, "realm", "R"))?
-        .arg(captures_option(alloc))
-}
-
-/// The request that the words are.
-pub(super) fn users_request<'a>(
+/// The request that the arguments are.
+pub fn users_request<'a>(
     alloc: Global,
     matches: &ArgMatches<'a>,
-) -> Result<Option<Request<'a>>, AllocError> {
-    let source = match (
-        matches.get_str("turnserver-conf"),
-        matches.get_str("secret"),
-    ) {
-        (Some(file), None) => UsersSource::Configuration(file),
-        (None, Some(secret)) => UsersSource::Secret(secret),
-        _ => return usage(alloc, ONE_SOURCE),
-    };
-    let captures = match matches.get_strs("captures") {
-        Some(names) => Vec::from_slice(alloc, names)?,
-        None => Vec::new(alloc),
+) -> Result<Option<Request<'a>>, AllocError>
+    ensures some { IfOk result (λ found. IfSome found (Requests (Some (codes "users", rows_of (found_of matches.now))))) }
+    ensures none { IfOk result (λ found. IfNone found (NamesNothing (Some (codes "users", rows_of (found_of matches.now))))) }
+{
+    let Some(source) = source_of(matches) else {
+        return usage(alloc, ONE_SOURCE);
     };
     Ok(Some(Request::Users(UsersRequest {
         source,
-        realm: matches.get_str("realm"),
-        captures,
+        realm: value_of(matches, "realm"),
+        captures: values(alloc, matches, "captures")?,
     })))
 }

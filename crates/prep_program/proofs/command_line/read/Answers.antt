@@ -1,0 +1,40 @@
+use Rattle.std.proofs.Common.{◌≡◌, ◌∙◌, IfNone, IfSome, ap, inr, map, refl, subst, true}
+use Rattle.clap.proofs.OnLiterals.{clap_on_literals}
+use Rattle.clap.specs.Words.{App, fault_of, is_simple, is_simple_and_free, subcommand_of, subcommand_rows_of, HasKind}
+use Rattle.prep_program.specs.Requests.{NamesNothing, Requests}
+use Rattle.prep_program.specs.Words.{turnprep}
+use Rattle.prep_program.proofs.Naming.{requested_is_asked}
+use Rattle.prep_program.proofs.command_line.read.Goals as goal
+
+is_simple_turnprep : is_simple turnprep ≡ true
+unfolding clap_on_literals
+is_simple_turnprep = refl
+
+is_free_turnprep : is_simple_and_free turnprep ≡ true
+unfolding clap_on_literals
+is_free_turnprep = refl
+
+pub returns-in-Err : goal.returns-in-Err
+returns-in-Err g c =
+    let words = map g.N.AsStr.text c.args.words.now in
+    let command = c.in_ok-command.ensures in
+    c.refused.ensures (subcommand_of turnprep words) (fault_of turnprep words)
+    (subst (λ (a : App). HasKind (fault_of a words) c.in-Err.error) command (c.in-Err.ensures.kinds (ap is_simple_and_free command ∙ is_free_turnprep)))
+
+pub returns-in-Some : goal.returns-in-Some
+returns-in-Some g c =
+    let words = map g.N.AsStr.text c.args.words.now in
+    let command = c.in_ok-command.ensures in
+    let matches = c.in-Ok.matches in
+    let asked : subcommand_rows_of matches ≡ subcommand_of turnprep words = (c.in-Ok.ensures.matches (ap is_simple command ∙ is_simple_turnprep)).1 ∙ ap (λ (a : App). subcommand_of a words) command in
+    let request = subst (λ request. IfSome request (Requests (subcommand_rows_of matches))) c.in-Some.is c.in_ok-request.ensures.some in
+    requested_is_asked (subcommand_of turnprep words) (fault_of turnprep words) c.in-Some.request (subst (λ asked. Requests asked c.in-Some.request) asked request)
+
+pub returns : goal.returns
+returns g c =
+    let words = map g.N.AsStr.text c.args.words.now in
+    let command = c.in_ok-command.ensures in
+    let matches = c.in-Ok.matches in
+    let asked : subcommand_rows_of matches ≡ subcommand_of turnprep words = (c.in-Ok.ensures.matches (ap is_simple command ∙ is_simple_turnprep)).1 ∙ ap (λ (a : App). subcommand_of a words) command in
+    let none = subst (λ request. IfNone request (NamesNothing (subcommand_rows_of matches))) c.in-None.is c.in_ok-request.ensures.none in
+    inr (subst (λ asked. NamesNothing asked) asked none)

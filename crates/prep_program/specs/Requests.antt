@@ -1,0 +1,150 @@
+-- What the arguments of a command say, and which request they are.
+use Rattle.std.specs.Prelude.{◌≡◌, ◌≢◌, ◌⊎◌, ◌≤◌, ℕ, Bool, true, false, nat_le, List, [], ◌∷◌, length, Option, Some, None, unwrap_or, option_map, Result, Ok, Err, map, codes}
+use Rattle.audit_model.specs.AddressText.{ip_of}
+use Rattle.audit_text.specs.Token.{number_of}
+use Rattle.audit_text.specs.declared.token.TokenFault.{TokenFault}
+use Rattle.clap.specs.Words.{IsAmong, Kinds, Row, Text, all_of, first_of, one_of}
+use Rattle.clap.specs.declared.error.kind.ErrorKind.{ErrorKind}
+use Rattle.clap.specs.declared.error.kind.ErrorKind.TheVariants as kind
+use Rattle.prep_cut.specs.declared.stated.Stated.{Stated}
+use Rattle.prep_program.specs.declared.command_line.Request.{Request}
+use Rattle.prep_program.specs.declared.command_line.Request.TheVariants.{Join, Policy, Look, Cut, Translate, Reassemble, Users, Help, Release, Usage}
+use Rattle.prep_program.specs.declared.users.UsersSource.{UsersSource}
+use Rattle.prep_program.specs.declared.users.UsersSource.TheVariants.{Configuration, Secret}
+use Rattle.prep_translate.specs.Words.{pair_of}
+
+-- an option without a value is given, or isn't
+abbrev pub HasFlag : Text → List Row → Bool → Type 0
+HasFlag name rows true = (one_of name rows ≢ None) × (one_of name rows ≢ Some (codes "false"))
+HasFlag name rows false = one_of name rows ≢ Some (codes "true")
+
+-- the number that is read, as one that is given
+abbrev pub given_number : Result ℕ TokenFault → Option (Option ℕ)
+given_number (Ok number) = Some (Some number)
+given_number (Err fault) = None
+
+-- the number that a value is, none without a value, and nothing where a value is no number of digits up to `most`
+abbrev pub number_in : ℕ → Option Text → Option (Option ℕ)
+number_in most None = Some None
+number_in most (Some text) = given_number (number_of most text)
+
+-- the number that an option is given
+abbrev pub number_given : ℕ → Text → List Row → Option (Option ℕ)
+number_given most name rows = number_in most (first_of name rows)
+
+abbrev pub one_more : {A : Type 0} → Result A TokenFault → Option (List A) → Option (List A)
+one_more (Ok one) (Some more) = Some (one ∷ more)
+one_more (Ok one) None = None
+one_more (Err fault) more = None
+
+-- what the words are read as, in their order, and nothing where one can't be read
+abbrev pub all_read : {A : Type 0} → (Text → Result A TokenFault) → List Text → Option (List A)
+all_read read [] = Some []
+all_read read (word ∷ words) = one_more (read word) (all_read read words)
+
+-- the values of an option that may be there several times
+abbrev pub values_of : Text → List Row → List Text
+values_of name rows = unwrap_or (all_of name rows) []
+
+-- the addresses that an option is given, in their order
+abbrev pub HasAddresses : Text → List Row → List ℕ → Type 0
+HasAddresses name rows addresses = all_read ip_of (values_of name rows) ≡ Some addresses
+
+-- the captures, as many as are audited together at the most
+abbrev pub HasCaptures : List Row → List Text → Type 0
+HasCaptures rows names = (all_of (codes "captures") rows ≡ Some names) × (length names ≤ 16)
+
+-- the first moment isn't after the last
+abbrev pub are_ordered : Option ℕ → Option ℕ → Bool
+are_ordered None until = true
+are_ordered (Some since) None = true
+are_ordered (Some since) (Some until) = nat_le since until
+
+-- what an operator states for `cut`: moments in nanoseconds since 1970, seconds of a lifetime, milliseconds after a Refresh with LIFETIME 0
+pub record IsStated (rows : List Row) (stated : Stated) : Type 0 where
+  pub since' : number_given 18446744073709551615 (codes "since") rows ≡ Some stated.since
+  pub until' : number_given 18446744073709551615 (codes "until") rows ≡ Some stated.until
+  pub ordered : are_ordered stated.since stated.until ≡ true
+  pub lifetime' : option_map (λ given. unwrap_or given 3600) (number_given 1000000000 (codes "lifetime") rows) ≡ Some stated.lifetime
+  pub released' : option_map (λ given. unwrap_or given 0) (number_given 60000 (codes "released-ms") rows) ≡ Some stated.released_ms
+  pub from_start' : HasFlag (codes "from-start") rows stated.is_from_start
+  pub no_tcp' : HasFlag (codes "no-tcp") rows stated.has_no_tcp
+  pub keep_inner' : HasFlag (codes "keep-inner") rows stated.keeps_inner
+
+-- one of both sources of users, and not the other
+abbrev pub HasSource : List Row → UsersSource → Type 0
+HasSource rows (Configuration file) = (first_of (codes "turnserver-conf") rows ≡ Some file.now) × (first_of (codes "secret") rows ≡ None)
+HasSource rows (Secret secret) = (first_of (codes "turnserver-conf") rows ≡ None) × (first_of (codes "secret") rows ≡ Some secret.now)
+
+-- the name of a request's command
+abbrev pub command_of : Request → Text
+command_of (Join captures file) = codes "join"
+command_of (Policy file listening relaying translated) = codes "policy"
+command_of (Look request) = codes "look"
+command_of (Cut request) = codes "cut"
+command_of (Translate request) = codes "translate"
+command_of (Reassemble request) = codes "reassemble"
+command_of (Users request) = codes "users"
+command_of (Help page) = []
+command_of Release = []
+command_of (Usage text) = []
+
+-- the arguments of its command say what the request has
+abbrev pub Says : List Row → Request → Type 0
+Says rows (Join captures file) = (first_of (codes "out") rows ≡ Some file.now) × (all_of (codes "captures") rows ≡ Some (map (λ name. name.now) captures.items))
+Says rows (Policy file listening relaying translated) =
+    (first_of (codes "turnserver-conf") rows ≡ Some file.now) × HasAddresses (codes "listening-ip") rows listening.items × HasAddresses (codes "relay-ip") rows relaying.items × HasFlag (codes "translated") rows translated
+Says rows (Look request) =
+    HasCaptures rows (map (λ name. name.now) request.captures.items) × (first_of (codes "policy") rows ≡ option_map (λ name. name.now) request.policy)
+    × (option_map (λ given. unwrap_or given 3600) (number_given 1000000000 (codes "lifetime") rows) ≡ Some request.lifetime)
+Says rows (Cut request) =
+    HasCaptures rows (map (λ name. name.now) request.captures.items) × (first_of (codes "policy") rows ≡ Some request.policy.now) × (first_of (codes "out") rows ≡ Some request.folder.now)
+    × IsStated rows request.stated
+Says rows (Translate request) =
+    HasCaptures rows (map (λ name. name.now) request.captures.items) × (first_of (codes "policy") rows ≡ Some request.policy.now) × (first_of (codes "out") rows ≡ Some request.folder.now)
+    × (length (values_of (codes "external-ip") rows) ≤ 64) × (all_read pair_of (values_of (codes "external-ip") rows) ≡ Some request.translations.items)
+Says rows (Reassemble request) = HasCaptures rows (map (λ name. name.now) request.captures.items) × (first_of (codes "out") rows ≡ Some request.folder.now)
+Says rows (Users request) =
+    HasSource rows request.source × (first_of (codes "realm") rows ≡ option_map (λ name. name.now) request.realm) × (values_of (codes "captures") rows ≡ map (λ name. name.now) request.captures.items)
+Says rows (Help page) = ⊥
+Says rows Release = ⊥
+Says rows (Usage text) = ⊥
+
+-- The command that the words name, and what they name for it, is the request.
+abbrev pub Names : Option (Text × List Row) → Request → Type 0
+Names named request = (rows : List Row) × (named ≡ Some (command_of request, rows)) × Says rows request
+
+-- no command is named with all that it needs
+abbrev pub NamesNothing : Option (Text × List Row) → Type 0
+NamesNothing named = (request : Request) → Names named request → ⊥
+
+-- one of the kinds is printed on standard error, which help and the release aren't
+abbrev pub IsRefused : Kinds → Type 0
+IsRefused kinds = (k : ErrorKind) × IsAmong k kinds × (k ≢ kind.DisplayHelp) × (k ≢ kind.DisplayVersion)
+
+-- what a command's own arguments are: no request where they lack something
+abbrev pub Requests : Option (Text × List Row) → Request → Type 0
+Requests named (Usage text) = NamesNothing named
+Requests named (Help page) = ⊥
+Requests named Release = ⊥
+Requests named (Join captures file) = Names named (Join captures file)
+Requests named (Policy file listening relaying translated) = Names named (Policy file listening relaying translated)
+Requests named (Look request) = Names named (Look request)
+Requests named (Cut request) = Names named (Cut request)
+Requests named (Translate request) = Names named (Translate request)
+Requests named (Reassemble request) = Names named (Reassemble request)
+Requests named (Users request) = Names named (Users request)
+
+-- A command is requested by its name, and help and the release by what stands for them. Arguments are no request where `clap` refuses them
+-- for one of these kinds, or they name no command with all that it needs.
+abbrev pub Asks : Option (Text × List Row) → Kinds → Request → Type 0
+Asks named kinds (Help page) = IsAmong kind.DisplayHelp kinds
+Asks named kinds Release = IsAmong kind.DisplayVersion kinds
+Asks named kinds (Usage text) = IsRefused kinds ⊎ NamesNothing named
+Asks named kinds (Join captures file) = Names named (Join captures file)
+Asks named kinds (Policy file listening relaying translated) = Names named (Policy file listening relaying translated)
+Asks named kinds (Look request) = Names named (Look request)
+Asks named kinds (Cut request) = Names named (Cut request)
+Asks named kinds (Translate request) = Names named (Translate request)
+Asks named kinds (Reassemble request) = Names named (Reassemble request)
+Asks named kinds (Users request) = Names named (Users request)
