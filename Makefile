@@ -76,6 +76,7 @@ test:
 	python3 tests/live.py $(PROGRAM)
 	python3 tests/live_beside_audit.py $(PROGRAM)
 	tests/no_memory.sh $(PROGRAM)
+	python3 tests/closed_streams.py $(PROGRAM) $(PREPARES) $(EXPLAINS)
 	tests/install.sh $(PROGRAM) $(PREPARES) $(EXPLAINS)
 	python3 tests/man_pages.py $(PROGRAM) $(PREPARES) $(EXPLAINS)
 	tests/fleet.sh $(PROGRAM)

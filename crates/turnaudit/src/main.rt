@@ -6,7 +6,7 @@ mod host;
 use audit_finder::WalkAndPasses;
 use audit_model::{Sink, put_all};
 use audit_program::run;
-use host::{HostFiles, HostStream};
+use host::{HostFiles, HostStream, hold_stream};
 use std::hash::RandomState;
 use std::process::ExitCode;
 use std::rt::Env;
@@ -43,6 +43,7 @@ fn refuse_words<W: Sink>(err: &mut W, error: &io::Error) -> u8 {
 }
 
 fn main(rt: HostRuntime) -> ExitCode {
+    let _streams = (hold_stream(&rt), hold_stream(&rt), hold_stream(&rt));
     let alloc = rt.alloc();
     let mut out = HostStream::new(rt.stdout());
     let mut err = HostStream::new(rt.stderr());

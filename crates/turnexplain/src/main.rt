@@ -6,7 +6,7 @@ mod host;
 use audit_finder::WalkAndPasses;
 use audit_model::{Sink, put_all};
 use explain_program::run;
-use host::{HostFiles, HostPage, HostStream};
+use host::{HostFiles, HostPage, HostStream, hold_stream};
 use std::hash::RandomState;
 use std::process::ExitCode;
 use std::rt::Env;
@@ -38,6 +38,7 @@ fn refuse_words<W: Sink>(err: &mut W, error: &io::Error) -> u8 {
 }
 
 fn main(rt: HostRuntime) -> ExitCode {
+    let _streams = (hold_stream(&rt), hold_stream(&rt), hold_stream(&rt));
     let alloc = rt.alloc();
     let mut out = HostStream::new(rt.stdout());
     let mut err = HostStream::new(rt.stderr());

@@ -102,6 +102,12 @@ impl<R: Files<File = File>> Maker for HostMaker<'_, R> {
     }
 }
 
+/// Opens what can't be written to. Where a standard stream is closed, this takes its number, the lowest that is free, so that no file that is
+/// opened later does, and what goes to that stream isn't written.
+pub fn hold_stream<R: Files<File = File>>(rt: &R) -> Option<File> {
+    fs::open(rt, "/dev/null").ok()
+}
+
 /// A stream of the machine. It claims nothing of what reaches it.
 #[derive(Drop)]
 pub struct HostStream<W: Write> {

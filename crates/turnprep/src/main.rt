@@ -4,7 +4,7 @@
 mod host;
 
 use audit_model::{Sink, put_all};
-use host::{HostFiles, HostMaker, HostStream};
+use host::{HostFiles, HostMaker, HostStream, hold_stream};
 use prep_program::run;
 use std::process::ExitCode;
 use std::rt::Env;
@@ -30,6 +30,7 @@ fn refuse_words<W: Sink>(err: &mut W, error: &io::Error) -> u8 {
 }
 
 fn main(rt: HostRuntime) -> ExitCode {
+    let _streams = (hold_stream(&rt), hold_stream(&rt), hold_stream(&rt));
     let alloc = rt.alloc();
     let mut out = HostStream::new(rt.stdout());
     let mut err = HostStream::new(rt.stderr());
