@@ -1,11 +1,13 @@
 #!/usr/bin/env python3
-"""Builds turnaudit without proving it, in some two minutes, and runs it on its words.
+"""Builds a program without proving it, in some two minutes, and runs it on its arguments.
 
-    tools/unproved.py [WORD..]    builds out/turnaudit-unproved where the sources changed since, and runs it with these words
+    tools/unproved.py [ARGUMENT..]            builds out/turnaudit-unproved where the sources changed since, and runs it with these arguments
+    tools/unproved.py turnprep [ARGUMENT..]   the same with out/turnprep-unproved
+    tools/unproved.py turnexplain [ARGUMENT..]
 
-This build is for trying turnaudit out. No contract is proved of it. In place of that it stops, with a message, at an index out of range, at
+This build is for trying a program out. No contract is proved of it. In place of that it stops, with a message, at an index out of range, at
 a sum that wraps and at the other faults that a proof excludes, and it is slower than the proved program. `make turnaudit` proves and builds
-the program that a verdict should come from.
+the programs that a verdict should come from.
 """
 
 import hashlib
@@ -20,40 +22,47 @@ from pathlib import Path
 
 import crates
 
-PROGRAM = "turnaudit"
-BUILT = crates.TOP / "out" / "turnaudit-unproved"
-# The release line's constant, and what an unproved build has in its place.
-RELEASE = crates.TOP / "crates" / "audit_program" / "src" / "pages.rt"
+# The programs, and a command of each that reads a file, whose name is FILE here, at once.
+READING = {
+    "turnaudit": ["check", "--policy", "FILE", "--cert", "FILE", "FILE"],
+    "turnprep": ["look", "--policy", "FILE", "FILE"],
+    "turnexplain": ["verdict", "--policy", "FILE", "FILE"],
+}
+# The crates whose line of the release says what they are proved with.
+PAGES = ("audit_program", "prep_program", "explain_program")
 PROVED_WITH = ", proved with "
-# What the one line says of it.
-TOLD = "out/turnaudit-unproved has run-time checks in place of proofs"
-PROVES = "`make turnaudit` proves and builds the program (95 processor minutes), `make install` installs it"
+PROVES = "`make turnaudit` proves and builds the programs (95 processor minutes), `make install` installs them"
 
 
-def sources():
-    """The files from which the program is built."""
-    for name in [*crates.below([PROGRAM]), PROGRAM]:
+def built(program):
+    return crates.TOP / "out" / f"{program}-unproved"
+
+
+def sources(program):
+    """The files from which a program is built."""
+    for name in [*crates.below([program]), program]:
         folder = crates.TOP / "crates" / name / "src"
         yield from sorted(file for file in folder.rglob("*.rt"))
 
 
-def digest():
+def digest(program):
     total = hashlib.sha256()
-    for file in sources():
+    for file in sources(program):
         total.update(f"{file.relative_to(crates.TOP)} {hashlib.sha256(file.read_bytes()).hexdigest()}\n".encode())
     return total.hexdigest()
 
 
 def without_claim(top):
-    """Has the release line of a copy of the repository say that the build isn't proved."""
-    file = top / RELEASE.relative_to(crates.TOP)
-    lines = file.read_text(encoding="utf-8").splitlines(keepends=True)
-    for number, line in enumerate(lines):
-        if line.startswith("const RELEASE") and PROVED_WITH in line:
-            lines[number] = line.partition(PROVED_WITH)[0] + ', not proved\\n";\n'
-            file.write_text("".join(lines), encoding="utf-8")
-            return
-    sys.exit(f"{RELEASE} has no release line that names what it is proved with")
+    """Has the release lines of a copy of the repository say that the build isn't proved."""
+    for crate in PAGES:
+        file = top / "crates" / crate / "src" / "pages.rt"
+        lines = file.read_text(encoding="utf-8").splitlines(keepends=True)
+        claims = [number for number, line in enumerate(lines) if line.startswith("const RELEASE") and PROVED_WITH in line]
+        if not claims:
+            sys.exit(f"{file.relative_to(top)} has no release line that names what it is proved with")
+        for number in claims:
+            lines[number] = lines[number].partition(PROVED_WITH)[0] + ', not proved\\n";\n'
+        file.write_text("".join(lines), encoding="utf-8")
 
 
 def running(word):
@@ -69,9 +78,10 @@ def running(word):
     return None
 
 
-def build():
-    """Has `rt try` build the program, and keeps what it built."""
-    BUILT.parent.mkdir(exist_ok=True)
+def build(program_name):
+    """Has `rt try` build a program, and keeps what it built."""
+    target = built(program_name)
+    target.parent.mkdir(exist_ok=True)
     with tempfile.TemporaryDirectory(prefix="unproved-") as room:
         copy = Path(room) / "copy"
         copy.mkdir()
@@ -82,10 +92,10 @@ def build():
         # `rt try` removes what it built as it ends. So the program is given a pipe to read, and is copied while it waits for that.
         pipe = f"{room}/policy"
         os.mkfifo(pipe)
-        command = ["rt", "try", "--", "check", "--policy", pipe, "--cert", pipe, pipe]
-        environment = {**os.environ, "RT_SECONDS": "60"}
+        command = ["rt", "try", "--", *(pipe if word == "FILE" else word for word in READING[program_name])]
+        environment = {**os.environ, "RT_SECONDS": "600"}
         with open(f"{room}/said", "w+", encoding="utf-8") as said:
-            tried = subprocess.Popen(command, cwd=copy / "crates" / PROGRAM, stdin=subprocess.DEVNULL, stdout=said, stderr=said, env=environment, start_new_session=True)
+            tried = subprocess.Popen(command, cwd=copy / "crates" / program_name, stdin=subprocess.DEVNULL, stdout=said, stderr=said, env=environment, start_new_session=True)
             try:
                 program = None
                 while program is None and tried.poll() is None:
@@ -94,10 +104,10 @@ def build():
                 if program is None:
                     said.seek(0)
                     sys.exit(f"{said.read()}\nThe program was not built.")
-                made = BUILT.with_suffix(".new")
+                made = target.with_suffix(".new")
                 shutil.copyfile(program, made)
                 made.chmod(0o755)
-                made.rename(BUILT)
+                made.rename(target)
             finally:
                 if tried.poll() is None:
                     os.killpg(tried.pid, signal.SIGTERM)
@@ -105,16 +115,18 @@ def build():
 
 
 def main(words):
-    mark, now = BUILT.with_suffix(".digest"), digest()
-    new = not BUILT.is_file() or not mark.is_file() or mark.read_text() != now
+    program = words.pop(0) if words and words[0] in READING else "turnaudit"
+    target = built(program)
+    mark, now = target.with_suffix(".digest"), digest(program)
+    new = not target.is_file() or not mark.is_file() or mark.read_text() != now
     if new and not shutil.which("rt"):
         sys.exit("there is no `rt` on the path: this takes the Rattle kit")
-    built = " (it is built first, in some two minutes)" if new else ""
-    print(f"{TOLD}{built}: {PROVES}", file=sys.stderr, flush=True)
+    first = " (it is built first, in some two minutes)" if new else ""
+    print(f"out/{target.name} has run-time checks in place of proofs{first}: {PROVES}", file=sys.stderr, flush=True)
     if new:
-        build()
+        build(program)
         mark.write_text(now)
-    return subprocess.run([BUILT, *words], check=False).returncode
+    return subprocess.run([target, *words], check=False).returncode
 
 
 if __name__ == "__main__":
