@@ -10,10 +10,13 @@ the others a twentieth, another one for each state of the repository. tests/edit
                                       finds there, over the proofs that it has made), and ends with its status
     tools/edits.py --all              tries every edit of every crate, on a copy of the repository, and writes the ledger
     tools/edits.py CRATE..            tries every edit of these crates, and writes their lines of the ledger
+    tools/edits.py --from LOG         writes the lines of the crates of which LOG, what `--with rt ci` printed, has every edit as refused, if
+                                      they are still as they were then
 """
 
 import hashlib
 import os
+import re
 import shutil
 import subprocess
 import sys
@@ -32,6 +35,9 @@ HEADING = "# crate, edits that were refused, digest of the crate and its edits, 
 SHARE = 20
 # How the names begin of edits that are only put beside those of the gate.
 DRAWN = "drawn_"
+# What `tell` prints of a crate, and `rt ci` of an edit that is refused.
+TOLD = re.compile(r"edits of (?P<crate>\w+) \([^,]*, digest (?P<digest>\w+)\): ")
+REFUSED = re.compile(rf"rt: must-fail (?P<crate>\w+)/{DRAWN}(?P<edit>\w+)\.edit: refused, as it must be")
 
 
 @dataclass
@@ -152,7 +158,7 @@ def tell():
     for crate, changed, chosen in drawn():
         count += len(chosen)
         why = "changed since all were tried" if changed else "drawn"
-        print(f"edits of {crate} ({why}): {' '.join(edit.stem for edit in chosen)}")
+        print(f"edits of {crate} ({why}, digest {digest_of(crate)}): {' '.join(edit.stem for edit in chosen)}")
     print(f"edits beside the gate: {count} of {sum(len(edits_of(crate)) for crate in with_edits())} are tried now", flush=True)
 
 
@@ -198,12 +204,30 @@ def try_and_write(names):
     return 1 if failed else 0
 
 
+def write_from(log):
+    """Writes the ledger's lines of the crates all of whose edits were refused in a run of the gate that printed this log."""
+    digests, refused, version = {}, {}, kit()
+    for line in Path(log).read_text(encoding="utf-8", errors="replace").splitlines():
+        if told := TOLD.match(line):
+            digests[told["crate"]] = told["digest"]
+        if edit := REFUSED.match(line):
+            refused.setdefault(edit["crate"], set()).add(edit["edit"])
+    for crate, digest in sorted(digests.items()):
+        names = {edit.stem for edit in edits_of(crate)}
+        if digest == digest_of(crate) and names and names <= refused.get(crate, set()):
+            write_ledger({**ledger(), crate: Line(len(names), digest, version)})
+            print(f"{crate}: {len(names)} of {len(names)} refused")
+    return 0
+
+
 def main(words):
     if not words:
         tell()
         return 0
     if words[0] == "--with" and len(words) > 1:
         return run_with(words[1:])
+    if words[0] == "--from" and len(words) == 2:
+        return write_from(words[1])
     if words == ["--all"]:
         return try_and_write(with_edits())
     if not words[0].startswith("-"):
