@@ -203,7 +203,7 @@ def said(log, most=None):
     of_processor, _ = max(chains(seen, crates.uses(), lambda it: it.cpu))
     yield f"It took {last / 60:.0f} minutes, and {sum(minutes.values()):.0f} processor minutes: {parts}."
     chain = (
-        f"The longest chain takes {seconds / 60:.0f} minutes by the clock, beside other work: the proofs of {', '.join(names)}, then the tests "
+        f"The longest chain takes {seconds / 60:.0f} minutes by the clock, next to other work: the proofs of {', '.join(names)}, then the tests "
         f"and edits of the last. By the seconds of the processor, which other work lengthens less, it takes {of_processor / 60:.0f}."
     )
     yield from textwrap.wrap(chain, 100)
