@@ -27,7 +27,9 @@ use Rattle.audit_live.specs.declared.fault.LiveEnd.{LiveEnd}
 use Rattle.audit_live.specs.Audit.{Audit}
 use Rattle.audit_live.specs.Refusals.{AsksTheEnds, IfBreach, IsInput, IsRefusal, Leaves, told_by}
 use Rattle.audit_program.specs.Following.{Follows, Goes, LeftBy, NoneRefused, ShowsItsBreach, TookIn, WereGiven}
+use Rattle.audit_program.specs.Reads.{AreReadOut, HasEnded}
 use Rattle.audit_program.specs.Watched.{IsToldOf}
+use Rattle.audit_program.specs.declared.command_line.Turns.{Turns}
 use Rattle.audit_program.specs.declared.live.Turn.{Turn}
 use Rattle.audit_program.specs.declared.live.Turn.TheVariants as turns
 
@@ -84,7 +86,7 @@ suc_or : (a b : ℕ) → (a ≡ b) ⊎ (a ≢ b) → (suc a ≡ suc b) ⊎ (suc 
 suc_or a b (inl same) = inl (ap suc same)
 suc_or a b (inr apart) = inr (λ same. apart (omega (arith, same)))
 
-same_or_apart : (a b : ℕ) → (a ≡ b) ⊎ (a ≢ b)
+pub same_or_apart : (a b : ℕ) → (a ≡ b) ⊎ (a ≢ b)
 same_or_apart zero zero = inl refl
 same_or_apart zero (suc b) = inr (λ same. absurd (omega (arith, same)))
 same_or_apart (suc a) zero = inr (λ same. absurd (omega (arith, same)))
@@ -226,15 +228,20 @@ goes_opened policy users count given live p c none of_policy same of_users keys 
 
 -- ---- the end
 
-module _ (policy users : List ℕ) (count : ℕ) (given : ℕ → Option (List ℕ)) (live : Audit) (follows : Follows policy users count given live) (result : Result Verdict LiveEnd)
-    (first : (cause : Cause) → live.ended ≡ Some cause → result ≡ told_by cause) where
+module _ (turns : Turns) (policy users : List ℕ) (count : ℕ) (given reads : ℕ → Option (List ℕ)) (live : Audit) (follows : Follows policy users count given live)
+    (has_ended : HasEnded turns count reads live) (result : Result Verdict LiveEnd) (first : (cause : Cause) → live.ended ≡ Some cause → result ≡ told_by cause) where
   abbrev pub IsTold : Verdict → Type 0
-  IsTold = IsToldOf given live.intake (key_for live.credentials) live.front.placing.certificate
+  IsTold = IsToldOf turns given reads live.intake (key_for live.credentials) live.front.placing.certificate
+
+  -- without a cause the captures were read out
+  read_out : live.ended ≡ None → HasEnded turns count reads live → AreReadOut turns (taken live.intake).files reads
+  read_out none (inl apart) = absurd (apart none)
+  read_out none (inr read) = subst (λ (n : ℕ). AreReadOut turns n reads) (sym follows.count') read
 
   at_the_end : live.ended ≡ None → (r : Result Verdict LiveEnd) → ((files : List Fed) → StandsFor live.intake files → AsksTheEnds r files) → IfOk r (IsVerdict (taken live.intake) (key_for live.credentials) live.front.placing.certificate)
       → IfOk r (λ verdict. IsConforming verdict ↔ Conforms (taken live.intake) (rules_for (taken live.intake) (key_for live.credentials)) live.front.placing.certificate) → IfOk r IsTold
   at_the_end none (Ok verdict) ends is conforming =
-      let took = follows.took (none≢refused live none) in inl (record { took = took; ended = ends took.files took.stands; is = is; conforming = conforming })
+      let took = follows.took (none≢refused live none) in inl (record { took = took; read_out = read_out none has_ended; ended = ends took.files took.stands; is = is; conforming = conforming })
   at_the_end none (Err end) ends is conforming = tt
 
   by_cause : (cause : Cause) → live.ended ≡ Some cause → IfOk (told_by cause) IsTold

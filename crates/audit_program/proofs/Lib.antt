@@ -1,3 +1,4 @@
 pub mod Following
+pub mod Reading
 pub mod Earliest
 pub mod Naming

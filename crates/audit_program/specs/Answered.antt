@@ -48,7 +48,7 @@ pub record IsWritten (finds : Taken → Certificate → Type 0) (policy users : 
   pub written : after ≡ followed_by before (spelling (said_by certificate))
   pub told : status ≡ 0
 
-module _ (holds : List ℕ → Option (List ℕ)) (given : ℕ → Option (List ℕ)) (finds : Taken → Certificate → Type 0) (streams : Streams) where
+module _ (holds : List ℕ → Option (List ℕ)) (given reads : ℕ → Option (List ℕ)) (finds : Taken → Certificate → Type 0) (streams : Streams) where
   -- Each command is its own: `check` reports the verdict by the certificate that is named, `audit` by one that is found, `live` that on what the
   -- captures gave; `find` writes what is found by its one spelling; a page of help, or the line of the release, goes to standard output alone, and what is no
   -- request to standard error alone, with status 5.
@@ -64,7 +64,7 @@ module _ (holds : List ℕ → Option (List ℕ)) (given : ℕ → Option (List 
       IfOk done (IsWritten finds policy users captures streams.before streams.after))
   Answers (Live inputs turns) done =
       IsSilent streams × ((policy users : List ℕ) → HaveTexts holds inputs policy users →
-      IfOk done (λ status. (found : Certificate) × IsWatched policy users (length inputs.captures.items) given found streams.before streams.after status))
+      IfOk done (λ status. (found : Certificate) × IsWatched policy users (length inputs.captures.items) turns given reads found streams.before streams.after status))
   Answers (Help page) done = IsSilent streams × IfOk done (λ status. (status ≡ 0) × (streams.after ≡ followed_by streams.before (page_text page)))
   Answers Release done = IsSilent streams × IfOk done (λ status. (status ≡ 0) × (streams.after ≡ followed_by streams.before release_text))
   Answers (Usage text) done = (streams.after ≡ streams.before) × IfOk done (λ status. (status ≡ 5) × (streams.said_after ≡ followed_by streams.said_before (string_bytes text)))
@@ -75,8 +75,8 @@ status_told (Ok status) = status
 status_told (Err stop) = status_of_stop stop
 
 -- The request is what the arguments are, and was answered; a line about what stopped it may follow on standard error. Or there was no memory for the words.
-abbrev pub IsRun : List Text → (List ℕ → Option (List ℕ)) → (ℕ → Option (List ℕ)) → (Taken → Certificate → Type 0) → Streams → ℕ → Type 0
-IsRun words holds given finds streams status =
-    ((request : Request) × Asks (subcommand_of turnaudit words) (fault_of turnaudit words) request × (done : Result ℕ Stop) × (said : Option (List ℕ)) × Answers holds given finds (record streams { said_after = said }) request done
+abbrev pub IsRun : List Text → (List ℕ → Option (List ℕ)) → (ℕ → Option (List ℕ)) → (ℕ → Option (List ℕ)) → (Taken → Certificate → Type 0) → Streams → ℕ → Type 0
+IsRun words holds given reads finds streams status =
+    ((request : Request) × Asks (subcommand_of turnaudit words) (fault_of turnaudit words) request × (done : Result ℕ Stop) × (said : Option (List ℕ)) × Answers holds given reads finds (record streams { said_after = said }) request done
     × (status ≡ status_told done) × OnOk done (streams.said_after ≡ said))
     ⊎ ((streams.after ≡ streams.before) × (status ≡ 3))

@@ -17,12 +17,15 @@ use Rattle.audit_verdict.specs.Verdicts.{IsConforming, IsVerdict}
 use Rattle.audit_whole.specs.CaptureRun.{rules_for}
 use Rattle.audit_whole.specs.Conforms.{Conforms}
 use Rattle.audit_whole.specs.Headline.{Headline}
+use Rattle.audit_program.specs.declared.command_line.Turns.{Turns}
 use Rattle.audit_program.specs.Following.{TookIn}
+use Rattle.audit_program.specs.Reads.{AreReadOut}
 
--- The captures ended, each behind a whole block, and this is the verdict by the certificate: conforming exactly where that explains the
--- sightings by one run of the server.
-pub record AtTheEnd (given : ℕ → Option (List ℕ)) (intake : Intake) (key_for : KeyFor) (certificate : Certificate) (verdict : Verdict) : Type 0 where
+-- The captures were read out; each ended after a whole block; and this is the verdict by the certificate: conforming exactly if that explains
+-- the sightings by one run of the server.
+pub record AtTheEnd (turns : Turns) (given reads : ℕ → Option (List ℕ)) (intake : Intake) (key_for : KeyFor) (certificate : Certificate) (verdict : Verdict) : Type 0 where
   pub took : TookIn given intake
+  pub read_out : AreReadOut turns (taken intake).files reads
   pub ended : (file : ℕ) → file < length took.files → MayEnd (fed_at took.files file)
   pub is : IsVerdict (taken intake) key_for certificate verdict
   pub conforming : IsConforming verdict ↔ Conforms (taken intake) (rules_for (taken intake) key_for) certificate
@@ -34,19 +37,19 @@ pub record OnTheWay (given : ℕ → Option (List ℕ)) (intake : Intake) (key_f
   pub is : verdict ≡ NotShown breach
   pub shows : LiveBreach (taken intake) key_for certificate (Some breach)
 
-abbrev pub IsToldOf : (ℕ → Option (List ℕ)) → Intake → KeyFor → Certificate → Verdict → Type 0
-IsToldOf given intake key_for certificate verdict = AtTheEnd given intake key_for certificate verdict ⊎ OnTheWay given intake key_for certificate verdict
+abbrev pub IsToldOf : Turns → (ℕ → Option (List ℕ)) → (ℕ → Option (List ℕ)) → Intake → KeyFor → Certificate → Verdict → Type 0
+IsToldOf turns given reads intake key_for certificate verdict = AtTheEnd turns given reads intake key_for certificate verdict ⊎ OnTheWay given intake key_for certificate verdict
 
 -- The policy and the users are those of two texts, the captures gave these bytes, and the verdict that the status repeats was reported.
 -- Where it conforms, the headline holds.
-pub record IsWatched (policy users : List ℕ) (captures : ℕ) (given : ℕ → Option (List ℕ)) (certificate : Certificate) (before after : Option (List ℕ)) (status : ℕ) : Type 0 where
+pub record IsWatched (policy users : List ℕ) (captures : ℕ) (turns : Turns) (given reads : ℕ → Option (List ℕ)) (certificate : Certificate) (before after : Option (List ℕ)) (status : ℕ) : Type 0 where
   pub intake : Intake
   pub key_for : KeyFor
   pub verdict : Verdict
   pub policy' : policy_of policy ≡ Ok intake.policy
   pub users' : AreUsers users key_for
   pub captures' : (taken intake).files ≡ captures
-  pub is : IsToldOf given intake key_for certificate verdict
+  pub is : IsToldOf turns given reads intake key_for certificate verdict
   pub headline : IsConforming verdict → Headline (taken intake) key_for certificate
   pub written : after ≡ followed_by before (report_text verdict (taken intake))
   pub told : status ≡ status_of verdict

@@ -1,6 +1,6 @@
 //! The command `live`: captures are judged while they grow.
 
-ghost use Rattle.std.specs.Prelude.{◌≡◌, ◌≢◌, ◌<◌, ◌+◌, ℕ, List, [], Option, None, Some, IfNone, IfOk, IfSome, OnOk, length, vec_len, replicate};
+ghost use Rattle.std.specs.Prelude.{◌≡◌, ◌≢◌, ◌<◌, ◌≤◌, ◌+◌, ◌⊎◌, false, ℕ, List, [], ◌∷◌, Option, None, Some, IfNone, IfOk, IfSome, OnOk, length, vec_len, replicate};
 ghost use Rattle.audit_keys.specs.KeyFor.{key_for};
 ghost use Rattle.audit_model.specs.declared.certificate.Certificate.{Certificate as Found};
 ghost use Rattle.audit_sightings.specs.Files.{StandsFor, not_fed};
@@ -8,7 +8,10 @@ ghost use Rattle.audit_sightings.specs.Intake.{taken};
 ghost use Rattle.audit_verdict.specs.Verdicts.{IsConforming};
 ghost use Rattle.audit_whole.specs.Headline.{Headline};
 ghost use Rattle.audit_live.specs.Refusals.{standing_of};
-ghost use Rattle.audit_prefix.specs.Live.{IsOutOfTurn};
+ghost use Rattle.audit_model.specs.Sink.{followed_by};
+ghost use Rattle.audit_prefix.specs.Live.{IsNotLater, IsOutOfTurn};
+ghost use Rattle.audit_program.specs.Reads.{AreReadOnce, AreUnread, HasEnded, WereRead};
+ghost use Rattle.audit_program.specs.declared.command_line.Turns.{Turns as AnyTurns};
 ghost use Rattle.audit_program.specs.Following.{Follows, Goes, LeftBy};
 ghost use Rattle.audit_program.specs.Horizon.{IsTurned};
 ghost use Rattle.audit_program.specs.Watched.{IsToldOf, IsWatched};
@@ -35,6 +38,8 @@ const END: u64 = u64::MAX;
 struct Watch<F: Drop> {
     live: Live,
     finder: F,
+    /// The finder's extension didn't fit, so none is taken from it any more. The captures are read on, and judged by what was found.
+    is_stuck: bool,
 }
 
 /// What a turn has come to.
@@ -50,14 +55,16 @@ pub enum Turn {
 
 /// What a turn has come to in which so many bytes were taken.
 fn turn_of(read: usize) -> Turn
-    ensures { result ≢ Refused }
+    ensures taken { result ≢ Refused }
+    ensures quiet { result ≡ Quiet → read ≡ 0 }
 {
     if read > 0 { Turn::Fed } else { Turn::Quiet }
 }
 
 /// Pauses where there were turns without a byte.
 fn pause_after<S: Growing>(source: &mut S, idle: u32)
-    ensures { S.given source.new ≡ S.given source.old }
+    ensures given { S.given source.new ≡ S.given source.old }
+    ensures reads { S.reads source.new ≡ S.reads source.old }
 {
     if idle > 0 {
         source.pause();
@@ -103,14 +110,19 @@ impl<F: ExtensionFinder + Drop> Watch<F> {
             IfSome users.entry (λ name. S.holds source.old name.now ≡ Some users_text) → IfNone users.entry (users_text ≡ []) →
             IfOk result (λ watch. Goes policy_text users_text (length captures.now) (S.given source.new) watch.live) }
         ensures files { IfOk result (λ watch. vec_len watch.live.intake.files ≡ length captures.now) }
-        ensures step { F.given_to finder ≡ None → IfOk result (λ watch. F.given_to watch.finder ≡ watch.live.last) }
+        ensures step { F.given_to finder ≡ None → IfOk result (λ watch. watch.is_stuck ≡ false → F.given_to watch.finder ≡ watch.live.last) }
+        ensures unread { OnOk result (AreUnread (length captures.now) (S.reads source.new)) }
     {
         let policy = read_policy(alloc, source, policy)?;
         let users = read_users(alloc, source, users)?;
         let mut live = Live::open(alloc, policy, users);
         add_captures(&mut live, captures.len())?;
         source.start();
-        Ok(Watch { live, finder })
+        Ok(Watch {
+            live,
+            finder,
+            is_stuck: false,
+        })
     }
 
     /// Feeds what a capture has next.
@@ -126,6 +138,10 @@ impl<F: ExtensionFinder + Drop> Watch<F> {
             → IfOk result (λ turn. LeftBy turn policy users count (S.given source.new) self.new.live) }
         ensures files { vec_len self.new.live.intake.files ≡ vec_len self.old.live.intake.files }
         ensures last { (self.new.live.last ≡ self.old.live.last) × (self.new.finder ≡ self.old.finder) }
+        ensures stuck { self.new.is_stuck ≡ self.old.is_stuck }
+        ensures over { self.old.live.ended ≡ None → IfOk result (λ turn. turn ≡ Refused → self.new.live.ended ≢ None) }
+        ensures read { IfOk result (λ turn. turn ≢ Refused → (size : ℕ) × (S.reads source.new file ≡ followed_by (S.reads source.old file) (size ∷ [])) × (turn ≡ Quiet → size ≡ 0)) }
+        ensures unread { (other : ℕ) → other ≢ file → S.reads source.new other ≡ S.reads source.old other }
     {
         let read = source.more(file, name, piece)?;
         match self.live.feed(file, &piece[..read]) {
@@ -146,6 +162,10 @@ impl<F: ExtensionFinder + Drop> Watch<F> {
             → IfOk result (λ turn. LeftBy turn policy users count (S.given source.new) self.new.live) }
         ensures files { vec_len self.new.live.intake.files ≡ vec_len self.old.live.intake.files }
         ensures last { (self.new.live.last ≡ self.old.live.last) × (self.new.finder ≡ self.old.finder) }
+        ensures stuck { self.new.is_stuck ≡ self.old.is_stuck }
+        ensures over { (policy users : List ℕ) (count : ℕ) → Goes policy users count (S.given source.old) self.old.live
+            → IfOk result (λ turn. turn ≡ Refused → self.new.live.ended ≢ None) }
+        ensures read { IfOk result (λ turn. turn ≢ Refused → AreReadOnce turn (length names.now) (S.reads source.old) (S.reads source.new)) }
     {
         let mut turn = Turn::Quiet;
         let (files, _) = self.live.intake().counts();
@@ -164,26 +184,35 @@ impl<F: ExtensionFinder + Drop> Watch<F> {
         requires { F.given_to self.old.finder ≡ self.old.live.last }
         ensures in_turn { IfOk result (λ extension. ¬ IsOutOfTurn (standing_of self.old.live) horizon extension) }
         ensures given { OnOk result (F.given_to self.new.finder ≡ Some horizon) }
-        ensures live { self.new.live ≡ self.old.live }
+        ensures live { (self.new.live ≡ self.old.live) × (self.new.is_stuck ≡ self.old.is_stuck) }
     {
         self.finder
             .extend(self.live.intake(), self.live.credentials(), horizon)
     }
 
-    /// Finds the certificate up to a horizon, and tells what came of it.
+    /// Finds the certificate up to a horizon, and reports what came of it.
     fn advance(&mut self, horizon: u64) -> Result<Turn, AllocError>
-        requires { F.given_to self.old.finder ≡ self.old.live.last }
+        requires { self.old.is_stuck ≡ false → F.given_to self.old.finder ≡ self.old.live.last }
         ensures left { (policy users : List ℕ) (count : ℕ) (given : ℕ → Option (List ℕ)) → Goes policy users count given self.old.live
             → IfOk result (λ turn. LeftBy turn policy users count given self.new.live) }
         ensures files { vec_len self.new.live.intake.files ≡ vec_len self.old.live.intake.files }
         ensures intake { self.new.live.intake ≡ self.old.live.intake }
         ensures fed { IfOk result (λ turn. turn ≢ Quiet) }
-        ensures last { IfOk result (λ turn. turn ≢ Refused → self.new.live.last ≡ Some horizon) }
-        ensures given { OnOk result (F.given_to self.new.finder ≡ Some horizon) }
+        ensures last { IfOk result (λ turn. turn ≢ Refused → self.new.is_stuck ≡ false → self.new.live.last ≡ Some horizon) }
+        ensures given { OnOk result (self.new.is_stuck ≡ false → F.given_to self.new.finder ≡ Some horizon) }
+        ensures over { self.old.live.ended ≡ None → IfOk result (λ turn. turn ≡ Refused
+            → (self.new.live.ended ≢ None) ⊎ IsNotLater (standing_of self.old.live) horizon) }
     {
+        if self.is_stuck {
+            return Ok(Turn::Fed);
+        }
         let extension = self.extension(horizon)?;
         match self.live.advance(horizon, extension) {
             Ok(_) => Ok(Turn::Fed),
+            Err(LiveFault::Lane) => {
+                self.is_stuck = true;
+                Ok(Turn::Fed)
+            }
             Err(_) => Ok(Turn::Refused),
         }
     }
@@ -196,12 +225,15 @@ impl<F: ExtensionFinder + Drop> Watch<F> {
         piece: &mut [u8],
     ) -> Result<Turn, Stop>
         requires files { vec_len self.old.live.intake.files ≡ length names.now }
-        requires step { F.given_to self.old.finder ≡ self.old.live.last }
+        requires step { self.old.is_stuck ≡ false → F.given_to self.old.finder ≡ self.old.live.last }
         ensures left { (policy users : List ℕ) (count : ℕ) → Goes policy users count (S.given source.old) self.old.live
             → IfOk result (λ turn. LeftBy turn policy users count (S.given source.new) self.new.live) }
         ensures files { vec_len self.new.live.intake.files ≡ vec_len self.old.live.intake.files }
-        ensures horizon { IfOk result (λ turn. IsTurned turn (taken self.new.live.intake) self.old.live.last self.new.live.last) }
-        ensures step { IfOk result (λ turn. turn ≢ Refused → F.given_to self.new.finder ≡ self.new.live.last) }
+        ensures horizon { IfOk result (λ turn. self.new.is_stuck ≡ false → IsTurned turn (taken self.new.live.intake) self.old.live.last self.new.live.last) }
+        ensures step { IfOk result (λ turn. turn ≢ Refused → self.new.is_stuck ≡ false → F.given_to self.new.finder ≡ self.new.live.last) }
+        ensures over { (policy users : List ℕ) (count : ℕ) → Goes policy users count (S.given source.old) self.old.live
+            → IfOk result (λ turn. turn ≡ Refused → self.new.live.ended ≢ None) }
+        ensures read { IfOk result (λ turn. turn ≢ Refused → AreReadOnce turn (length names.now) (S.reads source.old) (S.reads source.new)) }
     {
         match self.feed_each(names, source, piece)? {
             Turn::Fed => {}
@@ -223,17 +255,23 @@ impl<F: ExtensionFinder + Drop> Watch<F> {
         idle: u32,
     ) -> Result<Option<u32>, Stop>
         requires files { vec_len self.old.live.intake.files ≡ length names.now }
-        requires step { F.given_to self.old.finder ≡ self.old.live.last }
+        requires step { self.old.is_stuck ≡ false → F.given_to self.old.finder ≡ self.old.live.last }
+        requires room { idle < 4294967295 }
         ensures goes { (policy users : List ℕ) (count : ℕ) → Goes policy users count (S.given source.old) self.old.live
             → IfOk result (λ idle. IfSome idle (λ _. Goes policy users count (S.given source.new) self.new.live)) }
         ensures follows { (policy users : List ℕ) (count : ℕ) → Goes policy users count (S.given source.old) self.old.live
             → OnOk result (Follows policy users count (S.given source.new) self.new.live) }
         ensures files { vec_len self.new.live.intake.files ≡ vec_len self.old.live.intake.files }
-        ensures step { IfOk result (λ idle. IfSome idle (λ _. F.given_to self.new.finder ≡ self.new.live.last)) }
+        ensures step { IfOk result (λ idle. IfSome idle (λ _. self.new.is_stuck ≡ false → F.given_to self.new.finder ≡ self.new.live.last)) }
+        ensures over { (policy users : List ℕ) (count : ℕ) → Goes policy users count (S.given source.old) self.old.live
+            → IfOk result (λ idle. IfNone idle (self.new.live.ended ≢ None)) }
+        ensures few { IfOk result (λ now. IfSome now (λ idle_now. idle_now ≤ idle + 1)) }
+        ensures read { (count : ℕ) → WereRead (length names.now) count idle (S.reads source.old)
+            → IfOk result (λ idle. IfSome idle (λ now. WereRead (length names.now) (count + 1) now (S.reads source.new))) }
     {
         match self.turn(names, source, piece)? {
             Turn::Fed => Ok(Some(0)),
-            Turn::Quiet => Ok(Some(idle.saturating_add(1))),
+            Turn::Quiet => Ok(Some(idle + 1)),
             Turn::Refused => Ok(None),
         }
     }
@@ -247,13 +285,15 @@ impl<F: ExtensionFinder + Drop> Watch<F> {
         source: &mut S,
     ) -> Result<(), Stop>
         requires files { vec_len self.old.live.intake.files ≡ length names.now }
-        requires step { F.given_to self.old.finder ≡ self.old.live.last }
+        requires step { self.old.is_stuck ≡ false → F.given_to self.old.finder ≡ self.old.live.last }
         ensures follows { (policy users : List ℕ) (count : ℕ) → Goes policy users count (S.given source.old) self.old.live
             → OnOk result (Follows policy users count (S.given source.new) self.new.live) }
+        ensures ended { (policy users : List ℕ) (count : ℕ) → Goes policy users count (S.given source.old) self.old.live → AreUnread (length names.now) (S.reads source.old)
+            → OnOk result (HasEnded turns (length names.now) (S.reads source.new) self.new.live) }
     {
         let mut piece = vec![in alloc; 0u8; PIECE]?;
         let mut idle = 0u32;
-        'turns: for _ in 0..turns.most {
+        'turns: for turn in 0..turns.most {
             match self.turn_on(names, source, &mut piece, idle)? {
                 Some(now) => idle = now,
                 None => return Ok(()),
@@ -269,8 +309,9 @@ impl<F: ExtensionFinder + Drop> Watch<F> {
 
     /// The verdict, if the captures end here.
     fn verdict(&self) -> Result<Verdict, Stop>
-        ensures told { (policy users : List ℕ) (count : ℕ) (given : ℕ → Option (List ℕ)) → Follows policy users count given self.now.live
-            → IfOk result (IsToldOf given self.now.live.intake (key_for self.now.live.credentials) self.now.live.front.placing.certificate) }
+        ensures told { (policy users : List ℕ) (count : ℕ) (given reads : ℕ → Option (List ℕ)) (turns : AnyTurns)
+            → Follows policy users count given self.now.live → HasEnded turns count reads self.now.live
+            → IfOk result (IsToldOf turns given reads self.now.live.intake (key_for self.now.live.credentials) self.now.live.front.placing.certificate) }
         ensures headline { IfOk result (λ verdict. IsConforming verdict
             → Headline (taken self.now.live.intake) (key_for self.now.live.credentials) self.now.live.front.placing.certificate) }
     {
@@ -282,8 +323,9 @@ impl<F: ExtensionFinder + Drop> Watch<F> {
 
     /// Writes the report, and gives the exit status.
     fn tell<O: Sink>(&self, alloc: Global, out: &mut O) -> Result<u8, Stop>
-        ensures { (policy users : List ℕ) (count : ℕ) (given : ℕ → Option (List ℕ)) → Follows policy users count given self.now.live
-            → IfOk result (IsWatched policy users count given self.now.live.front.placing.certificate (O.taken out.old) (O.taken out.new)) }
+        ensures { (policy users : List ℕ) (count : ℕ) (given reads : ℕ → Option (List ℕ)) (turns : AnyTurns)
+            → Follows policy users count given self.now.live → HasEnded turns count reads self.now.live
+            → IfOk result (IsWatched policy users count turns given reads self.now.live.front.placing.certificate (O.taken out.old) (O.taken out.new)) }
     {
         let verdict = self.verdict()?;
         report(alloc, &verdict, self.live.intake(), out)?;
@@ -310,7 +352,7 @@ pub fn run_live<F: CertificateFinder, S: Source + Growing, O: Sink>(
         S.holds source.old policy.now ≡ Some policy_text →
         IfSome users.entry (λ name. S.holds source.old name.now ≡ Some users_text) → IfNone users.entry (users_text ≡ []) →
         IfOk result (λ status. (found : Found)
-        × IsWatched policy_text users_text (length captures.now) (S.given source.new) found (O.taken out.old) (O.taken out.new) status) }
+        × IsWatched policy_text users_text (length captures.now) turns (S.given source.new) (S.reads source.new) found (O.taken out.old) (O.taken out.new) status) }
 {
     let mut watch = Watch::open(
         alloc,

@@ -94,7 +94,7 @@ fn run_request<
     out: &mut O,
     err: &mut E,
 ) -> Result<u8, Stop>
-    ensures { Answers (S.holds source.old) (S.given source.new) F.finds
+    ensures { Answers (S.holds source.old) (S.given source.new) (S.reads source.new) F.finds
         (record { before = O.taken out.old; after = O.taken out.new; said_before = E.taken err.old; said_after = E.taken err.new }) request.now result }
 {
     match request {
@@ -163,7 +163,7 @@ pub fn run<
     O: Sink,
     E: Sink,
 >(rt: &R, alloc: Global, finder: &F, words: &[N], source: &mut S, out: &mut O, err: &mut E) -> u8
-    ensures { IsRun (map N.text words.now) (S.holds source.old) (S.given source.new) F.finds
+    ensures { IsRun (map N.text words.now) (S.holds source.old) (S.given source.new) (S.reads source.new) F.finds
         (record { before = O.taken out.old; after = O.taken out.new; said_before = E.taken err.old; said_after = E.taken err.new }) result }
 {
     let request = match read_words(alloc, words) {

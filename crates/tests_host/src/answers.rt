@@ -1,6 +1,6 @@
 //! Streams in memory, and what a run of the program writes to them.
 
-ghost use Rattle.std.specs.Prelude.{[], IfOk, Some, map};
+ghost use Rattle.std.specs.Prelude.{[], IfOk, None, Some, map};
 ghost use Rattle.audit_finder.specs.Found.{IsFound};
 ghost use Rattle.audit_program.specs.Answered.{IsRun};
 ghost use Rattle.tests_host.specs.Held.{gave_of, held_among};
@@ -67,6 +67,7 @@ pub fn ask(
         (map (λ word. word.now) words.now)
         (held_among files.old.policy.now files.old.credentials.now files.old.certificate.now files.old.capture.now files.old.second.now)
         (gave_of files.new.gave.items files.new.gave_second.items)
+        (λ capture. None)
         IsFound
         (record { before = Some []; after = Some answer.out.items; said_before = Some []; said_after = Some answer.err.items })
         answer.status) }

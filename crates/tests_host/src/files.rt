@@ -146,9 +146,13 @@ impl Source for Files<'_> {
 }
 
 impl Growing for Files<'_> {
+    ghost use Rattle.std.specs.Prelude.{None};
     ghost use Rattle.tests_host.specs.Held.{gave_of};
 
     ghost given = { λ files capture. gave_of files.gave.items files.gave_second.items capture };
+
+    // The tests ask what was given; how often, they see by what is judged.
+    ghost reads = { λ _ _. None };
 
     fn start(&mut self) {
         self.asked = 0;

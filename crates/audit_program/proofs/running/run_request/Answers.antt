@@ -23,7 +23,7 @@ returns-in-Live g c = rw (c.in-Live.is) (
   refl,
   λ policy users have. subst
       (λ of. IfOk c.run_live.result (λ status. (found : Certificate)
-      × IsWatched policy users (length of) (g.S.Growing.given c.run_live.new.source) found (g.O.Sink.taken c.args.out.now) (g.O.Sink.taken c.run_live.new.out) status))
+      × IsWatched policy users (length of) c.in-Live.turns (g.S.Growing.given c.run_live.new.source) (g.S.Growing.reads c.run_live.new.source) found (g.O.Sink.taken c.args.out.now) (g.O.Sink.taken c.run_live.new.out) status))
       c.deref-in-Live.ensures.value (c.run_live.ensures policy users have.policy' have.users' have.nobody),
 )
 

@@ -1,4 +1,4 @@
-use Rattle.std.proofs.Common.{ℕ, [], List, Some, map, subst}
+use Rattle.std.proofs.Common.{ℕ, [], List, None, Some, map, subst}
 use Rattle.audit_finder.specs.Found.{IsFound}
 use Rattle.audit_program.specs.Answered.{IsRun}
 use Rattle.tests_host.specs.Held.{gave_of, held_among}
@@ -14,6 +14,7 @@ returns g c =
     (map (λ word. word.now) c.args.words.now)
     (held_among files.policy.now files.credentials.now files.certificate.now files.capture.now files.second.now)
     (gave_of given.gave.items given.gave_second.items)
+    (λ capture. None)
     IsFound
     (record { before = Some before; after = Some out.bytes.items; said_before = Some said_before; said_after = Some err.bytes.items })
     c.run-status.result in

@@ -16,7 +16,10 @@ returns-clause-goes g c = λ policy_text users_text policy users none.
     (c.in_ok-users.ensures.says users_text (subst (λ (h : Holds). IfSome c.args.users (λ name. h name.now ≡ Some users_text)) (sym first) users) none)
     (ap (λ (a : Audit). a.credentials) rest ∙ c.open-live.ensures.credentials)
     (c.in_ok-add_captures.ensures.stands c.open-live.ensures.stands)
-    c.start.ensures
+    c.start.ensures.given
 
 pub returns-clause-files : goal.returns-clause-files
 returns-clause-files g c = files_opened c.add_captures.new.live.intake (length c.args.captures.now) (c.in_ok-add_captures.ensures.stands c.open-live.ensures.stands)
+
+pub returns-clause-unread : goal.returns-clause-unread
+returns-clause-unread g c = λ file within. c.start.ensures.reads file
