@@ -59,7 +59,7 @@ edits:
 # of workers changes no answer, tries the examples of docs/REFUSALS.md, compares with the plain checker, gives it hostile input and captures
 # that grow, refuses it memory, installs it, audits a fleet by two engines, and has it find certificates for captures of a simulated server.
 # At last it runs turnprep on its cases and on captures of strangers, asks turnexplain for the faults that are known of captures,
-# for what its golden files have, as text and as JSON, and for its pages.
+# for what its golden files have, as text and as JSON, and for its pages, and runs the conformance kit on a right server and on broken ones.
 test:
 	python3 tests/documents.py
 	tools/reading_copy.py --check
@@ -94,6 +94,7 @@ test:
 	python3 tests/shown_faults.py $(EXPLAINS) $(PROGRAM)
 	python3 tests/explain.py $(EXPLAINS)
 	python3 tests/explain_page.py $(EXPLAINS)
+	tests/kit.sh $(PROGRAM) $(EXPLAINS)
 
 # Gives the program damaged captures, policies, credentials and certificates, and looks at how it answers.
 fuzz: $(PROGRAM)
