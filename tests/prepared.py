@@ -6,7 +6,7 @@
 Each line of tests/prepare/judged names a case of tests/prepare/cases, the policy of the audits (or that before, and that
 behind), and what they say: of the captures that the case reads, and of those that it wrote. Where they conform, the list's last line has the same numbers.
 Then each example whose captures conform is cut: they stay byte for byte, and the list names nothing. At last captures are cut in which
-a server relays on behind a Refresh of 0 (tests/hang_ups.py), or breaks a rule where `cut` excludes datagrams (tests/leaks.py).
+a server relays on behind a Refresh of 0 (tests/hang_ups.py), or breaks a rule where `cut` excludes datagrams (tests/leaks.py, tests/late_leaks.py).
 """
 
 import pathlib
@@ -15,6 +15,7 @@ import sys
 import tempfile
 
 import hang_ups
+import late_leaks
 import leaks
 
 TOP = pathlib.Path(__file__).resolve().parent.parent
@@ -109,7 +110,7 @@ def main():
             faults[example.name] = check_example(preparer, example)
     for relays, time, _, after in hang_ups.CASES:
         faults[f"{relays.__name__} {time}"] = check_hang_up(preparer, auditor, relays, time, after)
-    for breach, options, is_reported in leaks.CASES:
+    for breach, options, is_reported in leaks.CASES + late_leaks.CASES:
         faults[f"{breach.__name__} {' '.join(options)}"] = check_leak(preparer, auditor, breach, options, is_reported)
     wrong = {name: fault for name, fault in faults.items() if fault}
     for name, fault in wrong.items():

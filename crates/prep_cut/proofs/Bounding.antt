@@ -1,5 +1,5 @@
 -- What a line of released datagrams leaves out.
-use Rattle.std.proofs.Common.{◌≡◌, ◌<◌, ◌≤◌, ◌+◌, ◌*◌, ◌-◌, min, ℕ, Bool, true, false, not, ◌&&◌, List, Option, Some, None, nat_lt, nat_le, refl, sym, ap, ◌∙◌, arith}
+use Rattle.std.proofs.Common.{◌≡◌, ◌<◌, ◌≤◌, ◌+◌, ◌*◌, ◌-◌, min, ℕ, Bool, true, false, not, ◌&&◌, ◌||◌, List, Option, Some, None, nat_lt, nat_le, refl, sym, ap, ◌∙◌, arith}
 use Rattle.std.specs.Prelude.{if◌then◌else◌, slice_get}
 use Rattle.std.proofs.lemmas.Bool.{ltb-true, leb-true}
 use Rattle.std.proofs.Math.Nat.{min-le_left}
@@ -17,7 +17,8 @@ use Rattle.prep_cut.specs.declared.stated.Stated.{Stated}
 use Rattle.prep_cut.specs.Allocating.{is_shown}
 use Rattle.prep_cut.specs.Bounded.{IsBehind, IsBehindRelease}
 use Rattle.prep_cut.specs.Datagrams.{datagram_of_block}
-use Rattle.prep_cut.specs.Guard.{is_stated, is_due, is_named, is_heard, is_in_time, is_behind, may_leave_datagram}
+use Rattle.prep_cut.specs.Guard.{is_apart, is_free, is_stated, is_due, is_named, is_heard, is_in_time, is_behind, may_leave_datagram}
+use Rattle.prep_cut.specs.Lasting.{is_its}
 use Rattle.prep_cut.specs.Marks.{may_leave_head, may_leave_at, line_of}
 use Rattle.prep_cut.specs.Releasing.{AreReleased, is_released}
 
@@ -44,9 +45,11 @@ of_datagram plan captured pair relayed moment datagram shown e =
     let one = both (is_stated plan.stated reason) (is_due plan.stated plan.allocations reason datagram && ((is_named reason datagram && is_heard plan.allocations reason) && not (is_shown plan.allocations datagram))) e in
     let two = both (is_due plan.stated plan.allocations reason datagram) ((is_named reason datagram && is_heard plan.allocations reason) && not (is_shown plan.allocations datagram)) one.1 in
     let three = both (is_named reason datagram) (is_heard plan.allocations reason) (both (is_named reason datagram && is_heard plan.allocations reason) (not (is_shown plan.allocations datagram)) two.1).0 in
-    let four = both (is_released plan.allocations (record { client = pair.client; listen = pair.listen; moment = moment })) (is_in_time datagram.side plan.stated moment datagram.stamp) two.0 in
+    let four = both (is_released plan.allocations (record { client = pair.client; listen = pair.listen; moment = moment }))
+    (is_in_time datagram.side plan.stated moment datagram.stamp && (is_its plan.allocations pair relayed moment && (is_apart plan.allocations datagram && (is_free plan.allocations datagram || datagram.is_data)))) two.0 in
+    let five = both (is_in_time datagram.side plan.stated moment datagram.stamp) (is_its plan.allocations pair relayed moment && (is_apart plan.allocations datagram && (is_free plan.allocations datagram || datagram.is_data))) four.1 in
     let time = λ (leaves : datagram.side ≡ Leaves). both (nat_lt moment datagram.stamp) (nat_le (datagram.stamp - moment) (min (plan.stated.released_ms * 1000000) 18446744073709551615))
-    (later plan.stated moment datagram.stamp datagram.side four.1 leaves) in
+    (later plan.stated moment datagram.stamp datagram.side five.0 leaves) in
     record {
       stated = ltb-true 0 plan.stated.released_ms one.0;
       shown = shown (record { client = pair.client; listen = pair.listen; moment = moment }) four.0;

@@ -17,7 +17,7 @@ use Rattle.prep_cut.specs.declared.reason.Reason.TheVariants as reasons
 use Rattle.prep_cut.specs.Allocating.{is_shown}
 use Rattle.prep_cut.specs.Datagrams.{datagram_of_block}
 use Rattle.prep_cut.specs.Kept.{IsMoment}
-use Rattle.prep_cut.specs.Marks.{may_leave_head, may_leave_at, line_of}
+use Rattle.prep_cut.specs.Marks.{is_at_edge, may_leave_head, may_leave_at, line_of}
 use Rattle.prep_cut.specs.Guard.{is_stated, is_due, is_named, is_heard, may_leave_datagram}
 use Rattle.prep_cut.specs.Heard.{IsOfHeard, IsOfSender}
 use Rattle.prep_cut.specs.Sending.{AreSenders, Sends}
@@ -35,6 +35,7 @@ heard_of plan captured are (reasons.AddressOf relayed tenure pair) e = tt
 heard_of plan captured are (reasons.AddressTold relayed tenure client) e = tt
 heard_of plan captured are (reasons.Address relayed tenure) e = tt
 heard_of plan captured are (reasons.Inside from to) e = tt
+heard_of plan captured are reasons.Edge e = tt
 
 of_sender : (plan : Plan) (captured : List Block) (reason : Reason) (datagram : Datagram) → AreSenders plan.policy plan.allocations captured
     → may_leave_datagram plan.stated plan.allocations reason (Some datagram) ≡ true → IsOfSender plan captured reason datagram
@@ -65,6 +66,9 @@ of_head plan captured (reasons.Released pair relayed moment) block (Some head) d
 of_head plan captured (reasons.Dtls pair) block (Some head) datagram are is may = inr (of_found plan captured (reasons.Dtls pair) (datagram_of_block plan.policy block) datagram are is may)
 of_head plan captured (reasons.Inner pair peer) block (Some head) datagram are is may = inr (of_found plan captured (reasons.Inner pair peer) (datagram_of_block plan.policy block) datagram are is may)
 of_head plan captured (reasons.Inside from to) block (Some head) datagram are is may = inr (of_found plan captured (reasons.Inside from to) (datagram_of_block plan.policy block) datagram are is may)
+of_head plan captured reasons.Edge block (Some head) datagram are is may =
+    inr (of_found plan captured reasons.Edge (datagram_of_block plan.policy block) datagram are is
+    (both (is_at_edge plan reasons.Edge head.stamp) (may_leave_datagram plan.stated plan.allocations reasons.Edge (datagram_of_block plan.policy block)) may).1)
 
 chosen : (line : ℕ) (may : Bool) → (if may then Some line else None) ≡ Some line → may ≡ true
 chosen line true e = refl
@@ -77,7 +81,7 @@ excluded plan captured line block reason datagram are is found left =
     of_head plan captured reason block block.packet datagram are found
     (ap (λ (r : Option Reason). may_leave_head plan r block block.packet) (sym is) ∙ chosen line (may_leave_at plan line block) left)
 
-same_pair : (a b c d : Addr) → is_eq (pair_cmp (a, b) (c, d)) ≡ true → (a ≡ c) × (b ≡ d)
+pub same_pair : (a b c d : Addr) → is_eq (pair_cmp (a, b) (c, d)) ≡ true → (a ≡ c) × (b ≡ d)
 same_pair a b c d e =
     let parts = both (is_eq (addr_cmp a c)) (is_eq (addr_cmp b d)) (tied_then (addr_cmp a c) (addr_cmp b d) ∙ e) in
     (same_address a c parts.0, same_address b d parts.1)

@@ -5,3 +5,5 @@ mod Noting
 mod Releases
 mod Bounding
 mod Heard
+mod Adding
+mod Keeping

@@ -15,7 +15,7 @@ use Rattle.prep_cut.specs.declared.transaction.Transaction.{Transaction}
 use Rattle.prep_cut.specs.Allocating.{is_noted, is_noted_on, is_shown, is_shown_on}
 use Rattle.prep_cut.specs.Datagrams.{datagram_of_block}
 use Rattle.prep_cut.specs.Guard.{is_stated, is_due, is_named, is_heard, may_leave_datagram}
-use Rattle.prep_cut.specs.Marks.{may_leave_head, line_of}
+use Rattle.prep_cut.specs.Marks.{is_at_edge, may_leave_head, line_of}
 use Rattle.prep_cut.specs.Kept.{IsMoment, IsOfMoment}
 
 never : (a b c d : Bool) → d ≡ true → (a && (b && (c && not d))) ≡ false
@@ -28,6 +28,10 @@ barred : (stated : Stated) (allocations : Allocations) (reason : Reason) (found 
     → is_shown allocations datagram ≡ true → may_leave_datagram stated allocations reason found ≡ false
 barred stated allocations reason found datagram e shown =
     ap (may_leave_datagram stated allocations reason) e ∙ never (is_stated stated reason) (is_due stated allocations reason datagram) (is_named reason datagram && is_heard allocations reason) (is_shown allocations datagram) shown
+
+neither : (a b : Bool) → b ≡ false → (a && b) ≡ false
+neither true b e = e
+neither false b e = refl
 
 by_moment : (plan : Plan) (reason : Option Reason) (block : Block) (packet : Option PacketHead) (datagram : Datagram) → datagram_of_block plan.policy block ≡ Some datagram
     → is_shown plan.allocations datagram ≡ true → IsMoment reason ⊎ (may_leave_head plan reason block packet ≡ false)
@@ -43,6 +47,7 @@ by_moment plan (Some (reasons.Address relayed tenure)) block (Some head) datagra
 by_moment plan (Some (reasons.Released pair relayed moment)) block (Some head) datagram e shown = inr (barred plan.stated plan.allocations (reasons.Released pair relayed moment) (datagram_of_block plan.policy block) datagram e shown)
 by_moment plan (Some (reasons.Dtls pair)) block (Some head) datagram e shown = inr (barred plan.stated plan.allocations (reasons.Dtls pair) (datagram_of_block plan.policy block) datagram e shown)
 by_moment plan (Some (reasons.Inner pair peer)) block (Some head) datagram e shown = inr (barred plan.stated plan.allocations (reasons.Inner pair peer) (datagram_of_block plan.policy block) datagram e shown)
+by_moment plan (Some reasons.Edge) block (Some head) datagram e shown = inr (neither (is_at_edge plan reasons.Edge head.stamp) (may_leave_datagram plan.stated plan.allocations reasons.Edge (datagram_of_block plan.policy block)) (barred plan.stated plan.allocations reasons.Edge (datagram_of_block plan.policy block) datagram e shown))
 by_moment plan (Some (reasons.Inside from to)) block (Some head) datagram e shown = inr (barred plan.stated plan.allocations (reasons.Inside from to) (datagram_of_block plan.policy block) datagram e shown)
 
 chosen : (plan : Plan) (line : ℕ) (may : Bool) → IsMoment (slice_get plan.lines line) ⊎ (may ≡ false) → IsOfMoment plan (if may then Some line else None)

@@ -1,5 +1,5 @@
 -- Which Allocate requests and successes captures show.
-use Rattle.std.specs.Prelude.{◌≡◌, ⊤, Bool, true, false, List, [], ◌∷◌, Option, Some, None}
+use Rattle.std.specs.Prelude.{◌≡◌, Contains, ⊤, Bool, true, false, List, [], ◌∷◌, Option, Some, None}
 use Rattle.std.specs.declared.cmp.Ordering.{Ordering}
 use Rattle.std.specs.BTreeSet.{contains}
 use Rattle.std.specs.Cmp.Lexicographic.{slice_cmp}
@@ -15,6 +15,12 @@ use Rattle.prep_cut.specs.declared.datagram.Datagram.{Datagram}
 use Rattle.prep_cut.specs.Datagrams.{datagram_of_block}
 use Rattle.prep_cut.specs.Releasing.{AreReleased}
 use Rattle.prep_cut.specs.Sending.{AreSenders}
+use Rattle.audit_model.specs.declared.address.Addr.{Addr}
+use Rattle.prep_cut.specs.declared.lease.Event.{Event}
+use Rattle.prep_cut.specs.Leases.{IsEventShown}
+use Rattle.prep_cut.specs.Held.{HasEvent}
+use Rattle.prep_cut.specs.Noted.{events_at}
+use Rattle.prep_cut.specs.Edges.{AreAfter}
 
 -- the order of transactions
 abbrev pub transaction_cmp : Transaction → Transaction → Ordering
@@ -42,11 +48,15 @@ abbrev pub AreAllNoted : Policy → Allocations → List Block → Type 0
 AreAllNoted policy allocations [] = ⊤
 AreAllNoted policy allocations (first ∷ others) = (is_noted_in policy allocations first ≡ true) × AreAllNoted policy allocations others
 
--- what these blocks ask and grant is noted; each release that is noted is one of theirs, and each client that is noted sends something in them
+-- What these blocks ask and grant is noted, and no packet of theirs is before the first moment that is noted. Each release and each event
+-- that is noted is one of theirs, and each client that is noted sends something in them.
 pub record AreNoted (policy : Policy) (allocations : Allocations) (blocks : List Block) : Type 0 where
   pub noted : AreAllNoted policy allocations blocks
   pub released : AreReleased policy allocations blocks
   pub senders : AreSenders policy allocations blocks
+  pub events : (event : Event) → IsEventShown policy event blocks → HasEvent allocations.leases event
+  pub only : (event : Event) (client listen : Addr) → Contains (events_at allocations.leases.clients client listen) event → IsEventShown policy event blocks
+  pub first : AreAfter allocations.first blocks
 
 abbrev pub is_shown_on : Side → Allocations → Option Transaction → Bool
 is_shown_on side allocations None = false

@@ -10,6 +10,7 @@ use Rattle.prep_cut.specs.declared.reason.Reason.TheVariants as reasons
 use Rattle.prep_cut.specs.declared.stated.Stated.{Stated}
 use Rattle.prep_cut.specs.declared.allocations.Allocations.{Allocations}
 use Rattle.prep_cut.specs.Allocating.{is_shown}
+use Rattle.prep_cut.specs.Lasting.{is_its, is_leased, is_tenant}
 use Rattle.prep_cut.specs.Releasing.{is_released}
 use Rattle.prep_cut.specs.Sending.{is_sender}
 
@@ -42,6 +43,14 @@ is_on_side Leaves datagram relayed = same datagram.from relayed
 abbrev pub is_at : Datagram → Addr → Bool
 is_at datagram relayed = is_on_side datagram.side datagram relayed
 
+abbrev pub is_leaving : Side → Bool → Bool
+is_leaving Arrives is_inside = false
+is_leaving Leaves is_inside = not is_inside
+
+-- it leaves the service
+abbrev pub is_departure : Datagram → Bool
+is_departure datagram = is_leaving datagram.side datagram.is_inside
+
 -- If the server started with the captures, there is no client from before. Without clients by TCP, TLS, DTLS or IPv6 there is no address of
 -- such a client, and no DTLS.
 abbrev pub is_stated : Stated → Reason → Bool
@@ -55,6 +64,7 @@ is_stated stated (reasons.Released pair relayed moment) = nat_lt 0 stated.releas
 is_stated stated (reasons.Dtls pair) = not stated.has_no_tcp
 is_stated stated (reasons.Inner pair peer) = not stated.keeps_inner
 is_stated stated (reasons.Inside from to) = not stated.keeps_inner
+is_stated stated reasons.Edge = not stated.is_from_start
 is_stated stated reasons.AfterUntil = true
 
 -- the datagram is of the client or the address that the reason names
@@ -69,6 +79,7 @@ is_named (reasons.Released pair relayed moment) datagram = is_at datagram relaye
 is_named (reasons.Dtls pair) datagram = datagram.is_dtls && is_of_pair datagram pair
 is_named (reasons.Inner pair peer) datagram = is_of_pair datagram pair
 is_named (reasons.Inside from to) datagram = datagram.is_inside && (same datagram.from from && same datagram.to to)
+is_named reasons.Edge datagram = is_departure datagram
 is_named reasons.AfterUntil datagram = true
 
 -- behind a release, by so many milliseconds at the most as are stated
@@ -79,10 +90,41 @@ abbrev pub is_in_time : Side → Stated → ℕ → ℕ → Bool
 is_in_time Arrives stated moment stamp = true
 is_in_time Leaves stated moment stamp = is_behind stated moment stamp
 
--- the release that the reason names is noted, and a departure is in its time
+abbrev pub end_on : Side → Addr → Addr → Addr
+end_on Arrives from to = to
+end_on Leaves from to = from
+
+-- the end of the service
+abbrev pub own_end : Datagram → Addr
+own_end datagram = end_on datagram.side datagram.from datagram.to
+
+-- the other end
+abbrev pub far_end : Datagram → Addr
+far_end datagram = end_on datagram.side datagram.to datagram.from
+
+-- no client has a lease of the address at which it is
+abbrev pub is_apart : Allocations → Datagram → Bool
+is_apart allocations datagram = not (is_leased allocations (own_end datagram) datagram.stamp)
+
+-- it is not between the service and a client that was granted an allocation before
+abbrev pub is_free : Allocations → Datagram → Bool
+is_free allocations datagram = not (is_tenant allocations (far_end datagram) (own_end datagram) datagram.stamp)
+
+-- No line but `inside` excludes something at an address of which the captures show a lease. No line excludes something of a client since its
+-- grant, but `inner` and `released` its data. The release that a reason names is noted, a departure is in its time, and the address was the
+-- client's.
 abbrev pub is_due : Stated → Allocations → Reason → Datagram → Bool
 is_due stated allocations (reasons.Released pair relayed moment) datagram =
-    is_released allocations (record { client = pair.client; listen = pair.listen; moment = moment }) && is_in_time datagram.side stated moment datagram.stamp
+    is_released allocations (record { client = pair.client; listen = pair.listen; moment = moment })
+    && (is_in_time datagram.side stated moment datagram.stamp && (is_its allocations pair relayed moment && (is_apart allocations datagram && (is_free allocations datagram || datagram.is_data))))
+is_due stated allocations (reasons.Client pair) datagram = is_apart allocations datagram && is_free allocations datagram
+is_due stated allocations (reasons.Answer pair) datagram = is_apart allocations datagram && is_free allocations datagram
+is_due stated allocations (reasons.Dtls pair) datagram = is_apart allocations datagram && is_free allocations datagram
+is_due stated allocations (reasons.AddressOf relayed tenure pair) datagram = is_apart allocations datagram && is_free allocations datagram
+is_due stated allocations (reasons.AddressTold relayed tenure client) datagram = is_apart allocations datagram && is_free allocations datagram
+is_due stated allocations (reasons.Address relayed tenure) datagram = is_apart allocations datagram && is_free allocations datagram
+is_due stated allocations reasons.Edge datagram = is_apart allocations datagram && is_free allocations datagram
+is_due stated allocations (reasons.Inner pair peer) datagram = is_apart allocations datagram && datagram.is_data
 is_due stated allocations other datagram = true
 
 -- the client that the reason names sends something in the captures
@@ -113,3 +155,4 @@ may_leave_packet stated allocations (reasons.Released pair relayed moment) stamp
 may_leave_packet stated allocations (reasons.Dtls pair) stamp datagram = may_leave_datagram stated allocations (reasons.Dtls pair) datagram
 may_leave_packet stated allocations (reasons.Inner pair peer) stamp datagram = may_leave_datagram stated allocations (reasons.Inner pair peer) datagram
 may_leave_packet stated allocations (reasons.Inside from to) stamp datagram = may_leave_datagram stated allocations (reasons.Inside from to) datagram
+may_leave_packet stated allocations reasons.Edge stamp datagram = may_leave_datagram stated allocations reasons.Edge datagram

@@ -1,17 +1,25 @@
 -- Which blocks of a capture are left out, and by which line of the list.
-use Rattle.std.specs.Prelude.{ℕ, Bool, false, ◌==◌, if◌then◌else◌, List, [], ◌∷◌, map, filter, drop, Option, Some, None, is_none, slice_get}
+use Rattle.std.specs.Prelude.{ℕ, Bool, true, false, ◌&&◌, nat_le, ◌==◌, if◌then◌else◌, List, [], ◌∷◌, map, filter, drop, Option, Some, None, is_none, slice_get}
 use Rattle.prep_blocks.specs.declared.block.Block.{Block}
 use Rattle.prep_blocks.specs.declared.block.PacketHead.{PacketHead}
 use Rattle.prep_blocks.specs.Read.{bytes_of}
 use Rattle.prep_cut.specs.declared.plan.Plan.{Plan}
 use Rattle.prep_cut.specs.declared.reason.Reason.{Reason}
+use Rattle.prep_cut.specs.declared.reason.Reason.TheVariants as reasons
 use Rattle.prep_cut.specs.Datagrams.{datagram_of_block}
+use Rattle.prep_cut.specs.Edges.{edge_of}
 use Rattle.prep_cut.specs.Guard.{may_leave_packet}
+
+-- `edge` excludes something only until the hold and twice the greatest skew after the captures begin
+abbrev pub is_at_edge : Plan → Reason → ℕ → Bool
+is_at_edge plan reasons.Edge stamp = nat_le stamp (edge_of plan.policy plan.stated plan.allocations)
+is_at_edge plan other stamp = true
 
 abbrev pub may_leave_head : Plan → Option Reason → Block → Option PacketHead → Bool
 may_leave_head plan None block packet = false
 may_leave_head plan (Some reason) block None = false
-may_leave_head plan (Some reason) block (Some head) = may_leave_packet plan.stated plan.allocations reason head.stamp (datagram_of_block plan.policy block)
+may_leave_head plan (Some reason) block (Some head) =
+    is_at_edge plan reason head.stamp && may_leave_packet plan.stated plan.allocations reason head.stamp (datagram_of_block plan.policy block)
 
 -- the line's reason may set aside the block's packet
 abbrev pub may_leave_at : Plan → ℕ → Block → Bool

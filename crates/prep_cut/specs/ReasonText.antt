@@ -22,6 +22,7 @@ kind_of (reasons.Released pair relayed moment) = kinds.Released
 kind_of (reasons.Dtls pair) = kinds.Dtls
 kind_of (reasons.Inner pair peer) = kinds.Inner
 kind_of (reasons.Inside from to) = kinds.Inside
+kind_of reasons.Edge = kinds.Edge
 kind_of reasons.AfterUntil = kinds.AfterUntil
 
 -- the word that its line begins with
@@ -36,6 +37,7 @@ kind_text kinds.Released = codes "released"
 kind_text kinds.Dtls = codes "dtls"
 kind_text kinds.Inner = codes "inner"
 kind_text kinds.Inside = codes "inside"
+kind_text kinds.Edge = codes "edge"
 kind_text kinds.AfterUntil = codes "after-until"
 
 -- four groups of an IPv6 address, in lower-case hex
@@ -69,4 +71,5 @@ reason_text (reasons.Released pair relayed moment) =
 reason_text (reasons.Dtls pair) = of_pair (codes "dtls") pair
 reason_text (reasons.Inner pair peer) = codes "inner" ++ (codes " " ++ (addr_text pair.client ++ (codes " " ++ (addr_text pair.listen ++ (codes " " ++ addr_text peer)))))
 reason_text (reasons.Inside from to) = codes "inside" ++ (codes " " ++ (addr_text from ++ (codes " " ++ addr_text to)))
+reason_text reasons.Edge = codes "edge"
 reason_text reasons.AfterUntil = codes "after-until"

@@ -18,6 +18,11 @@ ghost use Rattle.prep_cut.specs.Bounded.{IsBehindRelease};
 ghost use Rattle.prep_cut.specs.declared.reason.Reason.{Reason};
 ghost use Rattle.prep_cut.specs.Heard.{IsOfSender};
 ghost use Rattle.prep_cut.specs.Sending.{AreSenders};
+ghost use Rattle.prep_cut.specs.declared.lease.Event.{Event};
+ghost use Rattle.prep_cut.specs.declared.reason.Reason.TheVariants as reasons;
+ghost use Rattle.prep_cut.specs.Allocating.{AreNoted};
+ghost use Rattle.prep_cut.specs.Keeping.{HasLease, IsEarly, Keeps};
+ghost use Rattle.prep_cut.specs.Lasting.{is_leased};
 
 /// Of an Allocate request and a success of its transaction, both of which are noted in the plan's allocations, none is left out by any line
 /// but those of the moments that are stated, whatever is proposed for them.
@@ -50,4 +55,22 @@ pub fn strangers_stay()
         AreSenders plan.policy plan.allocations captured → slice_get plan.lines line ≡ Some reason →
         datagram_of_block plan.policy block ≡ Some datagram → line_of plan (Some line) block ≡ Some line →
         IsMoment (Some reason) ⊎ IsOfSender plan captured reason datagram }
+{}
+
+/// Whatever is proposed: at a relayed address of which the captures show a lease, no line excludes anything but `inside` and those of stated
+/// moments. Of a client that was granted an allocation these, `inner` and `released` are the only ones, and the latter two exclude data alone. So
+/// no success response of such a client is excluded.
+pub fn leases_stay()
+    ensures kept { (plan : Plan) (line : ℕ) (block : Block) (reason : Reason) (datagram : Datagram) → slice_get plan.lines line ≡ Some reason →
+        datagram_of_block plan.policy block ≡ Some datagram → line_of plan (Some line) block ≡ Some line → Keeps plan.allocations reason datagram }
+    ensures leased { (plan : Plan) (captured : List Block) (grant : Event) (relayed : Addr) (tid : List ℕ) (stamp : ℕ) →
+        AreNoted plan.policy plan.allocations captured → HasLease plan.policy plan.allocations captured grant relayed tid stamp →
+        is_leased plan.allocations relayed stamp ≡ true }
+{}
+
+/// What `edge` excludes leaves the service before the hold and twice the greatest skew have passed after the captures begin, or after the moment
+/// that is stated. If the server started with the captures, it excludes nothing.
+pub fn edge_is_early()
+    ensures { (plan : Plan) (line : ℕ) (block : Block) (datagram : Datagram) → slice_get plan.lines line ≡ Some reasons.Edge →
+        datagram_of_block plan.policy block ≡ Some datagram → line_of plan (Some line) block ≡ Some line → IsEarly plan datagram }
 {}

@@ -4,8 +4,13 @@
 mod allocations;
 mod cutter;
 mod datagram;
+mod edge;
+mod events;
 mod fault;
+mod lasting;
 mod laws;
+mod lease;
+mod leases;
 mod marker;
 mod plan;
 mod reason;
@@ -17,8 +22,11 @@ mod transaction;
 pub use allocations::Allocations;
 pub use cutter::{Cutter, WasCut};
 pub use datagram::{Datagram, datagram_in, frame_in};
+pub use edge::slack_of;
 pub use fault::{CutFault, CutRefused};
-pub use laws::{released_is_bounded, shown_allocates_stay, strangers_stay};
+pub use laws::{
+    edge_is_early, leases_stay, released_is_bounded, shown_allocates_stay, strangers_stay,
+};
 pub use plan::{LineNumber, Plan};
 pub use reason::{FarEnd, Reason, ReasonKind};
 pub use release::Release;

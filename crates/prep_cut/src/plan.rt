@@ -1,10 +1,11 @@
 //! What is to be set aside.
 
 ghost use Rattle.std.specs.Prelude.{◌≡◌};
-ghost use Rattle.prep_cut.specs.Marks.{line_of, may_leave_at};
+ghost use Rattle.prep_cut.specs.Marks.{is_at_edge, line_of, may_leave_at};
 
 use crate::allocations::Allocations;
 use crate::datagram::datagram_in;
+use crate::edge::last_at_edge;
 use crate::reason::Reason;
 use crate::stated::Stated;
 use audit_model::{Listed, Policy};
@@ -51,7 +52,19 @@ impl Plan {
             return false;
         };
         let datagram = datagram_in(&self.policy, block);
-        self.stated
-            .may_leave(&self.allocations, reason, head.stamp, datagram)
+        self.is_at_edge(reason, head.stamp)
+            && self
+                .stated
+                .may_leave(&self.allocations, reason, head.stamp, datagram)
+    }
+
+    /// Whether a moment is one at which `edge` may exclude something, if that is the reason.
+    fn is_at_edge(&self, reason: &Reason, stamp: u64) -> bool
+        ensures { result ≡ is_at_edge self.now reason.now stamp }
+    {
+        match reason {
+            Reason::Edge => stamp <= last_at_edge(&self.policy, &self.stated, &self.allocations),
+            _ => true,
+        }
     }
 }

@@ -58,6 +58,8 @@ pub enum Reason {
         from: Addr,
         to: Addr,
     },
+    /// Departures whose arrival may be from before the captures.
+    Edge,
     /// After the moment that `--until` says.
     AfterUntil,
 }
@@ -75,6 +77,7 @@ pub enum ReasonKind {
     Dtls,
     Inner,
     Inside,
+    Edge,
     AfterUntil,
 }
 
@@ -94,6 +97,7 @@ impl Reason {
             Reason::Dtls(_) => ReasonKind::Dtls,
             Reason::Inner { .. } => ReasonKind::Inner,
             Reason::Inside { .. } => ReasonKind::Inside,
+            Reason::Edge => ReasonKind::Edge,
             Reason::AfterUntil => ReasonKind::AfterUntil,
         }
     }
@@ -118,6 +122,7 @@ impl fmt::Display for ReasonKind {
             ReasonKind::Dtls => "dtls",
             ReasonKind::Inner => "inner",
             ReasonKind::Inside => "inside",
+            ReasonKind::Edge => "edge",
             ReasonKind::AfterUntil => "after-until",
         })
     }
@@ -207,7 +212,7 @@ impl fmt::Display for Reason {
     fn fmt<W: fmt::Write>(&self, f: &mut fmt::Formatter<W>) -> fmt::Result {
         let kind = self.kind();
         match self {
-            Reason::BeforeSince | Reason::AfterUntil => write!(f, "{kind}"),
+            Reason::BeforeSince | Reason::Edge | Reason::AfterUntil => write!(f, "{kind}"),
             Reason::Client(pair) | Reason::Answer(pair) | Reason::Dtls(pair) => {
                 let Pair { client, listen } = *pair;
                 write!(f, "{kind} {client} {listen}")

@@ -1,7 +1,7 @@
 //! What the operator states, and which packets each reason may set aside then.
 
 ghost use Rattle.std.specs.Prelude.{◌≡◌};
-ghost use Rattle.prep_cut.specs.Guard.{is_early, is_late, is_of_pair, is_at, is_due, is_in_time, is_behind, is_stated, is_named, is_heard, may_leave_packet, same};
+ghost use Rattle.prep_cut.specs.Guard.{is_early, is_late, is_of_pair, far_end, is_apart, is_at, is_departure, is_due, is_free, own_end, is_in_time, is_behind, is_stated, is_named, is_heard, may_leave_packet, same};
 
 use crate::allocations::Allocations;
 use crate::datagram::Datagram;
@@ -89,6 +89,7 @@ impl Stated {
         match reason {
             Reason::BeforeSince | Reason::AfterUntil => true,
             Reason::Client(_) | Reason::Answer(_) | Reason::AddressOf { .. } => !self.is_from_start,
+            Reason::Edge => !self.is_from_start,
             Reason::AddressTold { .. } | Reason::Address { .. } => !self.has_no_tcp,
             Reason::Dtls(_) => !self.has_no_tcp,
             Reason::Released { .. } => self.released_ms > 0,
@@ -96,21 +97,37 @@ impl Stated {
         }
     }
 
-    /// Whether a release is noted that a reason names, and a departure is in its time. An arrival has none: one that is left out hides
-    /// nothing.
+    /// Whether the captures show no lease of what the reason names, and of released data the release, with the address, and a departure in its
+    /// time.
     fn is_due(&self, allocations: &Allocations, reason: &Reason, datagram: &Datagram) -> bool
         ensures { result ≡ is_due self.now allocations.now reason.now datagram.now }
     {
         match reason {
-            Reason::Released { pair, moment, .. } => {
+            Reason::Released {
+                pair,
+                relayed,
+                moment,
+            } => {
                 let release = Release {
                     client: pair.client,
                     listen: pair.listen,
                     moment: *moment,
                 };
-                allocations.has_release(&release) && self.is_in_time(*moment, datagram)
+                allocations.has_release(&release)
+                    && self.is_in_time(*moment, datagram)
+                    && allocations.is_its(pair, *relayed, *moment)
+                    && is_apart(allocations, datagram)
+                    && (is_free(allocations, datagram) || datagram.is_data)
             }
-            _ => true,
+            Reason::Client(_)
+            | Reason::Answer(_)
+            | Reason::Dtls(_)
+            | Reason::AddressOf { .. }
+            | Reason::AddressTold { .. }
+            | Reason::Address { .. }
+            | Reason::Edge => is_apart(allocations, datagram) && is_free(allocations, datagram),
+            Reason::Inner { .. } => is_apart(allocations, datagram) && datagram.is_data,
+            Reason::BeforeSince | Reason::AfterUntil | Reason::Inside { .. } => true,
         }
     }
 
@@ -151,6 +168,7 @@ fn is_named(reason: &Reason, datagram: &Datagram) -> bool
         Reason::Inside { from, to } => {
             datagram.is_inside && datagram.from == *from && datagram.to == *to
         }
+        Reason::Edge => is_departure(datagram),
     }
 }
 
@@ -166,10 +184,57 @@ fn is_heard(allocations: &Allocations, reason: &Reason) -> bool
         | Reason::Inner { pair, .. } => allocations.has_sender(pair),
         Reason::BeforeSince
         | Reason::AfterUntil
+        | Reason::Edge
         | Reason::AddressOf { .. }
         | Reason::AddressTold { .. }
         | Reason::Address { .. }
         | Reason::Inside { .. } => true,
+    }
+}
+
+/// Whether no client has a lease of the address at which a datagram is.
+fn is_apart(allocations: &Allocations, datagram: &Datagram) -> bool
+    ensures { result ≡ is_apart allocations.now datagram.now }
+{
+    !allocations.is_leased(datagram.own_end(), datagram.stamp)
+}
+
+/// Whether a datagram isn't between the service and a client that was granted an allocation before.
+fn is_free(allocations: &Allocations, datagram: &Datagram) -> bool
+    ensures { result ≡ is_free allocations.now datagram.now }
+{
+    !allocations.is_tenant(datagram.far_end(), datagram.own_end(), datagram.stamp)
+}
+
+impl Datagram {
+    /// The end of the service.
+    fn own_end(&self) -> Addr
+        ensures { result ≡ own_end self.now }
+    {
+        match self.side {
+            Side::Arrives => self.to,
+            Side::Leaves => self.from,
+        }
+    }
+
+    /// The other end.
+    fn far_end(&self) -> Addr
+        ensures { result ≡ far_end self.now }
+    {
+        match self.side {
+            Side::Arrives => self.from,
+            Side::Leaves => self.to,
+        }
+    }
+}
+
+/// Whether a datagram leaves the service.
+fn is_departure(datagram: &Datagram) -> bool
+    ensures { result ≡ is_departure datagram.now }
+{
+    match datagram.side {
+        Side::Arrives => false,
+        Side::Leaves => !datagram.is_inside,
     }
 }
 

@@ -158,6 +158,7 @@ fn what_is_set_aside(kind: ReasonKind) -> &'static str {
         ReasonKind::Dtls => "clients speak DTLS",
         ReasonKind::Inner => "clients relay to a relayed address of the server",
         ReasonKind::Inside => "pairs of the server's own addresses are on the wire (V2)",
+        ReasonKind::Edge => "lines are of what arrived before the capture",
         ReasonKind::BeforeSince | ReasonKind::AfterUntil => "lines are outside of stated moments",
     }
 }

@@ -7,3 +7,4 @@ pub mod RecordedFiles
 pub mod AllCuts
 pub mod Texts
 pub mod Naming
+pub mod Requested

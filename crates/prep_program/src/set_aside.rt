@@ -1,8 +1,10 @@
 //! The command `cut`.
 
-ghost use Rattle.std.specs.Prelude.{◌≡◌, IfOk, OnOk, map};
+ghost use Rattle.std.specs.Prelude.{◌≡◌, ℕ, List, Some, IfOk, OnOk, map};
+ghost use Rattle.std.specs.List.{AllZip};
 ghost use Rattle.audit_model.specs.Sink.{followed_by};
 ghost use Rattle.prep_program.specs.Listing.{list_file};
+ghost use Rattle.prep_program.specs.CutRuns.{IsCutRun, IsPlanOf};
 ghost use Rattle.prep_program.specs.Making.{files_of, with_files};
 ghost use Rattle.prep_program.specs.Answered.{IsSuccess};
 
@@ -53,7 +55,11 @@ pub fn run_cut<S: Source, M: Maker, O: Sink, E: Sink>(
     out: &mut O,
     err: &mut E,
 ) -> Result<u8, Stop>
-    ensures { IsSuccess result }
+    ensures done { IsSuccess result }
+    ensures cuts { (policy : List ℕ) (captures : List (List ℕ)) → S.holds source.old request.now.policy.now ≡ Some policy →
+        AllZip (λ name text. S.holds source.old name.now ≡ Some text) request.now.captures.items captures →
+        IfOk result (λ status. IsCutRun request.now policy captures
+        (files_of (M.making maker.old) (M.taken maker.old)) (files_of (M.making maker.new) (M.taken maker.new)) (O.taken out.old) (O.taken out.new)) }
 {
     check_parts(&request.captures)?;
     let Planned {
@@ -76,7 +82,12 @@ fn plan_of<S: Source>(
     alloc: Global,
     request: &CutRequest<'_>,
     source: &mut S,
-) -> Result<Planned, Stop> {
+) -> Result<Planned, Stop>
+    ensures kept { S.holds source.new ≡ S.holds source.old }
+    ensures planned { (policy : List ℕ) (captures : List (List ℕ)) → S.holds source.old request.now.policy.now ≡ Some policy →
+        AllZip (λ name text. S.holds source.old name.now ≡ Some text) request.now.captures.items captures →
+        IfOk result (λ planned. IsPlanOf planned.plan request.now.stated policy captures) }
+{
     let stated = request.stated;
     let text = read_text(alloc, source, request.policy)?;
     let policy = read_policy(alloc, &text)?;

@@ -1,6 +1,8 @@
 //! Relayed addresses that nobody was given.
 
 use crate::hang_ups::HangUps;
+use crate::late::{Owners, leave_late_to_peer};
+use crate::origin::Origin;
 use crate::pool::Pool;
 use crate::responses::Shown;
 use crate::sheet::Sheet;
@@ -15,63 +17,106 @@ use std::collections::BTreeSet;
 /// Addresses in a tenure of which something that leaves is set aside.
 type LeftOf = BTreeSet<(Addr, u32)>;
 
-/// Sets aside what leaves relayed addresses that nobody was given, and what arrives there.
+/// Excludes what leaves relayed addresses that nobody was granted, and what arrives there. It returns which of these clients from before
+/// have.
 pub(crate) fn leave_addresses(
     sheet: &mut Sheet<'_>,
     shown: &Shown,
     hang_ups: &HangUps,
     by_client: Pool,
-    unread: Unread,
-) -> Result<(), AllocError> {
-    let mut unread = unread;
+    unread: &mut Unread,
+) -> Result<Owners, AllocError> {
     unread.rewind();
     let found = find_strays(sheet, &shown.tenures, hang_ups, by_client)?;
     let mut left: LeftOf = BTreeSet::new(sheet.alloc);
-    for side in [Side::Leaves, Side::Arrives] {
-        for place in 0..found.all.len() {
-            let Some(stray) = found.all.get(place).copied() else {
-                continue;
-            };
-            if let Some(record) = sheet.record(stray.record as usize) {
-                if record.side == side {
-                    leave_record(sheet, shown, stray, &found, &mut left, &mut unread)?;
-                }
+    for place in 0..found.all.len() {
+        let Some(stray) = found.all.get(place).copied() else {
+            continue;
+        };
+        if let Some(reason) = reason_to_leave(sheet, shown, hang_ups, stray, &found, unread)? {
+            sheet.leave(stray.record as usize, reason)?;
+            if let (Some(key), false) = (tenure_of(sheet, shown, stray), reason == Reason::Edge) {
+                left.insert(key)?;
             }
         }
     }
-    Ok(())
+    for place in 0..found.all.len() {
+        let Some(stray) = found.all.get(place).copied() else {
+            continue;
+        };
+        leave_arrival(sheet, shown, stray, &found, &left)?;
+    }
+    let Strays { owners, .. } = found;
+    Ok(owners)
 }
 
-/// Sets aside a record at an address that nobody was given, where it looks like what can't be judged.
-fn leave_record(
+/// The address of a record, and its tenure.
+fn tenure_of(sheet: &Sheet<'_>, shown: &Shown, stray: Stray) -> Option<(Addr, u32)> {
+    let record = sheet.record(stray.record as usize)?;
+    let relayed = relayed_in(&record)?;
+    Some((relayed, shown.tenures.begun(relayed, record.stamp)))
+}
+
+/// The line of what leaves an address that nobody was granted, if it looks like what can't be judged. What leaves after the deletion of a
+/// client from before is excluded at once, with its arrival.
+fn reason_to_leave(
+    sheet: &mut Sheet<'_>,
+    shown: &Shown,
+    hang_ups: &HangUps,
+    stray: Stray,
+    found: &Strays,
+    unread: &mut Unread,
+) -> Result<Option<Reason>, AllocError> {
+    let at = stray.record as usize;
+    let (Some(record), Some((relayed, tenure))) = (sheet.record(at), tenure_of(sheet, shown, stray))
+    else {
+        return Ok(None);
+    };
+    if !matches!(record.side, Side::Leaves) {
+        return Ok(None);
+    }
+    match stray.cause {
+        Cause::Judged(arrival) => {
+            if let Some(arrival) = arrival {
+                let pass = (at, arrival as usize);
+                leave_late_to_peer(sheet, &shown.tenures, hang_ups, &found.owners, pass)?;
+            }
+            Ok(None)
+        }
+        Cause::FromBefore(client) => match sheet.pair(client) {
+            Some(pair) => Ok(Some(Reason::AddressOf {
+                relayed,
+                tenure,
+                pair,
+            })),
+            None => Ok(None),
+        },
+        Cause::Nobody => match unread.origin(sheet, shown, &record)? {
+            Origin::Shown => Ok(elsewhere(sheet, &record, relayed, tenure, true)),
+            Origin::Early => Ok(Some(Reason::Edge)),
+            Origin::Missing => Ok(None),
+        },
+    }
+}
+
+/// Excludes what arrives at an address that nobody was granted, if the address is of a client from before, or something that left it is
+/// excluded.
+fn leave_arrival(
     sheet: &mut Sheet<'_>,
     shown: &Shown,
     stray: Stray,
     found: &Strays,
-    left: &mut LeftOf,
-    unread: &mut Unread,
+    left: &LeftOf,
 ) -> Result<(), AllocError> {
     let at = stray.record as usize;
-    let Some(record) = sheet.record(at) else {
+    let (Some(record), Some((relayed, tenure))) = (sheet.record(at), tenure_of(sheet, shown, stray))
+    else {
         return Ok(());
     };
-    let Some(relayed) = relayed_in(&record) else {
+    if !matches!(record.side, Side::Arrives) {
         return Ok(());
-    };
-    let tenure = shown.tenures.begun(relayed, record.stamp);
-    let leaves = matches!(record.side, Side::Leaves);
-    let client = match stray.cause {
-        Cause::Judged => return Ok(()),
-        Cause::FromBefore(client) => Some(client),
-        Cause::Nobody if leaves => {
-            if !unread.explains(sheet, shown, &record)? {
-                return Ok(());
-            }
-            None
-        }
-        Cause::Nobody => found.owners.get(&relayed).copied(),
-    };
-    let pair = match client {
+    }
+    let pair = match found.owners.get(&relayed).copied() {
         Some(client) => sheet.pair(client),
         None => None,
     };
@@ -83,16 +128,13 @@ fn leave_record(
         }),
         None => {
             let is_of_left = left.contains(&(relayed, tenure));
-            elsewhere(sheet, &record, relayed, tenure, leaves || is_of_left)
+            elsewhere(sheet, &record, relayed, tenure, is_of_left)
         }
     };
-    if let Some(reason) = reason {
-        sheet.leave(at, reason)?;
-        if leaves {
-            left.insert((relayed, tenure))?;
-        }
+    match reason {
+        Some(reason) => sheet.leave(at, reason),
+        None => Ok(()),
     }
-    Ok(())
 }
 
 /// The reason of an address that was told over TCP or IPv6, or to nobody.

@@ -2,9 +2,11 @@
 
 use crate::addresses::leave_addresses;
 use crate::before::{TimeBefore, explain, time_before};
+use crate::dtls::leave_dtls;
 use crate::from_before::leave_clients;
 use crate::hang_ups::{HangUps, leave_hang_ups};
-use crate::inner::{leave_dtls, leave_inner, pool_of_arrivals};
+use crate::inner::{leave_inner, pool_of_arrivals};
+use crate::late::leave_late_data;
 use crate::members::Members;
 use crate::proposals::{Proposed, propose};
 use crate::responses::read_responses;
@@ -53,9 +55,10 @@ pub fn sort_out<'a>(
     if !stated.keeps_inner {
         leave_inner(&mut sheet, &shown, &mut by_client, &mut unread)?;
     }
-    leave_dtls(&mut sheet)?;
     leave_hang_ups(&mut sheet, &shown.tenures, &hang_ups)?;
-    leave_addresses(&mut sheet, &shown, &hang_ups, by_client, unread)?;
+    let owners = leave_addresses(&mut sheet, &shown, &hang_ups, by_client, &mut unread)?;
     leave_clients(&mut sheet, &times, &shown)?;
+    leave_late_data(&mut sheet, &shown.tenures, &hang_ups, &owners)?;
+    leave_dtls(&mut sheet, &shown.tenures, &mut unread)?;
     Ok(sheet)
 }

@@ -1,7 +1,8 @@
 //! Setting aside what clients from before need.
 
 use crate::before::TimeBefore;
-use crate::inner::is_data;
+use crate::inner::{inner_peer, is_data};
+use crate::origin::Origin;
 use crate::peer_data::PeerData;
 use crate::responses::Shown;
 use crate::sheet::Sheet;
@@ -9,6 +10,7 @@ use crate::state_before::StateBefore;
 use audit_model::Side;
 use audit_stun::Class;
 use prep_cut::Reason;
+use prep_records::Record;
 use std::alloc::AllocError;
 
 /// Sets aside what is left of clients from before, with what asked for it, and answers that may be to what came before. It counts
@@ -37,7 +39,7 @@ pub(crate) fn leave_clients(
             continue;
         }
         if let Some(time) = times.get(pair as usize) {
-            leave_answer(sheet, at, pair, *time)?;
+            leave_answer(sheet, shown, (at, pair), *time)?;
         }
         let is_beyond = sheet.state_before(at) == StateBefore::Forbids;
         if is_beyond && sheet.is_kept(at) && matches!(needs.get(pair as usize), Some(true)) {
@@ -55,7 +57,7 @@ fn leave_needing(sheet: &mut Sheet<'_>, shown: &Shown, needs: &[bool]) -> Result
             continue;
         };
         if matches!(needs.get(pair as usize), Some(true)) {
-            leave_explained(sheet, at, pair, &mut peer_data)?;
+            leave_explained(sheet, shown, (at, pair), &mut peer_data)?;
         }
     }
     Ok(())
@@ -81,25 +83,52 @@ fn needing(sheet: &Sheet<'_>, at: usize) -> Option<u32> {
     }
 }
 
-/// Excludes a record that a state from before explains, with its request. Data that leaves without an arrival of its own stays in.
+/// From where the server has what leaves for a client from before. Data of a judged client's relayed address has no such origin.
+fn origin_of(
+    sheet: &mut Sheet<'_>,
+    shown: &Shown,
+    at: usize,
+    record: &Record,
+    peer_data: &mut PeerData,
+) -> Origin {
+    if !is_data(record) || !matches!(record.side, Side::Leaves) {
+        return Origin::Shown;
+    }
+    let is_judged = match inner_peer(sheet, &shown.channels, at) {
+        Some(peer) => shown.tenures.holder(peer, record.stamp).is_some(),
+        None => false,
+    };
+    if is_judged {
+        Origin::Missing
+    } else {
+        peer_data.origin(sheet, record)
+    }
+}
+
+/// Excludes a record that a state from before explains, with its request. Data that leaves without an arrival of its own stays in, and so
+/// does data that names a judged client's relayed address.
 fn leave_explained(
     sheet: &mut Sheet<'_>,
-    at: usize,
-    pair: u32,
+    shown: &Shown,
+    one: (usize, u32),
     peer_data: &mut PeerData,
 ) -> Result<(), AllocError> {
+    let (at, pair) = one;
     let (Some(named), Some(record)) = (sheet.pair(pair), sheet.record(at)) else {
         return Ok(());
     };
     if !sheet.is_kept(at) || sheet.state_before(at) != StateBefore::Explains {
         return Ok(());
     }
-    let is_sent = is_data(&record) && matches!(record.side, Side::Leaves);
-    if is_sent && !peer_data.explains(sheet, &record) {
-        if let Some(mark) = sheet.old.get_mut(at) {
-            *mark = StateBefore::Forbids;
+    match origin_of(sheet, shown, at, &record, peer_data) {
+        Origin::Shown => {}
+        Origin::Early => return sheet.leave(at, Reason::Edge),
+        Origin::Missing => {
+            if let Some(mark) = sheet.old.get_mut(at) {
+                *mark = StateBefore::Forbids;
+            }
+            return Ok(());
         }
-        return Ok(());
     }
     sheet.leave(at, Reason::Client(named))?;
     if let Some(request) = sheet.request_of(at) {
@@ -108,21 +137,25 @@ fn leave_explained(
     Ok(())
 }
 
-/// Sets aside an answer without a request in the captures that may be to one before them.
+/// Excludes a response without a request in the captures that may be to one before them, unless it grants a judged client's relayed address.
 fn leave_answer(
     sheet: &mut Sheet<'_>,
-    at: usize,
-    pair: u32,
+    shown: &Shown,
+    one: (usize, u32),
     time: TimeBefore,
 ) -> Result<(), AllocError> {
+    let (at, pair) = one;
     let (Some(exchanged), Some(named)) = (sheet.exchanged(at), sheet.pair(pair)) else {
         return Ok(());
     };
     let stamp = exchanged.record.stamp;
-    let hold = sheet.policy.hold.saturating_add(sheet.slack);
-    let is_early = stamp < time.departures && stamp <= sheet.begin.saturating_add(hold);
+    let is_early = stamp < time.departures && sheet.is_early(stamp);
     let is_alone = sheet.request_of(at).is_none();
-    if exchanged.is_answer() && is_alone && is_early {
+    let is_judged = match exchanged.stun.relayed {
+        Some(relayed) => shown.tenures.holder(relayed, stamp).is_some(),
+        None => false,
+    };
+    if exchanged.is_answer() && is_alone && is_early && !is_judged {
         sheet.leave(at, Reason::Answer(named))?;
     }
     Ok(())

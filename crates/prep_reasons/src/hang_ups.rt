@@ -97,14 +97,28 @@ impl HangUps {
         let all = self.all.as_slice();
         let behind = self
             .by_address
-            .partition_point(|place| key_at(all, *place) < Some((relayed, stamp)));
+            .partition_point(|place| key_at(all, *place) < Some((Some(relayed), stamp)));
         let place = *self.by_address.get(behind.checked_sub(1)?)?;
         let one = all.get(place as usize)?;
-        if one.relayed == relayed {
+        if one.relayed == Some(relayed) {
             Some(one)
         } else {
             None
         }
+    }
+
+    /// The last release of a client before a moment, if the client is from before.
+    pub(crate) fn from_before(&self, client: u32, stamp: u64) -> Option<&Released> {
+        let one = self.last_of(client, stamp)?;
+        match one.relayed {
+            None => Some(one),
+            Some(_) => None,
+        }
+    }
+
+    /// Whether some client from before lets go of what it has.
+    pub(crate) fn has_from_before(&self) -> bool {
+        self.all.iter().any(|one| one.relayed.is_none())
     }
 
     /// Whether a client lets go of a relayed address at some time.
@@ -159,7 +173,7 @@ fn sent_to(sheet: &Sheet<'_>, one: &Released, arrival: usize) -> Option<Addr> {
     one.peer_of(sent.content, sent.stamp.saturating_sub(sheet.slack))
 }
 
-fn key_at(all: &[Released], place: u32) -> Option<(Addr, u64)> {
+fn key_at(all: &[Released], place: u32) -> Option<(Option<Addr>, u64)> {
     let one = all.get(place as usize)?;
     Some((one.relayed, one.moment))
 }
@@ -173,12 +187,13 @@ fn allowed_by(
     peer: Addr,
     stamp: u64,
 ) -> Option<Allowed> {
+    let relayed = one.relayed?;
     let is_in_time = sheet.stated.is_behind(one.moment, stamp) && stamp < one.closed;
-    let is_own = match tenures.last_begun(one.relayed, stamp) {
+    let is_own = match tenures.last_begun(relayed, stamp) {
         Some(tenure) => tenure.pair == one.client && tenure.start <= one.moment,
         None => false,
     };
-    let is_told = match sheet.told_before(one.relayed, stamp.saturating_add(sheet.slack)) {
+    let is_told = match sheet.told_before(relayed, stamp.saturating_add(sheet.slack)) {
         Some(told) => told.stamp.saturating_add(sheet.slack) >= one.moment,
         None => false,
     };
@@ -188,11 +203,11 @@ fn allowed_by(
     let pair = sheet.pair(one.client)?;
     Some(Allowed {
         client: one.client,
-        relayed: one.relayed,
+        relayed,
         peer,
         reason: Reason::Released {
             pair,
-            relayed: one.relayed,
+            relayed,
             moment: one.moment,
         },
     })
@@ -218,11 +233,9 @@ fn arrivals_at(sheet: &Sheet<'_>, hang_ups: &HangUps) -> Result<Pool, AllocError
 
 /// Has data that leaves for a client before its release take its arrival.
 fn take_own(sheet: &mut Sheet<'_>, one: &Released, record: &Record, pool: &mut Pool) {
-    if let Some(peer) = one.peer_of(record.content, record.stamp) {
-        let group = Group::Between {
-            relayed: one.relayed,
-            peer,
-        };
+    let peer = one.peer_of(record.content, record.stamp);
+    if let (Some(relayed), Some(peer)) = (one.relayed, peer) {
+        let group = Group::Between { relayed, peer };
         let wanted = wanted_of(sheet, record, group);
         let _ = pool.take(sheet, wanted);
     }

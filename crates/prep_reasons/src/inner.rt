@@ -1,6 +1,7 @@
-//! Data between addresses of the service, and DTLS.
+//! Data between addresses of the service.
 
 use crate::channels::Channels;
+use crate::origin::Origin;
 use crate::peer_data::may_be_inner;
 use crate::pool::{Group, Grouping, Pool, Wanted};
 use crate::responses::Shown;
@@ -135,11 +136,8 @@ fn leave_inner_departures(
         if !matches!(record.side, Side::Leaves) {
             continue;
         }
-        let leaves = match shown.tenures.holder(peer, record.stamp) {
-            Some(client) => {
-                let wanted = wanted_of(sheet, &record, Group::Client(client));
-                take_inner(sheet, shown, by_client, at, wanted)
-            }
+        let origin = match shown.tenures.holder(peer, record.stamp) {
+            Some(client) => origin_at(sheet, shown, by_client, (at, client), &record),
             None => {
                 let mut pool = match from_before {
                     Some(pool) => pool,
@@ -148,14 +146,37 @@ fn leave_inner_departures(
                 let wanted = wanted_of(sheet, &record, Group::All);
                 let is_sent = take_inner(sheet, shown, &mut pool, at, wanted);
                 from_before = Some(pool);
-                is_sent || unread.explains(sheet, shown, &record)?
+                if is_sent {
+                    Origin::Shown
+                } else {
+                    unread.origin(sheet, shown, &record)?
+                }
             }
         };
-        if leaves {
-            leave_data(sheet, &shown.channels, at)?;
+        match origin {
+            Origin::Shown => leave_data(sheet, &shown.channels, at)?,
+            Origin::Early => sheet.leave(at, Reason::Edge)?,
+            Origin::Missing => {}
         }
     }
     Ok(())
+}
+
+/// From where the server has data that leaves a judged client's address: from that client alone.
+fn origin_at(
+    sheet: &mut Sheet<'_>,
+    shown: &Shown,
+    by_client: &mut Pool,
+    one: (usize, u32),
+    record: &Record,
+) -> Origin {
+    let (at, client) = one;
+    let wanted = wanted_of(sheet, record, Group::Client(client));
+    if take_inner(sheet, shown, by_client, at, wanted) {
+        Origin::Shown
+    } else {
+        Origin::Missing
+    }
 }
 
 /// Takes the arrival that is wanted for data that leaves for a client, and tells whether it was sent to an address that this client may have.
@@ -192,38 +213,4 @@ fn leave_data(sheet: &mut Sheet<'_>, channels: &Channels, at: usize) -> Result<(
         return Ok(());
     };
     sheet.leave(at, Reason::Inner { pair, peer })
-}
-
-/// Excludes DTLS with clients from which some has arrived, unless the operator states that no client comes by DTLS.
-pub(crate) fn leave_dtls(sheet: &mut Sheet<'_>) -> Result<(), AllocError> {
-    if sheet.stated.has_no_tcp {
-        return Ok(());
-    }
-    let mut speaks = vec![in sheet.alloc; false; sheet.pairs.len()]?;
-    for at in 0..sheet.records.len() {
-        let (Some(record), Some(pair)) = (sheet.record(at), sheet.pair_number(at)) else {
-            continue;
-        };
-        if matches!(record.content, Content::Dtls)
-            && matches!(record.side, Side::Arrives)
-            && sheet.is_kept(at)
-        {
-            if let Some(mark) = speaks.get_mut(pair as usize) {
-                *mark = true;
-            }
-        }
-    }
-    for at in 0..sheet.records.len() {
-        let (Some(record), Some(pair)) = (sheet.record(at), sheet.pair_number(at)) else {
-            continue;
-        };
-        let (Some(true), Some(named)) = (speaks.get(pair as usize).copied(), sheet.pair(pair))
-        else {
-            continue;
-        };
-        if matches!(record.content, Content::Dtls) {
-            sheet.leave(at, Reason::Dtls(named))?;
-        }
-    }
-    Ok(())
 }

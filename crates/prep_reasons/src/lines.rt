@@ -39,7 +39,9 @@ fn parts_of(client: FarEnd) -> (Addr, Addr) {
 
 fn key_of(reason: &Reason) -> ReasonKey {
     let (tenure, first, second, third) = match reason {
-        Reason::BeforeSince | Reason::AfterUntil => (0, NO_ADDRESS, NO_ADDRESS, NO_ADDRESS),
+        Reason::BeforeSince | Reason::Edge | Reason::AfterUntil => {
+            (0, NO_ADDRESS, NO_ADDRESS, NO_ADDRESS)
+        }
         Reason::Client(pair) | Reason::Answer(pair) | Reason::Dtls(pair) => {
             (0, pair.client, pair.listen, NO_ADDRESS)
         }

@@ -2,6 +2,7 @@
 
 use crate::channels::Channels;
 use crate::inner::{inner_peer, is_data, is_outside, wanted_of};
+use crate::origin::Origin;
 use crate::pool::{Group, Grouping, Pool};
 use crate::responses::Shown;
 use crate::sheet::Sheet;
@@ -49,16 +50,18 @@ impl PeerData {
         })
     }
 
-    /// Whether data that leaves for a client from before has an arrival of its own, which it takes: one with the same data within the hold
-    /// before, at a relayed address that no judged client has. Within the hold after the captures begin the arrival may be before them,
-    /// unless a judged client's address got the same data.
-    pub(crate) fn explains(&mut self, sheet: &mut Sheet<'_>, record: &Record) -> bool {
+    /// From where the server has data that leaves for a client from before: from an arrival of its own, which it takes, with the same data
+    /// within the hold before, at a relayed address that no judged client has. Or it is from before the captures, unless a judged client's
+    /// address got the same data.
+    pub(crate) fn origin(&mut self, sheet: &mut Sheet<'_>, record: &Record) -> Origin {
         let wanted = wanted_of(sheet, record, Group::All);
         if self.other.take(sheet, wanted).is_some() {
-            return true;
+            Origin::Shown
+        } else if sheet.is_early(record.stamp) && !self.has_judged(sheet, record) {
+            Origin::Early
+        } else {
+            Origin::Missing
         }
-        let hold = sheet.policy.hold.saturating_add(sheet.slack);
-        record.stamp <= sheet.begin.saturating_add(hold) && !self.has_judged(sheet, record)
     }
 
     /// Whether the same data arrived at a relayed address of a judged client, or of such a client, within the hold before.

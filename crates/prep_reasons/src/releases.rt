@@ -2,11 +2,11 @@
 
 use crate::before::{CHANNEL, PERMISSION};
 use crate::exchanged::Exchanged;
-use crate::sheet::Sheet;
+use crate::sheet::{SECOND, Sheet};
 use audit_model::{Addr, Side};
 use audit_stun::Class;
 use audit_stun::numbers::method;
-use prep_records::{Content, Stun};
+use prep_records::{Content, Record, Stun};
 use std::alloc::AllocError;
 use std::collections::BTreeMap;
 
@@ -20,13 +20,17 @@ struct Bound {
 /// An allocation that a client has, with its permissions and channels. To each end the grace is added.
 #[derive(Drop)]
 struct Held {
-    relayed: Addr,
+    /// Of a client from before it isn't known.
+    relayed: Option<Addr>,
     /// Of the Allocate that made it.
     tid: [u8; 12],
     until: u64,
     /// By the peer's address.
     permissions: BTreeMap<u32, u64>,
     channels: BTreeMap<u16, Bound>,
+    /// Until when a client from before may have all permissions and channels.
+    permissions_end: u64,
+    channels_end: u64,
 }
 
 /// An allocation of which its client let go.
@@ -34,7 +38,8 @@ struct Held {
 pub(crate) struct Released {
     /// The number of the client and its listen address.
     pub(crate) client: u32,
-    pub(crate) relayed: Addr,
+    /// Of a client from before it isn't known.
+    pub(crate) relayed: Option<Addr>,
     /// When the success left.
     pub(crate) moment: u64,
     /// When the client asked for an allocation the next time.
@@ -47,7 +52,7 @@ pub(crate) fn find_released(sheet: &Sheet<'_>) -> Result<Vec<Released>, AllocErr
     let mut all = Vec::new(sheet.alloc);
     for client in 0..sheet.pair_count() {
         let first = all.len();
-        let mut held: Option<Held> = None;
+        let mut held: Option<Held> = Held::from_before(sheet);
         for at in sheet.of_pair(client) {
             let at = *at as usize;
             if is_asked(sheet, at) {
@@ -120,6 +125,9 @@ fn held_behind(
     if answer.record.stamp > held.until {
         return Ok(After::Held(Some(held)));
     }
+    if answer.fails(437) && answer.stun.method != method::ALLOCATE {
+        return Ok(After::Held(None));
+    }
     if answer.succeeds(method::REFRESH) {
         return Ok(match answer.stun.lifetime {
             Some(0) => After::LetGo(held),
@@ -151,22 +159,42 @@ fn allocated(sheet: &Sheet<'_>, held: Option<Held>, answer: &Exchanged) -> Optio
         return held;
     };
     let is_again = match &held {
-        Some(held) => held.tid == answer.stun.tid && held.relayed == relayed,
+        Some(held) => held.tid == answer.stun.tid && held.relayed == Some(relayed),
         None => false,
     };
     if is_again || !sheet.policy.relays(relayed) {
         return held;
     }
     Some(Held {
-        relayed,
+        relayed: Some(relayed),
         tid: answer.stun.tid,
         until: answer.lease_end().saturating_add(sheet.policy.grace),
         permissions: BTreeMap::new(sheet.alloc),
         channels: BTreeMap::new(sheet.alloc),
+        permissions_end: 0,
+        channels_end: 0,
     })
 }
 
 impl Held {
+    /// What a client from before may have; none if the server started with the captures.
+    fn from_before(sheet: &Sheet<'_>) -> Option<Held> {
+        if sheet.stated.is_from_start {
+            return None;
+        }
+        let longest = sheet.stated.lifetime.saturating_mul(SECOND);
+        let begin = sheet.begin.saturating_add(sheet.policy.grace);
+        Some(Held {
+            relayed: None,
+            tid: [0; 12],
+            until: begin.saturating_add(longest),
+            permissions: BTreeMap::new(sheet.alloc),
+            channels: BTreeMap::new(sheet.alloc),
+            permissions_end: begin.saturating_add(PERMISSION),
+            channels_end: begin.saturating_add(CHANNEL),
+        })
+    }
+
     /// Permits peers from a moment on.
     fn permit(&mut self, moment: u64, peers: &[Addr]) -> Result<(), AllocError> {
         for peer in peers {
@@ -198,7 +226,18 @@ impl Released {
             Some(end) => moment <= *end,
             None => false,
         };
-        is_permitted && moment <= self.held.until
+        (is_permitted || moment <= self.held.permissions_end) && moment <= self.held.until
+    }
+
+    /// Whether a record may carry data from or for a peer at a moment: it names the peer, or a channel that is bound to it or may be.
+    pub(crate) fn may_be_with(&self, record: &Record, peer: Addr, moment: u64) -> bool {
+        match self.peer_of(record.content, moment) {
+            Some(named) => named == peer,
+            None => {
+                let is_channel = matches!(record.content, Content::Channel { .. });
+                is_channel && moment <= self.held.channels_end
+            }
+        }
     }
 
     /// The peer whose data a payload to the client carries, where a channel that it names would have been bound at a moment.

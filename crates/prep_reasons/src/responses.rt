@@ -7,7 +7,7 @@ use crate::tenures::{Tenure, Tenures};
 use audit_model::Side;
 use audit_stun::Class;
 use audit_stun::numbers::method;
-use std::alloc::AllocError;
+use std::alloc::{AllocError, Global};
 use std::collections::BTreeMap;
 
 /// A request by its method and transaction id.
@@ -19,18 +19,26 @@ struct RequestKey {
 }
 
 /// The requests of a transaction that arrived so far.
-#[derive(Clone, Copy)]
-struct Asked {
+#[derive(Drop)]
+struct Requests {
     /// The last one.
     last: usize,
-    /// How many of them no response answers.
-    waiting: u32,
+    /// The moments of all, in their order.
+    moments: Vec<u64>,
+    /// How many of these have a response, or are too early for one.
+    over: usize,
 }
 
-impl Asked {
-    /// The request that one more response answers, if one waits for it.
-    fn answer(&mut self) -> Option<usize> {
-        self.waiting = self.waiting.checked_sub(1)?;
+impl Requests {
+    /// The request to which one more response belongs, if there is one without a response from a moment on.
+    fn answer(&mut self, from: u64) -> Option<usize> {
+        let early = self.moments.partition_point(|moment| *moment < from);
+        let next = self.over.max(early);
+        self.over = next;
+        if next >= self.moments.len() {
+            return None;
+        }
+        self.over = next.saturating_add(1);
         Some(self.last)
     }
 }
@@ -86,8 +94,9 @@ pub(crate) fn read_responses(sheet: &mut Sheet<'_>) -> Result<Shown, AllocError>
 }
 
 fn read_pair(sheet: &mut Sheet<'_>, pair: u32, reading: &mut Reading) -> Result<(), AllocError> {
-    let mut asked: BTreeMap<RequestKey, Asked> = BTreeMap::new(sheet.alloc);
+    let mut asked: BTreeMap<RequestKey, Requests> = BTreeMap::new(sheet.alloc);
     let mut lease: Option<Lease> = None;
+    let hold = sheet.policy.hold.saturating_add(sheet.slack);
     let count = sheet.of_pair(pair).len();
     for place in 0..count {
         let Some(at) = sheet.of_pair(pair).get(place).copied() else {
@@ -100,15 +109,11 @@ fn read_pair(sheet: &mut Sheet<'_>, pair: u32, reading: &mut Reading) -> Result<
         let key = key_of(&exchanged);
         if matches!(exchanged.record.side, Side::Arrives) {
             if matches!(exchanged.stun.class, Class::Request) {
-                let waiting = match asked.get(&key) {
-                    Some(earlier) => earlier.waiting.saturating_add(1),
-                    None => 1,
-                };
-                asked.insert(key, Asked { last: at, waiting })?;
+                note_asked(sheet.alloc, &mut asked, key, (at, exchanged.record.stamp))?;
             }
         } else if exchanged.is_answer() {
             let request = match asked.get_mut(&key) {
-                Some(requests) => requests.answer(),
+                Some(requests) => requests.answer(exchanged.record.stamp.saturating_sub(hold)),
                 None => None,
             };
             sheet.note_request(at, request);
@@ -121,6 +126,28 @@ fn read_pair(sheet: &mut Sheet<'_>, pair: u32, reading: &mut Reading) -> Result<
             }
         }
     }
+    Ok(())
+}
+
+/// Notes a request, by its number and its moment.
+fn note_asked(
+    alloc: Global,
+    asked: &mut BTreeMap<RequestKey, Requests>,
+    key: RequestKey,
+    request: (usize, u64),
+) -> Result<(), AllocError> {
+    let (last, moment) = request;
+    let mut requests = match asked.remove(&key) {
+        Some(requests) => requests,
+        None => Requests {
+            last,
+            moments: Vec::new(alloc),
+            over: 0,
+        },
+    };
+    requests.last = last;
+    requests.moments.push(moment)?;
+    asked.insert(key, requests)?;
     Ok(())
 }
 

@@ -5,10 +5,9 @@ use crate::lines::Lines;
 use crate::members::Members;
 use crate::state_before::StateBefore;
 use audit_model::{Addr, Pair, Policy, Side};
-use prep_cut::{LineNumber, Reason, Stated};
-use prep_records::{Carrier, Content, Kept, MaybeNumber, Record, Records, Stun, Told, slack_of};
+use prep_cut::{LineNumber, Reason, Stated, slack_of};
+use prep_records::{Carrier, Content, Kept, MaybeNumber, Record, Records, Stun, Told};
 use std::alloc::{AllocError, Global};
-use std::collections::BTreeMap;
 
 /// Nanoseconds of a second.
 pub(crate) const SECOND: u64 = 1_000_000_000;
@@ -96,69 +95,6 @@ impl<'a> Sheet<'a> {
         sheet.leave_outside()?;
         sheet.number_pairs()?;
         Ok(sheet)
-    }
-
-    /// The line of what is outside the moments that are stated.
-    fn leave_outside(&mut self) -> Result<(), AllocError> {
-        let stated = self.stated;
-        for at in 0..self.records.len() {
-            let Some(record) = self.record(at) else {
-                continue;
-            };
-            let late = match record.side {
-                Side::Leaves => record.stamp,
-                Side::Arrives => record.stamp.saturating_sub(self.slack),
-            };
-            if stated.is_early(record.stamp) {
-                self.leave(at, Reason::BeforeSince)?;
-            } else if stated.is_late(late) {
-                self.leave(at, Reason::AfterUntil)?;
-            }
-        }
-        Ok(())
-    }
-
-    /// Numbers the clients with their listen addresses.
-    fn number_pairs(&mut self) -> Result<(), AllocError> {
-        let mut numbers: BTreeMap<(Addr, Addr), u32> = BTreeMap::new(self.alloc);
-        for at in 0..self.records.len() {
-            let Some(pair) = self.pair_in(at) else {
-                continue;
-            };
-            let key = (pair.client, pair.listen);
-            let number = match numbers.get(&key) {
-                Some(number) => *number,
-                None => {
-                    let number = u32::try_from(self.pairs.len()).unwrap_or(u32::MAX);
-                    self.pairs.push(pair)?;
-                    numbers.insert(key, number)?;
-                    number
-                }
-            };
-            if let Some(kept) = self.records.get_mut(at) {
-                kept.client = MaybeNumber::some(number);
-            }
-        }
-        self.members = Members::of_clients(self.alloc, &self.records, &self.why, &self.pairs)?;
-        Ok(())
-    }
-
-    /// The client and the listen address of a record that has them.
-    fn pair_in(&self, at: usize) -> Option<Pair> {
-        let record = self.record(at)?;
-        match record.content {
-            Content::Inside | Content::Relayed => None,
-            _ => Some(match record.side {
-                Side::Arrives => Pair {
-                    client: record.from,
-                    listen: record.to,
-                },
-                Side::Leaves => Pair {
-                    client: record.to,
-                    listen: record.from,
-                },
-            }),
-        }
     }
 
     /// How many records there are.
@@ -278,6 +214,12 @@ impl<'a> Sheet<'a> {
         }
     }
 
+    /// Whether what explains a departure may have arrived before the captures begin.
+    pub(crate) fn is_early(&self, stamp: u64) -> bool {
+        let hold = self.policy.hold.saturating_add(self.slack);
+        !self.stated.is_from_start && stamp <= self.begin.saturating_add(hold)
+    }
+
     /// Lets go of what only decisions need.
     pub(crate) fn forget_marks(&mut self) {
         self.requests = Vec::new(self.alloc);
@@ -285,11 +227,16 @@ impl<'a> Sheet<'a> {
         self.used = Vec::new(self.alloc);
     }
 
-    /// Sets a record aside by a line, unless it is already.
+    /// Excludes a record by a line, unless it is already.
     pub(crate) fn leave(&mut self, at: usize, reason: Reason) -> Result<(), AllocError> {
         if !self.is_kept(at) {
             return Ok(());
         }
+        self.move_to(at, reason)
+    }
+
+    /// Excludes a record by this line, and by no other one.
+    pub(crate) fn move_to(&mut self, at: usize, reason: Reason) -> Result<(), AllocError> {
         let line = self.lines.number_of(reason)?;
         if let Some(mark) = self.why.get_mut(at) {
             *mark = MaybeNumber::some(line);

@@ -19,8 +19,8 @@ const FAR: u64 = 60 * SECOND;
 pub(crate) enum Cause {
     /// That of no client.
     Nobody,
-    /// That of a client that is judged.
-    Judged,
+    /// That of a client that is judged, and its arrival, unless another departure took it.
+    Judged(Option<u32>),
     /// That of a client from before, by its number.
     FromBefore(u32),
 }
@@ -159,15 +159,15 @@ fn cause_of(sheet: &mut Sheet<'_>, record: &Record, pool: &mut Pool) -> Cause {
         from: record.stamp.saturating_sub(FAR),
         to: record.stamp.saturating_add(FAR),
     };
-    if pool.take(sheet, judged).is_some() {
-        return Cause::Judged;
+    if let Some(arrival) = pool.take(sheet, judged) {
+        return Cause::Judged(u32::try_from(arrival).ok());
     }
     let explained = wanted_of(sheet, record, Group::Explained);
     let Some(cause) = pool.take(sheet, explained) else {
         // A copy of what left already is still data of a judged client.
         let copied = wanted_of(sheet, record, Group::Judged);
         return match pool.first(sheet, copied) {
-            Some(_) => Cause::Judged,
+            Some(_) => Cause::Judged(None),
             None => Cause::Nobody,
         };
     };

@@ -1,5 +1,5 @@
 -- A recorder's relation, step by step.
-use Rattle.std.proofs.Common.{◌≡◌, ◌⊎◌, inl, inr, ℕ, Bool, true, false, List, [], ◌∷◌, ◌++◌, Option, Some, None, refl, sym, ap, subst, ◌∙◌, append_assoc}
+use Rattle.std.proofs.Common.{◌≡◌, ◌⊎◌, inl, inr, ℕ, Bool, true, false, List, [], ◌∷◌, ◌++◌, Option, Some, None, refl, sym, ap, subst, ◌∙◌, append_assoc, length, arith}
 use Rattle.std.proofs.lemmas.List.{append-nil}
 use Rattle.audit_model.specs.declared.policy.Policy.{Policy}
 use Rattle.prep_blocks.specs.declared.block.Block.{Block}
@@ -14,6 +14,10 @@ use Rattle.prep_cut.specs.Sending.{AreSenders, IsSentIn, SendsIn, is_sender}
 use Rattle.audit_model.specs.declared.address.Addr.{Addr}
 use Rattle.prep_records.specs.declared.recorder.Recorder.{Recorder}
 use Rattle.prep_records.specs.Recording.{IsRecording, GoesOn, Ended}
+use Rattle.prep_records.proofs.Learning.{Learns, events_more, only_more, after_more}
+use Rattle.prep_cut.specs.declared.lease.Event.{Event}
+use Rattle.prep_cut.specs.Noted.{events_at}
+use Rattle.std.specs.Prelude.{Contains}
 
 -- what was noted stays noted
 abbrev pub Keeps : Allocations → Allocations → Type 0
@@ -68,11 +72,14 @@ sent_by_all policy old client listen blocks b senders (inl had) = sent_before po
 sent_by_all policy old client listen blocks b senders (inr is) = sent_last policy client listen blocks b is
 
 noted_more : (policy : Policy) (old new : Allocations) (blocks : List Block) (b : Block) → AreNoted policy old blocks → is_noted_in policy new b ≡ true → Keeps old new
-    → Adds policy old new b → Joins policy old new b → AreNoted policy new (blocks ++ b ∷ [])
-noted_more policy old new blocks b noted one keeps adds joins = record {
+    → Adds policy old new b → Joins policy old new b → Learns policy old new b → AreNoted policy new (blocks ++ b ∷ [])
+noted_more policy old new blocks b noted one keeps adds joins learns = record {
   noted = one_more policy new blocks b (kept_all policy old new keeps blocks noted.noted) one;
   released = λ release is. shown_by_all policy old release blocks b noted.released (adds release is);
   senders = λ client listen is. sent_by_all policy old client listen blocks b noted.senders (joins client listen is);
+  events = events_more policy old new blocks b noted.events learns;
+  only = only_more policy old new blocks b noted.only learns;
+  first = after_more old.first new.first blocks b learns.less noted.first learns.least;
 }
 
 pub nothing_yet : (recorder : Recorder) (policy : Policy) (earlier : List Block) (text : List ℕ) (current : List Block) (piece : List ℕ)
@@ -83,14 +90,16 @@ nothing_yet recorder policy earlier text current piece r = record { taken = []; 
 pub step : (old new : Recorder) (policy : Policy) (earlier : List Block) (text : List ℕ) (current : List Block) (piece rest behind : List ℕ) (b : Block)
     → (g : GoesOn old policy earlier text current piece rest) → Gave new.splitter (text ++ g.taken) (current ++ g.more) rest b behind
     → new.policy.now ≡ old.policy.now → is_noted_in old.policy.now new.allocations b ≡ true → Keeps old.allocations new.allocations
-    → Adds old.policy.now old.allocations new.allocations b → Joins old.policy.now old.allocations new.allocations b → GoesOn new policy earlier text current piece behind
-step old new policy earlier text current piece rest behind b g gave same noted keeps adds joins =
+    → Adds old.policy.now old.allocations new.allocations b → Joins old.policy.now old.allocations new.allocations b → Learns old.policy.now old.allocations new.allocations b
+    → GoesOn new policy earlier text current piece behind
+step old new policy earlier text current piece rest behind b g gave same noted keeps adds joins learns =
     let text_so = append_assoc text g.taken gave.taken in
     let blocks_so = append_assoc current g.more (b ∷ []) in
     let one : is_noted_in policy new.allocations b ≡ true = ap (λ (p : Policy). is_noted_in p new.allocations b) (sym g.recording.policy_is) ∙ noted in
     let more : Adds policy old.allocations new.allocations b = subst (λ (p : Policy). Adds p old.allocations new.allocations b) g.recording.policy_is adds in
     let most : Joins policy old.allocations new.allocations b = subst (λ (p : Policy). Joins p old.allocations new.allocations b) g.recording.policy_is joins in
-    let all = noted_more policy old.allocations new.allocations (earlier ++ (current ++ g.more)) b g.recording.noted one keeps more most in
+    let learnt : Learns policy old.allocations new.allocations b = subst (λ (p : Policy). Learns p old.allocations new.allocations b) g.recording.policy_is learns in
+    let all = noted_more policy old.allocations new.allocations (earlier ++ (current ++ g.more)) b g.recording.noted one keeps more most learnt in
     let noted_so : AreNoted policy new.allocations (earlier ++ ((current ++ g.more) ++ b ∷ [])) =
     subst (λ (bs : List Block). AreNoted policy new.allocations bs) (append_assoc earlier (current ++ g.more) (b ∷ [])) all in
     record {
@@ -129,13 +138,24 @@ ended old new policy earlier text current r whole stands same noted = record {
 differ : {b : Bool} → b ≡ true → b ≡ false → ⊥
 differ e f = absurd cc
 
+empty : (event : Event) (events : List Event) → events ≡ [] → Contains events event → ⊥
+empty event events none (k, within, is) = let short : length events ≡ 0 = ap length none in omega (arith, short, within)
+
 pub first : (recorder : Recorder) (policy : Policy) → recorder.policy.now ≡ policy → StandsFor recorder.splitter [] []
     → ((release : Release) → is_released recorder.allocations release ≡ false)
-    → ((client listen : Addr) → is_sender recorder.allocations client listen ≡ false) → IsRecording recorder policy [] [] []
-first recorder policy same stands none nobody = record {
+    → ((client listen : Addr) → is_sender recorder.allocations client listen ≡ false)
+    → ((client listen : Addr) → events_at recorder.allocations.leases.clients client listen ≡ []) → IsRecording recorder policy [] [] []
+first recorder policy same stands none nobody nothing = record {
   policy_is = same;
   splits = stands;
-  noted = record { noted = tt; released = λ release is. absurd (differ is (none release)); senders = λ client listen is. absurd (differ is (nobody client listen)) };
+  noted = record {
+    noted = tt;
+    released = λ release is. absurd (differ is (none release));
+    senders = λ client listen is. absurd (differ is (nobody client listen));
+    events = λ event shown. absurd shown;
+    only = λ event client listen has. absurd (empty event (events_at recorder.allocations.leases.clients client listen) (nothing client listen) has);
+    first = tt;
+  };
 }
 
 pub finished : (recorder : Recorder) (policy : Policy) (earlier : List Block) → IsRecording recorder policy earlier [] [] → AreNoted policy recorder.allocations earlier

@@ -1,1 +1,2 @@
+mod Learning
 mod Going

@@ -15,6 +15,7 @@ pub struct Carrier {
     pub connection: u64,
     /// Whether what it carries may go on in the next packet of its connection.
     pub goes_on: bool,
+    pub is_dtls: bool,
 }
 
 /// A TCP segment of fewer bytes ends where its data ends: each host has to take one of 536 (RFC 9293, section 3.7.1).
@@ -66,6 +67,7 @@ pub(crate) fn carrier_in(policy: &Policy, stamp: u64, frame: &[u8]) -> Option<Ca
         bytes,
         connection: hasher.finish(),
         goes_on: ends.protocol == TCP && bytes >= LEAST_FULL,
+        is_dtls: false,
     })
 }
 

@@ -11,17 +11,8 @@ use audit_model::{Addr, Policy, Side};
 use audit_packets::{Seen, slice_datagram};
 use audit_pcapng::PacketSlice;
 use prep_blocks::{Block, PacketHead};
-use prep_cut::{Allocations, Stated, frame_in};
+use prep_cut::{Allocations, Stated, frame_in, slack_of};
 use std::alloc::{AllocError, Global};
-
-/// Twice the greatest skew of a policy, in nanoseconds.
-pub fn slack_of(policy: &Policy) -> u64 {
-    let mut most = policy.skew;
-    for own in policy.skews.as_slice() {
-        most = most.max(own.skew);
-    }
-    most.saturating_mul(2)
-}
 
 /// Keeps records of packets, capture by capture.
 #[derive(Drop)]
@@ -129,6 +120,7 @@ impl<'p> Keeper<'p> {
             bytes: u32::try_from(payload.len()).unwrap_or(u32::MAX),
             connection: 0,
             goes_on: false,
+            is_dtls: true,
         })?;
         Ok(())
     }

@@ -12,7 +12,6 @@ mod recorder;
 
 pub use carrier::Carrier;
 pub use elsewhere::note_told;
-pub use keeper::slack_of;
 pub use kept::Kept;
 pub use maybe_number::MaybeNumber;
 pub use record::{CapturePackets, Content, Outside, Record, Records, Stun, Told};

@@ -35,6 +35,19 @@ impl Read {
         }
     }
 
+    /// Of a DTLS record. In place of a digest it has the record's type (RFC 9147, section 4).
+    fn of_record(payload: &[u8]) -> Self {
+        let kind = match payload {
+            [first, ..] => *first,
+            [] => 0,
+        };
+        Read {
+            content: Content::Dtls,
+            digest: u64::from(kind),
+            length: u16::try_from(payload.len()).unwrap_or(u16::MAX),
+        }
+    }
+
     /// Of this data.
     pub(crate) fn of_data(content: Content, data: &[u8]) -> Self {
         Read {
@@ -52,7 +65,7 @@ pub(crate) fn read_payload(
     all: &mut Records,
 ) -> Result<Read, AllocError> {
     if is_dtls {
-        return Ok(Read::without_data(Content::Dtls));
+        return Ok(Read::of_record(payload));
     }
     if let Some((number, data, _)) = channel_data(payload) {
         return Ok(Read::of_data(Content::Channel { number }, data));

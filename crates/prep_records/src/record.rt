@@ -14,7 +14,7 @@ use std::alloc::Global;
 pub struct Record {
     /// Nanoseconds since 1970.
     pub stamp: u64,
-    /// Equal data has one digest.
+    /// Equal data has one digest. Of a DTLS record it is the record's type.
     pub digest: u64,
     pub from: Addr,
     pub to: Addr,

@@ -18,7 +18,8 @@ loop-preserved c = λ policy earlier text current at.
     let fits = (c.loop.invariant policy earlier text current at).1 in
     let gave = rw c.in-Some.is at (c.in_ok-block.ensures.block _ _ so_far.recording.splits) in
     let rest_short : length c.in-Some.behind.now + (c.loop.counter + 1) ≤ length c.args.piece.now = omega (arith, fits, gave.some, ap length gave.cut, length-append gave.taken c.in-Some.behind.now) in (
-      step c.loop.self _ policy earlier text current c.args.piece.now c.loop.rest.now c.in-Some.behind.now c.in-Some.block so_far gave refl c.in_ok-note.ensures.noted c.in_ok-note.ensures.kept c.in_ok-note.ensures.released c.in_ok-note.ensures.senders,
+      step c.loop.self _ policy earlier text current c.args.piece.now c.loop.rest.now c.in-Some.behind.now c.in-Some.block so_far gave refl c.in_ok-note.ensures.noted c.in_ok-note.ensures.kept c.in_ok-note.ensures.released c.in_ok-note.ensures.senders
+          (record { events = c.in_ok-note.ensures.events; kept = c.in_ok-note.ensures.events_kept; only = c.in_ok-note.ensures.events_only; least = c.in_ok-note.ensures.least; less = c.in_ok-note.ensures.less }),
       rest_short,
     )
 

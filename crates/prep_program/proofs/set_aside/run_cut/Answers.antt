@@ -1,0 +1,37 @@
+-- The plan, the captures that were cut by it, and its list.
+use Rattle.std.proofs.Common.{◌≡◌, ℕ, List, Option, Some, map, sym, ap, subst, ◌∙◌, Bor}
+use Rattle.std.specs.List.{AllZip}
+use Rattle.audit_model.specs.Sink.{followed_by}
+use Rattle.prep_program.specs.declared.cutting.ToCut.{ToCut}
+use Rattle.prep_program.specs.CutRuns.{IsPlanOf}
+use Rattle.prep_program.specs.Listing.{list_file}
+use Rattle.prep_program.specs.ListText.{list_text}
+use Rattle.prep_program.specs.Making.{files_of, with_files}
+use Rattle.prep_program.proofs.Requested.{texts_of}
+use Rattle.prep_program.proofs.set_aside.run_cut.Goals as goal
+
+pub returns-clause-cuts : goal.returns-clause-cuts
+returns-clause-cuts g c = λ policy captures holds texts.
+    let plan = c.in_ok-plan.field-0.plan in
+    let told = c.in_ok-plan.field-0.told in
+    let asked = c.deref-2.result.now in
+    let planned : IsPlanOf plan c.args.request.now.stated policy captures = c.in_ok-plan.ensures.planned policy captures holds texts in
+    let names : map (λ (one : ToCut). one.name.now) asked ≡ map (λ name. name.now) c.args.request.now.captures.items =
+    ap (λ (all : List ToCut). map (λ (one : ToCut). one.name.now) all) c.deref-2.ensures.value ∙ c.in_ok-captures.ensures in
+    let later = subst (λ (h : List ℕ → Option (List ℕ)). AllZip (λ (name : Bor (List ℕ)) (text : List ℕ). h name.now ≡ Some text) c.args.request.now.captures.items captures)
+    (sym c.plan_of.ensures.kept) texts in
+    let cuts = c.in_ok-all.ensures captures (texts_of (g.S.Source.holds c.plan_of.new.source) asked c.args.request.now.captures.items captures names later) in
+    let middle = files_of (g.M.Maker.making c.cut_captures.new.made) (g.M.Sink.taken c.cut_captures.new.made) in
+    let text : c.as_str.result.now ≡ list_text plan told c.in_ok-all.all = c.as_str.ensures.value ∙ c.in_ok-list.ensures in
+    record {
+      plan = plan;
+      says = told;
+      all = c.in_ok-all.all;
+      asked = asked;
+      middle = middle;
+      planned = planned;
+      names = names;
+      cuts = cuts;
+      listed = c.in_ok-write_list.ensures.made ∙ ap (λ (t : List ℕ). with_files middle (list_file c.args.request.now.folder.now t)) text;
+      printed_is = c.in_ok-write_list.ensures.told ∙ ap (λ (t : List ℕ). followed_by (g.O.Sink.taken c.args.out.now) t) text;
+    }
