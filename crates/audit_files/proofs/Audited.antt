@@ -1,5 +1,5 @@
 -- What an audit of files gives.
-use Rattle.std.proofs.Common.{◌≡◌, ℕ, List, Option, sym, arith}
+use Rattle.std.proofs.Common.{◌≡◌, ℕ, List, Option, arith}
 use Rattle.audit_files.specs.Judged.{IsAudited, status_of}
 use Rattle.audit_model.specs.Policy.{AreApart}
 use Rattle.audit_model.specs.declared.certificate.Certificate.{Certificate}

@@ -1,8 +1,9 @@
 -- What a reader of a file's pieces has been fed.
 use Rattle.std.proofs.Common.{◌≡◌, ◌≤◌, ◌<◌, ◌+◌, ◌++◌, ◌∙◌, ℕ, zero, suc, List, [], ◌∷◌, take, drop, length, get_or, ap, sym, subst, arith, append_assoc, append-nil}
 use Rattle.std.specs.List.{AllZip}
-use Rattle.std.proofs.lemmas.List.{take-append-drop, take-take, drop-take, take-append-le, set-set, set-get_or, set_at, get_or-set_same, get_or_at}
+use Rattle.std.proofs.lemmas.List.{length-drop, length-take, length-take-le, take-append-drop, take-take, drop-take, take-append-le, set-set, set-get_or, set_at, get_or-set_same, get_or_at}
 use Rattle.std.specs.Prelude.{slice_set, Result, Ok, Err, OnOk, IfOk}
+use Rattle.audit_files.specs.Pieces.{IsPieceAt}
 use Rattle.audit_pcapng.specs.declared.packet.Packet.{Packet}
 use Rattle.audit_sightings.specs.declared.intake.Intake.{Intake}
 use Rattle.audit_sightings.specs.Files.{Fed, GoesOn, StandsFor, fed_at, not_fed, with_piece}
@@ -18,6 +19,14 @@ fed_more bytes into at count same =
 -- a piece of a buffer that was filled from its front
 pub read_of : (into rest : List ℕ) (len count : ℕ) → count ≤ len → count ≤ length into → take count (take len (into ++ rest)) ≡ take count into
 read_of into rest len count short within = take-take count len (into ++ rest) short ∙ take-append-le count into rest within
+
+-- a piece that was read stands within the bytes
+pub piece_within : (bytes into : List ℕ) (at count : ℕ) → IsPieceAt bytes at count into → count ≤ length into → at ≤ length bytes → at + count ≤ length bytes
+piece_within bytes into at count piece room within =
+    let read : length (take count into) ≡ count = length-take-le count into room in
+    let same : length (take count into) ≡ length (take count (drop at bytes)) = ap length piece.same in
+    let short = length-take count (drop at bytes) in
+    omega (arith, read, same, short, length-drop at bytes)
 
 -- with nothing more of a file
 with_nothing : (files : List Fed) (file : ℕ) → with_piece files file [] [] ≡ files

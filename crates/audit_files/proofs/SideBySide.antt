@@ -1,6 +1,6 @@
 -- Captures that were read side by side.
 use Rattle.std.proofs.Common.{◌≡◌, ◌∙◌, ◌+◌, ◌<◌, ◌≤◌, ◌++◌, ◌∷◌, [], ℕ, List, get_or, length, map, take, drop, ap, sym, subst, arith, append_assoc}
-use Rattle.std.specs.Prelude.{replicate, Option, Some, None, IfNone, Result, Ok, Err, OnOk}
+use Rattle.std.specs.Prelude.{replicate, Option, Some, None, IfErr, IfNone, IfSome, Result, Ok, Err, OnOk}
 use Rattle.std.specs.Result.{result_err}
 use Rattle.std.proofs.lemmas.List.{length-append, length-take-le, length-map, map-append, take-append-le, take_all}
 use Rattle.std.proofs.lemmas.Grind.{take_at_read}
@@ -54,6 +54,20 @@ if_none (Some x) e p = absurd cc
 pub if_no_fault : {E : Type 0} (P : Type 0) (r : Result (Unit {0}) E) (fault : Option E) → fault ≡ result_err r → OnOk r P → IfNone fault P
 if_no_fault P (Ok done) fault e p = rw e p
 if_no_fault P (Err x) fault e p = rw e p
+
+-- and what a fault says of it
+pub if_fault : {E : Type 0} (P : E → Type 0) (r : Result (Unit {0}) E) (fault : Option E) → fault ≡ result_err r → IfErr r P → IfSome fault P
+if_fault P (Ok done) fault e p = rw e tt
+if_fault P (Err x) fault e p = rw e p
+
+-- what holds where there is something
+pub if_some : {T : Type 0} (P : T → Type 0) (o : Option T) (x : T) → o ≡ Some x → IfSome o P → P x
+if_some P None x e p = absurd cc
+if_some P (Some y) x e p = let same : y ≡ x = cc in subst P same p
+
+pub if_some_then : {T : Type 0} (P Q : T → Type 0) (o : Option T) → ((x : T) → P x → Q x) → IfSome o P → IfSome o Q
+if_some_then P Q None f p = p
+if_some_then P Q (Some x) f p = f x p
 
 -- and so holds what follows from it
 pub if_none_then : {T P Q : Type 0} (o : Option T) → (P → Q) → IfNone o P → IfNone o Q

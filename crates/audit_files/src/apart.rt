@@ -1,10 +1,13 @@
 //! Captures that are read side by side, each by one thread.
 
-ghost use Rattle.std.specs.Prelude.{◌≡◌, ◌<◌, ◌≤◌, ◌+◌, ◌++◌, ◌∷◌, [], ℕ, All, IfNone, IfOk, List, Some, length, map, replicate, slice_index_or, vec_len};
+ghost use Rattle.std.specs.Prelude.{◌≡◌, ◌<◌, ◌≤◌, ◌+◌, ◌++◌, ◌∷◌, [], ℕ, Bool, All, IfErr, IfNone, IfOk, IfSome, List, Some, length, map, replicate, slice_get, slice_index_or, vec_len};
 ghost use Rattle.std.specs.List.{AllZip};
+ghost use Rattle.std.proofs.Common.{Bor};
 ghost use Rattle.audit_pcapng.specs.declared.packet.Packet.{Packet};
-ghost use Rattle.audit_sightings.specs.Files.{Fed, StandsFor, not_fed};
+ghost use Rattle.audit_sightings.specs.Files.{Fed, StandsFor, not_fed, packets_of};
+ghost use Rattle.audit_files.specs.CaptureFaults.{EndsCaptures, EndsTaking, HasFront, IsReadAlone};
 ghost use Rattle.audit_files.specs.Captures.{Follow, Took};
+ghost use Rattle.audit_files.specs.declared.stop.Stop.TheVariants.{Memory};
 
 use crate::captures::take_capture;
 use crate::source::Source;
@@ -27,15 +30,20 @@ struct Reading<'n, S> {
 }
 
 impl<'n, S: Source> Reading<'n, S> {
-    ghost use Rattle.std.specs.Prelude.{◌≡◌, ◌++◌, ◌∷◌, [], ℕ, IfNone, List, Some};
+    ghost use Rattle.std.specs.Prelude.{◌≡◌, ◌<◌, ◌++◌, ◌∷◌, [], ℕ, IfNone, IfSome, List, Some, length};
     ghost use Rattle.audit_pcapng.specs.declared.packet.Packet.{Packet};
-    ghost use Rattle.audit_sightings.specs.Files.{Fed, StandsFor};
+    ghost use Rattle.audit_sightings.specs.Files.{Fed, StandsFor, packets_of};
+    ghost use Rattle.audit_files.specs.CaptureFaults.{EndsTaking, HasFront};
 
     /// Reads the capture to its end, or to where it is refused.
     fn read(&mut self, alloc: Global)
         ensures policy { self.new.intake.policy ≡ self.old.intake.policy }
         ensures fed { (bytes : List ℕ) (files : List Fed) → S.holds self.old.source self.old.name.now ≡ Some bytes → StandsFor self.old.intake files
             → IfNone self.new.stop ((packets : List Packet) × StandsFor self.new.intake (files ++ record { text = bytes; packets = packets } ∷ [])) }
+        ensures front { (bytes : List ℕ) (files : List Fed) → S.holds self.old.source self.old.name.now ≡ Some bytes → StandsFor self.old.intake files → length files < 16
+            → HasFront self.old.intake.policy (packets_of files) (length files) bytes self.new.intake.interfaces }
+        ensures refused { (bytes : List ℕ) (files : List Fed) → S.holds self.old.source self.old.name.now ≡ Some bytes → StandsFor self.old.intake files
+            → IfSome self.new.stop (EndsTaking (S.may_fail self.old.source self.old.name.now) self.old.intake.policy files bytes) }
     {
         self.stop = take_capture(alloc, &mut self.source, self.name, &mut self.intake).err();
     }
@@ -45,6 +53,7 @@ impl<'n, S: Source> Reading<'n, S> {
 fn with_files(intake: &Intake, count: u32) -> Result<Intake, Stop>
     ensures policy { IfOk result (λ made. made.policy ≡ intake.now.policy) }
     ensures stands { IfOk result (λ made. StandsFor made (replicate count not_fed)) }
+    ensures refused { count ≤ 16 → IfErr result (λ stop. stop ≡ Memory) }
 {
     let mut made = intake.beside()?;
     'files: for _ in 0..count {
@@ -67,6 +76,8 @@ fn readings_of<'n, S: Source>(
     ensures policies { IfOk result (λ readings. All (λ reading. reading.intake.policy ≡ intake.now.policy) readings.items) }
     ensures stands { IfOk result (λ readings. (i : ℕ) (d : _) → i < length readings.items
         → StandsFor (slice_index_or readings.items i d).intake (replicate (files + i) not_fed)) }
+    ensures steady { IfOk result (λ readings. All (λ reading. S.may_fail reading.source ≡ S.may_fail source.now) readings.items) }
+    ensures refused { IfErr result (λ stop. stop ≡ Memory) }
 {
     let mut readings = Vec::with_capacity(alloc, names.len())?;
     'names: for name in names {
@@ -89,6 +100,9 @@ fn all_joined<S: Source>(intake: Intake, readings: Vec<Reading<'_, S>>) -> Resul
         → ((i : ℕ) (d : _) → i < length readings.entry.items → IfNone (slice_index_or readings.entry.items i d).stop
         (Took (length files + i) (slice_index_or texts i []) (slice_index_or readings.entry.items i d).intake))
         → IfOk result (Follow files texts) }
+    ensures refused { (may_fail : List ℕ → Bool) (names : List (Bor (List ℕ))) (texts : List (List ℕ)) → StandsFor intake [] → length texts ≡ length readings.entry.items
+        → ((i : ℕ) (d : _) → i < length readings.entry.items → (name : _) × (slice_get names i ≡ Some name) × IsReadAlone (may_fail name.now) intake.policy i (slice_index_or texts i []) (slice_index_or readings.entry.items i d).intake (slice_index_or readings.entry.items i d).stop)
+        → IfErr result (EndsCaptures may_fail names intake.policy texts) }
 {
     let mut whole = intake;
     'readings: for reading in readings {
@@ -111,6 +125,12 @@ fn read_all<R: Threads + Sync, S: Source>(
     ensures fed { (i : ℕ) (d : _) (bytes : List ℕ) (files : List Fed) → i < length readings.old
         → S.holds (slice_index_or readings.old i d).source (slice_index_or readings.old i d).name.now ≡ Some bytes → StandsFor (slice_index_or readings.old i d).intake files
         → IfNone (slice_index_or readings.new i d).stop ((packets : List Packet) × StandsFor (slice_index_or readings.new i d).intake (files ++ record { text = bytes; packets = packets } ∷ [])) }
+    ensures front { (i : ℕ) (d : _) (bytes : List ℕ) (files : List Fed) → i < length readings.old
+        → S.holds (slice_index_or readings.old i d).source (slice_index_or readings.old i d).name.now ≡ Some bytes → StandsFor (slice_index_or readings.old i d).intake files → length files < 16
+        → HasFront (slice_index_or readings.old i d).intake.policy (packets_of files) (length files) bytes (slice_index_or readings.new i d).intake.interfaces }
+    ensures refused { (i : ℕ) (d : _) (bytes : List ℕ) (files : List Fed) → i < length readings.old
+        → S.holds (slice_index_or readings.old i d).source (slice_index_or readings.old i d).name.now ≡ Some bytes → StandsFor (slice_index_or readings.old i d).intake files
+        → IfSome (slice_index_or readings.new i d).stop (EndsTaking (S.may_fail (slice_index_or readings.old i d).source (slice_index_or readings.old i d).name.now) (slice_index_or readings.old i d).intake.policy files bytes) }
 {
     thread::for_each_mut(
         rt,
@@ -133,6 +153,8 @@ pub fn take_apart<R: Threads + Sync, S: Source>(
     ensures policy { IfOk result (λ done. done.policy ≡ intake.policy) }
     ensures fed { (texts : List (List ℕ)) (files : List Fed) → StandsFor intake files → AllZip (λ name text. S.holds source.now name.now ≡ Some text) names.now texts
         → IfOk result (Follow files texts) }
+    ensures refused { (texts : List (List ℕ)) → StandsFor intake [] → AllZip (λ name text. S.holds source.now name.now ≡ Some text) names.now texts
+        → IfErr result (EndsCaptures (S.may_fail source.now) names.now intake.policy texts) }
 {
     let (files, _) = intake.counts();
     let mut readings = readings_of(alloc, source, names, &intake, files)?;

@@ -1,10 +1,11 @@
 //! The captures of a run, read piece by piece.
 
-ghost use Rattle.std.specs.Prelude.{◌≡◌, ◌<◌, ◌++◌, ◌∷◌, [], ℕ, IfOk, List, OnOk, Some, vec_len};
+ghost use Rattle.std.specs.Prelude.{◌≡◌, ◌<◌, ◌++◌, ◌∷◌, [], ℕ, IfErr, IfOk, List, OnOk, Some, length, vec_len};
 ghost use Rattle.std.specs.List.{AllZip};
 ghost use Rattle.audit_pcapng.specs.declared.packet.Packet.{Packet};
-ghost use Rattle.audit_sightings.specs.Files.{Fed, GoesOn, StandsFor};
+ghost use Rattle.audit_sightings.specs.Files.{Fed, GoesOn, StandsFor, fed_at, not_fed, packets_of};
 ghost use Rattle.audit_sightings.specs.Intake.{taken};
+ghost use Rattle.audit_files.specs.CaptureFaults.{EndsCapture, EndsCaptures, EndsTaking, HasFront};
 ghost use Rattle.audit_files.specs.Captures.{AreTakenIn, Follow};
 
 use crate::apart::take_apart;
@@ -28,6 +29,11 @@ fn feed_capture<S: Source>(
     ensures policy { intake.new.policy ≡ intake.old.policy }
     ensures fed { (bytes : List ℕ) (files : List Fed) → S.holds source.old name.now ≡ Some bytes → StandsFor intake.old files
         → OnOk result (GoesOn intake.new files file bytes) }
+    ensures steady { S.may_fail source.new ≡ S.may_fail source.old }
+    ensures front { (bytes : List ℕ) (files : List Fed) → S.holds source.old name.now ≡ Some bytes → StandsFor intake.old files → fed_at files file ≡ not_fed
+        → HasFront intake.old.policy (packets_of files) file bytes intake.new.interfaces }
+    ensures refused { (bytes : List ℕ) (files : List Fed) → S.holds source.old name.now ≡ Some bytes → StandsFor intake.old files → fed_at files file ≡ not_fed
+        → IfErr result (EndsCapture (S.may_fail source.old name.now) intake.old.policy (packets_of files) file bytes) }
 {
     let mut piece = vec![in alloc; 0u8; PIECE]?;
     let mut at = 0u64;
@@ -56,6 +62,11 @@ pub fn take_capture<S: Source>(
     ensures policy { intake.new.policy ≡ intake.old.policy }
     ensures fed { (bytes : List ℕ) (files : List Fed) → S.holds source.old name.now ≡ Some bytes → StandsFor intake.old files
         → OnOk result ((packets : List Packet) × StandsFor intake.new (files ++ record { text = bytes; packets = packets } ∷ [])) }
+    ensures steady { S.may_fail source.new ≡ S.may_fail source.old }
+    ensures front { (bytes : List ℕ) (files : List Fed) → S.holds source.old name.now ≡ Some bytes → StandsFor intake.old files → length files < 16
+        → HasFront intake.old.policy (packets_of files) (length files) bytes intake.new.interfaces }
+    ensures refused { (bytes : List ℕ) (files : List Fed) → S.holds source.old name.now ≡ Some bytes → StandsFor intake.old files
+        → IfErr result (EndsTaking (S.may_fail source.old name.now) intake.old.policy files bytes) }
 {
     let file = intake.add_file()?;
     feed_capture(alloc, source, name, intake, file)
@@ -72,6 +83,9 @@ fn take_in_turn<S: Source>(
     ensures policy { IfOk result (λ done. done.policy ≡ intake.policy) }
     ensures fed { (texts : List (List ℕ)) (files : List Fed) → StandsFor intake files → AllZip (λ name text. S.holds source.old name.now ≡ Some text) names.now texts
         → IfOk result (Follow files texts) }
+    ensures steady { S.may_fail source.new ≡ S.may_fail source.old }
+    ensures refused { (texts : List (List ℕ)) → StandsFor intake [] → AllZip (λ name text. S.holds source.old name.now ≡ Some text) names.now texts
+        → IfErr result (EndsCaptures (S.may_fail source.old) names.now intake.policy texts) }
 {
     for name in names {
         take_capture(alloc, source, name, &mut intake)?;
@@ -92,6 +106,9 @@ fn take_all<R: Threads + Sync, S: Source>(
     ensures policy { IfOk result (λ done. done.policy ≡ intake.policy) }
     ensures fed { (texts : List (List ℕ)) (files : List Fed) → StandsFor intake files → AllZip (λ name text. S.holds source.old name.now ≡ Some text) names.now texts
         → IfOk result (Follow files texts) }
+    ensures steady { S.may_fail source.new ≡ S.may_fail source.old }
+    ensures refused { (texts : List (List ℕ)) → StandsFor intake [] → AllZip (λ name text. S.holds source.old name.now ≡ Some text) names.now texts
+        → IfErr result (EndsCaptures (S.may_fail source.old) names.now intake.policy texts) }
 {
     let (files, _) = intake.counts();
     if workers.count > 1 && names.len() > 1 && names.len() <= MAX_FILES - files as usize {
@@ -114,6 +131,9 @@ pub fn take_in<R: Threads + Sync, S: Source>(
     ensures policy { IfOk result (λ done. done.policy ≡ intake.policy) }
     ensures taken { (texts : List (List ℕ)) → StandsFor intake [] → AllZip (λ name text. S.holds source.old name.now ≡ Some text) names.now texts
         → IfOk result (λ done. AreTakenIn texts (taken done)) }
+    ensures steady { S.may_fail source.new ≡ S.may_fail source.old }
+    ensures refused { (texts : List (List ℕ)) → StandsFor intake [] → AllZip (λ name text. S.holds source.old name.now ≡ Some text) names.now texts
+        → IfErr result (EndsCaptures (S.may_fail source.old) names.now intake.policy texts) }
 {
     let intake = take_all(rt, alloc, source, names, intake, workers)?;
     intake.finish()?;

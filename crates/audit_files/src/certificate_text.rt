@@ -1,9 +1,10 @@
 //! The text of a certificate, kept in memory until its lines are read.
 
-ghost use Rattle.std.specs.Prelude.{◌≡◌, ℕ, [], IfOk, List, Ok};
+ghost use Rattle.std.specs.Prelude.{◌≡◌, ℕ, [], IfErr, IfOk, List, Ok};
 ghost use Rattle.audit_cert.specs.CertText.{cert_of};
 ghost use Rattle.audit_cert.specs.Spelling.{said_by};
 ghost use Rattle.audit_files.specs.CertificateTexts.{HasText};
+ghost use Rattle.audit_files.specs.Refusals.{RefusesCertificate};
 
 use crate::stop::Stop;
 use crate::text::TextReading;
@@ -37,7 +38,8 @@ impl CertificateText {
 
     /// The certificate that the text spells, or its first fault. One pass over the rest, which is freed then.
     pub fn read(self) -> Result<Certificate, Stop>
-        ensures { (text : List ℕ) → HasText self text → IfOk result (λ certificate. cert_of text ≡ Ok (said_by certificate)) }
+        ensures ok { (text : List ℕ) → HasText self text → IfOk result (λ certificate. cert_of text ≡ Ok (said_by certificate)) }
+        ensures err { (text : List ℕ) → HasText self text → IfErr result (RefusesCertificate text) }
     {
         let reader = self.reader.feed(self.rest.as_slice())?;
         Ok(reader.finish()?)
@@ -46,12 +48,15 @@ impl CertificateText {
 
 impl TextReading for CertificateText {
     ghost use Rattle.audit_files.specs.CertificateTexts.{HasText};
+    ghost use Rattle.audit_files.specs.Refusals.{RefusesCertificate};
 
     type Whole = CertificateText;
 
     ghost stands = { HasText };
 
     ghost says = { λ text kept. HasText kept text };
+
+    ghost refuses = { RefusesCertificate };
 
     /// Keeps the piece. The first one is read at once, so that a wrong file is refused at its beginning, and what is kept where it is too much.
     fn feed(self, piece: &[u8]) -> Result<Self, Stop> {

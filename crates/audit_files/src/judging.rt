@@ -1,6 +1,6 @@
 //! The verdict on what the files of a run hold.
 
-ghost use Rattle.std.specs.Prelude.{◌≡◌, ◌↔◌, [], ℕ, IfNone, IfOk, IfSome, List, Ok, Some};
+ghost use Rattle.std.specs.Prelude.{◌≡◌, ◌⊎◌, ◌↔◌, [], ℕ, IfErr, IfNone, IfOk, IfSome, List, Ok, Some};
 ghost use Rattle.std.specs.List.{AllZip};
 ghost use Rattle.audit_cert.specs.CertText.{cert_of};
 ghost use Rattle.audit_cert.specs.Spelling.{said_by};
@@ -14,9 +14,12 @@ ghost use Rattle.audit_verdict.specs.Verdicts.{IsConforming, IsVerdict};
 ghost use Rattle.audit_whole.specs.CaptureRun.{rules_for};
 ghost use Rattle.audit_whole.specs.Conforms.{Conforms};
 ghost use Rattle.audit_whole.specs.Headline.{Headline};
+ghost use Rattle.audit_files.specs.CaptureFaults.{EndsCaptures};
 ghost use Rattle.audit_files.specs.Captures.{AreTakenIn};
 ghost use Rattle.audit_files.specs.CertificateTexts.{HasText};
+ghost use Rattle.audit_files.specs.Ends.{EndsBoth, EndsCheck, EndsFiles, EndsWriting};
 ghost use Rattle.audit_files.specs.Judged.{AreRead, AreUsers, IsAudited, IsJudged, IsTold};
+ghost use Rattle.audit_files.specs.Refusals.{EndsReading, RefusesCertificate, RefusesCredentials, RefusesPolicy, may_fail_of};
 
 use crate::captures::take_in;
 use crate::certificate_text::CertificateText;
@@ -40,6 +43,8 @@ pub fn read_policy<S: Source>(alloc: Global, source: &mut S, name: &str) -> Resu
     ensures kept { S.holds source.new ≡ S.holds source.old }
     ensures says { (text : List ℕ) → S.holds source.old name.now ≡ Some text → IfOk result (λ policy. policy_of text ≡ Ok policy) }
     ensures apart { (text : List ℕ) → S.holds source.old name.now ≡ Some text → IfOk result AreApart }
+    ensures steady { S.may_fail source.new ≡ S.may_fail source.old }
+    ensures refused { (text : List ℕ) → S.holds source.old name.now ≡ Some text → IfErr result (EndsReading (S.may_fail source.old name.now) text (RefusesPolicy text)) }
 {
     read_text(alloc, source, name, PolicyReader::new(alloc))
 }
@@ -53,6 +58,9 @@ pub fn read_users<S: Source>(
     ensures kept { S.holds source.new ≡ S.holds source.old }
     ensures says { (text : List ℕ) → IfSome name.entry (λ name. S.holds source.old name.now ≡ Some text) → IfNone name.entry (text ≡ [])
         → IfOk result (λ users. AreUsers text (key_for users)) }
+    ensures steady { S.may_fail source.new ≡ S.may_fail source.old }
+    ensures refused { (text : List ℕ) → IfSome name.entry (λ name. S.holds source.old name.now ≡ Some text) → IfNone name.entry (text ≡ [])
+        → IfErr result (EndsReading (may_fail_of (S.may_fail source.old) name.entry) text (RefusesCredentials text)) }
 {
     match name {
         Some(name) => read_text(alloc, source, name, CredentialsReader::new(alloc)),
@@ -78,11 +86,16 @@ pub fn read_files<R: Threads + Sync, S: Source>(
     captures: &[&str],
     workers: Workers,
 ) -> Result<Files, Stop>
-    ensures { (policy_text users_text : List ℕ) (texts : List (List ℕ)) →
+    ensures read { (policy_text users_text : List ℕ) (texts : List (List ℕ)) →
         S.holds source.old policy.now ≡ Some policy_text →
         IfSome users.entry (λ name. S.holds source.old name.now ≡ Some users_text) → IfNone users.entry (users_text ≡ []) →
         AllZip (λ name text. S.holds source.old name.now ≡ Some text) captures.now texts →
         IfOk result (λ files. AreRead policy_text users_text texts (taken files.intake) (key_for files.users)) }
+    ensures refused { (policy_text users_text : List ℕ) (texts : List (List ℕ)) →
+        S.holds source.old policy.now ≡ Some policy_text →
+        IfSome users.entry (λ name. S.holds source.old name.now ≡ Some users_text) → IfNone users.entry (users_text ≡ []) →
+        AllZip (λ name text. S.holds source.old name.now ≡ Some text) captures.now texts →
+        IfErr result (EndsFiles (S.may_fail source.old) policy.now policy_text users.entry users_text captures.now texts) }
 {
     let policy = read_policy(alloc, source, policy)?;
     let users = read_users(alloc, source, users)?;
@@ -118,7 +131,8 @@ pub fn tell<O: Sink>(
     intake: &Intake,
     out: &mut O,
 ) -> Result<u8, Stop>
-    ensures { IfOk result (IsTold (taken intake.now) verdict.now (O.taken out.old) (O.taken out.new)) }
+    ensures told { IfOk result (IsTold (taken intake.now) verdict.now (O.taken out.old) (O.taken out.new)) }
+    ensures unwritten { IfErr result (EndsWriting (O.failures out.old) (O.failures out.new)) }
 {
     report(alloc, verdict, intake, out)?;
     match verdict {
@@ -138,7 +152,8 @@ pub fn judge<R: Threads + Wait + Sync, O: Sink>(
     workers: Workers,
     out: &mut O,
 ) -> Result<u8, Stop>
-    ensures { IfOk result (IsJudged (taken intake.now) (key_for users.now) certificate.now (O.taken out.old) (O.taken out.new)) }
+    ensures judged { IfOk result (IsJudged (taken intake.now) (key_for users.now) certificate.now (O.taken out.old) (O.taken out.new)) }
+    ensures unwritten { IfErr result (EndsWriting (O.failures out.old) (O.failures out.new)) }
 {
     let verdict = verdict_of(rt, alloc, intake, users, certificate, workers)?;
     tell(alloc, &verdict, intake, out)
@@ -160,6 +175,8 @@ fn read_both<R: Threads + Sync, S: Source>(
     ensures policy { IfOk result (λ both. both.1.policy ≡ intake.policy) }
     ensures captures { (texts : List (List ℕ)) → StandsFor intake [] → AllZip (λ name text. S.holds source.old name.now ≡ Some text) captures.now texts
         → IfOk result (λ both. AreTakenIn texts (taken both.1)) }
+    ensures refused { (text : List ℕ) (texts : List (List ℕ)) → S.holds source.old certificate.now ≡ Some text → StandsFor intake [] → AllZip (λ name text. S.holds source.old name.now ≡ Some text) captures.now texts
+        → IfErr result (EndsBoth (S.may_fail source.old) certificate.now text captures.now intake.policy texts) }
 {
     if workers.count == 1 {
         let reader = CertificateReader::new(alloc);
@@ -169,12 +186,15 @@ fn read_both<R: Threads + Sync, S: Source>(
     }
     let text = read_text(alloc, source, certificate, CertificateText::new(alloc))?;
     let lines = move || -> Result<Certificate, Stop>
-        ensures { (bytes : List ℕ) → HasText text bytes → IfOk result (λ certificate. cert_of bytes ≡ Ok (said_by certificate)) }
+        ensures first { (bytes : List ℕ) → HasText text bytes → IfOk result (λ certificate. cert_of bytes ≡ Ok (said_by certificate)) }
+        ensures refused { (bytes : List ℕ) → HasText text bytes → IfErr result (RefusesCertificate bytes) }
     { text.read() };
     let frames = move || -> Result<Intake, Stop>
         ensures policy { IfOk result (λ done. done.policy ≡ intake.policy) }
         ensures captures { (texts : List (List ℕ)) → StandsFor intake [] → AllZip (λ name text. S.holds source.entry.now name.now ≡ Some text) captures.entry.now texts
             → IfOk result (λ done. AreTakenIn texts (taken done)) }
+        ensures refused { (texts : List (List ℕ)) → StandsFor intake [] → AllZip (λ name text. S.holds source.entry.now name.now ≡ Some text) captures.entry.now texts
+            → IfErr result (EndsCaptures (S.may_fail source.entry.now) captures.entry.now intake.policy texts) }
     { take_in(rt, alloc, source, captures, intake, workers.others()) };
     let (certificate, intake) = join(rt, lines, frames);
     Ok((certificate?, intake?))
@@ -194,13 +214,20 @@ pub fn check_files<R: Threads + Wait + Sync, S: Source, O: Sink>(
     workers: Workers,
     out: &mut O,
 ) -> Result<u8, Stop>
-    ensures { (policy_text users_text certificate_text : List ℕ) (texts : List (List ℕ)) →
+    ensures audited { (policy_text users_text certificate_text : List ℕ) (texts : List (List ℕ)) →
         S.holds source.old policy.now ≡ Some policy_text →
         IfSome users.entry (λ name. S.holds source.old name.now ≡ Some users_text) → IfNone users.entry (users_text ≡ []) →
         S.holds source.old certificate.now ≡ Some certificate_text →
         AllZip (λ name text. S.holds source.old name.now ≡ Some text) captures.now texts →
         IfOk result (λ status. (written : Written) × (cert_of certificate_text ≡ Ok (said_by written))
         × IsAudited policy_text users_text texts written (O.taken out.old) (O.taken out.new) status) }
+    ensures ended { (policy_text users_text certificate_text : List ℕ) (texts : List (List ℕ)) →
+        S.holds source.old policy.now ≡ Some policy_text →
+        IfSome users.entry (λ name. S.holds source.old name.now ≡ Some users_text) → IfNone users.entry (users_text ≡ []) →
+        S.holds source.old certificate.now ≡ Some certificate_text →
+        AllZip (λ name text. S.holds source.old name.now ≡ Some text) captures.now texts →
+        IfErr result (λ stop. EndsCheck (S.may_fail source.old) policy.now policy_text users.entry users_text certificate.now certificate_text captures.now texts stop
+        ⊎ EndsWriting (O.failures out.old) (O.failures out.new) stop) }
 {
     let policy = read_policy(alloc, source, policy)?;
     let users = read_users(alloc, source, users)?;

@@ -1,7 +1,8 @@
 //! Why a run ends before its answer.
 
 ghost use Rattle.std.specs.Prelude.{◌≡◌};
-ghost use Rattle.audit_files.specs.Stops.{status_of_stop};
+ghost use Rattle.audit_files.specs.Stops.{status_of_stop, EndsByCertificate, EndsByCredentials, EndsByIntake, EndsByPolicy, EndsByWrite};
+ghost use Rattle.audit_files.specs.declared.stop.Stop.TheVariants.{Memory, Read, Write};
 
 use crate::source::ReadFailed;
 use audit_cert::{CertFault, CertFaultKind};
@@ -68,30 +69,40 @@ impl fmt::Display for Stop {
 }
 
 impl From<AllocError> for Stop {
+    ghost from_gives = { λ _ stop. stop ≡ Memory };
+
     fn from(_error: AllocError) -> Stop {
         Stop::Memory
     }
 }
 
 impl<T: Drop> From<AllocFailed<T>> for Stop {
+    ghost from_gives = { λ _ stop. stop ≡ Memory };
+
     fn from(_failed: AllocFailed<T>) -> Stop {
         Stop::Memory
     }
 }
 
 impl From<ReadFailed> for Stop {
+    ghost from_gives = { λ _ stop. stop ≡ Read };
+
     fn from(_failed: ReadFailed) -> Stop {
         Stop::Read
     }
 }
 
 impl From<SinkFailed> for Stop {
+    ghost from_gives = { λ _ stop. stop ≡ Write };
+
     fn from(_failed: SinkFailed) -> Stop {
         Stop::Write
     }
 }
 
 impl From<WriteFault> for Stop {
+    ghost from_gives = { EndsByWrite };
+
     fn from(fault: WriteFault) -> Stop {
         match fault {
             WriteFault::Device => Stop::Write,
@@ -101,6 +112,8 @@ impl From<WriteFault> for Stop {
 }
 
 impl From<PolicyFault> for Stop {
+    ghost from_gives = { EndsByPolicy };
+
     fn from(fault: PolicyFault) -> Stop {
         if fault.kind == PolicyFaultKind::Memory {
             return Stop::Memory;
@@ -113,6 +126,8 @@ impl From<PolicyFault> for Stop {
 }
 
 impl From<CredFault> for Stop {
+    ghost from_gives = { EndsByCredentials };
+
     fn from(fault: CredFault) -> Stop {
         if fault.kind == CredFaultKind::Memory {
             return Stop::Memory;
@@ -125,6 +140,8 @@ impl From<CredFault> for Stop {
 }
 
 impl From<CertFault> for Stop {
+    ghost from_gives = { EndsByCertificate };
+
     fn from(fault: CertFault) -> Stop {
         if fault.kind == CertFaultKind::Memory {
             return Stop::Memory;
@@ -137,6 +154,8 @@ impl From<CertFault> for Stop {
 }
 
 impl From<IntakeFault> for Stop {
+    ghost from_gives = { EndsByIntake };
+
     fn from(fault: IntakeFault) -> Stop {
         if fault.kind.is_memory() {
             return Stop::Memory;

@@ -1,6 +1,7 @@
 //! The texts of a run, read piece by piece.
 
-ghost use Rattle.std.specs.Prelude.{◌≡◌, ◌++◌, ℕ, [], IfOk, List, Some};
+ghost use Rattle.std.specs.Prelude.{◌≡◌, ◌⊎◌, ◌++◌, ℕ, [], IfErr, IfOk, List, Some};
+ghost use Rattle.audit_files.specs.Refusals.{EndsReading};
 
 use crate::source::{PIECE, Source};
 use crate::stop::Stop;
@@ -12,6 +13,7 @@ use std::alloc::Global;
 /// What a text is read by.
 pub trait TextReading: Drop + Sized {
     ghost use Rattle.std.specs.Prelude.{ℕ, List};
+    ghost use Rattle.audit_files.specs.declared.stop.Stop.{Stop};
 
     /// What the text says.
     type Whole;
@@ -22,21 +24,29 @@ pub trait TextReading: Drop + Sized {
     /// The text that ends here says this.
     ghost says: { List ℕ → Self.Whole → Type 0 };
 
-    /// Takes the next piece of the text.
-    fn feed(self, piece: &[u8]) -> Result<Self, Stop>
-        ensures { (text : List ℕ) → stands self text → IfOk result (λ fed. stands fed (text ++ piece.now)) };
+    /// The text is refused for this reason.
+    ghost refuses: { List ℕ → Stop → Type 0 };
 
-    /// Why the reading stops, where the text can't be read on for this reason.
-    fn stop(self, stop: Stop) -> Stop {
+    /// Takes the next piece of the text. If it is refused, so is each text that continues it.
+    fn feed(self, piece: &[u8]) -> Result<Self, Stop>
+        ensures ok { (text : List ℕ) → stands self text → IfOk result (λ fed. stands fed (text ++ piece.now)) }
+        ensures err { (text : List ℕ) → stands self text → (more : List ℕ) → IfErr result (refuses (text ++ piece.now ++ more)) };
+
+    /// Why the reading ends, if the text can't be read on for this reason.
+    fn stop(self, stop: Stop) -> Stop
+        ensures { (text : List ℕ) → stands self text → (more : List ℕ) → (result ≡ stop) ⊎ refuses (text ++ more) result }
+    {
         stop
     }
 
     /// What the text says that ends here.
     fn finish(self) -> Result<Self::Whole, Stop>
-        ensures { (text : List ℕ) → stands self text → IfOk result (says text) };
+        ensures ok { (text : List ℕ) → stands self text → IfOk result (says text) }
+        ensures err { (text : List ℕ) → stands self text → IfErr result (refuses text) };
 }
 
 impl TextReading for PolicyReader {
+    ghost use Rattle.audit_files.specs.Refusals.{RefusesPolicy};
     ghost use Rattle.std.specs.Prelude.{◌≡◌, Ok};
     ghost use Rattle.audit_model.specs.PolicyText.{policy_of, StandsFor};
 
@@ -45,6 +55,8 @@ impl TextReading for PolicyReader {
     ghost stands = { StandsFor };
 
     ghost says = { λ text policy. policy_of text ≡ Ok policy };
+
+    ghost refuses = { RefusesPolicy };
 
     fn feed(self, piece: &[u8]) -> Result<Self, Stop> {
         Ok(PolicyReader::feed(self, piece)?)
@@ -56,6 +68,7 @@ impl TextReading for PolicyReader {
 }
 
 impl TextReading for CredentialsReader {
+    ghost use Rattle.audit_files.specs.Refusals.{RefusesCredentials};
     ghost use Rattle.audit_text.specs.Readers.{Took};
     ghost use Rattle.audit_keys.specs.CredText.{credentials_of};
     ghost use Rattle.audit_keys.specs.CredentialsReader.{StandsFor};
@@ -67,6 +80,8 @@ impl TextReading for CredentialsReader {
 
     ghost says = { λ text credentials. Took HasKeysOf (credentials_of text) credentials };
 
+    ghost refuses = { RefusesCredentials };
+
     fn feed(self, piece: &[u8]) -> Result<Self, Stop> {
         Ok(CredentialsReader::feed(self, piece)?)
     }
@@ -77,6 +92,7 @@ impl TextReading for CredentialsReader {
 }
 
 impl TextReading for CertificateReader {
+    ghost use Rattle.audit_files.specs.Refusals.{RefusesCertificate};
     ghost use Rattle.std.specs.Prelude.{◌≡◌, Ok};
     ghost use Rattle.audit_cert.specs.CertText.{cert_of, StandsFor};
     ghost use Rattle.audit_cert.specs.Spelling.{said_by};
@@ -86,6 +102,8 @@ impl TextReading for CertificateReader {
     ghost stands = { StandsFor };
 
     ghost says = { λ text certificate. cert_of text ≡ Ok (said_by certificate) };
+
+    ghost refuses = { RefusesCertificate };
 
     fn feed(self, piece: &[u8]) -> Result<Self, Stop> {
         Ok(CertificateReader::feed(self, piece)?)
@@ -104,7 +122,10 @@ pub fn read_text<S: Source, R: TextReading>(
     reader: R,
 ) -> Result<R::Whole, Stop>
     ensures kept { S.holds source.new ≡ S.holds source.old }
+    ensures steady { S.may_fail source.new ≡ S.may_fail source.old }
     ensures says { (bytes : List ℕ) → S.holds source.old name.now ≡ Some bytes → R.stands reader [] → IfOk result (R.says bytes) }
+    ensures refused { (bytes : List ℕ) → S.holds source.old name.now ≡ Some bytes → R.stands reader []
+        → IfErr result (EndsReading (S.may_fail source.old name.now) bytes (R.refuses bytes)) }
 {
     let mut piece = vec![in alloc; 0u8; PIECE]?;
     let mut reader = reader;

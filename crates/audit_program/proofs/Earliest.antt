@@ -1,10 +1,10 @@
 -- The least of the captures' newest moments, capture by capture, and the horizon by it.
-use Rattle.std.proofs.Common.{◌≡◌, ◌≢◌, ℕ, ◌+◌, ◌<◌, ◌≤◌, ◌-◌, Option, Some, None, refl, sym, ap, ◌∙◌, subst, arith, ◌⊎◌, inl, inr}
+use Rattle.std.proofs.Common.{◌≡◌, ℕ, ◌+◌, ◌<◌, ◌≤◌, ◌-◌, Option, Some, None, refl, sym, subst, arith, inl, inr}
 use Rattle.std.proofs.lemmas.Bool.{cases_lt}
-use Rattle.std.specs.Prelude.{min, IfNone, IfSome, IsSomeAnd}
+use Rattle.std.specs.Prelude.{min, IfNone, IfSome}
 use Rattle.audit_sightings.specs.Intake.{Taken}
 use Rattle.audit_sightings.specs.Newest.{IsNewest}
-use Rattle.audit_program.specs.Horizon.{EachIsNewer, OneIsFrom, IsEarliestOf, IsEarliest, IsHorizon, sooner_of}
+use Rattle.audit_program.specs.Horizon.{OneIsFrom, IsEarliestOf, IsEarliest, IsHorizon, sooner_of}
 
 -- the sooner of two moments is one
 pub some_now : (before : Option ℕ) (moment : ℕ) (Fact : Type 0) → IfNone (sooner_of before moment) Fact

@@ -2,6 +2,9 @@
 use Rattle.std.proofs.Common.{◌≡◌, ◌≢◌, ◌<◌, ◌++◌, ◌∙◌, ◌⊎◌, inl, inr, ℕ, zero, suc, List, [], Option, None, Some, length, ap, sym, subst, refl, arith, replicate}
 use Rattle.std.specs.Prelude.{Result, Ok, Err, IfOk, IfSome, vec_len, ◌↔◌}
 use Rattle.std.proofs.lemmas.List.{get_or-set_same, get_or-set_other, length-set, length-replicate, get_or-replicate}
+use Rattle.audit_files.specs.declared.stop.Stop.{Stop}
+use Rattle.audit_files.specs.declared.stop.Stop.TheVariants.{Memory, Read}
+use Rattle.audit_files.specs.Stops.{EndsByIntake}
 use Rattle.audit_files.specs.Judged.{AreUsers}
 use Rattle.audit_keys.specs.KeyFor.{key_for}
 use Rattle.audit_keys.specs.declared.keyring.Credentials.{Credentials}
@@ -9,12 +12,15 @@ use Rattle.audit_model.specs.PolicyText.{policy_of}
 use Rattle.audit_model.specs.Sink.{followed_by}
 use Rattle.audit_model.specs.declared.extension.Extension.{Extension}
 use Rattle.audit_model.specs.declared.policy.Policy.{Policy}
+use Rattle.audit_model.specs.declared.sighting.Sighting.{Sighting}
 use Rattle.audit_model.specs.declared.verdict.Breach.{Breach}
 use Rattle.audit_model.specs.declared.verdict.Verdict.{Verdict}
 use Rattle.audit_pcapng.specs.declared.packet.Packet.{Packet}
 use Rattle.audit_prefix.specs.Told.{LiveBreach}
+use Rattle.audit_sightings.specs.declared.fault.IntakeFault.{IntakeFault}
+use Rattle.audit_sightings.specs.declared.fault.IntakeFaultKind.TheVariants.{Limit}
 use Rattle.audit_sightings.specs.declared.intake.Intake.{Intake}
-use Rattle.audit_sightings.specs.Files.{Fed, GoesOn, StandsFor, fed_at, not_fed, packets_of, with_piece}
+use Rattle.audit_sightings.specs.Files.{Fed, GoesOn, Refuses, StandsFor, fed_at, not_fed, packets_of, with_piece}
 use Rattle.audit_sightings.specs.Intake.{taken}
 use Rattle.audit_verdict.specs.Verdicts.{IsConforming, IsVerdict}
 use Rattle.audit_whole.specs.CaptureRun.{rules_for}
@@ -24,11 +30,12 @@ use Rattle.audit_live.specs.declared.cause.Cause.TheVariants.{Broke, NoMemory, R
 use Rattle.audit_live.specs.declared.fault.LiveFault.{LiveFault}
 use Rattle.audit_live.specs.declared.fault.LiveFault.TheVariants as faults
 use Rattle.audit_live.specs.declared.fault.LiveEnd.{LiveEnd}
+use Rattle.audit_live.specs.declared.fault.LiveEnd.TheVariants as live_ends
 use Rattle.audit_live.specs.Audit.{Audit}
 use Rattle.audit_live.specs.Refusals.{AsksTheEnds, IfBreach, IsInput, IsRefusal, Leaves, told_by}
-use Rattle.audit_program.specs.Following.{Follows, Goes, LeftBy, NoneRefused, ShowsItsBreach, TookIn, WereGiven}
+use Rattle.audit_program.specs.Following.{Follows, Goes, LeftBy, NoneRefused, ShowsItsBreach, ShowsItsRefusal, TookIn, WereGiven, WereRefused}
 use Rattle.audit_program.specs.Reads.{AreReadOut, HasEnded}
-use Rattle.audit_program.specs.Watched.{IsToldOf}
+use Rattle.audit_program.specs.Watched.{EndsByLive, EndsLiveBy, EndsTurns, IsToldOf}
 use Rattle.audit_program.specs.declared.command_line.Turns.{Turns}
 use Rattle.audit_program.specs.declared.live.Turn.{Turn}
 use Rattle.audit_program.specs.declared.live.Turn.TheVariants as turns
@@ -63,6 +70,17 @@ no_breach live ended is none = λ breach broke. absurd (none (subst IsBroken (sy
 -- where it ended by no refusal, none were refused
 none_refused : (live : Audit) (ended : Option Cause) → live.ended ≡ ended → (IsRefused ended → ⊥) → NoneRefused live
 none_refused live ended is none = λ fault refused. none (subst IsRefused (sym refused ∙ is) tt)
+
+-- and shows no refusal
+no_refusal : (given : ℕ → Option (List ℕ)) (live : Audit) (ended : Option Cause) → live.ended ≡ ended → (IsRefused ended → ⊥) → ShowsItsRefusal given live
+no_refusal given live ended is none = λ fault refused. absurd (none (subst IsRefused (sym refused ∙ is) tt))
+
+-- the fault of a cause, or else another
+abbrev fault_of : IntakeFault → Option Cause → IntakeFault
+fault_of other (Some (Refused fault)) = fault
+fault_of other (Some (Broke breach)) = other
+fault_of other (Some NoMemory) = other
+fault_of other None = other
 
 -- ---- bytes
 
@@ -116,6 +134,18 @@ module _ (given now : ℕ → Option (List ℕ)) (file : ℕ) (piece : List ℕ)
     were_given = λ other within. at_file took.files on.more other (omega (arith, within, length-set took.files file (record { text = (fed_at took.files file).text ++ piece; packets = packets_of took.files file ++ on.more }))) took.were_given (same_or_apart other file);
   }
 
+  -- a piece that is refused was given behind what was fed
+  pub refused_piece : (intake : Intake) (took : TookIn given intake) (policy : Policy) (interfaces : List (List Sighting)) (fault : IntakeFault) → fault.file ≡ file → Refuses policy interfaces took.files file piece fault.kind
+      → WereRefused now policy fault
+  refused_piece intake took policy interfaces fault at refuses = record {
+    before = took.files;
+    piece = piece;
+    interfaces = interfaces;
+    refuses = subst (λ (n : ℕ). Refuses policy interfaces took.files n piece fault.kind) (sym at) refuses;
+    were_given = subst (λ (n : ℕ). WereGiven now (with_piece took.files n piece [])) (sym at)
+        (λ other within. at_file took.files [] other (omega (arith, within, length-set took.files file (record { text = (fed_at took.files file).text ++ piece; packets = packets_of took.files file ++ [] }))) took.were_given (same_or_apart other file));
+  }
+
 -- ---- calls
 
 none≢refused : (live : Audit) → live.ended ≡ None → NoneRefused live
@@ -135,38 +165,48 @@ module _ (policy users : List ℕ) (count : ℕ) (given : ℕ → Option (List �
           count' = files ∙ goes.1.count';
           shows = no_breach new None none (λ broke. broke);
           took = λ _. took_more given now file piece is others old.intake took new.intake (on took.files took.stands);
+          refused = no_refusal now new None none (λ refused. refused);
         },
       )
 
   -- bytes were refused
-  pub follows_refused : (now : ℕ → Option (List ℕ)) (new : Audit) (refusal : LiveFault) → IsInput refusal (λ fault. new.ended ≡ Some (Refused fault)) → vec_len new.intake.files ≡ vec_len old.intake.files
-      → new.intake.policy ≡ old.intake.policy → new.credentials ≡ old.credentials → Follows policy users count now new
-  follows_refused now new (faults.Input fault) ended files same keys = record {
-    policy' = subst (λ (p : Policy). policy_of policy ≡ Ok p) (sym same) goes.1.policy';
-    users' = subst (λ (c : Credentials). AreUsers users (key_for c)) (sym keys) goes.1.users';
-    count' = files ∙ goes.1.count';
-    shows = no_breach new (Some (Refused fault)) ended (λ broke. broke);
-    took = λ none. absurd (none fault ended);
-  }
-  follows_refused now new faults.Horizon ended files same keys = absurd ended
-  follows_refused now new faults.OutOfTurn ended files same keys = absurd ended
-  follows_refused now new (faults.Breach breach) ended files same keys = absurd ended
-  follows_refused now new faults.Memory ended files same keys = absurd ended
-  follows_refused now new faults.Ended ended files same keys = absurd ended
-  follows_refused now new faults.Lane ended files same keys = absurd ended
+  pub follows_refused : (now : ℕ → Option (List ℕ)) (file : ℕ) (piece : List ℕ) (new : Audit) (refusal : LiveFault) → now file ≡ followed_by (given file) piece → ((other : ℕ) → other ≢ file → now other ≡ given other)
+      → IsInput refusal (λ fault. new.ended ≡ Some (Refused fault))
+      → ((files : List Fed) → StandsFor old.intake files → IsInput refusal (λ fault. (fault.file ≡ file) × Refuses new.intake.policy new.intake.interfaces files file piece fault.kind))
+      → vec_len new.intake.files ≡ vec_len old.intake.files → new.intake.policy ≡ old.intake.policy → new.credentials ≡ old.credentials → Follows policy users count now new
+  follows_refused now file piece new (faults.Input fault) is others ended refuses files same keys =
+      let took = goes.1.took (none≢refused old goes.0) in
+      let shown = refuses took.files took.stands in
+      record {
+        policy' = subst (λ (p : Policy). policy_of policy ≡ Ok p) (sym same) goes.1.policy';
+        users' = subst (λ (c : Credentials). AreUsers users (key_for c)) (sym keys) goes.1.users';
+        count' = files ∙ goes.1.count';
+        shows = no_breach new (Some (Refused fault)) ended (λ broke. broke);
+        took = λ none. absurd (none fault ended);
+        refused = λ other refused.
+            let same_fault : fault ≡ other = ap (fault_of fault) (sym ended ∙ refused) in
+            subst (WereRefused now new.intake.policy) same_fault (refused_piece given now file piece is others old.intake took new.intake.policy new.intake.interfaces fault shown.0 shown.1);
+      }
+  follows_refused now file piece new faults.Horizon is others ended refuses files same keys = absurd ended
+  follows_refused now file piece new faults.OutOfTurn is others ended refuses files same keys = absurd ended
+  follows_refused now file piece new (faults.Breach breach) is others ended refuses files same keys = absurd ended
+  follows_refused now file piece new faults.Memory is others ended refuses files same keys = absurd ended
+  follows_refused now file piece new faults.Ended is others ended refuses files same keys = absurd ended
+  follows_refused now file piece new faults.Lane is others ended refuses files same keys = absurd ended
 
   -- the captures and the users stay, and it ended by no refusal of bytes
-  with_cause : (new : Audit) (cause : Option Cause) → new.ended ≡ cause → new.intake ≡ old.intake → new.credentials ≡ old.credentials → ShowsItsBreach new → Follows policy users count given new
-  with_cause new cause is same keys shows = record {
+  with_cause : (new : Audit) (cause : Option Cause) → new.ended ≡ cause → new.intake ≡ old.intake → new.credentials ≡ old.credentials → ShowsItsBreach new → (IsRefused cause → ⊥) → Follows policy users count given new
+  with_cause new cause is same keys shows none = record {
     policy' = subst (λ (i : Intake). policy_of policy ≡ Ok i.policy) (sym same) goes.1.policy';
     users' = subst (λ (c : Credentials). AreUsers users (key_for c)) (sym keys) goes.1.users';
     count' = ap (λ (i : Intake). vec_len i.files) same ∙ goes.1.count';
     shows = shows;
     took = λ _. subst (λ (i : Intake). TookIn given i) (sym same) (goes.1.took (none≢refused old goes.0));
+    refused = no_refusal given new cause is none;
   }
 
   pub goes_advanced : (new : Audit) → new.ended ≡ None → new.intake ≡ old.intake → new.credentials ≡ old.credentials → Goes policy users count given new
-  goes_advanced new none same keys = (none, with_cause new None none same keys (no_breach new None none (λ broke. broke)))
+  goes_advanced new none same keys = (none, with_cause new None none same keys (no_breach new None none (λ broke. broke)) (λ refused. refused))
 
   -- an advance was refused
   pub follows_stopped : (horizon : ℕ) (extension : Extension) (new : Audit) (refusal : LiveFault) → IsRefusal old horizon extension refusal → Leaves old new refusal
@@ -178,7 +218,8 @@ module _ (policy users : List ℕ) (count : ℕ) (given : ℕ → Option (List �
       subst (λ (b : Breach). LiveBreach (taken new.intake) (key_for new.credentials) new.front.placing.certificate (Some b)) same_breach
       (subst (λ (i : Intake). LiveBreach (taken i) (key_for new.credentials) new.front.placing.certificate (Some breach)) (sym same)
       (subst (λ (c : Credentials). LiveBreach (taken old.intake) (key_for c) new.front.placing.certificate (Some breach)) (sym keys) shows)))
-  follows_stopped horizon extension new faults.Memory refused leaves shows same keys = with_cause new (Some NoMemory) leaves same keys (no_breach new (Some NoMemory) leaves (λ broke. broke))
+      (λ refused. refused)
+  follows_stopped horizon extension new faults.Memory refused leaves shows same keys = with_cause new (Some NoMemory) leaves same keys (no_breach new (Some NoMemory) leaves (λ broke. broke)) (λ refused. refused)
   follows_stopped horizon extension new faults.Ended refused leaves shows same keys = subst (Follows policy users count given) (sym leaves) goes.1
   follows_stopped horizon extension new faults.Horizon refused leaves shows same keys = subst (Follows policy users count given) (sym leaves) goes.1
   follows_stopped horizon extension new faults.Lane refused leaves shows same keys = subst (Follows policy users count given) (sym leaves) goes.1
@@ -223,6 +264,7 @@ goes_opened policy users count given live p c none of_policy same of_users keys 
     count' = files_opened live.intake count stands;
     shows = no_breach live None none (λ broke. broke);
     took = λ _. record { files = replicate count not_fed; stands = stands; were_given = given_none given count nothing };
+    refused = no_refusal given live None none (λ refused. refused);
   },
 )
 
@@ -255,3 +297,46 @@ module _ (turns : Turns) (policy users : List ℕ) (count : ℕ) (given reads : 
       → IfOk result IsTold
   told_at_last None none ends is conforming = at_the_end none result (ends none) (is none) (conforming none)
   told_at_last (Some cause) is ends verdict conforming = subst (λ (r : Result Verdict LiveEnd). IfOk r IsTold) (sym (first cause is)) (by_cause cause is)
+
+err≢ok : (e : LiveEnd) (v : Verdict) → Err e ≡ Ok v → ⊥
+err≢ok e v same = absurd (cc)
+
+err_of : (e f : LiveEnd) → ◌≡◌ {A = Result Verdict LiveEnd} (Err e) (Err f) → e ≡ f
+err_of e f same = cc
+
+input≢memory : (fault : IntakeFault) → live_ends.Input fault ≡ live_ends.Memory → ⊥
+input≢memory fault same = absurd (cc)
+
+input_of : (fault other : IntakeFault) → live_ends.Input fault ≡ live_ends.Input other → fault ≡ other
+input_of fault other same = cc
+
+-- what ends a run without a verdict
+module _ (policy users : List ℕ) (count : ℕ) (given : ℕ → Option (List ℕ)) (live : Audit) (follows : Follows policy users count given live)
+    (end : LiveEnd) (first : (cause : Cause) → live.ended ≡ Some cause → Err end ≡ told_by cause) (ends : live.ended ≡ None → (files : List Fed) → StandsFor live.intake files → AsksTheEnds (Err end) files) where
+  ends_by : (ended : Option Cause) → live.ended ≡ ended → (e : LiveEnd) → end ≡ e → EndsLiveBy count given live.intake.policy e
+  ends_by ended is live_ends.Memory same = tt
+  ends_by None is (live_ends.Input fault) same =
+      let took = follows.took (none≢refused live is) in
+      inr (inr record { intake = live.intake; policy' = refl; took = took; ends = subst (λ (e : LiveEnd). AsksTheEnds (Err e) took.files) same (ends is took.files took.stands) })
+  ends_by (Some (Broke breach)) is (live_ends.Input fault) same = absurd (err≢ok _ _ (first (Broke breach) is))
+  ends_by (Some NoMemory) is (live_ends.Input fault) same = absurd (input≢memory fault (sym same ∙ err_of _ _ (first NoMemory is)))
+  ends_by (Some (Refused other)) is (live_ends.Input fault) same =
+      inl (subst (WereRefused given live.intake.policy) (input_of _ _ (sym (sym same ∙ err_of _ _ (first (Refused other) is)))) (follows.refused other is))
+
+  pub ended_by : EndsLiveBy count given live.intake.policy end
+  ended_by = ends_by live.ended refl end refl
+
+-- and so it ends the turns
+pub ends_turns : (count : ℕ) (given : ℕ → Option (List ℕ)) (policy : Policy) (end : LiveEnd) (stop : Stop) → EndsLiveBy count given policy end → EndsByLive end stop → EndsTurns count given policy stop
+ends_turns count given policy (live_ends.Input fault) stop given_fault ends = inr (inr (fault, ends, given_fault))
+ends_turns count given policy live_ends.Memory stop tt' ends = inl ends
+
+-- no room for a 17th capture ends them, too
+pub full_ends : (count : ℕ) (given : ℕ → Option (List ℕ)) (policy : Policy) (stop : Stop) → (stop ≡ Memory) ⊎ ((16 < count) × EndsByIntake (record { kind = Limit; file = 16 }) stop) → EndsTurns count given policy stop
+full_ends count given policy stop (inl memory) = inl memory
+full_ends count given policy stop (inr full) = inr (inr (record { kind = Limit; file = 16 }, full.1, inr (inl (refl, full.0))))
+
+-- want of memory and a capture that can't be read
+pub stopped_ends : (count : ℕ) (given : ℕ → Option (List ℕ)) (policy : Policy) (stop : Stop) → (stop ≡ Memory) ⊎ (stop ≡ Read) → EndsTurns count given policy stop
+stopped_ends count given policy stop (inl memory) = inl memory
+stopped_ends count given policy stop (inr read) = inr (inl read)

@@ -1,9 +1,10 @@
 -- What a request comes to, from the bytes of its files to what is written and the status.
-use Rattle.std.specs.Prelude.{◌≡◌, ◌⊎◌, ℕ, List, [], Option, Some, Ok, Err, Result, IfNone, IfOk, IfSome, OnOk, length, string_bytes}
+use Rattle.std.specs.Prelude.{◌≡◌, ◌⊎◌, ℕ, Bool, List, [], Option, Some, Ok, Err, Result, IfNone, IfSome, MatchResult, OnOk, length, string_bytes}
 use Rattle.std.specs.List.{AllZip}
 use Rattle.audit_cert.specs.CertText.{cert_of}
 use Rattle.audit_cert.specs.Spelling.{said_by, spelling}
 use Rattle.audit_files.specs.declared.stop.Stop.{Stop}
+use Rattle.audit_files.specs.Ends.{EndsCheck, EndsFiles, EndsWriting}
 use Rattle.audit_files.specs.Judged.{AreRead, IsAudited}
 use Rattle.audit_files.specs.Stops.{status_of_stop}
 use Rattle.audit_model.specs.declared.certificate.Certificate.{Certificate}
@@ -14,7 +15,7 @@ use Rattle.audit_program.specs.declared.command_line.Inputs.{Inputs}
 use Rattle.audit_program.specs.declared.command_line.Request.{Request}
 use Rattle.audit_program.specs.declared.command_line.Request.TheVariants.{Check, Audit, Find, Live, Help, Release, Usage}
 use Rattle.audit_program.specs.Pages.{page_text, release_text}
-use Rattle.audit_program.specs.Watched.{IsWatched}
+use Rattle.audit_program.specs.Watched.{EndsLive, IsWatched}
 use Rattle.audit_program.specs.Words.{Asks, turnaudit}
 use Rattle.clap.specs.Words.{Text, fault_of, subcommand_of}
 
@@ -34,6 +35,13 @@ pub record Streams : Type 0 where
   pub said_before : Option (List ℕ)
   pub said_after : Option (List ℕ)
 
+-- How often writing to standard output and to standard error had failed, before and after.
+pub record Failures : Type 0 where
+  pub before : Option ℕ
+  pub after : Option ℕ
+  pub said_before : Option ℕ
+  pub said_after : Option ℕ
+
 -- nothing was said on standard error
 abbrev pub IsSilent : Streams → Type 0
 IsSilent streams = streams.said_after ≡ streams.said_before
@@ -48,26 +56,37 @@ pub record IsWritten (finds : Taken → Certificate → Type 0) (policy users : 
   pub written : after ≡ followed_by before (spelling (said_by certificate))
   pub told : status ≡ 0
 
-module _ (holds : List ℕ → Option (List ℕ)) (given reads : ℕ → Option (List ℕ)) (finds : Taken → Certificate → Type 0) (streams : Streams) where
+module _ (holds : List ℕ → Option (List ℕ)) (may_fail : List ℕ → Bool) (given reads : ℕ → Option (List ℕ)) (finds : Taken → Certificate → Type 0) (streams : Streams) (failures : Failures) where
+  -- what ends a command before its answer: the first of its files that can't be read or is refused, in their order, or standard output
+  abbrev pub EndsRequest : (Stop → Type 0) → Stop → Type 0
+  EndsRequest Ends stop = Ends stop ⊎ EndsWriting failures.before failures.after stop
+
   -- Each command is its own: `check` reports the verdict by the certificate that is named, `audit` by one that is found, `live` that on what the
   -- captures gave; `find` writes what is found by its one spelling; a page of help, or the line of the release, goes to standard output alone, and what is no
-  -- request to standard error alone, with status 5.
+  -- request to standard error alone, with status 5. What ends one before that is a fault of its files, the first in their order, or of what is written to.
   abbrev pub Answers : Request → Result ℕ Stop → Type 0
   Answers (Check inputs certificate workers) done =
       IsSilent streams × ((policy users text : List ℕ) (captures : List (List ℕ)) → HaveTexts holds inputs policy users → HaveCaptures holds inputs captures → holds certificate.now ≡ Some text →
-      IfOk done (λ status. (written : Certificate) × (cert_of text ≡ Ok (said_by written)) × IsAudited policy users captures written streams.before streams.after status))
+      MatchResult done (λ status. (written : Certificate) × (cert_of text ≡ Ok (said_by written)) × IsAudited policy users captures written streams.before streams.after status)
+      (EndsRequest (EndsCheck may_fail inputs.policy.now policy inputs.credentials users certificate.now text inputs.captures.items captures)))
   Answers (Audit inputs workers) done =
       IsSilent streams × ((policy users : List ℕ) (captures : List (List ℕ)) → HaveTexts holds inputs policy users → HaveCaptures holds inputs captures →
-      IfOk done (λ status. (found : Certificate) × IsAudited policy users captures found streams.before streams.after status))
+      MatchResult done (λ status. (found : Certificate) × IsAudited policy users captures found streams.before streams.after status)
+      (EndsRequest (EndsFiles may_fail inputs.policy.now policy inputs.credentials users inputs.captures.items captures)))
   Answers (Find inputs workers) done =
       IsSilent streams × ((policy users : List ℕ) (captures : List (List ℕ)) → HaveTexts holds inputs policy users → HaveCaptures holds inputs captures →
-      IfOk done (IsWritten finds policy users captures streams.before streams.after))
+      MatchResult done (IsWritten finds policy users captures streams.before streams.after)
+      (EndsRequest (EndsFiles may_fail inputs.policy.now policy inputs.credentials users inputs.captures.items captures)))
   Answers (Live inputs turns) done =
       IsSilent streams × ((policy users : List ℕ) → HaveTexts holds inputs policy users →
-      IfOk done (λ status. (found : Certificate) × IsWatched policy users (length inputs.captures.items) turns given reads found streams.before streams.after status))
-  Answers (Help page) done = IsSilent streams × IfOk done (λ status. (status ≡ 0) × (streams.after ≡ followed_by streams.before (page_text page)))
-  Answers Release done = IsSilent streams × IfOk done (λ status. (status ≡ 0) × (streams.after ≡ followed_by streams.before release_text))
-  Answers (Usage text) done = (streams.after ≡ streams.before) × IfOk done (λ status. (status ≡ 5) × (streams.said_after ≡ followed_by streams.said_before (string_bytes text)))
+      MatchResult done (λ status. (found : Certificate) × IsWatched policy users (length inputs.captures.items) turns given reads found streams.before streams.after status)
+      (EndsRequest (EndsLive may_fail inputs.policy.now policy inputs.credentials users (length inputs.captures.items) given)))
+  Answers (Help page) done =
+      IsSilent streams × MatchResult done (λ status. (status ≡ 0) × (streams.after ≡ followed_by streams.before (page_text page))) (EndsWriting failures.before failures.after)
+  Answers Release done =
+      IsSilent streams × MatchResult done (λ status. (status ≡ 0) × (streams.after ≡ followed_by streams.before release_text)) (EndsWriting failures.before failures.after)
+  Answers (Usage text) done =
+      (streams.after ≡ streams.before) × MatchResult done (λ status. (status ≡ 5) × (streams.said_after ≡ followed_by streams.said_before (string_bytes text))) (EndsWriting failures.said_before failures.said_after)
 
 -- the exit status of an answer, or of what stopped it
 abbrev pub status_told : Result ℕ Stop → ℕ
@@ -75,8 +94,9 @@ status_told (Ok status) = status
 status_told (Err stop) = status_of_stop stop
 
 -- The request is what the arguments are, and was answered; a line about what stopped it may follow on standard error. Or there was no memory for the words.
-abbrev pub IsRun : List Text → (List ℕ → Option (List ℕ)) → (ℕ → Option (List ℕ)) → (ℕ → Option (List ℕ)) → (Taken → Certificate → Type 0) → Streams → ℕ → Type 0
-IsRun words holds given reads finds streams status =
-    ((request : Request) × Asks (subcommand_of turnaudit words) (fault_of turnaudit words) request × (done : Result ℕ Stop) × (said : Option (List ℕ)) × Answers holds given reads finds (record streams { said_after = said }) request done
+abbrev pub IsRun : List Text → (List ℕ → Option (List ℕ)) → (List ℕ → Bool) → (ℕ → Option (List ℕ)) → (ℕ → Option (List ℕ)) → (Taken → Certificate → Type 0) → Streams → Option ℕ → Option ℕ → Option ℕ → ℕ → Type 0
+IsRun words holds may_fail given reads finds streams before after said_before status =
+    ((request : Request) × Asks (subcommand_of turnaudit words) (fault_of turnaudit words) request × (done : Result ℕ Stop) × (said : Option (List ℕ)) × (said_after : Option ℕ)
+    × Answers holds may_fail given reads finds (record streams { said_after = said }) (record { before = before; after = after; said_before = said_before; said_after = said_after }) request done
     × (status ≡ status_told done) × OnOk done (streams.said_after ≡ said))
     ⊎ ((streams.after ≡ streams.before) × (status ≡ 3))

@@ -1,13 +1,15 @@
 -- What is known of an audit while it follows the captures.
-use Rattle.std.specs.Prelude.{◌≡◌, ◌≢◌, ◌<◌, ℕ, List, Option, None, Some, Ok, IfSome, length, vec_len}
+use Rattle.std.specs.Prelude.{◌≡◌, ◌≢◌, ◌<◌, [], ℕ, List, Option, None, Some, Ok, IfSome, length, vec_len}
 use Rattle.audit_files.specs.Judged.{AreUsers}
 use Rattle.audit_keys.specs.KeyFor.{key_for}
 use Rattle.audit_model.specs.PolicyText.{policy_of}
+use Rattle.audit_model.specs.declared.policy.Policy.{Policy}
+use Rattle.audit_model.specs.declared.sighting.Sighting.{Sighting}
 use Rattle.audit_model.specs.declared.verdict.Breach.{Breach}
 use Rattle.audit_prefix.specs.Told.{LiveBreach}
 use Rattle.audit_sightings.specs.declared.fault.IntakeFault.{IntakeFault}
 use Rattle.audit_sightings.specs.declared.intake.Intake.{Intake}
-use Rattle.audit_sightings.specs.Files.{Fed, StandsFor, fed_at}
+use Rattle.audit_sightings.specs.Files.{Fed, Refuses, StandsFor, fed_at, with_piece}
 use Rattle.audit_sightings.specs.Intake.{taken}
 use Rattle.audit_live.specs.declared.cause.Cause.TheVariants.{Broke, Refused}
 use Rattle.audit_live.specs.Audit.{Audit}
@@ -28,6 +30,18 @@ pub record TookIn (given : ℕ → Option (List ℕ)) (intake : Intake) : Type 0
 abbrev pub NoneRefused : Audit → Type 0
 NoneRefused live = (fault : IntakeFault) → live.ended ≢ Some (Refused fault)
 
+-- Bytes of a capture were refused. Before them these were taken in of each capture, and then came this piece, which shows the capture's first fault.
+pub record WereRefused (given : ℕ → Option (List ℕ)) (policy : Policy) (fault : IntakeFault) : Type 0 where
+  pub before : List Fed
+  pub piece : List ℕ
+  pub interfaces : List (List Sighting)
+  pub refuses : Refuses policy interfaces before fault.file piece fault.kind
+  pub were_given : WereGiven given (with_piece before fault.file piece [])
+
+-- bytes that ended it were refused so
+abbrev pub ShowsItsRefusal : (ℕ → Option (List ℕ)) → Audit → Type 0
+ShowsItsRefusal given live = (fault : IntakeFault) → live.ended ≡ Some (Refused fault) → WereRefused given live.intake.policy fault
+
 -- a breach that ended it is told of the certificate
 abbrev pub ShowsItsBreach : Audit → Type 0
 ShowsItsBreach live = (breach : Breach) → live.ended ≡ Some (Broke breach) → LiveBreach (taken live.intake) (key_for live.credentials) live.front.placing.certificate (Some breach)
@@ -40,6 +54,7 @@ pub record Follows (policy users : List ℕ) (count : ℕ) (given : ℕ → Opti
   pub count' : vec_len live.intake.files ≡ count
   pub shows : ShowsItsBreach live
   pub took : NoneRefused live → TookIn given live.intake
+  pub refused : ShowsItsRefusal given live
 
 -- and it hasn't ended
 abbrev pub Goes : List ℕ → List ℕ → ℕ → (ℕ → Option (List ℕ)) → Audit → Type 0

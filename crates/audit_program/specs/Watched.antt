@@ -1,7 +1,15 @@
 -- What the command `live` comes to, from the bytes that its captures gave to its report.
-use Rattle.std.specs.Prelude.{◌≡◌, ◌<◌, ◌↔◌, ◌⊎◌, ℕ, List, Option, Some, Ok, length}
+use Rattle.std.specs.Prelude.{◌≡◌, ◌<◌, ◌↔◌, ◌⊎◌, ℕ, Bool, List, Option, Some, Ok, Err, length}
+use Rattle.std.proofs.Common.{Bor}
+use Rattle.audit_files.specs.declared.stop.Stop.{Stop}
+use Rattle.audit_files.specs.declared.stop.Stop.TheVariants.{Memory, Read}
+use Rattle.audit_files.specs.Ends.{EndsBy}
 use Rattle.audit_files.specs.Judged.{AreUsers, status_of}
+use Rattle.audit_files.specs.Stops.{EndsByIntake}
+use Rattle.audit_live.specs.declared.fault.LiveEnd.{LiveEnd}
+use Rattle.audit_live.specs.declared.fault.LiveEnd.TheVariants as ends
 use Rattle.audit_model.specs.declared.certificate.Certificate.{Certificate}
+use Rattle.audit_model.specs.declared.policy.Policy.{Policy}
 use Rattle.audit_model.specs.declared.verdict.Breach.{Breach}
 use Rattle.audit_model.specs.declared.verdict.Verdict.{Verdict}
 use Rattle.audit_model.specs.declared.verdict.Verdict.TheVariants.{NotShown}
@@ -10,15 +18,17 @@ use Rattle.audit_model.specs.Sink.{followed_by}
 use Rattle.audit_prefix.specs.Told.{LiveBreach}
 use Rattle.audit_report.specs.ReportText.{report_text}
 use Rattle.audit_rules.specs.Keys.{KeyFor}
+use Rattle.audit_sightings.specs.declared.fault.IntakeFault.{IntakeFault}
+use Rattle.audit_sightings.specs.declared.fault.IntakeFaultKind.TheVariants.{Limit}
 use Rattle.audit_sightings.specs.declared.intake.Intake.{Intake}
-use Rattle.audit_sightings.specs.Files.{MayEnd, fed_at}
+use Rattle.audit_sightings.specs.Files.{FilesEnd, MayEnd, fed_at}
 use Rattle.audit_sightings.specs.Intake.{taken}
 use Rattle.audit_verdict.specs.Verdicts.{IsConforming, IsVerdict}
 use Rattle.audit_whole.specs.CaptureRun.{rules_for}
 use Rattle.audit_whole.specs.Conforms.{Conforms}
 use Rattle.audit_whole.specs.Headline.{Headline}
 use Rattle.audit_program.specs.declared.command_line.Turns.{Turns}
-use Rattle.audit_program.specs.Following.{TookIn}
+use Rattle.audit_program.specs.Following.{TookIn, WereRefused}
 use Rattle.audit_program.specs.Reads.{AreReadOut}
 
 -- The captures were read out; each ended after a whole block; and this is the verdict by the certificate: conforming exactly if that explains
@@ -53,3 +63,33 @@ pub record IsWatched (policy users : List ℕ) (captures : ℕ) (turns : Turns) 
   pub headline : IsConforming verdict → Headline (taken intake) key_for certificate
   pub written : after ≡ followed_by before (report_text verdict (taken intake))
   pub told : status ≡ status_of verdict
+
+-- no bytes of the captures were refused, and this is the first that ends inside a block, or has none
+pub record MayNotEnd (given : ℕ → Option (List ℕ)) (policy : Policy) (fault : IntakeFault) : Type 0 where
+  pub intake : Intake
+  pub policy' : intake.policy ≡ policy
+  pub took : TookIn given intake
+  pub ends : FilesEnd (Err fault) took.files
+
+-- a capture is refused: for the first fault of its bytes as they were given by turns; since it is a 17th; or for how it ends
+abbrev pub IsGivenFault : ℕ → (ℕ → Option (List ℕ)) → Policy → IntakeFault → Type 0
+IsGivenFault captures given policy fault = WereRefused given policy fault ⊎ (((fault ≡ record { kind = Limit; file = 16 }) × (16 < captures)) ⊎ MayNotEnd given policy fault)
+
+-- what ends an audit without a verdict
+abbrev pub EndsLiveBy : ℕ → (ℕ → Option (List ℕ)) → Policy → LiveEnd → Type 0
+EndsLiveBy captures given policy (ends.Input fault) = IsGivenFault captures given policy fault
+EndsLiveBy captures given policy ends.Memory = Unit {0}
+
+-- an audit that ends without a verdict ends the run so
+abbrev pub EndsByLive : LiveEnd → Stop → Type 0
+EndsByLive (ends.Input fault) stop = EndsByIntake fault stop
+EndsByLive ends.Memory stop = stop ≡ Memory
+
+-- what ends the captures' turns: want of memory, a capture that can't be read, or one that is refused
+abbrev pub EndsTurns : ℕ → (ℕ → Option (List ℕ)) → Policy → Stop → Type 0
+EndsTurns captures given policy stop = (stop ≡ Memory) ⊎ ((stop ≡ Read) ⊎ ((fault : IntakeFault) × EndsByIntake fault stop × IsGivenFault captures given policy fault))
+
+-- what ends `live`: its policy, its users, or its captures
+abbrev pub EndsLive : (List ℕ → Bool) → List ℕ → List ℕ → Option (Bor (List ℕ)) → List ℕ → ℕ → (ℕ → Option (List ℕ)) → Stop → Type 0
+EndsLive may_fail policy_name policy users_name users captures given stop =
+    EndsBy may_fail policy_name policy users_name users (λ p s. EndsTurns captures given p s) stop

@@ -1,6 +1,6 @@
 //! The command `live`: captures are judged while they grow.
 
-ghost use Rattle.std.specs.Prelude.{◌≡◌, ◌≢◌, ◌<◌, ◌≤◌, ◌+◌, ◌⊎◌, false, ℕ, List, [], ◌∷◌, Option, None, Some, IfNone, IfOk, IfSome, OnOk, length, vec_len, replicate};
+ghost use Rattle.std.specs.Prelude.{◌≡◌, ◌≢◌, ◌<◌, ◌≤◌, ◌+◌, ◌⊎◌, false, ℕ, List, [], ◌∷◌, Option, None, Some, IfErr, IfNone, IfOk, IfSome, OnOk, length, vec_len, replicate};
 ghost use Rattle.audit_keys.specs.KeyFor.{key_for};
 ghost use Rattle.audit_model.specs.declared.certificate.Certificate.{Certificate as Found};
 ghost use Rattle.audit_sightings.specs.Files.{StandsFor, not_fed};
@@ -14,7 +14,11 @@ ghost use Rattle.audit_program.specs.Reads.{AreReadOnce, AreUnread, HasEnded, We
 ghost use Rattle.audit_program.specs.declared.command_line.Turns.{Turns as AnyTurns};
 ghost use Rattle.audit_program.specs.Following.{Follows, Goes, LeftBy};
 ghost use Rattle.audit_program.specs.Horizon.{IsTurned};
-ghost use Rattle.audit_program.specs.Watched.{IsToldOf, IsWatched};
+ghost use Rattle.audit_program.specs.Watched.{EndsByLive, EndsLive, EndsTurns, IsToldOf, IsWatched};
+ghost use Rattle.audit_files.specs.Ends.{EndsWriting};
+ghost use Rattle.audit_files.specs.Stops.{EndsByIntake};
+ghost use Rattle.audit_files.specs.declared.stop.Stop.TheVariants.{Memory, Read};
+ghost use Rattle.audit_sightings.specs.declared.fault.IntakeFaultKind.TheVariants.{Limit};
 ghost use Rattle.audit_program.specs.declared.live.Turn.TheVariants.{Quiet, Refused};
 
 use crate::command_line::Turns;
@@ -72,7 +76,9 @@ fn pause_after<S: Growing>(source: &mut S, idle: u32)
 }
 
 /// Why a run ends that has no verdict.
-fn stop_of(end: LiveEnd) -> Stop {
+fn stop_of(end: LiveEnd) -> Stop
+    ensures { EndsByLive end result }
+{
     match end {
         LiveEnd::Input(fault) => Stop::from(fault),
         LiveEnd::Memory => Stop::Memory,
@@ -84,6 +90,7 @@ fn add_captures(live: &mut Live, count: usize) -> Result<(), Stop>
     ensures policy { OnOk result (live.new.intake.policy ≡ live.old.intake.policy) }
     ensures stands { StandsFor live.old.intake [] → OnOk result (StandsFor live.new.intake (replicate count not_fed)) }
     ensures rest { OnOk result (live.new ≡ record live.old { intake = live.new.intake }) }
+    ensures refused { StandsFor live.old.intake [] → live.old.ended ≡ None → IfErr result (λ stop. (stop ≡ Memory) ⊎ ((16 < count) × EndsByIntake (record { kind = Limit; file = 16 }) stop)) }
 {
     for number in 0..count {
         match live.add_file() {
@@ -112,6 +119,10 @@ impl<F: ExtensionFinder + Drop> Watch<F> {
         ensures files { IfOk result (λ watch. vec_len watch.live.intake.files ≡ length captures.now) }
         ensures step { F.given_to finder ≡ None → IfOk result (λ watch. watch.is_stuck ≡ false → F.given_to watch.finder ≡ watch.live.last) }
         ensures unread { OnOk result (AreUnread (length captures.now) (S.reads source.new)) }
+        ensures refused { (policy_text users_text : List ℕ) (given : ℕ → Option (List ℕ)) →
+            S.holds source.old policy.now ≡ Some policy_text →
+            IfSome users.entry (λ name. S.holds source.old name.now ≡ Some users_text) → IfNone users.entry (users_text ≡ []) →
+            IfErr result (EndsLive (S.may_fail source.old) policy.now policy_text users.entry users_text (length captures.now) given) }
     {
         let policy = read_policy(alloc, source, policy)?;
         let users = read_users(alloc, source, users)?;
@@ -142,6 +153,7 @@ impl<F: ExtensionFinder + Drop> Watch<F> {
         ensures over { self.old.live.ended ≡ None → IfOk result (λ turn. turn ≡ Refused → self.new.live.ended ≢ None) }
         ensures read { IfOk result (λ turn. turn ≢ Refused → (size : ℕ) × (S.reads source.new file ≡ followed_by (S.reads source.old file) (size ∷ [])) × (turn ≡ Quiet → size ≡ 0)) }
         ensures unread { (other : ℕ) → other ≢ file → S.reads source.new other ≡ S.reads source.old other }
+        ensures stopped { IfErr result (λ stop. (stop ≡ Memory) ⊎ (stop ≡ Read)) }
     {
         let read = source.more(file, name, piece)?;
         match self.live.feed(file, &piece[..read]) {
@@ -166,6 +178,7 @@ impl<F: ExtensionFinder + Drop> Watch<F> {
         ensures over { (policy users : List ℕ) (count : ℕ) → Goes policy users count (S.given source.old) self.old.live
             → IfOk result (λ turn. turn ≡ Refused → self.new.live.ended ≢ None) }
         ensures read { IfOk result (λ turn. turn ≢ Refused → AreReadOnce turn (length names.now) (S.reads source.old) (S.reads source.new)) }
+        ensures stopped { IfErr result (λ stop. (stop ≡ Memory) ⊎ (stop ≡ Read)) }
     {
         let mut turn = Turn::Quiet;
         let (files, _) = self.live.intake().counts();
@@ -234,6 +247,7 @@ impl<F: ExtensionFinder + Drop> Watch<F> {
         ensures over { (policy users : List ℕ) (count : ℕ) → Goes policy users count (S.given source.old) self.old.live
             → IfOk result (λ turn. turn ≡ Refused → self.new.live.ended ≢ None) }
         ensures read { IfOk result (λ turn. turn ≢ Refused → AreReadOnce turn (length names.now) (S.reads source.old) (S.reads source.new)) }
+        ensures stopped { IfErr result (λ stop. (stop ≡ Memory) ⊎ (stop ≡ Read)) }
     {
         match self.feed_each(names, source, piece)? {
             Turn::Fed => {}
@@ -268,6 +282,7 @@ impl<F: ExtensionFinder + Drop> Watch<F> {
         ensures few { IfOk result (λ now. IfSome now (λ idle_now. idle_now ≤ idle + 1)) }
         ensures read { (count : ℕ) → WereRead (length names.now) count idle (S.reads source.old)
             → IfOk result (λ idle. IfSome idle (λ now. WereRead (length names.now) (count + 1) now (S.reads source.new))) }
+        ensures stopped { IfErr result (λ stop. (stop ≡ Memory) ⊎ (stop ≡ Read)) }
     {
         match self.turn(names, source, piece)? {
             Turn::Fed => Ok(Some(0)),
@@ -290,6 +305,7 @@ impl<F: ExtensionFinder + Drop> Watch<F> {
             → OnOk result (Follows policy users count (S.given source.new) self.new.live) }
         ensures ended { (policy users : List ℕ) (count : ℕ) → Goes policy users count (S.given source.old) self.old.live → AreUnread (length names.now) (S.reads source.old)
             → OnOk result (HasEnded turns (length names.now) (S.reads source.new) self.new.live) }
+        ensures stopped { IfErr result (λ stop. (stop ≡ Memory) ⊎ (stop ≡ Read)) }
     {
         let mut piece = vec![in alloc; 0u8; PIECE]?;
         let mut idle = 0u32;
@@ -314,6 +330,8 @@ impl<F: ExtensionFinder + Drop> Watch<F> {
             → IfOk result (IsToldOf turns given reads self.now.live.intake (key_for self.now.live.credentials) self.now.live.front.placing.certificate) }
         ensures headline { IfOk result (λ verdict. IsConforming verdict
             → Headline (taken self.now.live.intake) (key_for self.now.live.credentials) self.now.live.front.placing.certificate) }
+        ensures refused { (policy users : List ℕ) (count : ℕ) (given : ℕ → Option (List ℕ)) → Follows policy users count given self.now.live
+            → IfErr result (EndsTurns count given self.now.live.intake.policy) }
     {
         match self.live.finish() {
             Ok(verdict) => Ok(verdict),
@@ -323,9 +341,11 @@ impl<F: ExtensionFinder + Drop> Watch<F> {
 
     /// Writes the report, and gives the exit status.
     fn tell<O: Sink>(&self, alloc: Global, out: &mut O) -> Result<u8, Stop>
-        ensures { (policy users : List ℕ) (count : ℕ) (given reads : ℕ → Option (List ℕ)) (turns : AnyTurns)
+        ensures told { (policy users : List ℕ) (count : ℕ) (given reads : ℕ → Option (List ℕ)) (turns : AnyTurns)
             → Follows policy users count given self.now.live → HasEnded turns count reads self.now.live
             → IfOk result (IsWatched policy users count turns given reads self.now.live.front.placing.certificate (O.taken out.old) (O.taken out.new)) }
+        ensures refused { (policy users : List ℕ) (count : ℕ) (given : ℕ → Option (List ℕ)) → Follows policy users count given self.now.live
+            → IfErr result (λ stop. EndsTurns count given self.now.live.intake.policy stop ⊎ EndsWriting (O.failures out.old) (O.failures out.new) stop) }
     {
         let verdict = self.verdict()?;
         report(alloc, &verdict, self.live.intake(), out)?;
@@ -348,11 +368,16 @@ pub fn run_live<F: CertificateFinder, S: Source + Growing, O: Sink>(
     turns: Turns,
     out: &mut O,
 ) -> Result<u8, Stop>
-    ensures { (policy_text users_text : List ℕ) →
+    ensures watched { (policy_text users_text : List ℕ) →
         S.holds source.old policy.now ≡ Some policy_text →
         IfSome users.entry (λ name. S.holds source.old name.now ≡ Some users_text) → IfNone users.entry (users_text ≡ []) →
         IfOk result (λ status. (found : Found)
         × IsWatched policy_text users_text (length captures.now) turns (S.given source.new) (S.reads source.new) found (O.taken out.old) (O.taken out.new) status) }
+    ensures ended { (policy_text users_text : List ℕ) →
+        S.holds source.old policy.now ≡ Some policy_text →
+        IfSome users.entry (λ name. S.holds source.old name.now ≡ Some users_text) → IfNone users.entry (users_text ≡ []) →
+        IfErr result (λ stop. EndsLive (S.may_fail source.old) policy.now policy_text users.entry users_text (length captures.now) (S.given source.new) stop
+        ⊎ EndsWriting (O.failures out.old) (O.failures out.new) stop) }
 {
     let mut watch = Watch::open(
         alloc,

@@ -1,7 +1,8 @@
 //! The whole program as a function.
 
-ghost use Rattle.std.specs.Prelude.{◌≡◌, [], ℕ, IfNone, IfOk, IfSome, List, Some, map};
+ghost use Rattle.std.specs.Prelude.{◌≡◌, ◌⊎◌, [], ℕ, IfErr, IfNone, IfOk, IfSome, List, Some, map};
 ghost use Rattle.std.specs.List.{AllZip};
+ghost use Rattle.audit_files.specs.Ends.{EndsFiles, EndsWriting};
 ghost use Rattle.audit_files.specs.Judged.{IsAudited};
 ghost use Rattle.audit_model.specs.declared.certificate.Certificate.{Certificate as Found};
 ghost use Rattle.audit_program.specs.Answered.{Answers, HaveCaptures, HaveTexts, IsRun, IsWritten};
@@ -35,11 +36,17 @@ pub fn audit_captures<R: Threads + Wait + Sync, F: CertificateFinder, S: Source,
     workers: Workers,
     out: &mut O,
 ) -> Result<u8, Stop>
-    ensures { (policy_text users_text : List ℕ) (texts : List (List ℕ)) →
+    ensures audited { (policy_text users_text : List ℕ) (texts : List (List ℕ)) →
         S.holds source.old policy.now ≡ Some policy_text →
         IfSome users.entry (λ name. S.holds source.old name.now ≡ Some users_text) → IfNone users.entry (users_text ≡ []) →
         AllZip (λ name text. S.holds source.old name.now ≡ Some text) captures.now texts →
         IfOk result (λ status. (found : Found) × IsAudited policy_text users_text texts found (O.taken out.old) (O.taken out.new) status) }
+    ensures ended { (policy_text users_text : List ℕ) (texts : List (List ℕ)) →
+        S.holds source.old policy.now ≡ Some policy_text →
+        IfSome users.entry (λ name. S.holds source.old name.now ≡ Some users_text) → IfNone users.entry (users_text ≡ []) →
+        AllZip (λ name text. S.holds source.old name.now ≡ Some text) captures.now texts →
+        IfErr result (λ stop. EndsFiles (S.may_fail source.old) policy.now policy_text users.entry users_text captures.now texts stop
+        ⊎ EndsWriting (O.failures out.old) (O.failures out.new) stop) }
 {
     let files = read_files(rt, alloc, source, policy, users, captures, workers)?;
     let found = found_either_way(rt, alloc, finder, &files, workers)?;
@@ -59,8 +66,11 @@ fn run_find<R: Threads + Wait + Sync, F: CertificateFinder, S: Source, O: Sink>(
     source: &mut S,
     out: &mut O,
 ) -> Result<u8, Stop>
-    ensures { (policy users : List ℕ) (captures : List (List ℕ)) → HaveTexts (S.holds source.old) inputs.now policy users → HaveCaptures (S.holds source.old) inputs.now captures →
+    ensures written { (policy users : List ℕ) (captures : List (List ℕ)) → HaveTexts (S.holds source.old) inputs.now policy users → HaveCaptures (S.holds source.old) inputs.now captures →
         IfOk result (IsWritten F.finds policy users captures (O.taken out.old) (O.taken out.new)) }
+    ensures ended { (policy users : List ℕ) (captures : List (List ℕ)) → HaveTexts (S.holds source.old) inputs.now policy users → HaveCaptures (S.holds source.old) inputs.now captures →
+        IfErr result (λ stop. EndsFiles (S.may_fail source.old) inputs.now.policy.now policy inputs.now.credentials users inputs.now.captures.items captures stop
+        ⊎ EndsWriting (O.failures out.old) (O.failures out.new) stop) }
 {
     let files = read_files(
         rt,
@@ -94,8 +104,9 @@ fn run_request<
     out: &mut O,
     err: &mut E,
 ) -> Result<u8, Stop>
-    ensures { Answers (S.holds source.old) (S.given source.new) (S.reads source.new) F.finds
-        (record { before = O.taken out.old; after = O.taken out.new; said_before = E.taken err.old; said_after = E.taken err.new }) request.now result }
+    ensures { Answers (S.holds source.old) (S.may_fail source.old) (S.given source.new) (S.reads source.new) F.finds
+        (record { before = O.taken out.old; after = O.taken out.new; said_before = E.taken err.old; said_after = E.taken err.new })
+        (record { before = O.failures out.old; after = O.failures out.new; said_before = E.failures err.old; said_after = E.failures err.new }) request.now result }
 {
     match request {
         Request::Check {
@@ -163,8 +174,9 @@ pub fn run<
     O: Sink,
     E: Sink,
 >(rt: &R, alloc: Global, finder: &F, words: &[N], source: &mut S, out: &mut O, err: &mut E) -> u8
-    ensures { IsRun (map N.text words.now) (S.holds source.old) (S.given source.new) (S.reads source.new) F.finds
-        (record { before = O.taken out.old; after = O.taken out.new; said_before = E.taken err.old; said_after = E.taken err.new }) result }
+    ensures { IsRun (map N.text words.now) (S.holds source.old) (S.may_fail source.old) (S.given source.new) (S.reads source.new) F.finds
+        (record { before = O.taken out.old; after = O.taken out.new; said_before = E.taken err.old; said_after = E.taken err.new })
+        (O.failures out.old) (O.failures out.new) (E.failures err.old) result }
 {
     let request = match read_words(alloc, words) {
         Ok(request) => request,

@@ -1,6 +1,7 @@
 //! What a run writes besides the report.
 
-ghost use Rattle.std.specs.Prelude.{◌≡◌, OnOk};
+ghost use Rattle.std.specs.Prelude.{◌≡◌, IfErr, OnOk};
+ghost use Rattle.audit_files.specs.Ends.{EndsWriting};
 ghost use Rattle.audit_model.specs.Sink.{followed_by};
 
 use audit_files::Stop;
@@ -9,7 +10,8 @@ use std::alloc::Global;
 
 /// Puts a text.
 pub fn put_text<W: Sink>(sink: &mut W, text: &str) -> Result<(), Stop>
-    ensures { OnOk result (W.taken sink.new ≡ followed_by (W.taken sink.old) text.now) }
+    ensures put { OnOk result (W.taken sink.new ≡ followed_by (W.taken sink.old) text.now) }
+    ensures failed { IfErr result (EndsWriting (W.failures sink.old) (W.failures sink.new)) }
 {
     put_all(sink, text.as_bytes())?;
     Ok(())

@@ -35,8 +35,11 @@ impl<'a> Files<'a> {
 
 impl Source for Files<'_> {
     ghost use Rattle.tests_files.specs.Held.{held_among};
+    ghost use Rattle.std.specs.Prelude.{is_none};
 
     ghost holds = { λ files name. held_among files.policy.now files.certificate.now files.capture.now name };
+
+    ghost may_fail = { λ files name. is_none (held_among files.policy.now files.certificate.now files.capture.now name) };
 
     fn piece(&mut self, name: &str, at: u64, into: &mut [u8]) -> Result<usize, ReadFailed> {
         let Some(file) = self.bytes_of(name) else {

@@ -1,6 +1,6 @@
 //! Streams in memory, and what a run of the program writes to them.
 
-ghost use Rattle.std.specs.Prelude.{[], IfOk, None, Some, map};
+ghost use Rattle.std.specs.Prelude.{[], IfOk, None, Some, map, true};
 ghost use Rattle.audit_finder.specs.Found.{IsFound};
 ghost use Rattle.audit_program.specs.Answered.{IsRun};
 ghost use Rattle.tests_host.specs.Held.{gave_of, held_among};
@@ -66,10 +66,12 @@ pub fn ask(
     ensures { IfOk result (λ answer. IsRun
         (map (λ word. word.now) words.now)
         (held_among files.old.policy.now files.old.credentials.now files.old.certificate.now files.old.capture.now files.old.second.now)
+        (λ name. true)
         (gave_of files.new.gave.items files.new.gave_second.items)
         (λ capture. None)
         IsFound
         (record { before = Some []; after = Some answer.out.items; said_before = Some []; said_after = Some answer.err.items })
+        None None None
         answer.status) }
 {
     let mut out = Stream {

@@ -1,4 +1,4 @@
-use Rattle.std.proofs.Common.{◌≡◌, ◌++◌, ◌∷◌, ◌∙◌, ◌+◌, ◌<◌, [], ℕ, List, Bor, None, get_or, length, map, take, ap, arith, inl, inr, refl, rules, subst, sym}
+use Rattle.std.proofs.Common.{◌≡◌, ◌++◌, ◌∷◌, ◌∙◌, ◌+◌, [], ℕ, List, Bor, None, get_or, length, ap, arith, inl, inr, rules, subst, sym}
 use Rattle.std.specs.Prelude.{replicate, vec_len}
 use Rattle.std.proofs.lemmas.Bool.{cases_lt}
 use Rattle.std.proofs.lemmas.List.{get_or_at, get_or_append_left, length-append, map-append}
@@ -20,7 +20,8 @@ names-preserved g c =
     let pushed : c.push.new.self.items ≡ before ++ one ∷ [] = c.in_ok-push.ensures.items in
     rw pushed record {
       names = map-append (λ (r : Reading g.row.S.Denot). r.name) before (one ∷ []) ∙ ap (λ (l : List (Bor (List ℕ))). l ++ name ∷ []) at.invariant.names ∙ sym (take_at_read c.args.names.now at.name-index none c.names-test.true).1;
-      sources = All-push (λ (r : Reading g.row.S.Denot). g.S.Source.holds r.source ≡ g.S.Source.holds c.args.source.now) before one at.invariant.sources c.beside.ensures;
+      sources = All-push (λ (r : Reading g.row.S.Denot). g.S.Source.holds r.source ≡ g.S.Source.holds c.args.source.now) before one at.invariant.sources c.beside.ensures.kept;
+      steady = All-push (λ (r : Reading g.row.S.Denot). g.S.Source.may_fail r.source ≡ g.S.Source.may_fail c.args.source.now) before one at.invariant.steady c.beside.ensures.steady;
       policies = All-push (λ (r : Reading g.row.S.Denot). r.intake.policy ≡ c.args.intake.now.policy) before one at.invariant.policies c.in_ok-with_files.ensures.policy;
       count = many;
       stands = λ i d less. elim (cases_lt i at.name-index) [

@@ -1,4 +1,4 @@
-use Rattle.std.proofs.Common.{◌≡◌, ◌∙◌, List, None, Some, codes, map, option_map, ap, sym}
+use Rattle.std.proofs.Common.{◌≡◌, ◌∙◌, None, Some, codes, map, option_map, ap, sym}
 use Rattle.clap.proofs.WalkLemmas.{first_value-rows, raw_values-rows}
 use Rattle.clap.specs.Words.{all_of, first_of, found_of, rows_of}
 use Rattle.audit_program.proofs.command_line.inputs_of.Goals as goal

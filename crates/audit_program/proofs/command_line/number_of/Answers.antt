@@ -1,8 +1,8 @@
-use Rattle.std.proofs.Common.{◌≡◌, ℕ, List, Option, None, Some, Result, Ok, Err, IfSome, IfNone, refl, subst, sym, ◌∙◌}
+use Rattle.std.proofs.Common.{◌≡◌, ℕ, List, Option, None, Some, Result, Ok, Err, IfSome, IfNone, refl, subst}
 use Rattle.std.specs.Prelude.{⊤}
 use Rattle.std.specs.Str.Parse.{ParsesUnsigned, ExplainsUnsignedError, HasUnsignedDigitsIfOk}
 use Rattle.clap.proofs.WalkLemmas.{one_text-rows}
-use Rattle.clap.specs.Words.{ReadsOne, Row, Text, found_of, one_of, one_text, rows_of}
+use Rattle.clap.specs.Words.{ReadsOne, found_of, one_text}
 use Rattle.audit_program.proofs.command_line.number_of.Goals as goal
 
 abbrev Reads : Option (List ℕ) → ℕ → Type 0

@@ -1,7 +1,7 @@
-use Rattle.std.proofs.Common.{◌≡◌, ◌∙◌, IfNone, IfSome, ap, inr, map, refl, subst, sym, true}
+use Rattle.std.proofs.Common.{◌≡◌, ◌∙◌, IfNone, IfSome, ap, inr, map, refl, subst, true}
 use Rattle.clap.proofs.OnLiterals.{clap_on_literals}
 use Rattle.clap.specs.Words.{App, fault_of, is_simple, is_simple_and_free, subcommand_of, subcommand_rows_of, HasKind}
-use Rattle.audit_program.specs.Words.{Asks, Names, NamesNothing, turnaudit}
+use Rattle.audit_program.specs.Words.{Names, NamesNothing, turnaudit}
 use Rattle.audit_program.proofs.Naming.{named_is_asked}
 use Rattle.audit_program.proofs.command_line.read.Goals as goal
 

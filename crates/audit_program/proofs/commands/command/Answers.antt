@@ -1,7 +1,7 @@
 use Rattle.std.proofs.Common.{◌≡◌, ◌∙◌, ap, ap₂, codes}
 use Rattle.std.proofs.lemmas.Result.{IfOk-weaker}
 use Rattle.clap.specs.Words.{App, app_of, with_subcommand}
-use Rattle.audit_program.specs.Words.{check, finding, live, program}
+use Rattle.audit_program.specs.Words.{finding, live, program}
 use Rattle.audit_program.proofs.commands.command.Goals as goal
 
 pub returns : goal.returns

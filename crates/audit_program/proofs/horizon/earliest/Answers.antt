@@ -1,4 +1,4 @@
-use Rattle.std.proofs.Common.{◌≡◌, ◌+◌, ℕ, Option, None, Some, subst, sym}
+use Rattle.std.proofs.Common.{◌≡◌, ◌+◌, ℕ, Option, subst}
 use Rattle.audit_sightings.specs.Intake.{taken}
 use Rattle.audit_sightings.specs.Newest.{IsNewest}
 use Rattle.audit_program.proofs.Earliest.{of_more, some_now}

@@ -1,4 +1,4 @@
-use Rattle.std.proofs.Common.{◌≡◌, ℕ}
+use Rattle.std.proofs.Common.{◌≡◌}
 use Rattle.std.specs.Prelude.{IfNone}
 use Rattle.audit_sightings.specs.Intake.{taken}
 use Rattle.audit_program.specs.Horizon.{IsEarliestOf}

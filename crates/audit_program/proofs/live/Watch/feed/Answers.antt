@@ -1,6 +1,6 @@
 use Rattle.std.proofs.Common.{ap, refl}
 use Rattle.audit_live.specs.Audit.{Audit}
-use Rattle.audit_program.proofs.Following.{goes_fed, left_going}
+use Rattle.audit_program.proofs.Following.{follows_refused, goes_fed, left_going}
 use Rattle.audit_program.proofs.Reading.{over_fed}
 use Rattle.audit_program.proofs.live.Watch.feed.Goals as goal
 
@@ -22,3 +22,9 @@ returns-in-Ok-clause-read g c = λ apart. (c.in_ok-read.read, c.in_ok-read.ensur
 
 pub returns-in-Err-clause-read : goal.returns-in-Err-clause-read
 returns-in-Err-clause-read g c = λ apart. absurd (apart refl)
+
+pub returns-in-Err-clause-left : goal.returns-in-Err-clause-left
+returns-in-Err-clause-left g c = λ policy users count goes.
+    follows_refused policy users count (g.S.Growing.given c.args.source.now) c.args.self.now.live goes (g.S.Growing.given c.more.new.self) c.args.file _ c.feed.new.self c.in-Err.field-0
+    c.in_ok-read.ensures.bytes c.more.ensures.others (c.in-Err.ensures.cause goes.0) (c.in-Err.ensures.err goes.0) c.feed.ensures.files c.feed.ensures.policy
+    (ap (λ (a : Audit). a.credentials) c.feed.ensures.rest)

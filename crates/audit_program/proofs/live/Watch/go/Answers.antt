@@ -12,6 +12,7 @@ pub returns-in-None : goal.returns-in-None
 returns-in-None g c = record {
   follows = λ policy users count goes. c.in_ok-now.ensures.follows policy users count (c.turns.invariant.goes policy users count goes);
   ended = λ policy users count goes unread. inl (subst (λ (o : Option ℕ). IfNone o (c.turn_on.new.self.live.ended ≢ None)) c.in-None.is (c.in_ok-now.ensures.over policy users count (c.turns.invariant.goes policy users count goes)));
+  stopped = tt;
 }
 
 pub turns-preserved : goal.turns-preserved

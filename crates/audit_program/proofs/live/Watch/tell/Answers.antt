@@ -1,4 +1,6 @@
-use Rattle.std.proofs.Common.{ap, sym, ◌∙◌}
+use Rattle.std.proofs.Common.{ap, inl, subst, sym, ◌∙◌}
+use Rattle.audit_files.proofs.Refusing.{err_then}
+use Rattle.audit_program.specs.Watched.{EndsTurns}
 use Rattle.audit_files.specs.Judged.{status_of}
 use Rattle.audit_keys.specs.KeyFor.{key_for}
 use Rattle.audit_model.specs.Sink.{followed_by}
@@ -7,8 +9,8 @@ use Rattle.audit_sightings.specs.declared.intake.Intake.{Intake}
 use Rattle.audit_sightings.specs.Intake.{taken}
 use Rattle.audit_program.proofs.live.Watch.tell.Goals as goal
 
-pub returns-in-Conforming : goal.returns-in-Conforming
-returns-in-Conforming g c = λ policy users count given reads turns follows has_ended. record {
+pub returns-in-Conforming-clause-told : goal.returns-in-Conforming-clause-told
+returns-in-Conforming-clause-told g c = λ policy users count given reads turns follows has_ended. record {
   intake = c.args.self.now.live.intake;
   key_for = key_for c.args.self.now.live.credentials;
   verdict = c.in_ok-verdict.verdict;
@@ -21,8 +23,8 @@ returns-in-Conforming g c = λ policy users count given reads turns follows has_
   told = sym (ap status_of c.in-Conforming.is);
 }
 
-pub returns-in-NotShown : goal.returns-in-NotShown
-returns-in-NotShown g c = λ policy users count given reads turns follows has_ended. record {
+pub returns-in-NotShown-clause-told : goal.returns-in-NotShown-clause-told
+returns-in-NotShown-clause-told g c = λ policy users count given reads turns follows has_ended. record {
   intake = c.args.self.now.live.intake;
   key_for = key_for c.args.self.now.live.credentials;
   verdict = c.in_ok-verdict.verdict;
@@ -34,3 +36,8 @@ returns-in-NotShown g c = λ policy users count given reads turns follows has_en
   written = c.in_ok-report.ensures.ok ∙ ap (λ (i : Intake). followed_by (g.O.Sink.taken c.args.out.now) (report_text c.in_ok-verdict.verdict (taken i))) c.intake.ensures;
   told = sym (ap status_of c.in-NotShown.is);
 }
+
+pub returns-in_err-verdict-clause-refused : goal.returns-in_err-verdict-clause-refused
+returns-in_err-verdict-clause-refused g c = λ policy users count given follows.
+    let ends = c.in_err-verdict.ensures.refused policy users count given follows in
+    err_then c.from_residual.result c.from_residual.ensures.1 (λ stop is. inl (subst (λ s. EndsTurns count given c.args.self.now.live.intake.policy s) (sym is) ends))
