@@ -15,6 +15,7 @@ import socket
 import subprocess
 import sys
 import time
+from collections.abc import Callable
 
 from kit.testbed import SERVER_ADDRESS
 
@@ -26,6 +27,8 @@ MTU = 65535
 ROOM = 4 << 20
 # The port to which datagrams are sent that mark where a capture begins and ends. It isn't the server's.
 DISCARD = 9
+# How often it is seen whether the server still runs, in seconds.
+SLICE = 0.5
 
 
 class NetError(Exception):
@@ -100,7 +103,8 @@ class Namespace:
 class UdpSocket:
     """A socket of a client or a peer."""
 
-    def __init__(self, namespace: Namespace, endpoint: tuple[str, int]):
+    def __init__(self, namespace: Namespace, endpoint: tuple[str, int], is_waiting: Callable[[], bool] = lambda: True):
+        self.is_waiting = is_waiting
         with namespace.entered():
             self.socket = socket.socket(socket.AF_INET, socket.SOCK_DGRAM | socket.SOCK_CLOEXEC)
         self.socket.setsockopt(socket.SOL_SOCKET, socket.SO_RCVBUF, ROOM)
@@ -111,8 +115,15 @@ class UdpSocket:
         self.socket.sendto(payload, target)
 
     def receive(self, seconds: float) -> tuple[bytes, tuple[str, int]] | None:
-        ready, _, _ = select.select([self.socket], [], [], seconds)
-        return self.socket.recvfrom(65535) if ready else None
+        """Nothing comes from a server that has ended, so that isn't waited for longer than a slice."""
+        end = time.monotonic() + seconds
+        while True:
+            may_answer, remaining = self.is_waiting(), max(0.0, end - time.monotonic())
+            ready, _, _ = select.select([self.socket], [], [], min(remaining, SLICE))
+            if ready:
+                return self.socket.recvfrom(65535)
+            if remaining <= SLICE or not may_answer:
+                return None
 
     def close(self) -> None:
         self.socket.close()
@@ -124,6 +135,7 @@ class Net:
     def __init__(self, loss: str = ""):
         self.sockets: list[UdpSocket] = []
         self.end_server = lambda: None
+        self.has_server = lambda: True
         self.server = Namespace()
         self.sides = {side: Namespace() for side in SIDES}
         setup = ["link set lo up"]
@@ -152,7 +164,7 @@ class Net:
         return [interface for interface, _ in SIDES.values()]
 
     def open_socket(self, side: str, endpoint: tuple[str, int]) -> UdpSocket:
-        self.sockets.append(UdpSocket(self.sides[side], endpoint))
+        self.sockets.append(UdpSocket(self.sides[side], endpoint, lambda: self.has_server()))
         return self.sockets[-1]
 
     def mark(self, payload: bytes) -> None:

@@ -108,7 +108,8 @@ class Server:
     """The server that is tested."""
 
     def __init__(self, net: Net, template: str, relay: tuple[int, int], log: Path, seconds: float):
-        self.process = Process(net.server, command_of(template, relay), log)
+        self.command = command_of(template, relay)
+        self.process = Process(net.server, self.command, log)
         try:
             self.await_listening(seconds)
         except ServerError:
@@ -119,7 +120,7 @@ class Server:
         """Until the listen address is bound. Nothing is sent, so that the capture has what the situation sends alone."""
         end = time.monotonic() + seconds
         while not self.is_listening():
-            status, printed = self.process.popen.poll(), self.process.last_lines
+            status, printed = self.process.popen.poll(), f"{self.process.last_lines}\ncommand: {shlex.join(self.command)}"
             if status is not None:
                 raise ServerError(f"the server ended with status {status} as it started:\n{printed}")
             if time.monotonic() > end:

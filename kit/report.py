@@ -61,6 +61,12 @@ class Table:
         for result in results:
             if result.verdict == NOT_JUDGED:
                 self.write(f"not judged: {result.name}: {result.reason}")
+        rules: dict[str, list[str]] = {}
+        for result in results:
+            if result.verdict == BREACH and not result.is_expected:
+                rules.setdefault(result.rule, []).append(result.name)
+        for rule, names in sorted(rules.items(), key=lambda item: -len(item[1])):
+            self.write(f"red by {rule}: {len(names)}, begin with {min(names, key=len)}")
         counts = [f"{len(expected)} as expected" + (f" ({known} of them red by --expect)" if known else "")]
         counts += [f"{others.count(BREACH)} not shown", f"{others.count(CHECK)} failed by a check of the kit"]
         counts += [f"{others.count(ERROR)} in error"]

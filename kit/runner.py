@@ -97,6 +97,7 @@ def capture_and_judge(situation: Situation, plan: Plan, folder: Path, result: Re
     try:
         try:
             server = Server(net, plan.command, situation.relay, folder / "server.log", plan.start_seconds)
+            net.has_server = lambda: not server.has_ended
             ended: list[bool] = []
             net.end_server = lambda: ended.append(server.end()) or ended[-1]
             testbed = Testbed(net, has_other_user=has_other_user(plan.command), patience=plan.patience)
@@ -108,6 +109,8 @@ def capture_and_judge(situation: Situation, plan: Plan, folder: Path, result: Re
                 server.end()
         finally:
             capture.end()
+            # dumpcap's file is for its user alone: `sudo kit/run --keep` leaves one that CI's next step can't read.
+            (folder / CAPTURE).chmod(0o644)
         if has_died:
             result.checks.append(Check("the server runs to the end", False, f"it ended with status {status}:\n{server.process.last_lines}"))
         if result.verdict != NOT_JUDGED:
