@@ -2,8 +2,8 @@
 """Tries the must-fail edits that stand beside the gate, those of tests/edits/CRATE.
 
 An edit turns the meaning of a line of a crate, and the prover has to refuse the crate with it. The gate tries those of crates/*/must-fail
-each time. Those of tests/edits are tried where they can tell something new: all of a crate that changed since they were tried last, and of
-the others a twentieth, another one for each state of the repository. tests/edits/tried is the ledger of what was tried.
+each time. Of those of tests/edits it tries a twentieth, other ones for each state of the repository: first of crates that changed since
+all of theirs were tried, and of these up to MOST, since a merge has a time limit. tests/edits/tried is the ledger of what was tried.
 
     tools/edits.py                    tells which of them the gate tries now
     tools/edits.py --with COMMAND..   puts these beside the edits of crates/*/must-fail while COMMAND runs (`rt ci`, which tries all that it
@@ -31,8 +31,10 @@ TOP = crates.TOP
 EDITS = TOP / "tests" / "edits"
 LEDGER = EDITS / "tried"
 HEADING = "# crate, edits that were refused, digest of the crate and its edits, and what `rt version` said"
-# One of so many edits is tried of the crates that didn't change.
+# One of so many edits is tried, and of the crates that changed at most MOST. Those of one crate are tried one after the other: at most EACH.
 SHARE = 20
+MOST = 20
+EACH = 10
 # How the names begin of edits that are only put beside those of the gate.
 DRAWN = "drawn_"
 # What `tell` prints of a crate, and `rt ci` of an edit that is refused.
@@ -104,23 +106,30 @@ def has_changed(crate, line):
     return line is None or line.digest != digest_of(crate) or logic_of(line.kit) != logic_of(kit())
 
 
-def share_of(crates_left, tree):
-    """A share of all edits, of as few crates as have so many, since the first edit of a crate costs a check of all of it."""
-    wanted = -(-sum(len(edits_of(crate)) for crate in with_edits()) // SHARE)
+def some_of(crates_left, most, tree):
+    """As many edits, of few crates, since the first edit of a crate costs a check of all of it."""
     order = lambda it: hashlib.sha256(f"{tree} {it}".encode()).digest()
     for crate in sorted(crates_left, key=order):
-        chosen = sorted(edits_of(crate), key=lambda edit: order(edit.name))[:wanted]
+        chosen = sorted(edits_of(crate), key=lambda edit: order(edit.name))[: max(0, min(most, EACH))]
         if chosen:
-            yield crate, False, sorted(chosen)
-        wanted -= len(chosen)
+            yield crate, sorted(chosen)
+        most -= len(chosen)
+
+
+def changed_crates():
+    known = ledger()
+    return [crate for crate in with_edits() if has_changed(crate, known.get(crate))]
 
 
 def drawn():
     """The edits that the gate tries now, by crate, each with whether the crate changed since all of its edits were tried."""
-    known = ledger()
-    changed = [crate for crate in with_edits() if has_changed(crate, known.get(crate))]
-    yield from ((crate, True, edits_of(crate)) for crate in changed)
-    yield from share_of([crate for crate in with_edits() if crate not in changed], state())
+    changed, tree, tried = changed_crates(), state(), 0
+    for crate, chosen in some_of(changed, MOST, tree):
+        tried += len(chosen)
+        yield crate, True, chosen
+    share = -(-sum(len(edits_of(crate)) for crate in with_edits()) // SHARE)
+    for crate, chosen in some_of([crate for crate in with_edits() if crate not in changed], share - tried, tree):
+        yield crate, False, chosen
 
 
 def put(crate, edits, top):
@@ -153,12 +162,17 @@ def run_with(command):
 
 
 def tell():
-    """Tells which edits are drawn."""
-    count = 0
+    """Tells which edits are drawn, and which crates have others that haven't been tried since they changed."""
+    count, left = 0, {crate: len(edits_of(crate)) for crate in changed_crates()}
     for crate, changed, chosen in drawn():
         count += len(chosen)
+        if changed:
+            left[crate] -= len(chosen)
         why = "changed since all were tried" if changed else "drawn"
         print(f"edits of {crate} ({why}, digest {digest_of(crate)}): {' '.join(edit.stem for edit in chosen)}")
+    for crate, number in left.items():
+        if number:
+            print(f"edits of {crate} that are left for `make edits CRATES={crate}`: {number}")
     print(f"edits beside the gate: {count} of {sum(len(edits_of(crate)) for crate in with_edits())} are tried now", flush=True)
 
 
