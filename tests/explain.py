@@ -53,6 +53,8 @@ def stored():
     yield "no-users-faults", call, ["faults", "--policy", "policy", "client.pcapng", "peer.pcapng"]
     yield "conforming-faults", call, ["faults", *words]
     yield "exchanged-captures", call, ["verdict", "--cert", "certificate", *example("coturn-channels-two-files", "peer.pcapng", "client.pcapng")[1]]
+    inputs = TOP / "tests" / "prepare" / "inputs"
+    yield "midcall-too-late", inputs, ["verdict", "--policy", "policy", "--creds", "creds", "midcall-late.pcapng"]
     two = TOP / "tests" / "two-lanes-broken"
     for command in ("verdict", "lanes"):
         yield f"two-lanes-broken-{command}", two, [command, "--policy", "policy", "--cert", "certificate", "cap.pcapng"]
@@ -103,6 +105,16 @@ def refusals(room):
     yield "nothing-judged", ["verdict", "--policy", "wrong-policy", "call.pcapng"]
     yield "no-words", []
     yield "help", ["verdict", "--help"]
+
+
+def elsewhere(room):
+    """Words by which a certificate without its first act is judged: the departure of that act breaks a rule and shows no fault, and 40 others do."""
+    folder = room / "outlived"
+    shutil.copytree(EXAMPLES / "coturn-permission-outlived", folder)
+    lines = (folder / "certificate").read_text().splitlines(keepends=True)
+    lines.remove(next(line for line in lines if line.startswith("act ")))
+    (folder / "certificate").write_text("".join(lines))
+    return folder, ["verdict", "--policy", "policy", "--creds", "creds", "--cert", "certificate", "cap.pcapng"]
 
 
 def frames_of(data):
@@ -214,6 +226,8 @@ def main(program, write=False):
             words = ["verdict", "--policy", "policy", "--creds", "users", "--cert", f"{name}.cert", f"{name}.pcapng"]
             frames += compare(program, name, room, words, write)
             cases += 1
+        frames += compare(program, "shown-elsewhere", *elsewhere(room), write)
+        cases += 1
         for name, words in refusals(room):
             compare(program, f"told-{name}", room, words, write)
             cases += 1

@@ -6,7 +6,7 @@ pub const CONFORMING: &str =
 
 /// What `not shown` says.
 pub const NOT_SHOWN: &str =
-    "<p>The order of the captured datagrams that was tried, a certificate, is no run of the RFC 8656 server. Another order may be one, unless the account below ends with <i>Shown</i>: then no order of what was captured explains the datagram.</p>\n";
+    "<p>The order of the captured datagrams that was tried, a certificate, is no run of the RFC 8656 server. Another order may be one, unless the account below ends with <i>Shown</i>: then none is.</p>\n";
 
 /// What neither says.
 pub const NOT_SAID: &str =

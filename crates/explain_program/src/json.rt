@@ -5,6 +5,7 @@ use crate::frames::look_up;
 use crate::lanes::breach_of;
 use crate::last_lines::{fault_name, interfaces};
 use crate::verdict::story_in;
+use audit_faults::Fault;
 use audit_files::{Source, Stop};
 use audit_lane::{Finding, Outcome};
 use audit_model::{Breach, Verdict};
@@ -47,19 +48,46 @@ fn tell_head(
     tell_captured(alloc, teller, verdict, captured, answer)
 }
 
-/// Adds which fault the breach's departure shows in every order.
+/// The fault that the breach's departure shows.
+fn object_of_fault(
+    alloc: Global,
+    fault: Fault,
+    count: usize,
+    too_late: bool,
+) -> Result<Object, AllocError> {
+    let mut object = Object::new(alloc);
+    object.text("fault", fault_name(fault))?;
+    object.number("datagrams", count as u64)?;
+    object.flag("capture_began_too_late", too_late)?;
+    Ok(object)
+}
+
+/// Adds which fault the breach's departure shows in every order, and how many others show one where it shows none.
 fn tell_shown(
     alloc: Global,
     shown: Option<InEveryOrder>,
     answer: &mut Object,
 ) -> Result<(), AllocError> {
-    let Some(shown) = shown else {
-        return answer.nothing("shown");
-    };
-    let mut object = Object::new(alloc);
-    object.text("fault", fault_name(shown.fault))?;
-    object.number("datagrams", shown.count as u64)?;
-    answer.object("shown", object)
+    match shown {
+        Some(
+            InEveryOrder::Here {
+                fault,
+                count,
+                too_late,
+            },
+        ) => {
+            answer.object("shown", object_of_fault(alloc, fault, count, too_late)?)?;
+            answer.number("shown_elsewhere", 0)
+        }
+        Some(InEveryOrder::Elsewhere { count }) => {
+            answer.nothing("shown")?;
+            answer.number("shown_elsewhere", count as u64)
+        }
+        None => {
+            answer.nothing("shown")?;
+            answer.number("shown_elsewhere", 0)
+        }
+    }
 }
 
 /// The answer of the command `verdict`.

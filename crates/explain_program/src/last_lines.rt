@@ -143,16 +143,48 @@ pub fn fault_name(fault: Fault) -> &'static str {
     }
 }
 
+/// After a fault for which the captures began too late.
+const TOO_LATE: &str =
+    " The capture began too late for its relayed address, so that it shows no fault of the server.";
+
+/// What is said of the breach's datagram.
+fn line_of_this(
+    alloc: Global,
+    fault: Fault,
+    count: usize,
+    too_late: bool,
+) -> Result<String, AllocError> {
+    let name = fault_name(fault);
+    let ending = if too_late { TOO_LATE } else { "" };
+    format!(in alloc;
+        "Shown: no order of what was captured explains this datagram ({name}; {count} such in all).{ending}\n"
+    )
+}
+
+/// What is said where only others show a fault.
+fn line_of_others(alloc: Global, count: usize) -> Result<String, AllocError> {
+    if count == 1 {
+        return String::from_str(
+            alloc,
+            "Shown: no order explains what was captured: another datagram shows a fault (turnexplain faults).\n",
+        );
+    }
+    format!(in alloc;
+        "Shown: no order explains what was captured: {count} other datagrams show a fault (turnexplain faults).\n"
+    )
+}
+
 /// Whether another order may explain what breaks a rule.
 pub fn last_line(alloc: Global, shown: Option<InEveryOrder>) -> Result<String, AllocError> {
     match shown {
-        Some(shown) => {
-            let name = fault_name(shown.fault);
-            let count = shown.count;
-            format!(in alloc;
-                "Shown: no order of what was captured explains this datagram ({name}; {count} such in all).\n"
-            )
-        }
+        Some(
+            InEveryOrder::Here {
+                fault,
+                count,
+                too_late,
+            },
+        ) => line_of_this(alloc, fault, count, too_late),
+        Some(InEveryOrder::Elsewhere { count }) => line_of_others(alloc, count),
         None => String::from_str(
             alloc,
             "Not shown is no proof of a fault: another order may explain it.\n",

@@ -1,5 +1,10 @@
 //! What is told of the rest: how many more such faults a lane has, and what the other clients come to.
 
+ghost use Rattle.std.specs.Prelude.{◌≡◌, Any, IfOk, IfSome, length};
+ghost use Rattle.audit_faults.specs.Shown.{AreFaults};
+ghost use Rattle.audit_keys.specs.KeyFor.{key_for};
+ghost use Rattle.audit_sightings.specs.Intake.{taken};
+
 use crate::case::{Case, Lanes};
 use crate::line::{Line, Story};
 use audit_faults::{Fault, ShownFault, shown_faults};
@@ -8,9 +13,11 @@ use audit_model::SightId;
 use std::alloc::{AllocError, Global};
 use std::collections::BTreeMap;
 
-/// The faults that hold in every order, by the departures that show them.
+/// The faults that hold in every order, each with the departure that shows it.
 #[derive(Drop)]
 pub struct Shown {
+    /// In the order of the departures.
+    faults: Vec<ShownFault>,
     by_sight: BTreeMap<SightId, Fault>,
 }
 
@@ -21,18 +28,39 @@ fn is_same(one: Fault, other: Fault) -> bool {
 
 impl Shown {
     /// All that the captures show. It takes n log n in the sightings.
-    pub fn of(alloc: Global, case: Case<'_>) -> Result<Shown, AllocError> {
+    pub fn of(alloc: Global, case: Case<'_>) -> Result<Shown, AllocError>
+        ensures { IfOk result (λ shown. AreFaults (taken case.entry.intake.now) (key_for case.entry.users.now) shown.faults.items) }
+    {
+        let faults = shown_faults(alloc, case.intake, case.users)?;
         let mut by_sight = BTreeMap::new(alloc);
-        for shown in &shown_faults(alloc, case.intake, case.users)? {
-            let ShownFault { sight, fault, .. } = *shown;
-            by_sight.insert(sight, fault)?;
+        for shown in &faults {
+            by_sight.insert(shown.sight, shown.fault)?;
         }
-        Ok(Shown { by_sight })
+        Ok(Shown { faults, by_sight })
     }
 
-    /// The fault that a departure shows.
+    /// The fault that a departure shows. It takes log n in the faults.
     pub fn fault(&self, sight: SightId) -> Option<Fault> {
         self.by_sight.get(&sight).copied()
+    }
+
+    /// The fault that a departure shows, with all that is known of it. It takes n in the faults.
+    pub fn find(&self, sight: SightId) -> Option<ShownFault>
+        ensures { IfSome result (λ found. (found.sight ≡ sight) × Any (λ shown. shown ≡ found) self.now.faults.items) }
+    {
+        for shown in &self.faults {
+            if shown.sight == sight {
+                return Some(*shown);
+            }
+        }
+        None
+    }
+
+    /// How many departures show a fault.
+    pub fn number(&self) -> usize
+        ensures { result ≡ length self.now.faults.items }
+    {
+        self.faults.len()
     }
 
     /// How many departures show this fault.

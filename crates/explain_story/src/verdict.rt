@@ -1,5 +1,12 @@
 //! What a verdict means.
 
+ghost use Rattle.std.specs.Prelude.{IfOk, IfSome, List};
+ghost use Rattle.audit_faults.specs.declared.fault.ShownFault.{ShownFault};
+ghost use Rattle.audit_faults.specs.Shown.{AreFaults};
+ghost use Rattle.audit_keys.specs.KeyFor.{key_for};
+ghost use Rattle.audit_sightings.specs.Intake.{taken};
+ghost use Rattle.explain_story.specs.EveryOrder.{Says, SaysOne};
+
 use crate::case::{Case, Lanes, lanes_of};
 use crate::expected::{expected_of_act, expected_of_rule};
 use crate::got::tell_got;
@@ -178,18 +185,29 @@ fn tell_place(
 
 /// What is shown in every order.
 #[derive(Clone, Copy)]
-pub struct InEveryOrder {
-    pub fault: Fault,
-    /// How many departures show it.
-    pub count: usize,
+pub enum InEveryOrder {
+    /// A fault of the breach's departure.
+    Here {
+        fault: Fault,
+        /// How many departures show it.
+        count: usize,
+        /// The captures began too late for its relayed address.
+        too_late: bool,
+    },
+    /// None of that departure, but one of each of so many others.
+    Elsewhere {
+        count: usize,
+    },
 }
 
-/// What a breach means, but for its head and its last lines, and the fault of its departure that holds in every order.
+/// What a breach means, but for its head and its last lines, and what the captures show in every order.
 pub fn story_of(
     alloc: Global,
     case: Case<'_>,
     breach: &Breach,
-) -> Result<(Story, Option<InEveryOrder>), AllocError> {
+) -> Result<(Story, Option<InEveryOrder>), AllocError>
+    ensures { IfOk result (λ story. (faults : List ShownFault) × AreFaults (taken case.entry.intake.now) (key_for case.entry.users.now) faults × Says faults story.1) }
+{
     let mut story = Story::new(alloc, breach.at.key.moment);
     let shown = Shown::of(alloc, case)?;
     let departure = match lanes_of(alloc, case)? {
@@ -200,11 +218,28 @@ pub fn story_of(
     Ok((story, in_every_order(&shown, departure)))
 }
 
-/// The fault of a departure, and how many show it.
-fn in_every_order(shown: &Shown, departure: Option<SightId>) -> Option<InEveryOrder> {
-    let fault = shown.fault(departure?)?;
-    Some(InEveryOrder {
-        fault,
-        count: shown.count(fault),
+/// What a departure shows, and how many show the same.
+fn of_departure(shown: &Shown, departure: Option<SightId>) -> Option<InEveryOrder>
+    ensures { IfSome result (SaysOne shown.now.faults.items) }
+{
+    let found = shown.find(departure?)?;
+    Some(InEveryOrder::Here {
+        fault: found.fault,
+        count: shown.count(found.fault),
+        too_late: found.may_predate,
     })
+}
+
+/// What all departures show, that one first; nothing where none shows a fault.
+fn in_every_order(shown: &Shown, departure: Option<SightId>) -> Option<InEveryOrder>
+    ensures { Says shown.now.faults.items result }
+{
+    if let Some(here) = of_departure(shown, departure) {
+        return Some(here);
+    }
+    let count = shown.number();
+    if count == 0 {
+        return None;
+    }
+    Some(InEveryOrder::Elsewhere { count })
 }
