@@ -1,6 +1,7 @@
 //! A policy out of coturn's configuration.
 #![tactic(auto)]
 
+mod class;
 mod conf;
 mod fault;
 mod notes;

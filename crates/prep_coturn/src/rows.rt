@@ -1,7 +1,9 @@
 //! The lines of a configuration, as coturn 4.6 reads them.
 
-ghost use Rattle.std.specs.Prelude.{◌≡◌, ◌≤◌, length, IfSome};
+ghost use Rattle.std.specs.Prelude.{◌≡◌, ◌++◌, [], IfOk, OnOk, option_map, map};
+ghost use Rattle.prep_coturn.specs.Rows.{is_on, line_of, now_of, settings_of, unquoted_of, with_more};
 
+use crate::class::Class;
 use audit_text::cut;
 use std::alloc::{AllocError, Global};
 
@@ -17,16 +19,16 @@ impl<'a> Row<'a> {
     /// What a line says: blanks are passed over at its front, a name is parted from its value by blanks or `=`, and a value may
     /// stand in quotes. Nothing where it is empty or begins with `#`.
     pub fn of(line: u64, text: &'a [u8]) -> Option<Self>
-        ensures { IfSome result (λ row. row.line ≡ line) }
+        ensures { option_map now_of result ≡ line_of line text.now }
     {
-        let (_, text) = text.split_at(parting_length(text, false));
-        let (text, _) = text.split_at(kept_length(text, b'\r'));
+        let (_, text) = text.split_at(Class::Blank.front(text));
+        let (text, _) = text.split_at(Class::Return.kept(text));
         if text.is_empty() || text[0] == b'#' {
             return None;
         }
-        let (name, behind) = text.split_at(name_length(text));
-        let (_, value) = behind.split_at(parting_length(behind, true));
-        let (value, _) = value.split_at(kept_length(value, b' '));
+        let (name, rest) = text.split_at(Class::Name.front(text));
+        let (_, value) = rest.split_at(Class::Separator.front(rest));
+        let (value, _) = value.split_at(Class::Blank.kept(value));
         Some(Row {
             line,
             name,
@@ -35,7 +37,9 @@ impl<'a> Row<'a> {
     }
 
     /// Whether it switches something on: each value does but `0`, `off`, `no`, `false` and `f`.
-    pub fn is_on(&self) -> bool {
+    pub fn is_on(&self) -> bool
+        ensures { result ≡ is_on self.now.value.now }
+    {
         let value = self.value;
         !(value == b"0".as_slice()
             || value.eq_ignore_ascii_case(b"off")
@@ -45,47 +49,10 @@ impl<'a> Row<'a> {
     }
 }
 
-/// Whether it parts a name from its value.
-fn is_parting(byte: u8, with_equals: bool) -> bool {
-    byte == b' ' || byte == b'\t' || (with_equals && byte == b'=')
-}
-
-/// How many bytes that part stand at the front.
-fn parting_length(text: &[u8], with_equals: bool) -> usize
-    ensures { result ≤ length text.now }
-{
-    match text.iter().position(|byte| !is_parting(*byte, with_equals)) {
-        Some(at) => at,
-        None => text.len(),
-    }
-}
-
-/// How many bytes stand before the first that parts.
-fn name_length(text: &[u8]) -> usize
-    ensures { result ≤ length text.now }
-{
-    match text.iter().position(|byte| is_parting(*byte, true)) {
-        Some(at) => at,
-        None => text.len(),
-    }
-}
-
-/// How many bytes are left without those at the end that are like this one: blanks, or carriage returns.
-fn kept_length(text: &[u8], like: u8) -> usize
-    ensures { result ≤ length text.now }
-{
-    let is_tab = like == b' ';
-    match text
-        .iter()
-        .rposition(|byte| !(*byte == like || (is_tab && *byte == b'\t')))
-    {
-        Some(at) => at + 1,
-        None => 0,
-    }
-}
-
 /// A value without the quotes round it.
-fn unquoted(value: &[u8]) -> &[u8] {
+fn unquoted(value: &[u8]) -> &[u8]
+    ensures { result.now ≡ unquoted_of value.now }
+{
     match value.strip_prefix(b"\"") {
         None => value,
         Some(rest) => match rest.strip_suffix(b"\"") {
@@ -95,23 +62,28 @@ fn unquoted(value: &[u8]) -> &[u8] {
     }
 }
 
+/// Adds what a line says, if it says something.
+fn push_row<'a>(rows: &mut Vec<Row<'a>>, line: u64, text: &'a [u8]) -> Result<(), AllocError>
+    ensures { OnOk result (map now_of rows.new.items ≡ map now_of rows.old.items ++ with_more (line_of line text.now) []) }
+{
+    if let Some(row) = Row::of(line, text) {
+        rows.push(row)?;
+    }
+    Ok(())
+}
+
 /// The lines that say something, in their order. The cost is the size of the text.
-pub fn rows_of(alloc: Global, text: &[u8]) -> Result<Vec<Row<'_>>, AllocError> {
+pub fn rows_of(alloc: Global, text: &[u8]) -> Result<Vec<Row<'_>>, AllocError>
+    ensures { IfOk result (λ rows. map now_of rows.items ≡ settings_of text.now) }
+{
     let mut rows = Vec::new(alloc);
     let mut rest = text;
     let mut line = 1u64;
-    for _ in 0..text.len() {
-        let Some((one, behind)) = cut(rest, b'\n') else {
-            break;
-        };
-        if let Some(row) = Row::of(line, one) {
-            rows.push(row)?;
-        }
-        rest = behind;
-        line = line.saturating_add(1);
+    'lines: while let Some((one, others)) = cut(rest, b'\n') {
+        push_row(&mut rows, line, one)?;
+        rest = others;
+        line += 1;
     }
-    if let Some(row) = Row::of(line, rest) {
-        rows.push(row)?;
-    }
+    push_row(&mut rows, line, rest)?;
     Ok(rows)
 }

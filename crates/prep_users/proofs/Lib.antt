@@ -1,2 +1,5 @@
+pub mod Finding
 pub mod Proved
+pub mod Refusals
+pub mod Refused
 pub mod Scanning

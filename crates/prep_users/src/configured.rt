@@ -1,8 +1,9 @@
 //! The users that a configuration names.
 
-ghost use Rattle.std.specs.Prelude.{◌≡◌, ◌++◌, IfOk, OnOk};
+ghost use Rattle.std.specs.Prelude.{◌≡◌, ◌++◌, ◌⊎◌, Any, IfErr, IfOk, OnOk};
 ghost use Rattle.std.specs.List.{flat_map};
-ghost use Rattle.prep_users.specs.Configured.{accounts_of};
+ghost use Rattle.prep_users.specs.Configured.{accounts_of, Refuses};
+ghost use Rattle.prep_users.specs.declared.fault.ConfiguredFault.TheVariants.{Memory};
 
 use crate::account::Account;
 use crate::fault::ConfiguredFault;
@@ -21,7 +22,8 @@ pub fn accounts_in(
     rows: &[Row<'_>],
     realm: &[u8],
 ) -> Result<Vec<Account>, ConfiguredFault>
-    ensures { IfOk result (λ accounts. accounts.items ≡ flat_map (accounts_of realm.now) rows.now) }
+    ensures all { IfOk result (λ accounts. accounts.items ≡ flat_map (accounts_of realm.now) rows.now) }
+    ensures refused { IfErr result (λ fault. fault ≡ Memory ⊎ Any (Refuses fault realm.now) rows.now) }
 {
     let mut accounts = Vec::new(alloc);
     for row in rows {
@@ -37,7 +39,8 @@ fn push_user(
     row: &Row<'_>,
     realm: &[u8],
 ) -> Result<(), ConfiguredFault>
-    ensures { OnOk result (accounts.new.items ≡ accounts.old.items ++ accounts_of realm.now row.now) }
+    ensures added { OnOk result (accounts.new.items ≡ accounts.old.items ++ accounts_of realm.now row.now) }
+    ensures refused { IfErr result (λ fault. fault ≡ Memory ⊎ Refuses fault realm.now row.now) }
 {
     if row.name != b"user".as_slice() {
         return Ok(());

@@ -2,6 +2,7 @@
 
 ghost use Rattle.std.specs.Prelude.{◌≡◌};
 ghost use Rattle.prep_users.specs.declared.fault.ConfiguredFault.TheVariants.{Memory};
+ghost use Rattle.prep_users.specs.declared.fault.UsersFault.TheVariants.{Configured};
 
 use crate::settings::{Database, NoUsers};
 use crate::shown::Shown;
@@ -56,18 +57,24 @@ pub enum UsersFault {
 }
 
 impl From<ConfiguredFault> for UsersFault {
+    ghost from_gives = { λ fault e. e ≡ Configured fault };
+
     fn from(fault: ConfiguredFault) -> UsersFault {
         UsersFault::Configured(fault)
     }
 }
 
 impl From<AllocError> for UsersFault {
+    ghost from_gives = { λ _ e. e ≡ Configured Memory };
+
     fn from(_error: AllocError) -> UsersFault {
         UsersFault::Configured(ConfiguredFault::Memory)
     }
 }
 
 impl<T: Drop> From<AllocFailed<T>> for UsersFault {
+    ghost from_gives = { λ _ e. e ≡ Configured Memory };
+
     fn from(_failed: AllocFailed<T>) -> UsersFault {
         UsersFault::Configured(ConfiguredFault::Memory)
     }

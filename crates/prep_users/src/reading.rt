@@ -1,5 +1,12 @@
 //! What a configuration says of users.
 
+ghost use Rattle.std.specs.Prelude.{◌≡◌, ◌++◌, ◌⊎◌, ℕ, [], IfErr, IfOk, OnOk, List, Option, None, Some, map, option_map};
+ghost use Rattle.prep_coturn.specs.declared.rows.Row.{Row};
+ghost use Rattle.prep_coturn.specs.Rows.{now_of, settings_of};
+ghost use Rattle.prep_users.specs.declared.fault.UsersFault.TheVariants.{Configured, NoRealm};
+ghost use Rattle.prep_users.specs.declared.fault.ConfiguredFault.TheVariants.{Memory};
+ghost use Rattle.prep_users.specs.Wanting.{secrets_of, secrets_at, realm_for, AreJudged, AreUsersHere, IsOf, IsRefused, IsWanted, RefusesIn};
+
 use crate::account::Account;
 use crate::claim::Secret;
 use crate::configured::accounts_in;
@@ -21,20 +28,33 @@ pub enum Wanted {
     },
 }
 
+/// Adds the secret that a line says, where it says one.
+fn push_secret(alloc: Global, secrets: &mut Vec<Secret>, row: &Row<'_>) -> Result<(), AllocError>
+    ensures { OnOk result (secrets.new.items ≡ secrets.old.items ++ secrets_at row.now) }
+{
+    if row.name == b"static-auth-secret".as_slice() {
+        let bytes = Listed::from(Vec::from_slice(alloc, row.value)?);
+        secrets.push(Secret { bytes })?;
+    }
+    Ok(())
+}
+
 /// The secrets that a configuration says.
-fn secrets_in(alloc: Global, rows: &[Row<'_>]) -> Result<Vec<Secret>, AllocError> {
+fn secrets_in(alloc: Global, rows: &[Row<'_>]) -> Result<Vec<Secret>, AllocError>
+    ensures { IfOk result (λ secrets. secrets.items ≡ secrets_of rows.now) }
+{
     let mut secrets = Vec::new(alloc);
     for row in rows {
-        if row.name == b"static-auth-secret".as_slice() {
-            let bytes = Listed::from(Vec::from_slice(alloc, row.value)?);
-            secrets.push(Secret { bytes })?;
-        }
+        push_secret(alloc, &mut secrets, row)?;
     }
     Ok(secrets)
 }
 
 /// Refuses what leaves no users to be judged by.
-fn check_users(rows: &[Row<'_>]) -> Result<(), UsersFault> {
+fn check_users(rows: &[Row<'_>]) -> Result<(), UsersFault>
+    ensures judged { OnOk result (AreJudged rows.now) }
+    ensures refused { IfErr result (λ fault. (said : Option (List ℕ)) → IsRefused rows.now said fault) }
+{
     for setting in [NoUsers::NoAuth, NoUsers::Oauth] {
         if let Some(line) = switched_on(rows, setting.name().as_bytes()) {
             return Err(UsersFault::NoUsers { line, setting });
@@ -43,27 +63,59 @@ fn check_users(rows: &[Row<'_>]) -> Result<(), UsersFault> {
     Ok(())
 }
 
-/// The users that a configuration wants, in the realm that is said or else in the configuration's.
-pub fn wanted_of(alloc: Global, text: &[u8], realm: Option<&[u8]>) -> Result<Wanted, UsersFault> {
-    let rows = rows_of(alloc, text)?;
-    check_users(&rows)?;
-    let Some(realm) = realm.or(last_value(&rows, b"realm")) else {
-        return Err(UsersFault::NoRealm);
-    };
-    let secrets = secrets_in(alloc, &rows)?;
+/// The realm that is said, or else the configuration's.
+fn realm_in<'a>(rows: &[Row<'a>], said: Option<&'a [u8]>) -> Result<&'a [u8], UsersFault>
+    ensures found { IfOk result (λ realm. realm_for (option_map (λ said. said.now) said.entry) rows.now ≡ Some realm.now) }
+    ensures refused { IfErr result (λ fault. (fault ≡ NoRealm) × (realm_for (option_map (λ said. said.now) said.entry) rows.now ≡ None)) }
+{
+    if let Some(realm) = said {
+        return Ok(realm);
+    }
+    match last_value(rows, b"realm") {
+        Some(realm) => Ok(realm),
+        None => Err(UsersFault::NoRealm),
+    }
+}
+
+/// Refuses lines that name users elsewhere.
+fn check_databases(rows: &[Row<'_>]) -> Result<(), UsersFault>
+    ensures here { OnOk result (AreUsersHere rows.now) }
+    ensures refused { IfErr result (λ fault. (realm : List ℕ) → secrets_of rows.now ≡ [] → RefusesIn rows.now realm fault) }
+{
+    if let Some((line, setting)) = first_database(rows) {
+        return Err(UsersFault::Database { line, setting });
+    }
+    if let Some(line) = switched_on(rows, b"use-auth-secret") {
+        return Err(UsersFault::SecretInDatabase { line });
+    }
+    Ok(())
+}
+
+/// The users that the lines of a configuration want: those that they name, or those of their secrets.
+fn wanted_in(alloc: Global, rows: &[Row<'_>], realm: &[u8]) -> Result<Wanted, UsersFault>
+    ensures wanted { IfOk result (IsOf rows.now realm.now) }
+    ensures refused { IfErr result (RefusesIn rows.now realm.now) }
+{
+    let secrets = secrets_in(alloc, rows)?;
     if !secrets.is_empty() {
         let realm = Listed::from(Vec::from_slice(alloc, realm)?);
         return Ok(Wanted::Signed { secrets, realm });
     }
-    if let Some((line, setting)) = first_database(&rows) {
-        return Err(UsersFault::Database { line, setting });
-    }
-    if let Some(line) = switched_on(&rows, b"use-auth-secret") {
-        return Err(UsersFault::SecretInDatabase { line });
-    }
-    let accounts = accounts_in(alloc, &rows, realm)?;
+    check_databases(rows)?;
+    let accounts = accounts_in(alloc, rows, realm)?;
     if accounts.is_empty() {
         return Err(UsersFault::Nobody);
     }
     Ok(Wanted::Named(accounts))
+}
+
+/// The users that a configuration wants, in the realm that is said or else in the configuration's.
+pub fn wanted_of(alloc: Global, text: &[u8], realm: Option<&[u8]>) -> Result<Wanted, UsersFault>
+    ensures wanted { IfOk result (λ wanted. (rows : List Row) × (map now_of rows ≡ settings_of text.now) × IsWanted rows (option_map (λ said. said.now) realm.entry) wanted) }
+    ensures refused { IfErr result (λ fault. (fault ≡ Configured Memory) ⊎ ((rows : List Row) × (map now_of rows ≡ settings_of text.now) × IsRefused rows (option_map (λ said. said.now) realm.entry) fault)) }
+{
+    let rows = rows_of(alloc, text)?;
+    check_users(&rows)?;
+    let realm = realm_in(&rows, realm)?;
+    wanted_in(alloc, &rows, realm)
 }

@@ -1,5 +1,8 @@
 //! The settings that say where users are.
 
+ghost use Rattle.std.specs.Prelude.{◌≡◌, All, Any, IfNone, IfSome, None, option_map};
+ghost use Rattle.prep_users.specs.Wanting.{database_name, database_of, last_with, no_users_name, switched_on, IsOfDatabase};
+
 use prep_coturn::Row;
 
 /// A setting with which there are no users to be judged by.
@@ -11,7 +14,9 @@ pub enum NoUsers {
 
 impl NoUsers {
     /// How a configuration writes it.
-    pub fn name(self) -> &'static str {
+    pub fn name(self) -> &'static str
+        ensures { result.now ≡ no_users_name self }
+    {
         match self {
             NoUsers::NoAuth => "no-auth",
             NoUsers::Oauth => "oauth",
@@ -47,7 +52,9 @@ const DATABASES: [Database; 5] = [
 
 impl Database {
     /// How a configuration writes it.
-    pub fn name(self) -> &'static str {
+    pub fn name(self) -> &'static str
+        ensures { result.now ≡ database_name self }
+    {
         match self {
             Database::Sqlite => "userdb",
             Database::Postgres => "psql-userdb",
@@ -58,7 +65,9 @@ impl Database {
     }
 
     /// The setting of a name.
-    pub fn of(name: &[u8]) -> Option<Database> {
+    pub fn of(name: &[u8]) -> Option<Database>
+        ensures { result ≡ database_of name.now }
+    {
         for database in DATABASES {
             if database.name().as_bytes() == name {
                 return Some(database);
@@ -69,7 +78,10 @@ impl Database {
 }
 
 /// The first line that has users in a database.
-pub fn first_database(rows: &[Row<'_>]) -> Option<(u64, Database)> {
+pub fn first_database(rows: &[Row<'_>]) -> Option<(u64, Database)>
+    ensures some { IfSome result (λ found. Any (IsOfDatabase found.0 found.1) rows.now) }
+    ensures none { IfNone result (All (λ row. database_of row.name.now ≡ None) rows.now) }
+{
     for row in rows {
         if let Some(database) = Database::of(row.name) {
             return Some((row.line, database));
@@ -79,7 +91,9 @@ pub fn first_database(rows: &[Row<'_>]) -> Option<(u64, Database)> {
 }
 
 /// The line on which a switch was said last, where that switches it on.
-pub fn switched_on(rows: &[Row<'_>], name: &[u8]) -> Option<u64> {
+pub fn switched_on(rows: &[Row<'_>], name: &[u8]) -> Option<u64>
+    ensures { result ≡ switched_on name.now rows.now }
+{
     let mut on = None;
     for row in rows {
         if row.name == name {
@@ -90,7 +104,9 @@ pub fn switched_on(rows: &[Row<'_>], name: &[u8]) -> Option<u64> {
 }
 
 /// The last value of a setting.
-pub fn last_value<'a>(rows: &[Row<'a>], name: &[u8]) -> Option<&'a [u8]> {
+pub fn last_value<'a>(rows: &[Row<'a>], name: &[u8]) -> Option<&'a [u8]>
+    ensures { option_map (λ value. value.now) result ≡ last_with name.now None rows.now }
+{
     let mut value = None;
     for row in rows {
         if row.name == name {
