@@ -1,9 +1,11 @@
-//! The page that is read before an audit: what captures hold, and what is advised. Nothing rests on what it says.
+//! The page that is read before an audit: what captures hold, and what is advised. What it says of the policy's addresses is proved.
 #![tactic(auto)]
 
 mod advice;
 mod advising;
+mod answering;
 mod crossings;
+mod granting;
 mod guess;
 mod interface;
 mod losses;

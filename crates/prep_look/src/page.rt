@@ -1,16 +1,19 @@
 //! The page.
 
-use crate::advice::Ip;
+ghost use Rattle.std.specs.Prelude.{◌≡◌, ◌++◌, IfOk, List, ℕ, string_bytes};
+ghost use Rattle.prep_look.specs.PolicyLines.{answers_text, granted_text};
+
 use crate::advising::{Findings, advise};
+use crate::answering::lines_of_answers;
 use crate::crossings::find_crossings;
+use crate::granting::lines_of_granted;
 use crate::interface::Interface;
 use crate::losses::find_losses;
 use crate::passed::Passed;
 use crate::responses::count_answered;
-use crate::survey::{Answers, Survey};
-use crate::told::{ToldAddress, split_ip};
+use crate::survey::Survey;
 use crate::unjudged::count_unjudged;
-use audit_model::{Addr, Policy, Side};
+use audit_model::{Policy, Side};
 use prep_reasons::Sheet;
 use prep_records::{Content, Record};
 use std::alloc::{AllocError, Global};
@@ -65,31 +68,56 @@ fn one_more(count: u64) -> u64 {
 }
 
 /// The page up to the suggested policy, whose heading is its last line. It holds numbers, addresses and words of its own, nothing as the
-/// captures spell it. The cost is the number of records times its logarithm.
+/// captures spell it. The cost is the number of records times its logarithm. Of its lines those on addresses of the policy are stated.
 pub fn page_of(
     alloc: Global,
     survey: Survey,
     policy: &Policy,
     sheet: &Sheet<'_>,
-) -> Result<String, AllocError> {
+) -> Result<String, AllocError>
+    ensures { IfOk result (λ page. (before after : List ℕ) × (string_bytes page ≡ before ++ (answers_text policy.now survey.answers.entries ++ (granted_text policy.now survey.told.items ++ after)))) }
+{
     let mut survey = survey;
+    let mut page = head_of(alloc, &mut survey.interfaces, sheet)?;
+    let rest = rest_of(alloc, &survey, policy, sheet)?;
+    page.push_str(lines_of_answers(alloc, &survey.answers, policy)?.as_str())?;
+    page.push_str(lines_of_granted(alloc, &survey.told, policy)?.as_str())?;
+    page.push_str(rest.as_str())?;
+    Ok(page)
+}
+
+/// The lines of interfaces.
+fn head_of(
+    alloc: Global,
+    interfaces: &mut Vec<Interface>,
+    sheet: &Sheet<'_>,
+) -> Result<String, AllocError> {
+    let mut head = String::from_str(alloc, "turnprep-look 1\n")?;
+    write_interfaces(alloc, &mut head, interfaces, sheet)?;
+    Ok(head)
+}
+
+/// The lines after those of addresses.
+fn rest_of(
+    alloc: Global,
+    survey: &Survey,
+    policy: &Policy,
+    sheet: &Sheet<'_>,
+) -> Result<String, AllocError> {
     let found = Findings {
         answered: count_answered(alloc, sheet)?,
         crossings: find_crossings(alloc, sheet)?,
         losses: find_losses(alloc, sheet)?,
         unjudged: count_unjudged(alloc, sheet)?,
     };
-    let mut page = String::from_str(alloc, "turnprep-look 1\n")?;
-    write_interfaces(alloc, &mut page, &mut survey.interfaces, sheet)?;
-    write_answers(&mut page, &survey.answers, policy)?;
-    write_told(&mut page, &survey.told, policy)?;
-    write_findings(&mut page, &found)?;
-    let advices = advise(alloc, &survey, policy, &found)?;
+    let mut rest = String::new(alloc);
+    write_findings(&mut rest, &found)?;
+    let advices = advise(alloc, survey, policy, &found)?;
     for advice in &advices {
-        write!(page, "advice {advice}\n")?;
+        write!(rest, "advice {advice}\n")?;
     }
-    page.push_str("suggested-policy\n")?;
-    Ok(page)
+    rest.push_str("suggested-policy\n")?;
+    Ok(rest)
 }
 
 /// Three lines for each interface.
@@ -175,68 +203,6 @@ fn write_passed(page: &mut String, one: &Interface) -> Result<(), AllocError> {
         write!(page, " {passed} {count}")?;
     }
     page.push_str("\n")
-}
-
-/// Who answers, and who of the policy doesn't. Of those that answer a Binding alone it tells those at an address of the service where it
-/// doesn't relay: the others are peers.
-fn write_answers(
-    page: &mut String,
-    answers: &BTreeMap<Addr, Answers>,
-    policy: &Policy,
-) -> Result<(), AllocError> {
-    for (addr, answers) in answers.iter() {
-        let listens = policy.listens(*addr);
-        let is_own = policy.service_ip(addr.ip) && !policy.relays(*addr);
-        if listens || is_own || answers.allocate > 0 {
-            let count = answers.binding.saturating_add(answers.allocate);
-            write!(page, "answers {addr} {count}")?;
-            page.push_str(if listens { "\n" } else { " not-in-policy\n" })?;
-        }
-    }
-    for addr in policy.listen.as_slice() {
-        if !answers.contains_key(addr) {
-            write!(page, "silent {addr}\n")?;
-        }
-    }
-    Ok(())
-}
-
-/// A line for each address that was told, whatever its ports.
-fn write_told(page: &mut String, told: &[ToldAddress], policy: &Policy) -> Result<(), AllocError> {
-    let mut rest = told;
-    for _ in 0..told.len() {
-        let Some((first, _)) = rest.split_first() else {
-            return Ok(());
-        };
-        let (of_ip, behind) = split_ip(rest, first.relayed.ip);
-        write_told_ip(page, first.relayed, of_ip, policy)?;
-        rest = behind;
-    }
-    Ok(())
-}
-
-/// The line of an address whose ports are in order, of which this is the first.
-fn write_told_ip(
-    page: &mut String,
-    first: Addr,
-    told: &[ToldAddress],
-    policy: &Policy,
-) -> Result<(), AllocError> {
-    let mut last = first.port;
-    let mut on_wire = 0u64;
-    let mut in_policy = 0u64;
-    for one in told {
-        last = one.relayed.port;
-        on_wire = on_wire.saturating_add(u64::from(one.is_on_wire));
-        in_policy = in_policy.saturating_add(u64::from(policy.relays(one.relayed)));
-    }
-    let ip = Ip(first.ip);
-    let port = first.port;
-    let ports = told.len();
-    write!(
-        page,
-        "told {ip} ports {ports} from {port} to {last} on-wire {on_wire} in-policy {in_policy}\n"
-    )
 }
 
 /// Delays, and what `cut` would set aside.

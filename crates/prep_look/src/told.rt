@@ -1,5 +1,9 @@
 //! The relayed addresses that Allocate successes tell.
 
+ghost use Rattle.std.specs.Prelude.{◌≡◌, ◌≤◌, length, take, drop};
+ghost use Rattle.std.specs.List.{prefix_len};
+ghost use Rattle.prep_look.specs.PolicyLines.{is_of_ip};
+
 use crate::survey::Answers;
 use audit_model::Addr;
 use std::alloc::{AllocError, Global};
@@ -98,10 +102,25 @@ fn ips_on_wire(alloc: Global, wire: &BTreeSet<Addr>) -> Result<Vec<u32>, AllocEr
     Ok(ips)
 }
 
-/// Those of one address, which come first, and the others.
-pub(crate) fn split_ip(told: &[ToldAddress], ip: u32) -> (&[ToldAddress], &[ToldAddress]) {
-    let count = told.partition_point(|one| one.relayed.ip <= ip);
-    told.split_at(count.min(told.len()))
+/// How many stand at the front that are of one IP address.
+fn length_at(told: &[ToldAddress], ip: u32) -> usize
+    ensures count { result ≡ prefix_len (is_of_ip ip) told.now }
+    ensures within { result ≤ length told.now }
+{
+    for (at, one) in told.iter().enumerate() {
+        if one.relayed.ip != ip {
+            return at;
+        }
+    }
+    told.len()
+}
+
+/// Those of one IP address at the front, and the others. The cost is the number of those at the front.
+pub(crate) fn split_ip(told: &[ToldAddress], ip: u32) -> (&[ToldAddress], &[ToldAddress])
+    ensures front { result.0.now ≡ take (prefix_len (is_of_ip ip) told.now) told.now }
+    ensures others { result.1.now ≡ drop (prefix_len (is_of_ip ip) told.now) told.now }
+{
+    told.split_at(length_at(told, ip))
 }
 
 /// The one of those asked that has most of the ports.
