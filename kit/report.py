@@ -61,18 +61,24 @@ class Table:
         for result in results:
             if result.verdict == NOT_JUDGED:
                 self.write(f"not judged: {result.name}: {result.reason}")
-        rules: dict[str, list[str]] = {}
-        for result in results:
-            if result.verdict == BREACH and not result.is_expected:
-                rules.setdefault(result.rule, []).append(result.name)
-        for rule, names in sorted(rules.items(), key=lambda item: -len(item[1])):
-            self.write(f"red by {rule}: {len(names)}, begin with {min(names, key=len)}")
+        for line in rule_lines(results):
+            self.write(line)
         counts = [f"{len(expected)} as expected" + (f" ({known} of them red by --expect)" if known else "")]
         counts += [f"{others.count(BREACH)} not shown", f"{others.count(CHECK)} failed by a check of the kit"]
         counts += [f"{others.count(ERROR)} in error"]
         counts += [f"{others.count(PASSED)} green against --expect"] if PASSED in others else []
         counts += [f"{sum(result.verdict == NOT_JUDGED for result in results)} not judged"]
-        self.write(f"{len(results)} situations: {', '.join(counts)}")
+        self.write(f"{len(results)} situation{'' if len(results) == 1 else 's'}: {', '.join(counts)}")
+
+
+def rule_lines(results: list[Result]) -> list[str]:
+    """How many situations are red by each rule, most first, with the one of the shortest name to begin with."""
+    rules: dict[str, list[str]] = {}
+    for result in results:
+        if result.verdict == BREACH and not result.is_expected:
+            rules.setdefault(result.rule, []).append(result.name)
+    most_first = sorted(rules.items(), key=lambda item: -len(item[1]))
+    return [f"red by {rule}: {len(names)}, begin with {min(names, key=len)}" for rule, names in most_first]
 
 
 def check_line(check: Check) -> str:
