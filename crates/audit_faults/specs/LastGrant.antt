@@ -1,13 +1,20 @@
--- A success that granted what a departure lacked, too early.
-use Rattle.std.specs.Prelude.{◌≡◌, ◌+◌, ◌<◌, ℕ, Some}
+-- A success response that granted the lease which a departure lacked, and had expired.
+use Rattle.std.specs.Prelude.{◌≡◌, ◌⊎◌, ◌+◌, ◌<◌, ℕ, Some}
+use Rattle.audit_model.specs.declared.policy.Policy.{Policy}
+use Rattle.audit_model.specs.declared.sighting.SightId.{SightId}
 use Rattle.audit_model.specs.declared.sighting.Sighting.{Sighting}
-use Rattle.audit_model.specs.declared.sighting.Side.TheVariants.{Arrives, Leaves}
+use Rattle.audit_model.specs.declared.sighting.Side.TheVariants.{Arrives}
 use Rattle.audit_model.specs.Window.{later}
 use Rattle.audit_sightings.specs.Intake.{Taken, sighting_at}
 use Rattle.audit_rules.specs.Allocating.{seconds_after}
 use Rattle.audit_faults.specs.declared.fault.Fault.{Fault}
 use Rattle.audit_faults.specs.declared.fault.Fault.TheVariants.{Unasked, Unallocated, Unpermitted, Unbound, Unfit, Unauthentic}
+use Rattle.audit_faults.specs.declared.fault.Grant.{Grant}
 use Rattle.audit_faults.specs.declared.fault.LastGrant.{LastGrant}
+use Rattle.audit_faults.specs.declared.fault.Lease.TheVariants.{Permission, Channel}
+use Rattle.audit_faults.specs.Asks.{SentOn, SentInChannel, Told, ToldInChannel, InReach}
+use Rattle.audit_faults.specs.Beginning.{IsGrantedBy}
+use Rattle.audit_faults.specs.Grants.{IsCaptured}
 
 -- how long the lease lasts that the departure lacked: a permission, or a channel (RFC 8656, sections 9 and 12)
 abbrev pub seconds_of : Fault → ℕ
@@ -18,13 +25,45 @@ seconds_of Unbound = 600
 seconds_of Unfit = 0
 seconds_of Unauthentic = 0
 
--- what arrived came so long after the end of the lease that the success granted, grace included
-pub record IsTooEarly (taken : Taken) (fault : Fault) (last : LastGrant) : Type 0 where
+module _ (policy : Policy) where
+  -- the permission that a departure requires if it was sent for an arrival: for the peer's IP, of the client that sent the data or receives it (RFC 8656, section 9)
+  abbrev pub NeedsPermission : Sighting → Sighting → Grant → Type 0
+  NeedsPermission asked given grant =
+      (SentOn policy asked given × (grant ≡ record { client = asked.from; listen = asked.to; lease = Permission given.to.ip }))
+      ⊎ ((Told policy asked given ⊎ ((number : ℕ) × ToldInChannel policy number asked given)) × (grant ≡ record { client = given.to; listen = given.from; lease = Permission asked.from.ip }))
+
+  -- the channel, bound to the peer (RFC 8656, section 12)
+  abbrev pub NeedsChannel : Sighting → Sighting → Grant → Type 0
+  NeedsChannel asked given grant =
+      ((number : ℕ) × SentInChannel policy number asked given × (grant ≡ record { client = asked.from; listen = asked.to; lease = Channel number given.to }))
+      ⊎ ((number : ℕ) × ToldInChannel policy number asked given × (grant ≡ record { client = given.to; listen = given.from; lease = Channel number asked.from }))
+
+  abbrev pub Needs : Fault → Sighting → Sighting → Grant → Type 0
+  Needs Unasked asked given grant = ⊥
+  Needs Unallocated asked given grant = ⊥
+  Needs Unpermitted asked given grant = NeedsPermission asked given grant
+  Needs Unbound asked given grant = NeedsChannel asked given grant
+  Needs Unfit asked given grant = ⊥
+  Needs Unauthentic asked given grant = ⊥
+
+  -- the arrival is later by this time than the end of what the success response granted, grace included
+  abbrev pub IsOver : Fault → Sighting → Sighting → ℕ → Type 0
+  IsOver fault asked success time = (later (seconds_after success.hi (seconds_of fault)) policy.grace + time ≡ asked.lo) × (0 < time)
+
+-- The departure may have been sent for a captured arrival, and a captured success response granted the lease that it then requires, by a
+-- request that may precede the departure. That lease had expired by this time before the arrival, grace included.
+pub record IsTooEarly (taken : Taken) (fault : Fault) (sight : SightId) (last : LastGrant) : Type 0 where
+  pub given : Sighting
+  pub left : sighting_at taken sight ≡ Some given
   pub asked : Sighting
   pub here : sighting_at taken last.asked ≡ Some asked
   pub arrives : asked.side ≡ Arrives
+  pub in_reach : InReach taken.policy.hold asked given
+  pub grant : Grant
+  pub needs : Needs taken.policy fault asked given grant
+  pub request : Sighting
+  pub captured : IsCaptured taken request
   pub success : Sighting
   pub there : sighting_at taken last.success ≡ Some success
-  pub leaves : success.side ≡ Leaves
-  pub over : later (seconds_after success.hi (seconds_of fault)) taken.policy.grace + last.too_early ≡ asked.lo
-  pub too_early : 0 < last.too_early
+  pub grants : IsGrantedBy given.hi grant request success
+  pub over : IsOver taken.policy fault asked success last.too_early

@@ -43,10 +43,10 @@ TellsWhen taken fault sight None = IsOfLease fault → ⊥
 TellsWhen taken fault sight (Some granted) = IsOfLease fault × ((given : Sighting) → sighting_at taken sight ≡ Some given → IsWhen taken fault given granted)
 
 module _ (taken : Taken) (key_for : KeyFor) where
-  -- the departure shows this fault and none that ranks before it; the record says whether the captures began too late, and when the missing lease was granted; a success response that it names is too early
+  -- the departure shows this fault and none that ranks before it; the record says whether the captures began too late, and when the missing lease was granted; a success response that it names granted that lease, which had expired
   abbrev pub IsFirstFault : ShownFault → Type 0
   IsFirstFault shown = IsFault taken key_for shown.fault shown.sight × NoneBefore (λ earlier. IsFault taken key_for earlier shown.sight) shown.fault × (IsTrue shown.may_predate ↔ MayPredate taken shown.fault shown.sight)
-      × TellsWhen taken shown.fault shown.sight shown.granted × IfSome shown.last (IsTooEarly taken shown.fault)
+      × TellsWhen taken shown.fault shown.sight shown.granted × IfSome shown.last (IsTooEarly taken shown.fault shown.sight)
 
   -- All shown faults: of each departure that shows one the first, in rising order, and so once.
   pub record AreFaults (faults : List ShownFault) : Type 0 where

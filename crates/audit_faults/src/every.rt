@@ -182,7 +182,7 @@ fn add_of_sighting(
     if let Some(fault) = first_fault(intake, index, credentials, sight) {
         let may_predate = may_predate(intake, index, asking, always, fault, sight);
         let granted = granted_when(intake, index, asking, always, fault, sight);
-        let last = last_grant(intake, index, asking, credentials, fault, sight);
+        let last = last_grant(intake, index, asking, always, credentials, fault, sight);
         faults.push(ShownFault {
             sight,
             fault,

@@ -1,26 +1,31 @@
-//! The last success that granted what a departure lacked, and by how much it is too early. That it is the last one is for people to
-//! read: no clause says it.
+//! The last success response that granted the lease which a departure lacked, and by how much that had expired. No clause says that it is
+//! the last one.
 
-ghost use Rattle.std.specs.Prelude.{◌≡◌, ◌*◌, IfSome};
+ghost use Rattle.std.specs.Prelude.{◌≡◌, ◌↔◌, ◌*◌, IsTrue, IfSome};
+ghost use Rattle.audit_model.specs.declared.sighting.Side.TheVariants as sides;
 ghost use Rattle.audit_sightings.specs.Intake.{taken};
+ghost use Rattle.audit_faults.specs.Asks.{InReach};
+ghost use Rattle.audit_faults.specs.Grants.{Requests, Succeeds};
 ghost use Rattle.audit_faults.specs.Index.{IsIndex};
-ghost use Rattle.audit_faults.specs.LastGrant.{seconds_of, IsTooEarly};
+ghost use Rattle.audit_faults.specs.LastGrant.{seconds_of, NeedsPermission, NeedsChannel, Needs, IsOver, IsTooEarly};
 
 use crate::asked::{channel_key as key_of_channel_data, message_key};
+use crate::asks::{in_reach, sent_in_channel, sent_on, told, told_in_channel};
 use crate::explains::explains;
 use crate::fault::{Fault, Grant, LastGrant, Lease};
 use crate::index::Index;
 use crate::keyed::{ByKey, digest, span_of_key};
 use crate::lease_keys::{answer_key, channel_key, permission_key, relayed_key};
 use crate::leased::{Leases, lease_message};
-use crate::leases::asks_for;
+use crate::leases::{requests, succeeds};
 use crate::repeats::Asking;
 use crate::requests::is_answer_at;
 use crate::sought::earliest;
+use crate::values::message_in;
 use audit_keys::Credentials;
 use audit_model::{Policy, Side, SightId, Sighting};
 use audit_sightings::Intake;
-use audit_stun::{Class, channel_data};
+use audit_stun::Class;
 
 /// How many arrivals are looked at that may have asked for the departure, the last ones.
 const MOST: usize = 64;
@@ -36,27 +41,34 @@ fn time_of(fault: Fault) -> u64
     }
 }
 
-/// By how much the success is too early for the arrival; none where it isn't.
-fn too_early(intake: &Intake, fault: Fault, asked: SightId, success: SightId) -> Option<LastGrant>
-    ensures { IfSome result (IsTooEarly (taken intake.now) fault) }
+/// Whether the request may precede the departure and requests the lease, and the success response granted it.
+fn granted(
+    policy: &Policy,
+    grant: &Grant,
+    always: &Sighting,
+    given: &Sighting,
+    request: &Sighting,
+    success: &Sighting,
+) -> bool
+    ensures { IsTrue result → Requests policy.now grant.now always.now given.now request.now × Succeeds policy.now grant.now always.now request.now success.now }
 {
-    let arrival = intake.sighting(asked)?;
-    let answer = intake.sighting(success)?;
-    if arrival.side != Side::Arrives || answer.side != Side::Leaves {
-        return None;
-    }
-    let end = answer
+    requests(policy, grant, always, given, request)
+        && message_in(request.payload.as_slice()).is_some()
+        && succeeds(policy, grant, always, request, success)
+}
+
+/// By how much the lease that the success response granted had expired when the arrival came, grace included; none if it may have lasted.
+fn too_early(policy: &Policy, fault: Fault, asked: &Sighting, success: &Sighting) -> Option<u64>
+    ensures { IfSome result (IsOver policy.now fault asked.now success.now) }
+{
+    let end = success
         .hi
         .saturating_add(time_of(fault))
-        .saturating_add(intake.policy().grace);
-    if arrival.lo <= end {
+        .saturating_add(policy.grace);
+    if asked.lo <= end {
         return None;
     }
-    Some(LastGrant {
-        asked,
-        success,
-        too_early: arrival.lo - end,
-    })
+    Some(asked.lo - end)
 }
 
 /// The fault before it, whose reasons an arrival had that asked for the departure.
@@ -80,15 +92,22 @@ fn key_of(policy: &Policy, given: &Sighting) -> Option<u64> {
     key_of_channel_data(payload)
 }
 
+/// Whether it arrived, and the departure may have been sent at most `hold` after it.
+fn is_in_time(policy: &Policy, asked: &Sighting, given: &Sighting) -> bool
+    ensures { IsTrue result ↔ ((asked.now.side ≡ sides.Arrives) × InReach policy.now.hold asked.now given.now) }
+{
+    asked.side == Side::Arrives && in_reach(policy.hold, asked, given)
+}
+
 /// The last arrival that asked for the departure, and had all reasons but those of the fault.
-fn last_asked<'a>(
-    intake: &'a Intake,
+fn last_asked(
+    intake: &Intake,
     index: &Index<'_>,
     asking: Asking<'_>,
     credentials: &Credentials,
     fault: Fault,
     given: &Sighting,
-) -> Option<&'a Sighting>
+) -> Option<SightId>
     requires { IsIndex (taken intake.now) index.now }
 {
     let before = fault_before(fault)?;
@@ -102,35 +121,63 @@ fn last_asked<'a>(
         let one = asking.by_key.places.get(place)?;
         let asked = intake.sighting(one.sight)?;
         if explains(intake, index, credentials, before, asked, given) {
-            return Some(asked);
+            return Some(one.sight);
         }
     }
     None
 }
 
-/// The lease that the departure lacked.
-fn lacked(policy: &Policy, fault: Fault, asked: &Sighting, given: &Sighting) -> Option<Grant> {
-    let to_peer = policy.listens(asked.to);
-    let (client, listen) = if to_peer {
-        (asked.from, asked.to)
-    } else {
-        (given.to, given.from)
-    };
-    let peer = if to_peer { given.to } else { asked.from };
-    let in_channel = if to_peer { asked } else { given };
-    let lease = match fault {
-        Fault::Unpermitted => Lease::Permission { ip: peer.ip },
-        Fault::Unbound => {
-            let (number, _, _) = channel_data(in_channel.payload.as_slice())?;
-            Lease::Channel { number, peer }
-        }
-        Fault::Unasked | Fault::Unallocated | Fault::Unfit | Fault::Unauthentic => return None,
-    };
+/// The permission that the departure lacked.
+fn lacked_permission(policy: &Policy, asked: &Sighting, given: &Sighting) -> Option<Grant>
+    ensures { IfSome result (NeedsPermission policy.now asked.now given.now) }
+{
+    if sent_on(policy, asked, given) {
+        return Some(Grant {
+            client: asked.from,
+            listen: asked.to,
+            lease: Lease::Permission { ip: given.to.ip },
+        });
+    }
+    if told(policy, asked, given) || told_in_channel(policy, asked, given).is_some() {
+        return Some(Grant {
+            client: given.to,
+            listen: given.from,
+            lease: Lease::Permission { ip: asked.from.ip },
+        });
+    }
+    None
+}
+
+/// The channel that it lacked.
+fn lacked_channel(policy: &Policy, asked: &Sighting, given: &Sighting) -> Option<Grant>
+    ensures { IfSome result (NeedsChannel policy.now asked.now given.now) }
+{
+    if let Some(number) = sent_in_channel(policy, asked, given) {
+        let peer = given.to;
+        return Some(Grant {
+            client: asked.from,
+            listen: asked.to,
+            lease: Lease::Channel { number, peer },
+        });
+    }
+    let number = told_in_channel(policy, asked, given)?;
+    let peer = asked.from;
     Some(Grant {
-        client,
-        listen,
-        lease,
+        client: given.to,
+        listen: given.from,
+        lease: Lease::Channel { number, peer },
     })
+}
+
+/// The lease that the departure lacked.
+fn lacked(policy: &Policy, fault: Fault, asked: &Sighting, given: &Sighting) -> Option<Grant>
+    ensures { IfSome result (Needs policy.now fault asked.now given.now) }
+{
+    match fault {
+        Fault::Unpermitted => lacked_permission(policy, asked, given),
+        Fault::Unbound => lacked_channel(policy, asked, given),
+        Fault::Unasked | Fault::Unallocated | Fault::Unfit | Fault::Unauthentic => None,
+    }
 }
 
 /// The key of requests for a lease.
@@ -142,7 +189,7 @@ fn key_of_lease(grant: &Grant) -> u64 {
     }
 }
 
-/// The last success to a request.
+/// The last success response to a request.
 fn last_success(
     intake: &Intake,
     answers: ByKey<'_>,
@@ -160,8 +207,8 @@ fn last_success(
     }
 }
 
-/// The last success that granted the lease before the departure.
-fn last_granted(
+/// The last request for the lease that may precede the departure.
+fn last_request(
     intake: &Intake,
     leases: Leases<'_>,
     grant: &Grant,
@@ -169,33 +216,42 @@ fn last_granted(
 ) -> Option<SightId> {
     let span = span_of_key(leases.requests.places, key_of_lease(grant), 0, given.hi);
     let one = leases.requests.places.get(span.past.checked_sub(1)?)?;
-    let request = intake.sighting(one.sight)?;
-    let is_asked = request.from == grant.client
-        && request.to == grant.listen
-        && asks_for(grant.lease, request.payload.as_slice());
-    if !is_asked {
-        return None;
-    }
-    last_success(intake, leases.answers, grant, request)
+    Some(one.sight)
 }
 
-/// The last success that granted what the departure lacked, where there is one and it is too early. It takes logarithmic time, and that
+/// The last success response that granted the lease which the departure lacked, if it had expired. It takes logarithmic time, and that
 /// of some arrivals with the departure's data.
 pub fn last_grant(
     intake: &Intake,
     index: &Index<'_>,
     asking: Asking<'_>,
+    always: &Sighting,
     credentials: &Credentials,
     fault: Fault,
     sight: SightId,
 ) -> Option<LastGrant>
-    requires { IsIndex (taken intake.now) index.now }
-    ensures { IfSome result (IsTooEarly (taken intake.now) fault) }
+    requires index { IsIndex (taken intake.now) index.now }
+    requires always { always.now.lo ≡ 0 }
+    ensures { IfSome result (IsTooEarly (taken intake.now) fault sight) }
 {
+    let policy = intake.policy();
     let given = intake.sighting(sight)?;
     let leases = index.leases?;
-    let asked = last_asked(intake, index, asking, credentials, fault, given)?;
-    let grant = lacked(intake.policy(), fault, asked, given)?;
-    let success = last_granted(intake, leases, &grant, given)?;
-    too_early(intake, fault, asked.id, success)
+    let asked_on = last_asked(intake, index, asking, credentials, fault, given)?;
+    let asked = intake.sighting(asked_on)?;
+    let grant = lacked(policy, fault, asked, given)?;
+    let request = intake.sighting(last_request(intake, leases, &grant, given)?)?;
+    let granted_on = last_success(intake, leases.answers, &grant, request)?;
+    let success = intake.sighting(granted_on)?;
+    if !is_in_time(policy, asked, given)
+        || !granted(policy, &grant, always, given, request, success)
+    {
+        return None;
+    }
+    let too_early = too_early(policy, fault, asked, success)?;
+    Some(LastGrant {
+        asked: asked_on,
+        success: granted_on,
+        too_early,
+    })
 }
