@@ -1,0 +1,14 @@
+pub mod Entries
+pub mod Continuing
+pub mod States
+pub mod Ordering
+pub mod Due
+pub mod Joining
+pub mod Rules
+pub mod Viewing
+pub mod Claiming
+pub mod Keeping
+pub mod NextIndex
+pub mod Cutting
+pub mod Renaming
+pub mod Shifting

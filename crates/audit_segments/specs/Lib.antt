@@ -1,0 +1,10 @@
+pub mod PastGrace
+pub mod Ignore
+pub mod Alike
+pub mod Cut
+pub mod Segment
+pub mod Claims
+pub mod Kept
+pub mod Renamed
+pub mod After
+pub mod Shifted
