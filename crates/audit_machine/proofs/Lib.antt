@@ -1,0 +1,12 @@
+pub mod Pairs
+pub mod Single
+pub mod Holding
+pub mod Acting
+pub mod Acted
+pub mod KeysOfRequest
+pub mod Naming
+pub mod Lists
+pub mod ForgettingArrivals
+pub mod Complete
+pub mod Unmoved
+pub mod ForgettingClients

@@ -1,0 +1,18 @@
+//! One TURN server's state as data. It judges moves one by one in the order of time, and keeps only what a later move may depend on.
+#![tactic(auto)]
+
+mod acts;
+mod counts;
+mod explaining;
+mod forgetting;
+mod holders;
+mod machine;
+mod moves;
+mod refusal;
+mod tables;
+mod times;
+
+pub use explaining::explains;
+pub use machine::Machine;
+pub use moves::{Action, Stop};
+pub use refusal::Refusal;

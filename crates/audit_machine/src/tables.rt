@@ -1,0 +1,84 @@
+//! What the server has for each client.
+
+ghost use Rattle.std.specs.Prelude.{◌≡◌, Some, None, OnOk, option_copied};
+ghost use Rattle.audit_model.specs.declared.pair.Pair.{Pair as Client};
+ghost use Rattle.audit_model.specs.Sames.{same_client};
+ghost use Rattle.audit_server.specs.State.{put};
+ghost use Rattle.audit_rules.specs.declared.table.LaneTable.{LaneTable as Table};
+ghost use Rattle.audit_rules.specs.Effect.{standing};
+ghost use Rattle.audit_machine.specs.Tables.{table_of, allocation_of, AreOwn};
+
+use audit_model::{Addr, Pair};
+use audit_rules::LaneTable;
+use std::alloc::{AllocError, Global};
+use std::collections::BTreeMap;
+
+/// A table for each client that has one.
+#[derive(Drop)]
+pub struct Tables {
+    tables: BTreeMap<(Addr, Addr), LaneTable>,
+}
+
+/// The table, or an empty one of the client if there is none.
+fn or_empty(entry: Option<LaneTable>, pair: Pair) -> LaneTable
+    ensures some { (table : Table) → entry ≡ Some table → result ≡ table }
+    ensures none { entry ≡ None → standing result ≡ record { client = pair.client; listen = pair.listen; lane = 0; allocation = None; tenancy = None } }
+{
+    match entry {
+        Some(table) => table,
+        None => LaneTable::new(0, pair.client, pair.listen),
+    }
+}
+
+impl Tables {
+    /// No tables. It takes no memory.
+    pub fn new(alloc: Global) -> Tables
+        ensures { (c : Client) → table_of result c ≡ None }
+    {
+        Tables {
+            tables: BTreeMap::new(alloc),
+        }
+    }
+
+    /// The table of a client.
+    pub fn get(&self, pair: Pair) -> Option<&LaneTable>
+        ensures { option_copied result ≡ table_of self.now pair }
+    {
+        self.tables.get(&(pair.client, pair.listen))
+    }
+
+    /// Takes the table of a client out.
+    fn remove(&mut self, pair: Pair) -> Option<LaneTable>
+        ensures value { result ≡ table_of self.old pair }
+        ensures rest { (c : Client) → table_of self.new c ≡ put same_client (table_of self.old) pair None c }
+    {
+        self.tables.remove(&(pair.client, pair.listen))
+    }
+
+    /// Takes the table of a client out, or an empty one if it has none.
+    pub fn take_out(&mut self, pair: Pair) -> LaneTable
+        requires own { AreOwn self.old }
+        ensures client { (standing result).client ≡ pair.client }
+        ensures listen { (standing result).listen ≡ pair.listen }
+        ensures allocation { (standing result).allocation ≡ allocation_of self.old pair }
+        ensures rest { (c : Client) → table_of self.new c ≡ put same_client (table_of self.old) pair None c }
+    {
+        let entry = self.remove(pair);
+        or_empty(entry, pair)
+    }
+
+    /// Sets the table of a client.
+    pub fn put_in(&mut self, pair: Pair, table: LaneTable) -> Result<(), AllocError>
+        ensures { OnOk result ((c : Client) → table_of self.new c ≡ put same_client (table_of self.old) pair (Some table) c) }
+    {
+        self.tables.insert((pair.client, pair.listen), table)?;
+        Ok(())
+    }
+
+    /// Drops the table of a client.
+    pub fn drop_table(&mut self, pair: Pair)
+        ensures { (c : Client) → table_of self.new c ≡ put same_client (table_of self.old) pair None c }
+    {
+        self.remove(pair);
+    }
+}

@@ -1,0 +1,57 @@
+//! Moments, by the names of sightings.
+
+ghost use Rattle.std.specs.Prelude.{◌≡◌, Some, None, OnOk, IsTrue};
+ghost use Rattle.audit_model.specs.declared.sighting.SightId.{SightId as SightName};
+ghost use Rattle.audit_model.specs.Sames.{same_sight};
+ghost use Rattle.audit_server.specs.State.{put};
+ghost use Rattle.audit_machine.specs.Times.{time_of};
+
+use audit_model::SightId;
+use std::alloc::{AllocError, Global};
+use std::collections::BTreeMap;
+
+/// A moment for each of some sightings.
+#[derive(Drop)]
+pub struct Times {
+    moments: BTreeMap<SightId, u64>,
+}
+
+impl Times {
+    /// No moments. It takes no memory.
+    pub fn new(alloc: Global) -> Times
+        ensures { (s : SightName) → time_of result s ≡ None }
+    {
+        Times {
+            moments: BTreeMap::new(alloc),
+        }
+    }
+
+    /// The moment of the sighting.
+    pub fn get(&self, sight: SightId) -> Option<u64>
+        ensures { result ≡ time_of self.now sight }
+    {
+        self.moments.get(&sight).copied()
+    }
+
+    /// Sets the moment of a sighting.
+    pub fn put(&mut self, sight: SightId, moment: u64) -> Result<(), AllocError>
+        ensures { OnOk result ((q : SightName) → time_of self.new q ≡ put same_sight (time_of self.old) sight (Some moment) q) }
+    {
+        self.moments.insert(sight, moment)?;
+        Ok(())
+    }
+
+    /// Removes the moment of a sighting.
+    pub fn remove(&mut self, sight: SightId)
+        ensures { (q : SightName) → time_of self.new q ≡ put same_sight (time_of self.old) sight None q }
+    {
+        self.moments.remove(&sight);
+    }
+
+    /// Whether no sighting has a moment.
+    pub fn is_empty(&self) -> bool
+        ensures { IsTrue result → (s : SightName) → time_of self.now s ≡ None }
+    {
+        self.moments.is_empty()
+    }
+}
