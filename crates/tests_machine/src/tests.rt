@@ -1,0 +1,5 @@
+//! Sessions that conform and sessions that violate a rule, judged by the machine and by `check`.
+
+mod judging;
+mod sessions;
+mod steps;
