@@ -15,12 +15,12 @@ _turnexplain() {
         lanes) offered='--policy --creds --cert --workers --json --broken --help -h' ;;
         client) offered='--policy --creds --cert --workers --json --lane --around --help -h' ;;
         faults) offered='--policy --creds --workers --help -h' ;;
-        evidence) offered='--policy --creds --cert --workers --output -o --help -h' ;;
+        evidence) offered='--policy --creds --cert --workers --output -o --excluded --help -h' ;;
         help) offered='verdict lanes client faults evidence' ;;
         *) return ;;
     esac
     case $before in
-        --policy | --creds | --cert | --output | -o) offered='' ;;
+        --policy | --creds | --cert | --output | -o | --excluded) offered='' ;;
         --workers) offered='1 2 4 8 16' ;;
         --around) offered='5 20 100 1000000' ;;
         --lane) return ;;

@@ -35,3 +35,4 @@ complete -c turnexplain -n "__turnexplain_command_is lanes" -l broken -d "Only t
 complete -c turnexplain -n "__turnexplain_command_is client" -l lane -x -d "The client's lane, 0 to 65535"
 complete -c turnexplain -n "__turnexplain_command_is client" -l around -x -a "5 20 100 1000000" -d "How many events each side of its first breach, 0 to 1000000"
 complete -c turnexplain -n "__turnexplain_command_is evidence" -s o -l output -r -F -d "The page that is made"
+complete -c turnexplain -n "__turnexplain_command_is evidence" -l excluded -r -F -d "The list of what turnprep cut excluded"

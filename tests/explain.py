@@ -90,6 +90,7 @@ def refusals(room):
     yield "comment", ["verdict", "--policy", "comment", "call.pcapng"]
     yield "nasty-policy", ["verdict", "--policy", "nasty", "call.pcapng"]
     yield "capture-as-policy", ["verdict", "--policy", "call.pcapng", "call.pcapng"]
+    yield "endless-policy", ["verdict", "--policy", "/dev/zero", "call.pcapng"]
     yield "policy-as-capture", ["verdict", *usual, "policy"]
     yield "policy-as-users", ["verdict", "--policy", "policy", "--creds", "policy", "call.pcapng"]
     yield "policy-as-certificate", ["verdict", *usual, "--cert", "policy", "call.pcapng"]

@@ -45,8 +45,12 @@ def check_datagrams(name, answer, frames):
 
 
 def check_inputs(name, answer, folder):
-    """Whether each file has the size and the digest that are told."""
+    """Whether each file has the size and the digest that are printed; of users there are none."""
     for one in answer["inputs"]:
+        if one["is"] == "users":
+            if one["bytes"] is not None or one["sha256"] is not None:
+                sys.exit(f"{name}: {one} lets its reader try passwords")
+            continue
         data = (folder / unescaped(one["name"]).decode()).read_bytes()
         if one["bytes"] != len(data) or one["sha256"] != hashlib.sha256(data).hexdigest():
             sys.exit(f"{name}: {one} isn't what the file is")

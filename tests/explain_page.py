@@ -4,18 +4,22 @@
     tests/explain_page.py TURNEXPLAIN
 
 It is HTML whose elements are closed, asks for nothing from elsewhere and has no script; the same inputs give the same page; the
-digests, sizes, packets and moments are those of the files; no password stands in it; names out of files can't become markup; a
-file that is there is kept. Where there is a Chromium, it opens the page without an error on its console and prints it.
+digests, sizes, packets and moments are those of the files; it has no password, and no digest of one; names out of files can't become
+markup; a file that is there is kept; it has the list of what turnprep cut; of a capture that changes meanwhile there is none. Where there is a Chromium, it opens the page without an error on its console and prints it.
 """
 
 import hashlib
 import html.parser
+import os
 import pathlib
 import re
 import shutil
+import struct
 import subprocess
 import sys
 import tempfile
+import threading
+import time
 
 TOP = pathlib.Path(__file__).resolve().parent.parent
 VOID = {"meta", "br", "rect"}
@@ -79,10 +83,12 @@ def check_example(program, example, status, folder):
     faults = looked_at(page)
     if done.returncode != status:
         faults.append(f"status {done.returncode}: {done.stderr}")
-    for file in (policy, users, *captures):
+    for file in (policy, *captures):
         content = file.read_bytes()
         if hashlib.sha256(content).hexdigest() not in page or f"<td>{len(content)}</td>" not in page:
             faults.append(f"lacks the digest or the size of {file.name}")
+    if hashlib.sha256(users.read_bytes()).hexdigest() in page:
+        faults.append("has a digest by which passwords can be tried")
     for line in users.read_text().splitlines():
         name, realm, password = line.split("\t")
         told = re.sub(r"<td>[^<]*</td>", "", page)
@@ -119,6 +125,83 @@ def check_markup(program, folder):
     return [f"markup: {fault}" for fault in faults]
 
 
+def with_comment(capture, comment):
+    """The bytes of a capture whose section header has this comment."""
+    length = struct.unpack_from("<I", capture, 4)[0]
+    option = struct.pack("<HH", 1, len(comment)) + comment + bytes(-len(comment) % 4)
+    head = capture[8:24] + option + (capture[24:length - 4] or struct.pack("<HH", 0, 0))
+    whole = struct.pack("<I", len(head) + 12)
+    return capture[:4] + whole + head + whole + capture[length:]
+
+
+def check_cut(program, folder):
+    """Captures that `turnprep cut` wrote: their page says so before the verdict's meaning, and has the list and the comment of a capture."""
+    example = TOP / "examples" / "coturn-channels-two-files"
+    words = ["--policy", example / "policy", "--creds", example / "creds"]
+    cut, other = pathlib.Path(folder) / "cut.pcapng", pathlib.Path(folder) / "other.pcapng"
+    cut.write_bytes(with_comment((example / "client.pcapng").read_bytes(), b"turnprep cut: 7 datagrams excluded <b>"))
+    other.write_bytes(with_comment((example / "client.pcapng").read_bytes(), b"my holiday"))
+    listed = pathlib.Path(folder) / "list"
+    listed.write_text("client 198.51.100.7:1 192.0.2.1:3478 in 1 1 out 2 2\n<i>\n")
+    faults = []
+    done, page = page_of(program, [*words, "--excluded", listed, cut, example / "peer.pcapng"], folder, "cut.html")
+    says, means = page.find("turnprep excluded datagrams from the captures"), page.find("Some one order of all captured")
+    if done.returncode != 0 or not 0 < says < means:
+        faults.append("doesn't say first that datagrams were excluded")
+    if "The comment of capture 0: turnprep cut: 7 datagrams excluded &lt;b&gt;" not in page:
+        faults.append("lacks the comment")
+    if "client 198.51.100.7:1 192.0.2.1:3478 in 1 1 out 2 2\n&lt;i&gt;" not in page:
+        faults.append("lacks the list")
+    done, page = page_of(program, [*words, other, example / "peer.pcapng"], folder, "other.html")
+    if "my holiday" not in page or "turnprep excluded" in page:
+        faults.append("lacks a comment, or says without a list that datagrams were excluded")
+    done, page = page_of(program, [*words, "--excluded", folder + "/no-list", cut, example / "peer.pcapng"], folder, "no.html")
+    if done.returncode != 4 or page:
+        faults.append("makes a page without the list that is named")
+    return [f"cut: {fault}" for fault in faults] + [f"cut: {fault}" for fault in looked_at(page)]
+
+
+def feed(fifo, content, ended):
+    """Writes this to whoever opens the FIFO, again and again."""
+    while not ended.is_set():
+        try:
+            with open(fifo, "wb") as opened:
+                opened.write(content)
+        except BrokenPipeError:
+            pass
+        time.sleep(0.3)
+
+
+def check_changing(program, folder):
+    """A capture that is replaced after it was judged and before it is read again: an error with its name, and nothing is filed.
+
+    The second capture is a FIFO, which holds up the first reading until the first capture is another one.
+    """
+    example = TOP / "examples" / "coturn-channels-two-files"
+    faults = []
+    for command in (["verdict"], ["verdict", "--json"], ["lanes"], ["client", "--lane", "0"], ["evidence", "-o", folder + "/changed.html"]):
+        capture, fifo = pathlib.Path(folder) / "changing.pcapng", pathlib.Path(folder) / "fifo"
+        shutil.copyfile(example / "client.pcapng", capture)
+        os.mkfifo(fifo)
+        words = [program, *command, "--policy", example / "policy", "--creds", example / "creds", capture, fifo]
+        running = subprocess.Popen(words, stdout=subprocess.PIPE, stderr=subprocess.PIPE, text=True)
+        ended = threading.Event()
+        with open(fifo, "wb") as opened:  # opened once the first capture was read
+            shutil.copyfile(TOP / "examples" / "coturn-permission-outlived" / "cap.pcapng", capture)
+            opened.write((example / "peer.pcapng").read_bytes())
+        time.sleep(0.3)
+        feeder = threading.Thread(target=feed, args=(fifo, (example / "peer.pcapng").read_bytes(), ended), daemon=True)
+        feeder.start()
+        out, err = running.communicate(timeout=60)
+        ended.set()
+        fifo.unlink()
+        if running.returncode != 4 or out or not err.endswith("changing.pcapng changed while it was read\n"):
+            faults.append(f"{command[0]} of a capture that changes: status {running.returncode}, {out!r}, {err!r}")
+    if (pathlib.Path(folder) / "changed.html").exists():
+        faults.append("a page is filed of a capture that changes")
+    return faults
+
+
 def check_browser(folder):
     """What Chromium says of the pages."""
     browser = shutil.which("chromium") or shutil.which("chromium-browser") or shutil.which("google-chrome")
@@ -141,6 +224,8 @@ def main():
         for name, status in (("coturn-permission-outlived", 1), ("coturn-channels-two-files", 0), ("coturn-24-clients", 0)):
             faults += check_example(program, TOP / "examples" / name, status, folder)
         faults += check_markup(program, folder)
+        faults += check_cut(program, folder)
+        faults += check_changing(program, folder)
         faults += check_browser(folder)
     for fault in faults:
         print(fault)

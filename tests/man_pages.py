@@ -31,7 +31,7 @@ COMMANDS = "audit", "find", "live", "check"
 # What lies in the folder where words are completed, and what of it `ca` may become, by the name that help gives the value. Others name no file.
 FILES, FOLDERS = {"cap.pcapng", "cap a.pcapng", "other"}, {"captures"}
 ANY = {"cap.pcapng", "cap a.pcapng", "captures"}
-NAMED = {"CAPTURE": ANY, "FILE": ANY, "POLICY": ANY, "CREDENTIALS": ANY, "CERTIFICATE": ANY, "DIR": FOLDERS}
+NAMED = {"CAPTURE": ANY, "FILE": ANY, "POLICY": ANY, "CREDENTIALS": ANY, "CERTIFICATE": ANY, "LIST": ANY, "DIR": FOLDERS}
 # Commands by whose names files are called, too.
 CALLED = {"policy", "client"}
 

@@ -12,13 +12,33 @@ pub enum Role {
     Capture,
 }
 
+impl Role {
+    /// Its name.
+    pub fn text(self) -> &'static str {
+        match self {
+            Role::Policy => "policy",
+            Role::Users => "users",
+            Role::Certificate => "certificate",
+            Role::Capture => "capture",
+        }
+    }
+}
+
 /// A file that was read. Its name is plain: no control characters.
 #[derive(Clone, Copy)]
 pub struct FileRow<'f> {
     pub role: Role,
     pub name: &'f str,
-    /// None where it could not be read a second time, as a pipe.
+    /// Of the bytes that were judged. None of users, since a digest lets its reader try passwords.
     pub digests: Option<Digests>,
+}
+
+/// The comment of a capture's section header. The texts are plain.
+#[derive(Clone, Copy)]
+pub struct CommentRow<'f> {
+    /// The number of the capture, from 0.
+    pub capture: usize,
+    pub text: &'f str,
 }
 
 /// What a capture has.
@@ -58,6 +78,10 @@ pub struct Facts<'f> {
     pub files: &'f [FileRow<'f>],
     /// Of each capture, in their order.
     pub captures: &'f [CaptureRow],
+    /// The comments of captures that have one.
+    pub comments: &'f [CommentRow<'f>],
+    /// The list of what `turnprep cut` excluded, if it is filed.
+    pub excluded: Option<&'f str>,
     /// The policy's text.
     pub policy: &'f str,
     pub users: &'f [UserRow<'f>],

@@ -4,6 +4,7 @@
 
 mod commands;
 mod facts;
+mod file_reading;
 mod hashed;
 mod markup;
 mod page;
@@ -12,7 +13,8 @@ mod style;
 mod tables;
 mod words;
 
-pub use facts::{CaptureRow, ClientRow, Facts, FileRow, Role, UserRow};
+pub use facts::{CaptureRow, ClientRow, CommentRow, Facts, FileRow, Role, UserRow};
+pub use file_reading::FileReading;
 pub use hashed::{Digests, Hashing};
 pub use page::page_of;
 pub use picture::{Bar, Mark, Picture};

@@ -4,8 +4,8 @@ use crate::commands::commands;
 use crate::facts::Facts;
 use crate::markup::Plain;
 use crate::style::{HEAD, STYLE};
-use crate::tables::{captures, clients, files, users};
-use crate::words::{CONFORMING, NOT_SAID, NOT_SHOWN, REPEATS};
+use crate::tables::{captures, clients, comments, files, users};
+use crate::words::{CONFORMING, CUT, NOT_SAID, NOT_SHOWN, REPEATS};
 use std::alloc::{AllocError, Global};
 
 /// A section.
@@ -21,8 +21,9 @@ fn verdict(alloc: Global, facts: &Facts<'_>) -> Result<String, AllocError> {
     } else {
         NOT_SHOWN
     };
+    let cut = if facts.excluded.is_some() { CUT } else { "" };
     format!(in alloc;
-        "{HEAD}<title>turnaudit: {head}</title>\n{STYLE}</head>\n<body>\n<h1>Audit of a TURN server by RFC 8656</h1>\n<p class=\"word\">{head}</p>\n{says}{NOT_SAID}"
+        "{HEAD}<title>turnaudit: {head}</title>\n{STYLE}</head>\n<body>\n<h1>Audit of a TURN server by RFC 8656</h1>\n<p class=\"word\">{head}</p>\n{cut}{says}{NOT_SAID}"
     )
 }
 
@@ -76,6 +77,12 @@ pub fn page_of(alloc: Global, facts: &Facts<'_>) -> Result<String, AllocError> {
     page.push_str(section(alloc, "What was read", rows.as_str())?.as_str())?;
     let rows = captures(alloc, facts)?;
     page.push_str(section(alloc, "Captures", rows.as_str())?.as_str())?;
+    page.push_str(comments(alloc, facts)?.as_str())?;
+    if let Some(list) = facts.excluded {
+        let list = Plain { text: list };
+        let body = format!(in alloc; "<pre>{list}</pre>\n")?;
+        page.push_str(section(alloc, "What was excluded", body.as_str())?.as_str())?;
+    }
     let text = policy(alloc, facts)?;
     page.push_str(section(alloc, "Policy", text.as_str())?.as_str())?;
     let rows = users(alloc, facts)?;

@@ -1,23 +1,13 @@
 //! The page's tables.
 
-use crate::facts::{CaptureRow, ClientRow, Facts, FileRow, Role, UserRow};
+use crate::facts::{CaptureRow, ClientRow, CommentRow, Facts, FileRow, Role, UserRow};
 use crate::markup::Plain;
 use explain_text::Utc;
 use std::alloc::{AllocError, Global};
 
-/// The name of what a file is.
-fn role_text(role: Role) -> &'static str {
-    match role {
-        Role::Policy => "policy",
-        Role::Users => "users",
-        Role::Certificate => "certificate",
-        Role::Capture => "capture",
-    }
-}
-
 /// The row of a file.
 fn file_row(alloc: Global, row: &FileRow<'_>) -> Result<String, AllocError> {
-    let role = role_text(row.role);
+    let role = row.role.text();
     let name = Plain { text: row.name };
     match row.digests {
         Some(digests) => {
@@ -27,8 +17,13 @@ fn file_row(alloc: Global, row: &FileRow<'_>) -> Result<String, AllocError> {
             )
         }
         None => {
+            let reason = if row.role == Role::Users {
+                "not filed: a digest lets its reader try passwords"
+            } else {
+                "not read to its end"
+            };
             format!(in alloc;
-                "<tr><td>{role}</td><td>{name}</td><td colspan=\"2\">can't be read twice</td></tr>\n"
+                "<tr><td>{role}</td><td>{name}</td><td colspan=\"2\">{reason}</td></tr>\n"
             )
         }
     }
@@ -88,6 +83,22 @@ pub fn captures(alloc: Global, facts: &Facts<'_>) -> Result<String, AllocError> 
         text.push_str(capture_row(alloc, number, row)?.as_str())?;
     }
     text.push_str("</table>\n")?;
+    Ok(text)
+}
+
+/// The comment of a capture.
+fn comment_row(alloc: Global, row: &CommentRow<'_>) -> Result<String, AllocError> {
+    let capture = row.capture;
+    let comment = Plain { text: row.text };
+    format!(in alloc; "<p>The comment of capture {capture}: {comment}</p>\n")
+}
+
+/// The comments that captures have.
+pub fn comments(alloc: Global, facts: &Facts<'_>) -> Result<String, AllocError> {
+    let mut text = String::new(alloc);
+    for row in facts.comments {
+        text.push_str(comment_row(alloc, row)?.as_str())?;
+    }
     Ok(text)
 }
 

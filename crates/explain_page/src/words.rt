@@ -1,5 +1,9 @@
 //! What the page says in its own words.
 
+/// What is said first of captures from which datagrams were excluded.
+pub const CUT: &str =
+    "<p><strong>Before this audit turnprep excluded datagrams from the captures</strong>: their list is below (What was excluded). All that follows is about the datagrams that were left in.</p>\n";
+
 /// What `conforming` says.
 pub const CONFORMING: &str =
     "<p>Some one order of all captured datagrams of the service, each at a moment in its stamp window, keeps every interface's own order and is a run of the RFC 8656 server from an empty table. So every relayed datagram had a live allocation, and a live permission or channel. This is proved of the program (docs/HEADLINE.md).</p>\n";

@@ -16,7 +16,7 @@ pub named_is_asked : (named : Option (Text × List Row)) (kinds : Kinds) (reques
 named_is_asked named kinds (Explain inputs what) names = names
 named_is_asked named kinds (AsJson inputs what) names = names
 named_is_asked named kinds (Faults inputs) names = names
-named_is_asked named kinds (Evidence inputs file) names = names
+named_is_asked named kinds (Evidence inputs file list) names = names
 named_is_asked named kinds (Help page) names = absurd names
 named_is_asked named kinds Release names = absurd names
 named_is_asked named kinds (Usage text) names = absurd names
@@ -35,7 +35,7 @@ pub no_inputs : (command : Text) (rows : List Row) → ((inputs : Inputs) → Ar
 no_inputs command rows lacks (Explain inputs what) named = lacks inputs (subst (λ r. AreNamed r inputs) (sym (ap (rows_in rows) named.1)) named.2)
 no_inputs command rows lacks (AsJson inputs what) named = lacks inputs (subst (λ r. AreNamed r inputs) (sym (ap (rows_in rows) named.1)) named.2)
 no_inputs command rows lacks (Faults inputs) named = lacks inputs (subst (λ r. AreNamed r inputs) (sym (ap (rows_in rows) named.1)) named.2)
-no_inputs command rows lacks (Evidence inputs file) named = lacks inputs (subst (λ r. AreNamed r inputs) (sym (ap (rows_in rows) named.1)) named.2)
+no_inputs command rows lacks (Evidence inputs file list) named = lacks inputs (subst (λ r. AreNamed r inputs) (sym (ap (rows_in rows) named.1)) named.2)
 no_inputs command rows lacks (Help page) named = named
 no_inputs command rows lacks Release named = named
 no_inputs command rows lacks (Usage text) named = named
@@ -54,7 +54,7 @@ module _ (rows : List Row) where
       let same = ap (rows_in rows) named.1 in
       lacks number events (subst (λ r. HasNumber (codes "lane") r number) (sym same) named.4.0) (subst (λ r. HasNumber (codes "around") r events) (sym same) named.4.1)
   no_client lacks (Faults inputs) named = absurd (omega (arith, ap letter named.1))
-  no_client lacks (Evidence inputs file) named = absurd (omega (arith, ap letter named.1))
+  no_client lacks (Evidence inputs file list) named = absurd (omega (arith, ap letter named.1))
   no_client lacks (Help page) named = named
   no_client lacks Release named = named
   no_client lacks (Usage text) named = named
@@ -68,7 +68,7 @@ module _ (rows : List Row) where
   no_evidence lacks (AsJson inputs (Lanes broken)) named = absurd (omega (arith, ap letter named.1))
   no_evidence lacks (AsJson inputs (Client number events)) named = absurd (omega (arith, ap letter named.1))
   no_evidence lacks (Faults inputs) named = absurd (omega (arith, ap letter named.1))
-  no_evidence lacks (Evidence inputs file) named = lacks file.now (subst (λ r. first_of (codes "output") r ≡ Some file.now) (sym (ap (rows_in rows) named.1)) named.4)
+  no_evidence lacks (Evidence inputs file list) named = lacks file.now (subst (λ r. first_of (codes "output") r ≡ Some file.now) (sym (ap (rows_in rows) named.1)) named.4)
   no_evidence lacks (Help page) named = named
   no_evidence lacks Release named = named
   no_evidence lacks (Usage text) named = named
@@ -84,7 +84,7 @@ none_of_five asked verdict lanes client faults evidence (AsJson inputs Verdict) 
 none_of_five asked verdict lanes client faults evidence (AsJson inputs (Lanes broken)) named = lanes named.0 named.1
 none_of_five asked verdict lanes client faults evidence (AsJson inputs (Client number events)) named = client named.0 named.1
 none_of_five asked verdict lanes client faults evidence (Faults inputs) named = faults named.0 named.1
-none_of_five asked verdict lanes client faults evidence (Evidence inputs file) named = evidence named.0 named.1
+none_of_five asked verdict lanes client faults evidence (Evidence inputs file list) named = evidence named.0 named.1
 none_of_five asked verdict lanes client faults evidence (Help page) named = named
 none_of_five asked verdict lanes client faults evidence Release named = named
 none_of_five asked verdict lanes client faults evidence (Usage text) named = named

@@ -46,7 +46,7 @@ module _ (holds : List ℕ → Option (List ℕ)) (streams : Streams) where
   Answers (Faults inputs) done =
       IsSilent streams × ((policy users : List ℕ) (captures : List (List ℕ)) → HaveTexts holds inputs policy users captures →
       IfOk done (AreToldOf policy users captures streams.before streams.after))
-  Answers (Evidence inputs file) done =
+  Answers (Evidence inputs file list) done =
       IsSilent streams × ((policy users : List ℕ) (captures : List (List ℕ)) → HaveTexts holds inputs policy users captures →
       IfOk done (λ status. (by : Certificate) × IsExplained policy users captures by streams.before streams.after status))
   Answers (Help page) done = IsSilent streams × IfOk done (λ status. (status ≡ 0) × (streams.after ≡ followed_by streams.before (page_text page)))

@@ -51,6 +51,10 @@ around = counted (codes "around") (codes "20" ∷ []) 0 1000000
 abbrev pub output : Rule
 output = record (file (codes "output")) { short = Some 111; required = true }
 
+-- the list of what `turnprep cut` excluded
+abbrev pub excluded : Rule
+excluded = file (codes "excluded")
+
 -- one capture or more, which are what is no option
 abbrev pub captures : Rule
 captures = record (new_rule (codes "captures")) {
@@ -83,7 +87,7 @@ abbrev pub faults : App
 faults = with_rule (with_rule (reading (codes "faults")) workers) captures
 
 abbrev pub evidence : App
-evidence = with_rule (judging (codes "evidence")) output
+evidence = with_rule (with_rule (judging (codes "evidence")) output) excluded
 
 abbrev pub program : App
 program =
@@ -131,7 +135,9 @@ abbrev pub Names : Option (Text × List Row) → Request → Type 0
 Names named (Explain inputs what) = (rows : List Row) × (named ≡ Some (command_name what, rows)) × AreNamed rows inputs × IsByNamed rows inputs × HasOptions rows what × HasFlag (codes "json") rows false
 Names named (AsJson inputs what) = (rows : List Row) × (named ≡ Some (command_name what, rows)) × AreNamed rows inputs × IsByNamed rows inputs × HasOptions rows what × HasFlag (codes "json") rows true
 Names named (Faults inputs) = (rows : List Row) × (named ≡ Some (codes "faults", rows)) × AreNamed rows inputs
-Names named (Evidence inputs file) = (rows : List Row) × (named ≡ Some (codes "evidence", rows)) × AreNamed rows inputs × IsByNamed rows inputs × (first_of (codes "output") rows ≡ Some file.now)
+Names named (Evidence inputs file list) =
+    (rows : List Row) × (named ≡ Some (codes "evidence", rows)) × AreNamed rows inputs × IsByNamed rows inputs × (first_of (codes "output") rows ≡ Some file.now)
+    × (first_of (codes "excluded") rows ≡ option_map (λ name. name.now) list)
 Names named (Help page) = ⊥
 Names named Release = ⊥
 Names named (Usage text) = ⊥
@@ -153,4 +159,4 @@ Asks named kinds (Usage text) = IsRefused kinds ⊎ NamesNothing named
 Asks named kinds (Explain inputs what) = Names named (Explain inputs what)
 Asks named kinds (AsJson inputs what) = Names named (AsJson inputs what)
 Asks named kinds (Faults inputs) = Names named (Faults inputs)
-Asks named kinds (Evidence inputs file) = Names named (Evidence inputs file)
+Asks named kinds (Evidence inputs file list) = Names named (Evidence inputs file list)

@@ -6,8 +6,9 @@ ghost use Rattle.audit_model.specs.declared.certificate.Certificate.{Certificate
 ghost use Rattle.explain_program.specs.Explained.{IsJsonBehind, IsToldAsJson};
 
 use crate::command_line::Asked;
+use crate::digesting::{Digesting, unread};
 use crate::explaining::{case_of, status};
-use crate::inputs::tell_inputs;
+use crate::inputs::add_inputs;
 use crate::json::tell_asked;
 use crate::judged::judge_files;
 use audit_files::{Source, Stop, Workers};
@@ -33,7 +34,7 @@ pub fn explain_as_json<R: Threads + Wait + Sync, F: CertificateFinder, S: Source
     rt: &R,
     alloc: Global,
     finder: &F,
-    source: &mut S,
+    source: &mut Digesting<S>,
     policy: &str,
     users: Option<&str>,
     certificate: Option<&str>,
@@ -43,11 +44,12 @@ pub fn explain_as_json<R: Threads + Wait + Sync, F: CertificateFinder, S: Source
     out: &mut O,
 ) -> Result<u8, Stop>
     ensures { (policy_text users_text : List ℕ) (texts : List (List ℕ)) →
-        S.holds source.old policy.now ≡ Some policy_text →
-        IfSome users.entry (λ name. S.holds source.old name.now ≡ Some users_text) → IfNone users.entry (users_text ≡ []) →
-        AllZip (λ name text. S.holds source.old name.now ≡ Some text) captures.now texts →
+        S.holds source.old.inner policy.now ≡ Some policy_text →
+        IfSome users.entry (λ name. S.holds source.old.inner name.now ≡ Some users_text) → IfNone users.entry (users_text ≡ []) →
+        AllZip (λ name text. S.holds source.old.inner name.now ≡ Some text) captures.now texts →
         IfOk result (λ status. (by : Found) × IsToldAsJson policy_text users_text texts by (O.taken out.old) (O.taken out.new) status) }
 {
+    source.watch(unread(alloc, policy, users, certificate, captures)?);
     let judged = judge_files(
         rt,
         alloc,
@@ -61,7 +63,7 @@ pub fn explain_as_json<R: Threads + Wait + Sync, F: CertificateFinder, S: Source
     )?;
     let verdict = &judged.verdict;
     let mut answer = Object::new(alloc);
-    tell_inputs(
+    add_inputs(
         alloc,
         source,
         policy,
@@ -78,6 +80,9 @@ pub fn explain_as_json<R: Threads + Wait + Sync, F: CertificateFinder, S: Source
         asked,
         &mut answer,
     )?;
+    if source.changed().is_some() {
+        return Err(Stop::Read);
+    }
     put_json(verdict, answer, out)?;
     Ok(status(verdict))
 }

@@ -18,13 +18,26 @@ use std::convert::AsStr;
 #[derive(Drop)]
 pub enum Request<'a> {
     /// Judge captures, and print what is requested of the verdict.
-    Explain { inputs: Inputs<'a>, asked: Asked },
+    Explain {
+        inputs: Inputs<'a>,
+        asked: Asked,
+    },
     /// The same, as JSON.
-    AsJson { inputs: Inputs<'a>, asked: Asked },
+    AsJson {
+        inputs: Inputs<'a>,
+        asked: Asked,
+    },
     /// Print what no order of the captures explains.
-    Faults { inputs: Inputs<'a> },
+    Faults {
+        inputs: Inputs<'a>,
+    },
     /// Judge captures, and write the page that is filed to a new file.
-    Evidence { inputs: Inputs<'a>, file: &'a str },
+    Evidence {
+        inputs: Inputs<'a>,
+        file: &'a str,
+        /// The list of what `turnprep cut` excluded.
+        excluded: Option<&'a str>,
+    },
     /// Print how to use the program, on standard output.
     Help(Page),
     /// Print the release, on standard output.
@@ -210,7 +223,12 @@ fn evidence_request<'a>(
     let Some(inputs) = inputs_with(alloc, matches, matches.get_str("cert"))? else {
         return Ok(None);
     };
-    Ok(Some(Request::Evidence { inputs, file }))
+    let excluded = matches.get_str("excluded");
+    Ok(Some(Request::Evidence {
+        inputs,
+        file,
+        excluded,
+    }))
 }
 
 /// The request that the words of a command are.

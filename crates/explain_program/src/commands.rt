@@ -165,12 +165,22 @@ fn output_option<'a>(alloc: Global) -> Arg<'a>
         .required(true)
 }
 
+/// The option of `evidence` with the list of what `turnprep cut` excluded.
+fn excluded_option<'a>(alloc: Global) -> Arg<'a>
+    ensures rule { rule_of result ≡ words.excluded }
+    ensures local { result.global ≡ false }
+{
+    file_option(alloc, "excluded", "LIST")
+}
+
 /// The command `evidence`.
 fn evidence_command<'a>(alloc: Global) -> Result<Command<'a>, AllocError>
     ensures app { IfOk result (λ command. app_of command ≡ words.evidence) }
     ensures local { IfOk result (λ command. (fields_of command).has_globals ≡ false) }
 {
-    judging_command(alloc, "evidence", Page::Evidence)?.arg(output_option(alloc))
+    judging_command(alloc, "evidence", Page::Evidence)?
+        .arg(output_option(alloc))?
+        .arg(excluded_option(alloc))
 }
 
 /// The command `faults`, which needs no certificate: what it prints holds of each.

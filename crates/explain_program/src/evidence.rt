@@ -6,23 +6,26 @@ ghost use Rattle.audit_model.specs.declared.certificate.Certificate.{Certificate
 ghost use Rattle.explain_program.specs.Explained.{IsExplained};
 
 use crate::command_line::Inputs;
+use crate::digesting::{Digesting, unread};
 use crate::explaining::{case_of, status};
 use crate::frames::look_up;
 use crate::head::{head, put_answer};
 use crate::host::PageFile;
 use crate::judged::{Judged, judge_files};
 use crate::lanes::breach_of;
-use crate::named::{NamedFile, NamedUser, named_files, plain_lines, users_in};
-use crate::page_rows::{Clients, bars_of, client_rows, file_rows, picture_of, user_rows};
+use crate::named::{NamedFile, NamedUser, facts_of_captures, named_files, plain_lines, users_in};
+use crate::page_rows::{
+    Clients, bars_of, capture_rows, client_rows, comment_rows, file_rows, picture_of, user_rows,
+};
 use crate::pages::version;
 use crate::picture::{Drawing, drawing_of};
-use crate::reading::{digests_of, text_of};
+use crate::reading::{CaptureFacts, digests_of, text_of};
 use crate::verdict::{story_in, verdict_lines};
 use audit_files::{Source, Stop};
 use audit_finding::CertificateFinder;
 use audit_model::{Sink, Verdict, put_all};
 use explain_frames::Frames;
-use explain_page::{CaptureRow, Facts, page_of};
+use explain_page::{Facts, page_of};
 use explain_story::{
     Case, Lanes, Teller, ask_breaches, is_broken, lane_line, lanes_of, sum_lines, sums_of,
 };
@@ -35,6 +38,9 @@ const MOST_CLIENTS: usize = 200;
 
 /// How many bytes of the policy are told, and of the users looked at.
 const MOST_POLICY: usize = 65_536;
+
+/// How many bytes of the list of what was excluded are filed.
+const MOST_EXCLUDED: usize = 16_777_216;
 
 const MOST_USERS: usize = 16_777_216;
 
@@ -50,8 +56,9 @@ struct Gathered {
     story: String,
     clients: Clients,
     files: Vec<NamedFile>,
-    captures: Vec<CaptureRow>,
+    captures: Vec<CaptureFacts>,
     policy: String,
+    excluded: Option<String>,
     users: Vec<NamedUser>,
     drawing: Option<Drawing>,
 }
@@ -160,11 +167,28 @@ fn users_of<S: Source>(
     }
 }
 
+/// The list of what was excluded, if one is named.
+fn excluded_of<S: Source>(
+    alloc: Global,
+    source: &mut S,
+    name: Option<&str>,
+) -> Result<Option<String>, Stop> {
+    let Some(name) = name else {
+        return Ok(None);
+    };
+    let text = text_of(alloc, source, name, MOST_EXCLUDED)?;
+    if text.is_empty() {
+        return Err(Stop::Read);
+    }
+    Ok(Some(plain_lines(alloc, text.as_slice())?))
+}
+
 /// Gathers what the page shows.
 fn gather<S: Source>(
     alloc: Global,
-    source: &mut S,
+    source: &mut Digesting<S>,
     inputs: &Inputs<'_>,
+    excluded: Option<&str>,
     judged: &Judged,
     case: Case<'_>,
 ) -> Result<Gathered, Stop> {
@@ -172,13 +196,14 @@ fn gather<S: Source>(
     let lanes = lanes_of(alloc, case)?;
     let (story, clients) = by_frames(alloc, source, case, lanes.as_ref(), verdict)?;
     let policy = text_of(alloc, source, inputs.policy, MOST_POLICY)?;
-    let mut captures = Vec::new(alloc);
-    let files = named_files(alloc, source, inputs, &mut captures)?;
+    let excluded = excluded_of(alloc, source, excluded)?;
+    let captures = facts_of_captures(alloc, source, &inputs.captures)?;
     Ok(Gathered {
         story,
         clients,
-        files,
+        files: named_files(alloc, source, inputs)?,
         captures,
+        excluded,
         policy: plain_lines(alloc, policy.as_slice())?,
         users: users_of(alloc, source, inputs)?,
         drawing: drawing_in(alloc, case, lanes.as_ref(), verdict)?,
@@ -196,6 +221,8 @@ fn page<S: Source>(
     let files = file_rows(alloc, gathered.files.as_slice())?;
     let users = user_rows(alloc, gathered.users.as_slice())?;
     let clients = client_rows(alloc, &gathered.clients)?;
+    let captures = capture_rows(alloc, gathered.captures.as_slice())?;
+    let comments = comment_rows(alloc, gathered.captures.as_slice())?;
     let grace = judged.files.intake.policy().grace;
     let rows = bars_of(alloc, &gathered.drawing, grace)?;
     let picture = picture_of(&gathered.drawing, rows.as_slice());
@@ -206,7 +233,9 @@ fn page<S: Source>(
         is_conforming: breach_of(&judged.verdict).is_none(),
         story: gathered.story.as_str(),
         files: files.as_slice(),
-        captures: gathered.captures.as_slice(),
+        captures: captures.as_slice(),
+        comments: comments.as_slice(),
+        excluded: gathered.excluded.as_ref().map(|list| list.as_str()),
         policy: gathered.policy.as_str(),
         users: users.as_slice(),
         clients: clients.as_slice(),
@@ -220,23 +249,32 @@ fn page<S: Source>(
     page_of(alloc, &facts)
 }
 
-/// Judges captures, writes the page to a new file, and tells the verdict. It gives 0 where they conform, and 1 where that isn't shown.
+/// Judges captures, writes the page to a new file, and prints the verdict. It returns 0 if they conform, and 1 if that isn't shown. The
+/// digests of the page are of the bytes that were judged: a capture that changes while it is read is an error.
 pub fn evidence<R: Threads + Wait + Sync, F: CertificateFinder, S: Source, O: Sink, P: PageFile>(
     rt: &R,
     alloc: Global,
     finder: &F,
-    source: &mut S,
+    source: &mut Digesting<S>,
     inputs: &Inputs<'_>,
     file: &str,
+    excluded: Option<&str>,
     pages: &mut P,
     out: &mut O,
 ) -> Result<u8, Stop>
     ensures { (policy_text users_text : List ℕ) (texts : List (List ℕ)) →
-        S.holds source.old inputs.now.policy.now ≡ Some policy_text →
-        IfSome inputs.now.credentials (λ name. S.holds source.old name.now ≡ Some users_text) → IfNone inputs.now.credentials (users_text ≡ []) →
-        AllZip (λ name text. S.holds source.old name.now ≡ Some text) inputs.now.captures.items texts →
+        S.holds source.old.inner inputs.now.policy.now ≡ Some policy_text →
+        IfSome inputs.now.credentials (λ name. S.holds source.old.inner name.now ≡ Some users_text) → IfNone inputs.now.credentials (users_text ≡ []) →
+        AllZip (λ name text. S.holds source.old.inner name.now ≡ Some text) inputs.now.captures.items texts →
         IfOk result (λ status. (by : Found) × IsExplained policy_text users_text texts by (O.taken out.old) (O.taken out.new) status) }
 {
+    source.watch(unread(
+        alloc,
+        inputs.policy,
+        inputs.credentials,
+        inputs.certificate,
+        &inputs.captures,
+    )?);
     let judged = judge_files(
         rt,
         alloc,
@@ -249,7 +287,10 @@ pub fn evidence<R: Threads + Wait + Sync, F: CertificateFinder, S: Source, O: Si
         inputs.workers,
     )?;
     let case = case_of(&judged, &inputs.captures);
-    let gathered = gather(alloc, source, inputs, &judged, case)?;
+    let gathered = gather(alloc, source, inputs, excluded, &judged, case)?;
+    if source.changed().is_some() {
+        return Err(Stop::Read);
+    }
     let page = page(alloc, source, &judged, &gathered)?;
     if pages.make(file).is_err() {
         return Err(Stop::Write);

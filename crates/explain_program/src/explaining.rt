@@ -8,6 +8,7 @@ ghost use Rattle.explain_program.specs.Explained.{IsExplained};
 
 use crate::client::rest_of_client;
 use crate::command_line::Asked;
+use crate::digesting::{Digesting, unread};
 use crate::head::{head, put_answer};
 use crate::judged::{Judged, judge_files};
 use crate::lanes::rest_of_lanes;
@@ -58,12 +59,13 @@ pub fn status(verdict: &Verdict) -> u8
     }
 }
 
-/// Judges captures, and tells what is asked of the verdict: the answer begins with the verdict. It gives 0 where they conform, and 1 where that isn't shown.
+/// Judges captures, and reports what is requested of the verdict: the answer begins with the verdict. It returns 0 if they conform, and 1 if
+/// that isn't shown. A capture that changes while it is read is an error.
 pub fn explain<R: Threads + Wait + Sync, F: CertificateFinder, S: Source, O: Sink>(
     rt: &R,
     alloc: Global,
     finder: &F,
-    source: &mut S,
+    source: &mut Digesting<S>,
     policy: &str,
     users: Option<&str>,
     certificate: Option<&str>,
@@ -73,11 +75,12 @@ pub fn explain<R: Threads + Wait + Sync, F: CertificateFinder, S: Source, O: Sin
     out: &mut O,
 ) -> Result<u8, Stop>
     ensures { (policy_text users_text : List ℕ) (texts : List (List ℕ)) →
-        S.holds source.old policy.now ≡ Some policy_text →
-        IfSome users.entry (λ name. S.holds source.old name.now ≡ Some users_text) → IfNone users.entry (users_text ≡ []) →
-        AllZip (λ name text. S.holds source.old name.now ≡ Some text) captures.now texts →
+        S.holds source.old.inner policy.now ≡ Some policy_text →
+        IfSome users.entry (λ name. S.holds source.old.inner name.now ≡ Some users_text) → IfNone users.entry (users_text ≡ []) →
+        AllZip (λ name text. S.holds source.old.inner name.now ≡ Some text) captures.now texts →
         IfOk result (λ status. (by : Found) × IsExplained policy_text users_text texts by (O.taken out.old) (O.taken out.new) status) }
 {
+    source.watch(unread(alloc, policy, users, certificate, captures)?);
     let judged = judge_files(
         rt,
         alloc,
@@ -91,6 +94,9 @@ pub fn explain<R: Threads + Wait + Sync, F: CertificateFinder, S: Source, O: Sin
     )?;
     let case = case_of(&judged, captures);
     let rest = rest_of(alloc, source, case, &judged.verdict, asked)?;
+    if source.changed().is_some() {
+        return Err(Stop::Read);
+    }
     put_answer(alloc, &judged.verdict, rest.as_str(), out)?;
     Ok(status(&judged.verdict))
 }

@@ -9,7 +9,20 @@ use std::alloc::Global;
 /// How many bytes are asked for at once.
 const PIECE: usize = 65_536;
 
-/// Goes over a capture. Where it can't be read again, as a pipe, the frames stay unknown.
+/// Counts the frames of a piece; false if the capture is refused there.
+fn count_piece(
+    counter: &mut FrameCounter<'_>,
+    piece: &[u8],
+    frames: &mut Frames,
+) -> Result<bool, Stop> {
+    match counter.feed(piece, frames) {
+        Ok(()) => Ok(true),
+        Err(CaptureFault::Memory) => Err(Stop::Memory),
+        Err(_) => Ok(false),
+    }
+}
+
+/// Reads a capture once more, to its end. If it can't be read again, as a pipe, the frames stay unknown.
 fn look_in<S: Source>(
     alloc: Global,
     source: &mut S,
@@ -18,6 +31,7 @@ fn look_in<S: Source>(
     frames: &mut Frames,
 ) -> Result<(), Stop> {
     let mut piece = vec![in alloc; 0u8; PIECE]?;
+    let mut is_capture = true;
     let mut at = 0u64;
     'pieces: for _ in 0..u64::MAX {
         let Ok(read) = source.piece(name, at, &mut piece) else {
@@ -26,11 +40,7 @@ fn look_in<S: Source>(
         if read == 0 {
             return Ok(());
         }
-        match counter.feed(&piece[..read], frames) {
-            Ok(()) => {}
-            Err(CaptureFault::Memory) => return Err(Stop::Memory),
-            Err(_) => return Ok(()),
-        }
+        is_capture = is_capture && count_piece(counter, &piece[..read], frames)?;
         let Some(next) = at.checked_add(read as u64) else {
             return Ok(());
         };
@@ -39,7 +49,7 @@ fn look_in<S: Source>(
     Ok(())
 }
 
-/// Looks up the frames that are asked for, going over each capture once.
+/// Looks up the frames that are wanted, reading each capture once.
 pub fn look_up<S: Source>(
     alloc: Global,
     source: &mut S,

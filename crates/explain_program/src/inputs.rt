@@ -1,22 +1,24 @@
 //! The files that were read, as JSON.
 
-use crate::reading::digests_of;
+use crate::digesting::Digesting;
+use crate::named::filed_digests;
 use audit_files::Source;
 use explain_json::{List, Object};
+use explain_page::Role;
 use std::alloc::{AllocError, Global};
 
-/// Adds a file that was read.
-fn tell_input<S: Source>(
+/// Adds a file that was read, with the digest of the bytes that were judged.
+fn add_input<S: Source>(
     alloc: Global,
-    source: &mut S,
-    role: &str,
+    source: &Digesting<S>,
+    role: Role,
     name: &str,
     inputs: &mut List,
 ) -> Result<(), AllocError> {
     let mut object = Object::new(alloc);
-    object.text("is", role)?;
+    object.text("is", role.text())?;
     object.bytes("name", name.as_bytes())?;
-    match digests_of(alloc, source, name)? {
+    match filed_digests(source, role, name) {
         Some(digests) => {
             object.number("bytes", digests.size)?;
             object.string("sha256", format!(in alloc; "{digests}")?)?;
@@ -30,9 +32,9 @@ fn tell_input<S: Source>(
 }
 
 /// Adds the files that were read, in their order.
-pub fn tell_inputs<S: Source>(
+pub fn add_inputs<S: Source>(
     alloc: Global,
-    source: &mut S,
+    source: &Digesting<S>,
     policy: &str,
     users: Option<&str>,
     certificate: Option<&str>,
@@ -40,15 +42,15 @@ pub fn tell_inputs<S: Source>(
     answer: &mut Object,
 ) -> Result<(), AllocError> {
     let mut inputs = List::new(alloc);
-    tell_input(alloc, source, "policy", policy, &mut inputs)?;
+    add_input(alloc, source, Role::Policy, policy, &mut inputs)?;
     if let Some(name) = users {
-        tell_input(alloc, source, "users", name, &mut inputs)?;
+        add_input(alloc, source, Role::Users, name, &mut inputs)?;
     }
     if let Some(name) = certificate {
-        tell_input(alloc, source, "certificate", name, &mut inputs)?;
+        add_input(alloc, source, Role::Certificate, name, &mut inputs)?;
     }
     for name in captures {
-        tell_input(alloc, source, "capture", *name, &mut inputs)?;
+        add_input(alloc, source, Role::Capture, *name, &mut inputs)?;
     }
     answer.list("inputs", inputs)
 }

@@ -51,7 +51,7 @@ fn judged_by<R: Threads + Wait + Sync, S: Source>(
     let reader = CertificateReader::new(alloc);
     let certificate = read_text(alloc, source, certificate, reader)?;
     let intake = Intake::new(alloc, policy);
-    let intake = take_in(rt, alloc, source, captures, intake, workers)?;
+    let intake = take_in(rt, alloc, source, captures, intake, Workers::one())?;
     let verdict = verdict_of(rt, alloc, &intake, &users, &certificate, workers)?;
     Ok(Judged {
         files: Files { intake, users },
@@ -78,7 +78,7 @@ fn judged_by_finding<R: Threads + Wait + Sync, F: CertificateFinder, S: Source>(
         AllZip (λ name text. S.holds source.old name.now ≡ Some text) captures.now texts →
         IfOk result (λ judged. AreRead policy_text users_text texts (taken judged.files.intake) (key_for judged.files.users)) }
 {
-    let files = read_files(rt, alloc, source, policy, users, captures, workers)?;
+    let files = read_files(rt, alloc, source, policy, users, captures, Workers::one())?;
     let found = found_either_way(rt, alloc, finder, &files, workers)?;
     Ok(Judged {
         files,
@@ -88,7 +88,8 @@ fn judged_by_finding<R: Threads + Wait + Sync, F: CertificateFinder, S: Source>(
 }
 
 /// The verdict on the files that are named: by the certificate of a file where one is named, else by one that is found. Files are read in
-/// this order: policy, users, certificate, captures; each is judged before the next is read.
+/// this order: policy, users, certificate, captures; each is judged before the next is read. One thread reads them, so that the source
+/// sees all bytes that are judged.
 pub fn judge_files<R: Threads + Wait + Sync, F: CertificateFinder, S: Source>(
     rt: &R,
     alloc: Global,

@@ -6,7 +6,9 @@ mod as_json;
 mod client;
 mod command_line;
 mod commands;
+mod comment;
 mod conforming;
+mod digesting;
 mod evidence;
 mod explaining;
 mod frames;
@@ -32,6 +34,7 @@ mod verdict;
 
 pub use as_json::explain_as_json;
 pub use command_line::Asked;
+pub use digesting::Digesting;
 pub use explaining::explain;
 pub use host::{Explaining, PageFile, Trouble};
 pub use running::run;

@@ -12,6 +12,9 @@ const MOST: usize = 300;
 /// So many first bytes of the file are kept.
 const FRONT: usize = 24;
 
+/// A line that is longer than this is refused, so that no more of it is read.
+const LONGEST: u64 = 65_536;
+
 /// A line of a text.
 #[derive(Drop)]
 pub struct LineOfText {
@@ -25,6 +28,8 @@ pub struct LineOfText {
     wanted: u64,
     /// The number of the line that is read.
     at: u64,
+    /// How many bytes of the wanted line were read.
+    length: u64,
 }
 
 impl LineOfText {
@@ -36,7 +41,13 @@ impl LineOfText {
             is_ended: false,
             wanted,
             at: 1,
+            length: 0,
         }
+    }
+
+    /// Whether the line is longer than the program reads.
+    pub fn is_too_long(&self) -> bool {
+        self.length > LONGEST
     }
 
     /// Takes a byte.
@@ -47,6 +58,9 @@ impl LineOfText {
         if self.at == self.wanted && byte != b'\n' && self.line.len() < MOST {
             self.line.push(byte)?;
         }
+        if self.at == self.wanted {
+            self.length = self.length.saturating_add(1);
+        }
         if byte == b'\n' {
             self.is_ended = self.is_ended || self.at == self.wanted;
             self.at = self.at.saturating_add(1);
@@ -54,16 +68,16 @@ impl LineOfText {
         Ok(())
     }
 
-    /// Takes a piece, and tells whether the line is whole.
+    /// Takes a piece, and returns whether no more needs to be read: the line is whole, or too long.
     fn feed(&mut self, piece: &[u8]) -> Result<bool, AllocError> {
         for byte in piece {
             self.take(*byte)?;
         }
-        Ok(self.at > self.wanted)
+        Ok(self.at > self.wanted || self.is_too_long())
     }
 }
 
-/// The line of that number of a file, from 1; what there is of it where the file can't be read so far.
+/// The line of that number of a file, from 1; what there is of it if the file can't be read so far, or the line is too long.
 pub fn line_of_text<S: Source>(
     alloc: Global,
     source: &mut S,

@@ -96,6 +96,9 @@ fn of_line(kind: Kind, found: &LineOfText) -> Option<&'static str> {
     if kind == Kind::Policy && count(line, b'\t') >= 1 {
         return Some("a TAB stands in place of a space, or the file is that of the users");
     }
+    if found.is_too_long() {
+        return Some("the line is longer than 65,536 bytes: this may be another file");
+    }
     if !found.is_ended {
         return Some("no LF ends the last line: echo >> FILE");
     }

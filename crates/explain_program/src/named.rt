@@ -1,9 +1,10 @@
 //! Names and texts out of files, told plainly.
 
 use crate::command_line::Inputs;
-use crate::reading::{digests_of, look_over};
+use crate::digesting::Digesting;
+use crate::reading::{CaptureFacts, capture_facts};
 use audit_files::Source;
-use explain_page::{CaptureRow, Digests, Role};
+use explain_page::{Digests, Role};
 use explain_text::Quoted;
 use std::alloc::{AllocError, Global};
 
@@ -12,6 +13,7 @@ use std::alloc::{AllocError, Global};
 pub struct NamedFile {
     pub role: Role,
     pub name: String,
+    /// Of the bytes that were judged. None of users, since a digest lets its reader try passwords.
     pub digests: Option<Digests>,
 }
 
@@ -28,26 +30,46 @@ fn plain(alloc: Global, bytes: &[u8]) -> Result<String, AllocError> {
     format!(in alloc; "{quoted}")
 }
 
+/// The digests of the bytes of a file that were judged, unless it has passwords.
+pub fn filed_digests<S: Source>(source: &Digesting<S>, role: Role, name: &str) -> Option<Digests> {
+    if role == Role::Users {
+        return None;
+    }
+    source.digests(name)
+}
+
 /// A file with its digests.
 fn named<S: Source>(
     alloc: Global,
-    source: &mut S,
+    source: &Digesting<S>,
     role: Role,
     name: &str,
 ) -> Result<NamedFile, AllocError> {
     Ok(NamedFile {
         role,
         name: plain(alloc, name.as_bytes())?,
-        digests: digests_of(alloc, source, name)?,
+        digests: filed_digests(source, role, name),
     })
 }
 
-/// The files of a request, in the order in which they are read, and what each capture has.
-pub fn named_files<S: Source>(
+/// What each capture has, in their order.
+pub fn facts_of_captures<S: Source>(
     alloc: Global,
     source: &mut S,
+    captures: &[&str],
+) -> Result<Vec<CaptureFacts>, AllocError> {
+    let mut all = Vec::new(alloc);
+    for name in captures {
+        all.push(capture_facts(alloc, source, *name)?)?;
+    }
+    Ok(all)
+}
+
+/// The files of a request, in the order in which they are read.
+pub fn named_files<S: Source>(
+    alloc: Global,
+    source: &Digesting<S>,
     inputs: &Inputs<'_>,
-    rows: &mut Vec<CaptureRow>,
 ) -> Result<Vec<NamedFile>, AllocError> {
     let mut files = Vec::new(alloc);
     files.push(named(alloc, source, Role::Policy, inputs.policy)?)?;
@@ -58,13 +80,7 @@ pub fn named_files<S: Source>(
         files.push(named(alloc, source, Role::Certificate, name)?)?;
     }
     for name in &inputs.captures {
-        let looked = look_over(alloc, source, *name)?;
-        rows.push(looked.row)?;
-        files.push(NamedFile {
-            role: Role::Capture,
-            name: plain(alloc, name.as_bytes())?,
-            digests: looked.digests,
-        })?;
+        files.push(named(alloc, source, Role::Capture, *name)?)?;
     }
     Ok(files)
 }

@@ -2,7 +2,8 @@
 
 use crate::named::{NamedFile, NamedUser};
 use crate::picture::{Drawing, DrawnLease};
-use explain_page::{Bar, ClientRow, FileRow, Picture, UserRow};
+use crate::reading::CaptureFacts;
+use explain_page::{Bar, CaptureRow, ClientRow, CommentRow, FileRow, Picture, UserRow};
 use std::alloc::{AllocError, Global};
 
 /// The clients' lines, and what is told of all.
@@ -43,6 +44,35 @@ pub fn file_rows<'g>(
             name: file.name.as_str(),
             digests: file.digests,
         })?;
+    }
+    Ok(rows)
+}
+
+/// The rows of the captures.
+pub fn capture_rows(
+    alloc: Global,
+    captures: &[CaptureFacts],
+) -> Result<Vec<CaptureRow>, AllocError> {
+    let mut rows = Vec::new(alloc);
+    for facts in captures {
+        rows.push(facts.row)?;
+    }
+    Ok(rows)
+}
+
+/// The comments of captures that have one.
+pub fn comment_rows<'g>(
+    alloc: Global,
+    captures: &'g [CaptureFacts],
+) -> Result<Vec<CommentRow<'g>>, AllocError> {
+    let mut rows = Vec::new(alloc);
+    for (capture, facts) in captures.iter().enumerate() {
+        if let Some(text) = &facts.comment {
+            rows.push(CommentRow {
+                capture,
+                text: text.as_str(),
+            })?;
+        }
     }
     Ok(rows)
 }

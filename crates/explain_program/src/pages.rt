@@ -51,7 +51,7 @@ Exit status, that of turnaudit:
   1  not shown
   2  an input is refused; standard error says why
   3  out of memory
-  4  a file can't be read, or the answer can't be written
+  4  a file can't be read or has changed, or the answer can't be written
   5  usage error
 ";
 
@@ -184,6 +184,8 @@ Options:
                              answer is the same [default: 1]
   -o, --output <FILE>        The page, an HTML file; one that is there is never
                              written over
+      --excluded <LIST>      The list of what turnprep cut excluded, filed on
+                             the page
   -h, --help                 Print help
 
 Example:

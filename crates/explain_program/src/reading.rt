@@ -1,5 +1,6 @@
-//! Files read once more, for what is filed of them: their digests, and what captures have.
+//! Files read once more, for what is filed of them: what captures have, and the texts.
 
+use crate::comment::comment_of;
 use audit_files::Source;
 use audit_pcapng::BlockKind;
 use explain_page::{CaptureRow, Digests, Hashing};
@@ -9,7 +10,7 @@ use std::alloc::{AllocError, Global};
 /// How many bytes are asked for at once.
 const PIECE: usize = 65_536;
 
-/// The digests of a file; none where it can't be read from its front again, as a pipe.
+/// The digests of a file; none if it can't be read.
 pub fn digests_of<S: Source>(
     alloc: Global,
     source: &mut S,
@@ -82,54 +83,69 @@ fn with_block(row: CaptureRow, block: &Block) -> CaptureRow {
     row
 }
 
-/// Counts the blocks that a piece makes whole; false where the capture can't be read on.
-fn count_piece(splitter: &mut BlockSplitter, piece: &[u8], row: &mut CaptureRow) -> bool {
+/// What a capture has, as far as it was read.
+#[derive(Drop)]
+pub struct CaptureFacts {
+    pub row: CaptureRow,
+    /// The comment of its first section header; none if there is none.
+    pub comment: Option<String>,
+}
+
+impl CaptureFacts {
+    /// Takes the next block.
+    fn take(&mut self, alloc: Global, block: &Block) -> Result<(), AllocError> {
+        self.row = with_block(self.row, block);
+        if block.kind == BlockKind::Section && self.comment.is_none() {
+            self.comment = comment_of(alloc, block)?;
+        }
+        Ok(())
+    }
+}
+
+/// Takes the blocks that a piece completes; false if the capture can't be read on.
+fn take_piece(
+    alloc: Global,
+    splitter: &mut BlockSplitter,
+    piece: &[u8],
+    facts: &mut CaptureFacts,
+) -> Result<bool, AllocError> {
     let mut rest = piece;
     'blocks: for _ in 0..piece.len() {
         match splitter.next(rest) {
-            Ok(Some((block, behind))) => {
-                *row = with_block(*row, &block);
-                rest = behind;
+            Ok(Some((block, next))) => {
+                facts.take(alloc, &block)?;
+                rest = next;
             }
-            Ok(None) => return true,
-            Err(_) => return false,
+            Ok(None) => return Ok(true),
+            Err(_) => return Ok(false),
         }
     }
-    true
+    Ok(true)
 }
 
-/// What a capture has, and its digests; none where it can't be read from its front again, as a pipe.
-#[derive(Clone, Copy)]
-pub struct LookedOver {
-    pub digests: Option<Digests>,
-    pub row: CaptureRow,
-}
-
-/// Goes over a capture once more. Of one that can't be read on, what came before is counted.
-pub fn look_over<S: Source>(
+/// Reads a capture once more, to its end. Of one that isn't whole, the blocks before are counted.
+pub fn capture_facts<S: Source>(
     alloc: Global,
     source: &mut S,
     name: &str,
-) -> Result<LookedOver, AllocError> {
+) -> Result<CaptureFacts, AllocError> {
     let mut piece = vec![in alloc; 0u8; PIECE]?;
-    let mut hashing = Hashing::new();
     let mut splitter = BlockSplitter::new(alloc);
-    let mut row = no_blocks();
-    let mut is_counted = true;
+    let mut facts = CaptureFacts {
+        row: no_blocks(),
+        comment: None,
+    };
+    let mut is_whole = true;
     let mut at = 0u64;
     'pieces: for _ in 0..u64::MAX {
         let Ok(read) = source.piece(name, at, &mut piece) else {
-            return Ok(LookedOver { digests: None, row });
+            break;
         };
         if read == 0 {
             break;
         }
-        hashing.feed(&piece[..read]);
-        is_counted = is_counted && count_piece(&mut splitter, &piece[..read], &mut row);
+        is_whole = is_whole && take_piece(alloc, &mut splitter, &piece[..read], &mut facts)?;
         at = at.saturating_add(read as u64);
     }
-    Ok(LookedOver {
-        digests: Some(hashing.finish()),
-        row,
-    })
+    Ok(facts)
 }

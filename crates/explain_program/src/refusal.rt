@@ -1,6 +1,7 @@
 //! What standard error tells where a run ends before its answer.
 
 use crate::command_line::Inputs;
+use crate::digesting::Digesting;
 use crate::host::{Explaining, Trouble};
 use crate::line_of_text::{LineOfText, line_of_text};
 use crate::mistakes::{Kind, mistake};
@@ -131,10 +132,28 @@ fn troubled<'a, S: Explaining>(source: &mut S, inputs: &Inputs<'a>) -> Option<(&
     troubled_capture(source, inputs)
 }
 
-/// Why a run ended before its answer, in words. What is refused is looked at once more.
+/// Why reading failed.
+fn read_failure<S: Explaining>(
+    alloc: Global,
+    source: &mut Digesting<S>,
+    inputs: &Inputs<'_>,
+) -> Result<String, AllocError> {
+    if let Some(name) = source.changed() {
+        let name = Quoted {
+            bytes: name.as_bytes(),
+        };
+        return format!(in alloc; "{name} changed while it was read");
+    }
+    match troubled(source, inputs) {
+        Some((name, trouble)) => told_of_trouble(alloc, name, trouble),
+        None => String::from_str(alloc, "a file can't be read"),
+    }
+}
+
+/// Why a run ended before its answer, in words. What is refused is read once more.
 pub fn refusal<S: Explaining>(
     alloc: Global,
-    source: &mut S,
+    source: &mut Digesting<S>,
     inputs: &Inputs<'_>,
     stop: &Stop,
 ) -> Result<String, AllocError> {
@@ -144,10 +163,7 @@ pub fn refusal<S: Explaining>(
             let found = line_of_text(alloc, source, spot.name, spot.line)?;
             told_of_refused(alloc, code, spot, &found)
         }
-        Stop::Read => match troubled(source, inputs) {
-            Some((name, trouble)) => told_of_trouble(alloc, name, trouble),
-            None => String::from_str(alloc, "a file can't be read"),
-        },
+        Stop::Read => read_failure(alloc, source, inputs),
         Stop::Memory => String::from_str(alloc, "out of memory"),
         Stop::Write => String::from_str(alloc, "the answer can't be written"),
     }

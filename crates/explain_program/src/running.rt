@@ -6,6 +6,7 @@ ghost use Rattle.explain_program.specs.Answered.{Answers, IsRun};
 
 use crate::as_json::explain_as_json;
 use crate::command_line::{Inputs, Request, read as read_words};
+use crate::digesting::Digesting;
 use crate::evidence::evidence;
 use crate::explaining::explain;
 use crate::host::{Explaining, PageFile};
@@ -41,12 +42,12 @@ fn run_request<
     alloc: Global,
     finder: &F,
     request: &Request<'_>,
-    source: &mut S,
+    source: &mut Digesting<S>,
     pages: &mut P,
     out: &mut O,
     err: &mut E,
 ) -> Result<u8, Stop>
-    ensures { Answers (S.holds source.old)
+    ensures { Answers (S.holds source.old.inner)
         (record { before = O.taken out.old; after = O.taken out.new; said_before = E.taken err.old; said_after = E.taken err.new }) request.now result }
 {
     match request {
@@ -86,9 +87,13 @@ fn run_request<
             inputs.workers,
             out,
         ),
-        Request::Evidence { inputs, file } => {
-            evidence(rt, alloc, finder, source, inputs, file, pages, out)
-        }
+        Request::Evidence {
+            inputs,
+            file,
+            excluded,
+        } => evidence(
+            rt, alloc, finder, source, inputs, file, *excluded, pages, out,
+        ),
         Request::Help(page) => {
             put_text(out, page.text())?;
             Ok(0)
@@ -130,7 +135,7 @@ fn put_line<W: Sink>(alloc: Global, sink: &mut W, words: &str) {
 /// Puts the line that says why the run ended.
 fn put_refusal<S: Explaining, W: Sink>(
     alloc: Global,
-    source: &mut S,
+    source: &mut Digesting<S>,
     request: &Request<'_>,
     stop: &Stop,
     err: &mut W,
@@ -145,9 +150,9 @@ fn put_refusal<S: Explaining, W: Sink>(
     }
 }
 
-/// Runs the program on its words, the first of which is its name, and gives its exit status: 0 conforming, no fault is shown, help or the
-/// release; 1 not shown, or faults are; 2 input refused; 3 out of memory; 4 a file that can't be read or an answer that can't be written; 5 words that are no request.
-/// What ended it before its answer is one line on `err`.
+/// Runs the program on its arguments, the first of which is its name, and returns its exit status: 0 conforming, no fault is shown, help or the
+/// release; 1 not shown, or faults are; 2 an input is refused; 3 out of memory; 4 a file can't be read or changes while it is read, or the
+/// answer can't be written; 5 a usage error. What ended it before its answer is one line on `err`.
 pub fn run<
     R: Threads + Wait + Sync,
     F: CertificateFinder,
@@ -161,12 +166,12 @@ pub fn run<
     alloc: Global,
     finder: &F,
     words: &[N],
-    source: &mut S,
+    source: S,
     pages: &mut P,
     out: &mut O,
     err: &mut E,
 ) -> u8
-    ensures { IsRun (map N.text words.now) (S.holds source.old)
+    ensures { IsRun (map N.text words.now) (S.holds source)
         (record { before = O.taken out.old; after = O.taken out.new; said_before = E.taken err.old; said_after = E.taken err.new }) result }
 {
     let request = match read_words(alloc, words) {
@@ -176,10 +181,11 @@ pub fn run<
             return Stop::Memory.status();
         }
     };
-    match run_request(rt, alloc, finder, &request, source, pages, out, err) {
+    let mut source = Digesting::new(alloc, source);
+    match run_request(rt, alloc, finder, &request, &mut source, pages, out, err) {
         Ok(status) => status,
         Err(stop) => {
-            put_refusal(alloc, source, &request, &stop, err);
+            put_refusal(alloc, &mut source, &request, &stop, err);
             stop.status()
         }
     }

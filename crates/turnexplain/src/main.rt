@@ -45,14 +45,13 @@ fn main(rt: HostRuntime) -> ExitCode {
     let status = match words_of(&rt) {
         Ok(words) => match RandomState::new(&rt) {
             Ok(seed) => {
-                let mut files = HostFiles::new(&rt);
                 let mut pages = HostPage::new(&rt);
                 run(
                     &rt,
                     alloc,
                     &WalkAndPasses::new(seed),
                     &words,
-                    &mut files,
+                    HostFiles::new(&rt),
                     &mut pages,
                     &mut out,
                     &mut err,

@@ -9,7 +9,7 @@ returns g c = λ policy_text users_text texts policy users none captures.
       record {
         taken = taken judged.files.intake;
         key_for = key_for judged.files.users;
-        read = c.in_ok-judged.ensures.read policy_text users_text texts policy users none captures;
+        read = (rw c.watch.ensures at c.in_ok-judged.ensures.read) policy_text users_text texts policy users none captures;
         verdict = judged.verdict;
         judges = c.in_ok-judged.ensures.by;
         written = c.in_ok-put_json.ensures;

@@ -20,4 +20,5 @@ returns-clause-named c =
       names.0,
       sym (first_value-rows found (codes "cert")) ∙ sym c.get_str-2.ensures ∙ ap (option_map (λ s. s.now)) (sym names.1),
       sym (first_value-rows found (codes "output")) ∙ sym c.get_str.ensures ∙ ap (option_map (λ s. s.now)) c.in-Some.is,
+      sym (first_value-rows found (codes "excluded")) ∙ sym c.get_str-excluded.ensures,
     )

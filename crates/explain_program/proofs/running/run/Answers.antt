@@ -1,5 +1,5 @@
-use Rattle.std.proofs.Common.{◌≡◌, ◌∙◌, OnOk, ap, inl, refl, subst, sym}
-use Rattle.explain_program.specs.Answered.{status_given}
+use Rattle.std.proofs.Common.{◌≡◌, ◌∙◌, List, Option, ℕ, OnOk, ap, inl, refl, subst, sym}
+use Rattle.explain_program.specs.Answered.{Answers, status_given}
 use Rattle.explain_program.proofs.running.run.Goals as goal
 
 pub returns-in-Ok-run_request : goal.returns-in-Ok-run_request
@@ -10,7 +10,8 @@ returns-in-Ok-run_request g c =
       c.in-Ok.ensures,
       c.run_request.result,
       said,
-      c.run_request.ensures,
+      subst (λ (holds : List ℕ → Option (List ℕ)). Answers holds (record { before = g.O.Sink.taken c.args.out.now; after = g.O.Sink.taken c.run_request.new.out; said_before = g.E.Sink.taken c.args.err.now; said_after = said }) c.in-Ok.request c.run_request.result)
+          (ap g.S.Source.holds c.new-source.ensures) c.run_request.ensures,
       sym (ap status_given c.in-Ok-run_request.is),
       subst (λ done. OnOk done (said ≡ said)) (sym c.in-Ok-run_request.is) refl,
     )
@@ -23,7 +24,8 @@ returns g c =
       c.in-Ok.ensures,
       c.run_request.result,
       said,
-      c.run_request.ensures,
+      subst (λ (holds : List ℕ → Option (List ℕ)). Answers holds (record { before = g.O.Sink.taken c.args.out.now; after = g.O.Sink.taken c.run_request.new.out; said_before = g.E.Sink.taken c.args.err.now; said_after = said }) c.in-Ok.request c.run_request.result)
+          (ap g.S.Source.holds c.new-source.ensures) c.run_request.ensures,
       c.status-in-Err-run_request.ensures ∙ sym (ap status_given c.in-Err-run_request.is),
       subst (λ done. OnOk done (g.E.Sink.taken c.put_refusal.new.err ≡ said)) (sym c.in-Err-run_request.is) tt,
     )
