@@ -5,6 +5,7 @@ use Rattle.clap.specs.Words.{Text, fault_of, subcommand_of}
 use Rattle.prep_program.specs.declared.command_line.Request.{Request}
 use Rattle.prep_program.specs.declared.command_line.Request.TheVariants.{Join, Policy, Look, Cut, Translate, Reassemble, Users, Help, Release, Usage}
 use Rattle.prep_program.specs.declared.stop.Stop.{Stop}
+use Rattle.prep_program.specs.CutStatus.{EndsByKept}
 use Rattle.prep_program.specs.Pages.{page_text, release_text}
 use Rattle.prep_program.specs.Requests.{Asks}
 use Rattle.prep_program.specs.Stops.{status_of_stop}
@@ -25,7 +26,7 @@ IsSilent streams = streams.said_after ≡ streams.said_before
 abbrev pub IsSuccess : Result ℕ Stop → Type 0
 IsSuccess done = IfOk done (λ status. status ≡ 0)
 
--- A page of help, or the line of the release, goes to standard output alone, and what is no request to standard error alone, with status 5.
+-- `cut` has status 6 and a line on standard error if it kept no datagram, and else status 0 and none. A page of help, or the line of the release, goes to standard output alone, and what is no request to standard error alone, with status 5.
 -- What each command makes is in the contract of its own function; those that take no standard error leave it.
 abbrev pub Answers : Streams → Request → Result ℕ Stop → Type 0
 Answers streams (Join captures file) done = IsSilent streams × IsSuccess done
@@ -34,7 +35,7 @@ Answers streams (Translate request) done = IsSilent streams × IsSuccess done
 Answers streams (Reassemble request) done = IsSilent streams × IsSuccess done
 Answers streams (Policy file listening relaying translated) done = IsSuccess done
 Answers streams (Users request) done = IsSuccess done
-Answers streams (Cut request) done = IsSuccess done
+Answers streams (Cut request) done = IfOk done (λ status. (kept : ℕ) × EndsByKept kept status streams.said_before streams.said_after)
 Answers streams (Help page) done = IsSilent streams × IfOk done (λ status. (status ≡ 0) × (streams.after ≡ followed_by streams.before (page_text page)))
 Answers streams Release done = IsSilent streams × IfOk done (λ status. (status ≡ 0) × (streams.after ≡ followed_by streams.before release_text))
 Answers streams (Usage text) done = (streams.after ≡ streams.before) × IfOk done (λ status. (status ≡ 5) × (streams.said_after ≡ followed_by streams.said_before (string_bytes text)))

@@ -9,8 +9,9 @@ use Rattle.prep_program.specs.declared.cutting.ToCut.{ToCut}
 use Rattle.prep_program.specs.declared.list_totals.Told.{Told}
 use Rattle.prep_program.specs.declared.set_aside.CutRequest.{CutRequest}
 use Rattle.prep_program.specs.AllCuts.{CutsAll}
+use Rattle.prep_program.specs.CutStatus.{EndsByKept}
 use Rattle.prep_program.specs.Listing.{list_file}
-use Rattle.prep_program.specs.ListText.{list_text}
+use Rattle.prep_program.specs.ListText.{kept_of, list_text}
 use Rattle.prep_program.specs.Making.{FileMade, with_files}
 use Rattle.prep_program.specs.Recordings.{RecordedAll}
 
@@ -20,8 +21,9 @@ pub record IsPlanOf (plan : Plan) (stated : Stated) (policy : List ℕ) (capture
   pub stated_is : plan.stated ≡ stated
   pub noted : RecordedAll captures plan.policy plan.allocations
 
--- each capture was cut to its file by a plan of what was requested, and the list of that plan was written and printed
-pub record IsCutRun (request : CutRequest) (policy : List ℕ) (captures : List (List ℕ)) (before after : Option (List FileMade)) (unprinted printed : Option (List ℕ)) : Type 0 where
+-- each capture was cut to its file by a plan of what was requested, and the list of that plan was written and printed. The status says whether
+-- a datagram of the service was written
+pub record IsCutRun (request : CutRequest) (policy : List ℕ) (captures : List (List ℕ)) (before after : Option (List FileMade)) (unprinted printed unsaid said : Option (List ℕ)) (status : ℕ) : Type 0 where
   pub plan : Plan
   pub says : Told
   pub all : AllCut
@@ -32,3 +34,4 @@ pub record IsCutRun (request : CutRequest) (policy : List ℕ) (captures : List 
   pub cuts : CutsAll all plan asked captures before middle
   pub listed : after ≡ with_files middle (list_file request.folder.now (list_text plan says all))
   pub printed_is : printed ≡ followed_by unprinted (list_text plan says all)
+  pub ends : EndsByKept (kept_of all.totals.items) status unsaid said

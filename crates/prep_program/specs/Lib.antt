@@ -10,6 +10,7 @@ pub mod Recordings
 pub mod AllCuts
 pub mod ListText
 pub mod Listing
+pub mod CutStatus
 pub mod CutRuns
 pub mod Words
 pub mod Requests

@@ -87,14 +87,20 @@ abbrev pub captures_text : ℕ → List Totals → List ℕ
 captures_text number [] = []
 captures_text number (first ∷ others) = capture_text number first ++ captures_text (capped (number + 1)) others
 
+-- the departures of a line beyond its arrivals
+abbrev pub unpaired_of : Tally → ℕ
+unpaired_of tally = tally.left.datagrams - tally.arrived.datagrams
+
 -- with these tallies
 abbrev pub sums_with : Sums → List Tally → Sums
 sums_with sums [] = sums
 sums_with sums (first ∷ others) =
-    sums_with (record { arrived = counted_both sums.arrived first.arrived; left = counted_both sums.left first.left; others = capped (sums.others + first.others) }) others
+    sums_with
+    (record { arrived = counted_both sums.arrived first.arrived; left = counted_both sums.left first.left; others = capped (sums.others + first.others); unpaired = capped (sums.unpaired + unpaired_of first) })
+    others
 
 abbrev pub sums_of : List Tally → Sums
-sums_of tallies = sums_with (record { arrived = no_count; left = no_count; others = 0 }) tallies
+sums_of tallies = sums_with (record { arrived = no_count; left = no_count; others = 0; unpaired = 0 }) tallies
 
 -- of all that is set aside
 abbrev pub sums_text : Sums → List ℕ
@@ -132,13 +138,19 @@ clients_with clients (reason ∷ lines) (tally ∷ tallies) = clients_with (if i
 abbrev pub excluded_of : Sums → ℕ
 excluded_of sums = capped (sums.arrived.datagrams + sums.left.datagrams)
 
--- `excluded N of ALL datagrams SHARE percent departures N clients N`
+-- `excluded N of ALL datagrams SHARE percent`
+abbrev pub share_text : ℕ → ℕ → List ℕ
+share_text excluded all =
+    codes "excluded " ++ (decimal excluded ++ (codes " of " ++ (decimal all ++ (codes " datagrams " ++ (decimal (share_of excluded all) ++ codes " percent")))))
+
+-- ` departures N unpaired N clients N`
+abbrev pub departures_text : Sums → ℕ → List ℕ
+departures_text sums clients =
+    codes " departures " ++ (decimal sums.left.datagrams ++ (codes " unpaired " ++ (decimal sums.unpaired ++ (codes " clients " ++ (decimal clients ++ codes "\n")))))
+
+-- both, as one line
 abbrev pub excluded_text : Sums → ℕ → ℕ → List ℕ
-excluded_text sums all clients =
-    codes "excluded "
-    ++ (decimal (excluded_of sums)
-    ++ (codes " of "
-    ++ (decimal all ++ (codes " datagrams " ++ (decimal (share_of (excluded_of sums) all) ++ (codes " percent departures " ++ (decimal sums.left.datagrams ++ (codes " clients " ++ (decimal clients ++ codes "\n")))))))))
+excluded_text sums all clients = share_text (excluded_of sums) all ++ departures_text sums clients
 
 -- the lines of all of them together
 abbrev pub totals_text : Told → Sums → ℕ → ℕ → List ℕ

@@ -1,7 +1,7 @@
 //! The end of the list of what is set aside: what its lines and captures add up to.
 
 ghost use Rattle.std.specs.Prelude.{◌≡◌, IfOk, string_bytes};
-ghost use Rattle.prep_program.specs.ListText.{counts_text, others_text, sums_of, sums_text, kept_of, kept_text, share_of, is_client, clients_with, excluded_of, excluded_text, totals_text};
+ghost use Rattle.prep_program.specs.ListText.{counts_text, others_text, sums_of, sums_text, unpaired_of, kept_of, kept_text, share_of, is_client, clients_with, excluded_of, share_text, departures_text, excluded_text, totals_text};
 
 use prep_cut::{Count, Reason, Tally, Totals};
 use std::alloc::{AllocError, Global};
@@ -21,6 +21,8 @@ pub struct Sums {
     pub left: Count,
     /// Packets that are no datagrams of the service.
     pub others: u64,
+    /// Of each line the departures beyond its arrivals.
+    pub unpaired: u64,
 }
 
 /// What a line counts, as ` in 3 4 out 5 6`.
@@ -45,6 +47,13 @@ pub fn text_of_others(alloc: Global, is_told: bool, others: u64) -> Result<Strin
     }
 }
 
+/// The departures of a line beyond its arrivals.
+fn unpaired_in(tally: &Tally) -> u64
+    ensures { result ≡ unpaired_of tally.now }
+{
+    tally.left.datagrams.saturating_sub(tally.arrived.datagrams)
+}
+
 /// All that is set aside.
 pub fn add_up(tallies: &[Tally]) -> Sums
     ensures { result ≡ sums_of tallies.now }
@@ -53,12 +62,14 @@ pub fn add_up(tallies: &[Tally]) -> Sums
         arrived: Count::none(),
         left: Count::none(),
         others: 0,
+        unpaired: 0,
     };
     for tally in tallies {
         sums = Sums {
             arrived: sums.arrived.plus(tally.arrived),
             left: sums.left.plus(tally.left),
             others: sums.others.saturating_add(tally.others),
+            unpaired: sums.unpaired.saturating_add(unpaired_in(tally)),
         };
     }
     sums
@@ -133,6 +144,23 @@ pub fn clients_in(lines: &[Reason], tallies: &[Tally]) -> u64
     clients
 }
 
+/// How many datagrams are excluded, of how many, with their share.
+fn text_of_share(alloc: Global, excluded: u64, all: u64) -> Result<String, AllocError>
+    ensures { IfOk result (λ text. string_bytes text ≡ share_text excluded all) }
+{
+    let share = share(excluded, all);
+    format!(in alloc; "excluded {excluded} of {all} datagrams {share} percent")
+}
+
+/// The departures among them, those beyond the arrivals of their lines, and the clients from before.
+fn text_of_departures(alloc: Global, sums: &Sums, clients: u64) -> Result<String, AllocError>
+    ensures { IfOk result (λ text. string_bytes text ≡ departures_text sums.now clients) }
+{
+    let departures = sums.left.datagrams;
+    let unpaired = sums.unpaired;
+    format!(in alloc; " departures {departures} unpaired {unpaired} clients {clients}\n")
+}
+
 /// The line of the datagrams that are set aside, with their share.
 fn line_of_excluded(
     alloc: Global,
@@ -142,12 +170,9 @@ fn line_of_excluded(
 ) -> Result<String, AllocError>
     ensures { IfOk result (λ line. string_bytes line ≡ excluded_text sums.now all clients) }
 {
-    let excluded = excluded_in(sums);
-    let share = share(excluded, all);
-    let departures = sums.left.datagrams;
-    format!(in alloc;
-        "excluded {excluded} of {all} datagrams {share} percent departures {departures} clients {clients}\n"
-    )
+    let mut line = text_of_share(alloc, excluded_in(sums), all)?;
+    line.push_str(text_of_departures(alloc, sums, clients)?.as_str())?;
+    Ok(line)
 }
 
 /// The datagrams that are set aside.

@@ -56,6 +56,7 @@ Exit status:
   3  out of memory
   4  a file can't be read or made, or something can't be written
   5  usage error
+  6  cut is done, and kept no datagram of the service
 ";
 
 const POLICY: &str = "\

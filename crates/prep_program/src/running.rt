@@ -118,7 +118,8 @@ fn run_request<S: Source, M: Maker, O: Sink, E: Sink>(
 }
 
 /// Runs the program on its words, the first of which is its name, and gives its exit status: 0 done, help or the release; 2 an input is
-/// refused; 3 out of memory; 4 a file that can't be read or made, or something that can't be written; 5 words that are no request.
+/// refused; 3 out of memory; 4 a file that can't be read or made, or something that can't be written; 5 words that are no request; 6 `cut` is done and kept
+/// no datagram.
 /// What ended it is one line on `err`.
 pub fn run<N: AsStr, S: Source, M: Maker, O: Sink, E: Sink>(
     alloc: Global,

@@ -6,7 +6,7 @@ ghost use Rattle.audit_model.specs.Sink.{followed_by};
 ghost use Rattle.prep_program.specs.Listing.{list_file};
 ghost use Rattle.prep_program.specs.CutRuns.{IsCutRun, IsPlanOf};
 ghost use Rattle.prep_program.specs.Making.{files_of, with_files};
-ghost use Rattle.prep_program.specs.Answered.{IsSuccess};
+ghost use Rattle.prep_program.specs.CutStatus.{EndsByKept};
 
 use crate::cutting::{ToCut, cut_captures};
 use crate::folder::{check_parts, last_part, path_in};
@@ -36,6 +36,9 @@ pub struct CutRequest<'a> {
 /// The list's name in its folder.
 const LIST: &str = "set-aside";
 
+/// What standard error has where no datagram is kept.
+const NOTHING_KEPT: &str = "turnprep: kept 0 datagrams\n";
+
 /// What is to be cut, and how.
 #[derive(Drop)]
 struct Planned {
@@ -45,8 +48,8 @@ struct Planned {
     proposals: Vec<Vec<Option<LineNumber>>>,
 }
 
-/// Writes the captures without what is set aside into a folder, and the list of that, which is printed, too. On `err` it says where no
-/// datagram is kept.
+/// Writes the captures without what is set aside into a folder, and the list of that, which is printed, too. Where no datagram is kept, it
+/// says so on `err`, and the exit status is 6.
 pub fn run_cut<S: Source, M: Maker, O: Sink, E: Sink>(
     alloc: Global,
     request: &CutRequest<'_>,
@@ -55,11 +58,11 @@ pub fn run_cut<S: Source, M: Maker, O: Sink, E: Sink>(
     out: &mut O,
     err: &mut E,
 ) -> Result<u8, Stop>
-    ensures done { IsSuccess result }
+    ensures done { IfOk result (λ status. (kept : ℕ) × EndsByKept kept status (E.taken err.old) (E.taken err.new)) }
     ensures cuts { (policy : List ℕ) (captures : List (List ℕ)) → S.holds source.old request.now.policy.now ≡ Some policy →
         AllZip (λ name text. S.holds source.old name.now ≡ Some text) request.now.captures.items captures →
         IfOk result (λ status. IsCutRun request.now policy captures
-        (files_of (M.making maker.old) (M.taken maker.old)) (files_of (M.making maker.new) (M.taken maker.new)) (O.taken out.old) (O.taken out.new)) }
+        (files_of (M.making maker.old) (M.taken maker.old)) (files_of (M.making maker.new) (M.taken maker.new)) (O.taken out.old) (O.taken out.new) (E.taken err.old) (E.taken err.new) status) }
 {
     check_parts(&request.captures)?;
     let Planned {
@@ -71,10 +74,20 @@ pub fn run_cut<S: Source, M: Maker, O: Sink, E: Sink>(
     let all = cut_captures(alloc, source, &captures, &plan, maker)?;
     let list = list_of(alloc, &plan, &told, &all)?;
     write_list(alloc, request.folder, list.as_str(), maker, out)?;
-    if kept_in(&all.totals) == 0 {
-        put_all(err, b"turnprep: kept 0 datagrams\n")?;
+    let kept = kept_in(&all.totals);
+    let status = end_cut(kept, err)?;
+    Ok(status)
+}
+
+/// The exit status of a call that kept so many datagrams. Where there are none, it says so on `err`.
+fn end_cut<E: Sink>(kept: u64, err: &mut E) -> Result<u8, Stop>
+    ensures { IfOk result (λ status. EndsByKept kept status (E.taken err.old) (E.taken err.new)) }
+{
+    if kept > 0 {
+        return Ok(0);
     }
-    Ok(0)
+    put_all(err, NOTHING_KEPT.as_bytes())?;
+    Ok(6)
 }
 
 /// Reads the policy and the captures, and has lines proposed.

@@ -4,8 +4,9 @@ use Rattle.std.specs.List.{AllZip}
 use Rattle.audit_model.specs.Sink.{followed_by}
 use Rattle.prep_program.specs.declared.cutting.ToCut.{ToCut}
 use Rattle.prep_program.specs.CutRuns.{IsPlanOf}
+use Rattle.prep_program.specs.CutStatus.{EndsByKept}
 use Rattle.prep_program.specs.Listing.{list_file}
-use Rattle.prep_program.specs.ListText.{list_text}
+use Rattle.prep_program.specs.ListText.{kept_of, list_text}
 use Rattle.prep_program.specs.Making.{files_of, with_files}
 use Rattle.prep_program.proofs.Requested.{texts_of}
 use Rattle.prep_program.proofs.set_aside.run_cut.Goals as goal
@@ -34,4 +35,8 @@ returns-clause-cuts g c = λ policy captures holds texts.
       cuts = cuts;
       listed = c.in_ok-write_list.ensures.made ∙ ap (λ (t : List ℕ). with_files middle (list_file c.args.request.now.folder.now t)) text;
       printed_is = c.in_ok-write_list.ensures.told ∙ ap (λ (t : List ℕ). followed_by (g.O.Sink.taken c.args.out.now) t) text;
+      ends = subst (λ (kept : ℕ). EndsByKept kept c.in_ok-status.status (g.E.Sink.taken c.args.err.now) (g.E.Sink.taken c.end_cut.new.err)) (c.kept_in-kept.ensures ∙ ap kept_of c.deref-3.ensures.value) c.in_ok-status.ensures;
     }
+
+pub returns-clause-done : goal.returns-clause-done
+returns-clause-done g c = (c.kept_in-kept.result, c.in_ok-status.ensures)
