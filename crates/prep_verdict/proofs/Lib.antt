@@ -1,3 +1,4 @@
 pub mod Gives
 pub mod Stays
 pub mod Explained
+pub mod Calling

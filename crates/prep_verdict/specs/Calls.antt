@@ -1,0 +1,28 @@
+-- A call of `cut`, and what the audit of the files that it wrote says.
+use Rattle.std.specs.Prelude.{◌≡◌, ℕ, List, [], ◌∷◌, map}
+use Rattle.audit_model.specs.declared.certificate.Certificate.{Certificate}
+use Rattle.prep_blocks.specs.declared.block.Block.{Block}
+use Rattle.prep_blocks.specs.Read.{bytes_of}
+use Rattle.prep_cut.specs.declared.plan.Plan.{Plan}
+use Rattle.prep_program.specs.declared.cutting.ToCut.{ToCut}
+use Rattle.prep_program.specs.AllCuts.{files_cut, marks_of}
+use Rattle.prep_program.specs.Making.{FileMade}
+use Rattle.prep_verdict.specs.Audited.{ExplainsTheRest}
+use Rattle.prep_verdict.specs.Rest.{Capture}
+
+-- the captures of a call, each with its blocks and with what was proposed for its packets
+abbrev pub captures_of : List ToCut → List (List Block) → List Capture
+captures_of [] captures = []
+captures_of (one ∷ others) [] = []
+captures_of (one ∷ others) (blocks ∷ captures) = record { text = bytes_of blocks; blocks = blocks; proposals = one.proposals.items } ∷ captures_of others captures
+
+-- what the files that were made of them contain
+abbrev pub texts_cut : Plan → List ToCut → List (List Block) → List (List ℕ)
+texts_cut plan asked captures = map (λ (file : FileMade). file.bytes) (files_cut asked (marks_of plan asked captures))
+
+-- By the policy of the call, one run of the server explains every datagram of the service in the texts of its captures, except those of packets
+-- that a line of its list excludes.
+pub record ExplainsTheCall (plan : Plan) (asked : List ToCut) (captures : List (List Block)) (texts : List (List ℕ)) (policy users : List ℕ) (certificate : Certificate) : Type 0 where
+  pub rest : ExplainsTheRest plan (captures_of asked captures) policy users certificate
+  pub policy_is : rest.taken.policy ≡ plan.policy
+  pub texts_are : map (λ (capture : Capture). capture.text) (captures_of asked captures) ≡ texts
