@@ -1,6 +1,4 @@
-# turnaudit: `make demo` audits a capture of a real server by a build without proofs, in three minutes; `make turnaudit` proves and builds the
-# program; `make install` and `make deb` install it or make a package of it; `make test` runs the gate and judges the captures of real servers;
-# `make format` comes before a commit; `make edits` tries all must-fail edits; `make fuzz SECONDS=600` gives it damaged input for so long.
+# `make help` lists the targets, with what each takes. `make format` comes before a commit.
 
 PROVED = crates/turnaudit/out/turnaudit
 # The program beside it that makes captures ready.
@@ -9,7 +7,9 @@ PREPARES = crates/turnprep/out/turnprep
 EXPLAINS = crates/turnexplain/out/turnexplain
 # The program that is installed, packed and tested. Another one is taken as it is: `make install PROGRAM=/where/it/is`.
 PROGRAM = $(PROVED)
-# Those beside it that are installed and packed with it: what `make turnprep turnexplain` has built.
+# The programs that are installed and packed with it, by default those that `make turnprep turnexplain` has built. `make install BESIDE=`
+# installs turnaudit alone, and BESIDE='/where/it/is/turnprep' that file. A program keeps the name of its file, by which its completions
+# and its man page are chosen.
 BESIDE = $(wildcard $(PREPARES) $(EXPLAINS))
 SOURCES = crates.txt $(shell find crates \( -path '*/src/*.rt' -o -path '*/specs/*.antt' -o -path '*/proofs/*.antt' \) -not -path '*/out/*')
 SECONDS = 60
@@ -20,7 +20,23 @@ DESTDIR =
 # Where `make deb` puts the package.
 OUT = out
 
-.PHONY: deb demo edits format fuzz install test turnaudit turnexplain turnprep
+.PHONY: deb demo edits format fuzz help install test turnaudit turnexplain turnprep uninstall
+
+# What follows two number signs is a line of the help.
+## demo         audit a stored call by a build without proofs: 2 minutes, 1.6 GB
+## turnaudit    prove and build the auditor: 95 core minutes, 6 GB
+## turnprep     prove and build what prepares captures; most crates are turnaudit's
+## turnexplain  prove and build what explains verdicts; most crates are turnaudit's
+## install      install what is built, below PREFIX=/usr/local: seconds, no proofs
+## uninstall    remove what `make install` put below PREFIX: seconds
+## deb          pack what is built, into out/: seconds; dpkg-deb and binutils
+## test         every proof, all tests and the examples: 80 minutes, 12 GB
+## edits        try all must-fail edits: hours; CRATES="audit_rules" of these alone
+## fuzz         damaged input for SECONDS=60; proves and builds turnaudit first
+## format       lay out the code of every crate, before a commit: seconds
+## PROGRAM=FILE, BESIDE='FILE..': other programs for install and deb; BESIDE= none
+help:
+	@sed -n 's/^## //p' $(firstword $(MAKEFILE_LIST))
 
 # Prints the verdict on the captures of a call over coturn, by a build that isn't proved.
 demo:
@@ -37,12 +53,17 @@ $(PROVED): $(SOURCES)
 turnprep turnexplain:
 	@tools/build.py $@
 
-# Puts the programs that are built, man pages, completions and documents below PREFIX.
-install: $(PROGRAM)
+# Puts the programs that are built, their man pages and completions, and the documents below PREFIX. It builds none: it names those that
+# aren't built.
+install:
 	@tools/install.py --program '$(PROGRAM)' --beside $(BESIDE) --prefix '$(PREFIX)' --destdir '$(DESTDIR)'
 
-# Makes a Debian package of it, out/turnaudit_VERSION_ARCHITECTURE.deb.
-deb: $(PROGRAM)
+# Removes what `make install` put below PREFIX, and folders that it made if they are empty.
+uninstall:
+	@tools/uninstall.py --prefix '$(PREFIX)' --destdir '$(DESTDIR)'
+
+# Makes a Debian package of the programs that are built, out/turnaudit_VERSION_ARCHITECTURE.deb.
+deb:
 	@tools/package.py --program '$(PROGRAM)' --beside $(BESIDE) --out '$(OUT)'
 
 # Lays out the code of every crate as the gate asks for it.

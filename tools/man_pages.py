@@ -247,11 +247,13 @@ def text_of(page):
     return "\n".join([title, ".ad l", *tidy(lines)]) + "\n"
 
 
-def write(folder):
-    """Writes the pages, and returns their names."""
+def write(folder, programs=None):
+    """Writes the pages, and returns their names; of programs only those that are named, or all."""
     folder.mkdir(parents=True, exist_ok=True)
     names = []
     for page in PAGES:
+        if programs is not None and page.section == 1 and page.name not in programs:
+            continue
         names.append(f"{page.name}.{page.section}")
         (folder / names[-1]).write_text(text_of(page), encoding="ascii")
     return names

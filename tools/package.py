@@ -107,13 +107,12 @@ def pack(text, place):
 
 
 def put_debian_files(root, version):
-    """What Debian wants in share/doc beside the documents."""
+    """What Debian wants in share/doc beside the documents. CHANGELOG.md stays, too: README.md links to it."""
     folder = root / "usr" / "share" / "doc" / "turnaudit"
     (folder / "copyright").write_text(copyright_text(), encoding="utf-8")
     pack((folder / "CHANGELOG.md").read_text(encoding="utf-8"), folder / "changelog.gz")
     pack(changelog(version), folder / "changelog.Debian.gz")
     (folder / "LICENSE").unlink()
-    (folder / "CHANGELOG.md").unlink()
 
 
 def put_control(root, text):
@@ -128,7 +127,7 @@ def put_control(root, text):
 def settle(root):
     """Gives every file and folder the mode that Debian wants, and the one time."""
     for place in [root, *root.rglob("*")]:
-        place.chmod(0o755 if place.is_dir() or place.parent.name == "bin" else 0o644)
+        place.chmod(0o755 if place.stat().st_mode & 0o100 else 0o644)
         os.utime(place, (moment(), moment()))
 
 
@@ -139,7 +138,7 @@ def make(program, beside, out):
     with tempfile.TemporaryDirectory(prefix="package-") as room:
         root = Path(room) / "turnaudit"
         with contextlib.redirect_stdout(None):
-            install.install(program, beside, root / "usr", "share/zsh/vendor-completions", packed=True, strip=True)
+            install.install(install.Place(root / "usr"), program, beside, "share/zsh/vendor-completions", packed=True, strip=True)
         put_debian_files(root, version)
         size = sum((file.stat().st_size + 1023) // 1024 for file in root.rglob("*") if file.is_file())
         put_control(root, control(version, architecture, depends([program, *beside]), size))
@@ -156,13 +155,12 @@ def main():
     words.add_argument("--program", type=Path, required=True)
     words.add_argument("--beside", type=Path, nargs="*", default=[], help="turnprep and turnexplain, where they are built")
     words.add_argument("--out", type=Path, default=man_pages.TOP / "out")
-    asked = words.parse_args()
-    if not asked.program.is_file():
-        sys.exit(f"there is no program {asked.program}: `make turnaudit` proves and builds it")
+    options = words.parse_args()
+    install.check_programs(options.program, options.beside)
     missing = [name for name in ("dpkg", "dpkg-deb", "strip", "objdump") if not shutil.which(name)]
     if missing:
         sys.exit(f"a package takes {', '.join(missing)}: apt-get install dpkg binutils")
-    print(make(asked.program, asked.beside, asked.out))
+    print(make(options.program, options.beside, options.out))
 
 
 if __name__ == "__main__":

@@ -10,6 +10,8 @@ in a second. It knows no refusals, so of files that turnaudit refuses it says no
 import sys
 from pathlib import Path
 
+# A folder in which this is installed stays as it is.
+sys.dont_write_bytecode = True
 sys.path.insert(0, str(Path(__file__).resolve().parent.parent / "tests"))
 
 from plain.command import main
