@@ -3,8 +3,9 @@
 # makes a Debian package of them twice. It checks that every file is at its place and no other one is there, that each installed program
 # reports the verdict on a stored call, that each link of each installed document leads to a file, that the installed tools work from there,
 # that `make uninstall` removes exactly what was installed, that a program that isn't built is named and nothing is proved, that `make help`
-# has every target, and that the repository's folder is as it was. Of the package: that both are the same, and that its code is the
-# program's. What lintian calls an error is a failure. Without dpkg-deb or lintian their part is skipped, with a note.
+# has every target, and that the repository's folder is as it was. Of the package: that both are the same, the second made with another
+# umask, zone and locale, that its code is the program's, and its lists of files and materials. What lintian calls an error is a failure.
+# Without dpkg-deb or lintian their part is skipped, with a note.
 program=$(realpath "$1") || exit 1
 prepares=$(realpath "$2") || exit 1
 explains=$(realpath "$3") || exit 1
@@ -189,22 +190,25 @@ if [ -s "$scratch/help" ] && ! grep -q '.\{81\}' "$scratch/help"; then ok=yes; f
 tell "help: lines of at most 80 characters" "$ok"
 
 if command -v dpkg-deb > /dev/null; then
-    for number in 1 2; do
-        make -s deb PROGRAM="$program" BESIDE="$prepares $explains" OUT="$scratch/$number" > "$scratch/told" 2>&1 || cat "$scratch/told"
-    done
+    make -s deb PROGRAM="$program" BESIDE="$prepares $explains" OUT="$scratch/1" > "$scratch/told" 2>&1 || cat "$scratch/told"
+    (umask 077 && export TZ=Asia/Tokyo LC_ALL=C.UTF-8 DPKG_DEB_THREADS_MAX=4 &&
+        make -s deb PROGRAM="$program" BESIDE="$prepares $explains" OUT="$scratch/2") > "$scratch/told" 2>&1 || cat "$scratch/told"
     package=$(echo "$scratch"/1/turnaudit_*.deb)
     ok=no
     if cmp "$package" "$scratch"/2/turnaudit_*.deb; then ok=yes; fi
     tell "the same package twice" "$ok"
     dpkg-deb -x "$package" "$scratch/unpacked" || failed=$((failed + 1))
-    sed 's|\(share/man/.*\)|\1.gz|; s|zsh/site-functions|zsh/vendor-completions|; s|turnaudit/LICENSE|turnaudit/copyright|' "$scratch/wanted" | grep -v /SHA256SUMS > "$scratch/of_package"
-    printf 'share/doc/turnaudit/%s\n' changelog.gz changelog.Debian.gz >> "$scratch/of_package"
+    sed 's|\(share/man/.*\)|\1.gz|; s|zsh/site-functions|zsh/vendor-completions|; s|turnaudit/LICENSE|turnaudit/copyright|' "$scratch/wanted" > "$scratch/of_package"
+    printf 'share/doc/turnaudit/%s\n' changelog.gz changelog.Debian.gz turnaudit.spdx >> "$scratch/of_package"
     LC_ALL=C sort -o "$scratch/of_package" "$scratch/of_package"
     files "$scratch/unpacked/usr" > "$scratch/files"
     same "the package: the files" "$scratch/of_package" "$scratch/files"
     verdict "the package" "$scratch/unpacked/usr/bin/turnaudit"
     beside "the package" "$scratch/unpacked/usr/bin"
     documents "the package" "$scratch/unpacked/usr/share/doc/turnaudit"
+    ok=no
+    if python3 tests/package_lists.py "$scratch/unpacked/usr" "$program" > "$scratch/told" 2>&1; then ok=yes; else cat "$scratch/told"; fi
+    tell "the package: its lists" "$ok"
     objcopy -O binary --only-section=.text "$program" "$scratch/code"
     objcopy -O binary --only-section=.text "$scratch/unpacked/usr/bin/turnaudit" "$scratch/packed_code"
     ok=no

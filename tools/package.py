@@ -4,8 +4,9 @@
     tools/package.py --program FILE [--beside FILE..] [--out out]
 
 It takes dpkg-deb. What the package depends on is told by dpkg-shlibdeps, or, where that is missing, by the versions of the C library that
-objdump finds in the program. DEBFULLNAME and DEBEMAIL name the maintainer, as in Debian's own tools. The times in the package are those of
-CHANGELOG.md's newest release, or SOURCE_DATE_EPOCH, so that the same program gives the same package.
+objdump finds in the program. DEBFULLNAME and DEBEMAIL name the maintainer, as in Debian's own tools. The one time in the package is
+SOURCE_DATE_EPOCH, else that of the repository's commit, else the date of CHANGELOG.md's newest release: packages of the same programs from
+one commit are the same, byte for byte. In share/doc/turnaudit, SHA256SUMS has the package's files, and turnaudit.spdx its bill of materials.
 """
 
 import argparse
@@ -23,8 +24,11 @@ import tempfile
 import time
 from pathlib import Path
 
+import crates
 import install
+import installed
 import man_pages
+import spdx
 
 REVISION = "1"
 # Libraries that the program may need, and their packages, where dpkg-shlibdeps can't tell.
@@ -47,10 +51,18 @@ def maintainer():
     return f"{name} <{os.environ.get('DEBEMAIL', 'turnaudit@users.noreply.moltzegar.example')}>"
 
 
+def moment_of_commit():
+    """The committer's time of the repository's commit, or None if this is no clone."""
+    if not (man_pages.TOP / ".git").exists():
+        return None
+    found = subprocess.run(["git", "-C", man_pages.TOP, "log", "-1", "--format=%ct"], capture_output=True, text=True)
+    return int(found.stdout) if found.returncode == 0 else None
+
+
 def moment():
     """Seconds since 1970 of all that is in the package."""
     of_release = calendar.timegm(time.strptime(man_pages.release()[1], "%Y-%m-%d"))
-    return int(os.environ.get("SOURCE_DATE_EPOCH", of_release))
+    return int(os.environ.get("SOURCE_DATE_EPOCH") or moment_of_commit() or of_release)
 
 
 def said_by(*words, **others):
@@ -93,11 +105,10 @@ def changelog(version):
 def copyright_text():
     """LICENSE in the form of Debian's copyright files."""
     lines = (man_pages.TOP / "LICENSE").read_text(encoding="utf-8").splitlines()
-    holder = next(line for line in lines if line.startswith("Copyright")).replace("Copyright (c) ", "")
     text = "\n".join(f" {line}" if line else " ." for line in lines[lines.index("", 2) + 1:])
     return (
         "Format: https://www.debian.org/doc/packaging-manuals/copyright-format/1.0/\nUpstream-Name: turnaudit\n\n"
-        f"Files: *\nCopyright: {holder}\nLicense: Expat\n\nLicense: Expat\n{text}\n"
+        f"Files: *\nCopyright: {holder().replace('Copyright (c) ', '')}\nLicense: Expat\n\nLicense: Expat\n{text}\n"
     )
 
 
@@ -115,6 +126,31 @@ def put_debian_files(root, version):
     (folder / "LICENSE").unlink()
 
 
+def holder():
+    """Whose copyright LICENSE names."""
+    lines = (man_pages.TOP / "LICENSE").read_text(encoding="utf-8").splitlines()
+    return next(line for line in lines if line.startswith("Copyright"))
+
+
+def version_line(program):
+    return said_by(program.resolve(), "--version")
+
+
+def put_lists(root, version, programs, needs):
+    """Writes the bill of materials, and SHA256SUMS, which has it, too."""
+    prefix = root / "usr"
+    folder = prefix / "share" / "doc" / "turnaudit"
+    lines = [version_line(program) for program in programs.values()]
+    package = spdx.Part("turnaudit", "", version, "MIT", f"<text>{holder()}</text>", "\n".join(lines))
+    text = spdx.document(package, lines, crates.ports(list(programs)), needs.split(", "), sums_of(prefix), moment())
+    (folder / "turnaudit.spdx").write_text(text, encoding="utf-8")
+    (prefix / installed.RECORD).write_text(sums_of(prefix), encoding="utf-8")
+
+
+def sums_of(prefix):
+    return installed.sums({str(file.relative_to(prefix)): installed.digest(file) for file in prefix.rglob("*") if file.is_file()})
+
+
 def put_control(root, text):
     folder = root / "DEBIAN"
     folder.mkdir()
@@ -125,7 +161,7 @@ def put_control(root, text):
 
 
 def settle(root):
-    """Gives every file and folder the mode that Debian wants, and the one time."""
+    """Gives every file and folder the mode that Debian wants, whatever the umask is, and the one time."""
     for place in [root, *root.rglob("*")]:
         place.chmod(0o755 if place.stat().st_mode & 0o100 else 0o644)
         os.utime(place, (moment(), moment()))
@@ -139,13 +175,16 @@ def make(program, beside, out):
         root = Path(room) / "turnaudit"
         with contextlib.redirect_stdout(None):
             install.install(install.Place(root / "usr"), program, beside, "share/zsh/vendor-completions", packed=True, strip=True)
+        needs = depends([program, *beside])
         put_debian_files(root, version)
+        put_lists(root, version, {"turnaudit": program, **{other.name: other for other in beside}}, needs)
         size = sum((file.stat().st_size + 1023) // 1024 for file in root.rglob("*") if file.is_file())
-        put_control(root, control(version, architecture, depends([program, *beside]), size))
+        put_control(root, control(version, architecture, needs, size))
         settle(root)
         out.mkdir(parents=True, exist_ok=True)
         package = out / f"turnaudit_{version}_{architecture}.deb"
-        environment = {**os.environ, "SOURCE_DATE_EPOCH": str(moment())}
+        # By several threads xz writes other bytes.
+        environment = {**os.environ, "SOURCE_DATE_EPOCH": str(moment()), "DPKG_DEB_THREADS_MAX": "1"}
         subprocess.run(["dpkg-deb", "--root-owner-group", "-Zxz", "-z2", "--build", root, package], check=True, env=environment, stdout=subprocess.DEVNULL)
         return package
 
