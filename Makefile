@@ -78,7 +78,7 @@ edits:
 # Measures the documents. Then proves every crate from nothing, tries the must-fail edits of the gate with those that are drawn of the
 # others, and runs the tests and the program. Then, with the program that this built: judges the captures in examples, asks that the number
 # of workers changes no answer, tries the examples of docs/REFUSALS.md, compares with the plain checker, gives it hostile input and captures
-# that grow, refuses it memory, installs it, audits a fleet by two engines, and has it find certificates for captures of a simulated server.
+# that grow, refuses it memory, installs it, compares a made fleet's nights, audits a fleet by two engines, and has it find certificates for captures of a simulated server.
 # At last it runs turnprep on its cases and on captures of strangers, asks turnexplain for the faults that are known of captures,
 # for what its golden files have, as text and as JSON, and for its pages, and runs the conformance kit on a right server and on broken ones.
 test:
@@ -100,6 +100,7 @@ test:
 	python3 tests/closed_streams.py $(PROGRAM) $(PREPARES) $(EXPLAINS)
 	tests/install.sh $(PROGRAM) $(PREPARES) $(EXPLAINS)
 	python3 tests/man_pages.py $(PROGRAM) $(PREPARES) $(EXPLAINS)
+	python3 tests/collect.py
 	tests/fleet.sh $(PROGRAM)
 	python3 tests/fleet_steps.py $(PROGRAM)
 	python3 tests/fuzz.py $(PROGRAM) --seconds 20 --seed 1 examples/*
