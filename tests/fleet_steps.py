@@ -3,8 +3,8 @@
 
     python3 tests/fleet_steps.py PROGRAM
 
-The steps are the code blocks of "Try it" and "Add a server"; a block that begins with no command is what the one before it prints. Seconds and
-megabytes, the last two columns of a table, may differ. Without GNU parallel it isn't tried, which is told.
+The steps are the code blocks of the sections in SECTIONS; a block that begins with no command is what the one before it prints. Seconds and
+megabytes, the last two columns of a table, may differ, and so may days. Without GNU parallel it isn't tried, which is told.
 """
 
 import os
@@ -22,7 +22,9 @@ sys.path.insert(0, str(TOP / "tools"))
 import markdown
 
 COMMAND = re.compile(r'\w+=|\./|mkdir|echo|cp |"\$repo')
+SECTIONS = "Try it", "Add a server", "Compare with the night before", "Accept known faults"
 MEASURES = re.compile(r" +\d+\.\d\d +\d+$")
+DAY = re.compile(r"\d{4}-\d\d-\d\d")
 
 
 def blocks_of(title):
@@ -32,7 +34,7 @@ def blocks_of(title):
 
 
 def without_measures(line):
-    return MEASURES.sub("", line).rstrip()
+    return DAY.sub("DAY", MEASURES.sub("", line)).rstrip()
 
 
 def told_by(shell, lines):
@@ -50,7 +52,7 @@ def told_by(shell, lines):
 def follow(shell):
     """The number of lines that the page says are printed, and those that aren't."""
     told, said, missing = [], 0, []
-    for lines in [lines for title in ("Try it", "Add a server") for lines in blocks_of(title)]:
+    for lines in [lines for title in SECTIONS for lines in blocks_of(title)]:
         if COMMAND.match(lines[0]):
             told = told_by(shell, lines)
             continue
