@@ -71,14 +71,25 @@ class Table:
         self.write(f"{len(results)} situation{'' if len(results) == 1 else 's'}: {', '.join(counts)}")
 
 
+def first_to_mend(names: list[str]) -> str:
+    """The situation to begin with: one on which the others build, else the one of the shortest name."""
+    return min(names, key=lambda name: (BASIC.index(name) if name in BASIC else len(BASIC), len(name), name))
+
+
 def rule_lines(results: list[Result]) -> list[str]:
-    """How many situations are red by each rule, most first, with the one of the shortest name to begin with."""
-    rules: dict[str, list[str]] = {}
+    """How many situations are red by each rule, and by a check of the kit, most first, with the one to begin with."""
+    reds: dict[str, list[str]] = {}
     for result in results:
-        if result.verdict == BREACH and not result.is_expected:
-            rules.setdefault(result.rule, []).append(result.name)
-    most_first = sorted(rules.items(), key=lambda item: -len(item[1]))
-    return [f"red by {rule}: {len(names)}, begin with {min(names, key=len)}" for rule, names in most_first]
+        if result.verdict in (BREACH, CHECK) and not result.is_expected:
+            reds.setdefault(result.rule if result.verdict == BREACH else "a check of the kit", []).append(result.name)
+    most_first = sorted(reds.items(), key=lambda item: -len(item[1]))
+    return [f"red by {cause}: {len(names)}, begin with {first_to_mend(names)}" for cause, names in most_first]
+
+
+# The situations on which the others build, in their order.
+BASIC = ("binding", "allocate", "permission", "channel")
+# What turnexplain says of captures in the field: the kit made the capture, the policy and the users itself.
+FIELD_ONLY = "usual cause: "
 
 
 def check_line(check: Check) -> str:
@@ -98,7 +109,7 @@ def failure_lines(result: Result, repeat: str) -> list[str]:
         lines += [f"  {line}" for line in text.splitlines()]
         lines[-1] += f" ({count} times)" if count > 1 else ""
     if result.explanation:
-        lines += [f"  | {line}" for line in result.explanation.rstrip().splitlines()]
+        lines += [f"  | {line}" for line in result.explanation.rstrip().splitlines() if not line.startswith(FIELD_ONLY)]
     elif result.verdict == BREACH and not result.is_explained:
         lines.append("  turnexplain isn't built: `tools/unproved.py turnexplain --version` builds it, and it explains the verdict here")
     if result.folder:
