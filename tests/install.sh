@@ -4,7 +4,7 @@
 # reports the verdict on a stored call, that each link of each installed document leads to a file, that the installed tools work from there,
 # that `make uninstall` removes exactly what was installed, that a program that isn't built is named and nothing is proved, that `make help`
 # has every target, and that the repository's folder is as it was. Of the package: that both are the same, the second made with another
-# umask, zone and locale, that its code is the program's, and its lists of files and materials. What lintian calls an error is a failure.
+# umask, zone and locale, that its code is the program's, and its lists of files and materials. What lintian warns of is a failure.
 # Without dpkg-deb or lintian their part is skipped, with a note.
 program=$(realpath "$1") || exit 1
 prepares=$(realpath "$2") || exit 1
@@ -200,6 +200,7 @@ if command -v dpkg-deb > /dev/null; then
     dpkg-deb -x "$package" "$scratch/unpacked" || failed=$((failed + 1))
     sed 's|\(share/man/.*\)|\1.gz|; s|zsh/site-functions|zsh/vendor-completions|; s|turnaudit/LICENSE|turnaudit/copyright|' "$scratch/wanted" > "$scratch/of_package"
     printf 'share/doc/turnaudit/%s\n' changelog.gz changelog.Debian.gz turnaudit.spdx >> "$scratch/of_package"
+    echo share/lintian/overrides/turnaudit >> "$scratch/of_package"
     LC_ALL=C sort -o "$scratch/of_package" "$scratch/of_package"
     files "$scratch/unpacked/usr" > "$scratch/files"
     same "the package: the files" "$scratch/of_package" "$scratch/files"
@@ -224,7 +225,7 @@ if command -v dpkg-deb > /dev/null; then
     tell "the package: the release" "$ok"
     if command -v lintian > /dev/null; then
         ok=no
-        if lintian --allow-root --fail-on error "$package" > "$scratch/told" 2>&1; then ok=yes; else cat "$scratch/told"; fi
+        if lintian --allow-root --fail-on error,warning "$package" > "$scratch/told" 2>&1; then ok=yes; else cat "$scratch/told"; fi
         tell "lintian" "$ok"
     else
         echo "install: no lintian, not tried"

@@ -33,6 +33,11 @@ import spdx
 REVISION = "1"
 # Libraries that the program may need, and their packages, where dpkg-shlibdeps can't tell.
 PACKAGES = {"libc.so.6": "libc6", "libm.so.6": "libc6", "libgcc_s.so.1": "libgcc-s1", "ld-linux-x86-64.so.2": "libc6", "ld-linux-aarch64.so.1": "libc6"}
+# What lintian warns of and isn't so here.
+OVERRIDES = """\
+# The package isn't made for Debian's archive, in which a first upload closes a request for it.
+turnaudit: initial-upload-closes-no-bugs
+"""
 SHORT = "judges captures of a TURN server by RFC 8656"
 LONG = """\
  turnaudit reads pcapng captures of a TURN server and a policy that says which
@@ -124,6 +129,9 @@ def put_debian_files(root, version):
     pack((folder / "CHANGELOG.md").read_text(encoding="utf-8"), folder / "changelog.gz")
     pack(changelog(version), folder / "changelog.Debian.gz")
     (folder / "LICENSE").unlink()
+    overrides = root / "usr" / "share" / "lintian" / "overrides"
+    overrides.mkdir(parents=True)
+    (overrides / "turnaudit").write_text(OVERRIDES, encoding="utf-8")
 
 
 def holder():
