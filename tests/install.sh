@@ -210,6 +210,12 @@ if command -v dpkg-deb > /dev/null; then
     ok=no
     if python3 tests/package_lists.py "$scratch/unpacked/usr" "$program" > "$scratch/told" 2>&1; then ok=yes; else cat "$scratch/told"; fi
     tell "the package: its lists" "$ok"
+    (cd "$scratch/unpacked/usr" && find . -type f | LC_ALL=C sort) > "$scratch/before_removal"
+    for target in install uninstall; do
+        fails_with "$target over a package" "SHA256SUMS is of a Debian package" make -s $target PROGRAM="$program" PREFIX="$scratch/unpacked/usr"
+    done
+    (cd "$scratch/unpacked/usr" && sha256sum --quiet --check share/doc/turnaudit/SHA256SUMS && find . -type f | LC_ALL=C sort) > "$scratch/after_removal"
+    same "the package stays" "$scratch/before_removal" "$scratch/after_removal"
     objcopy -O binary --only-section=.text "$program" "$scratch/code"
     objcopy -O binary --only-section=.text "$scratch/unpacked/usr/bin/turnaudit" "$scratch/packed_code"
     ok=no

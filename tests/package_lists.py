@@ -27,7 +27,7 @@ OF_PACKAGE = ["PackageName", "SPDXID", "PackageDownloadLocation", "PackageLicens
 def wrong_sums(prefix):
     """What of SHA256SUMS differs from the files."""
     record = prefix / FOLDER / "SHA256SUMS"
-    listed = [line.split("  ", 1) for line in record.read_text(encoding="utf-8").splitlines()]
+    listed = [line.split("  ", 1) for line in record.read_text(encoding="utf-8").splitlines() if not line.startswith("#")]
     files = {str(file.relative_to(prefix)): file for file in prefix.rglob("*") if file.is_file() and file != record}
     wrong = [f"SHA256SUMS: {path} is listed again" for _, path in listed if [other for _, other in listed].count(path) > 1]
     wrong += [f"SHA256SUMS: {path} isn't listed" for path in files.keys() - {path for _, path in listed}]

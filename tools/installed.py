@@ -1,7 +1,8 @@
 """The record of an installation: share/doc/turnaudit/SHA256SUMS below the prefix.
 
 It has a line for each file, as sha256sum writes it, with paths below the prefix. Lines that begin with `# folder ` name folders that the
-installation made. `make uninstall` removes what the record names; `sha256sum -c` in the prefix's folder checks it.
+installation made. `make uninstall` removes what the record names; `sha256sum -c` in the prefix's folder checks it. The record of a Debian
+package begins with OF_PACKAGE, and nothing is installed over it or removed by it: dpkg does that.
 """
 
 import hashlib
@@ -12,6 +13,7 @@ from dataclasses import dataclass, field
 RECORD = "share/doc/turnaudit/SHA256SUMS"
 FILE = re.compile(r"(?P<digest>[0-9a-f]{64})  (?P<path>\S.*)")
 FOLDER = "# folder "
+OF_PACKAGE = "# of a Debian package"
 
 
 @dataclass
@@ -36,6 +38,8 @@ def read(root):
     record = root / RECORD
     made = Installed()
     lines = record.read_text(encoding="utf-8").splitlines() if record.is_file() else []
+    if OF_PACKAGE in lines:
+        sys.exit(f"{record} is of a Debian package: `apt-get remove turnaudit` removes it")
     for number, line in enumerate(lines, 1):
         of_file = FILE.fullmatch(line)
         path = of_file["path"] if of_file else line.removeprefix(FOLDER)

@@ -152,7 +152,7 @@ def put_lists(root, version, programs, needs):
     package = spdx.Part("turnaudit", "", version, "MIT", f"<text>{holder()}</text>", "\n".join(lines))
     text = spdx.document(package, lines, crates.ports(list(programs)), needs.split(", "), sums_of(prefix), moment())
     (folder / "turnaudit.spdx").write_text(text, encoding="utf-8")
-    (prefix / installed.RECORD).write_text(sums_of(prefix), encoding="utf-8")
+    (prefix / installed.RECORD).write_text(f"{installed.OF_PACKAGE}\n{sums_of(prefix)}", encoding="utf-8")
 
 
 def sums_of(prefix):
