@@ -5,6 +5,8 @@ PROVED = crates/turnaudit/out/turnaudit
 PREPARES = crates/turnprep/out/turnprep
 # The program that tells what a verdict means, and what no order explains.
 EXPLAINS = crates/turnexplain/out/turnexplain
+# What judges a certificate by the machine that forgets, too.
+MACHINE = crates/bench_machine/out/bench_machine
 # The program that is installed, packed and tested. Another one is taken as it is: `make install PROGRAM=/where/it/is`.
 PROGRAM = $(PROVED)
 # The programs that are installed and packed with it, by default those that `make turnprep turnexplain` has built. `make install BESIDE=`
@@ -76,11 +78,12 @@ edits:
 	tools/edits.py $(or $(CRATES),--all)
 
 # Measures the documents. Then proves every crate from nothing, tries the must-fail edits of the gate with those that are drawn of the
-# others, and runs the tests and the program. Then, with the program that this built: judges the captures in examples, asks that the number
-# of workers changes no answer, tries the examples of docs/REFUSALS.md, compares with the plain checker, gives it hostile input and captures
-# that grow, refuses it memory, installs it, compares a made fleet's nights, audits a fleet by two engines, and has it find certificates for captures of a simulated server.
-# At last it runs turnprep on its cases and on captures of strangers, asks turnexplain for the faults that are known of captures,
-# for what its golden files have, as text and as JSON, and for its pages, and runs the conformance kit on a right server and on broken ones.
+# others, and runs the tests and the program. Then, with the program that this built: judges the captures in examples, asks that the
+# number of workers changes no answer, tries the examples of docs/REFUSALS.md, compares with the plain checker, gives it hostile input and
+# captures that grow, refuses it memory, installs it, compares a made fleet's nights, audits a fleet by two engines, has it find
+# certificates for captures of a simulated server, and compares the machine that forgets with it. At last it runs turnprep on its cases
+# and on captures of strangers, asks turnexplain for the faults that are known of captures, for what its golden files have, as text and as
+# JSON, and for its pages, and runs the conformance kit on a right server and on broken ones.
 test:
 	python3 tests/documents.py
 	tools/reading_copy.py --check
@@ -108,6 +111,7 @@ test:
 	python3 tests/call_captures.py $(PROGRAM) --count 200 --most 0
 	python3 tests/edge_captures.py $(PROGRAM) --count 2000 --most 13
 	python3 tests/wide_skews.py $(PROGRAM)
+	python3 tests/machine_captures.py $(MACHINE) $(PROGRAM)
 	python3 tests/prepare.py $(PREPARES)
 	python3 tests/prepared.py $(PREPARES) $(PROGRAM)
 	python3 tests/prepare_fails.py $(PREPARES)
