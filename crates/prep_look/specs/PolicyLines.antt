@@ -17,17 +17,17 @@ abbrev pub ending : Bool → List ℕ
 ending true = codes "\n"
 ending false = codes " not-in-policy\n"
 
--- how many successes an address sent
+-- how many responses an address sent
 abbrev pub answer_by : Addr → Answers → Bool → List ℕ
 answer_by addr answers listens =
-    codes "answers " ++ (addr_text addr ++ (codes " " ++ (decimal (min (answers.binding + answers.allocate) 18446744073709551615) ++ ending listens)))
+    codes "answers " ++ (addr_text addr ++ (codes " " ++ (decimal (min (min (answers.binding + answers.allocate) 18446744073709551615 + answers.other) 18446744073709551615) ++ ending listens)))
 
 -- an address of the service where it doesn't relay, or one that grants allocations; others that answer are peers
 abbrev pub answer_line : Policy → Addr → Answers → List ℕ
 answer_line policy addr answers =
     if listens policy addr || (is_of_service policy addr.ip && not (relays policy addr)) || nat_lt 0 answers.allocate then answer_by addr answers (listens policy addr) else []
 
--- a listen address that sent no success
+-- a listen address that sent no response
 abbrev pub silent_line : List (Addr × Answers) → Addr → List ℕ
 silent_line entries addr = if is_some (lookup (is_at (addr_cmp addr)) entries) then [] else codes "silent " ++ (addr_text addr ++ codes "\n")
 

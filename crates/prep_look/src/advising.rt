@@ -1,13 +1,17 @@
 //! Advising, by what was found.
 
-use crate::advice::Advice;
-use crate::crossings::Crossings;
-use crate::losses::Losses;
-use crate::responses::Answered;
-use crate::survey::Survey;
-use crate::unjudged::Unjudged;
-use audit_model::Policy;
+use crate::advice::{Advice, Ended, Relaying};
+use crate::crossings::{Crossings, find_crossings};
+use crate::ends::find_ended;
+use crate::losses::{Losses, find_losses};
+use crate::relaying::find_relaying;
+use crate::responses::{Answered, count_answered};
+use crate::survey::{Closed, Survey};
+use crate::unjudged::{Unjudged, count_unjudged};
+use crate::unknown_addresses::count_unknown;
+use audit_model::{Policy, Side};
 use prep_cut::ReasonKind;
+use prep_reasons::Sheet;
 use std::alloc::{AllocError, Global};
 
 /// What is found of the service.
@@ -15,15 +19,67 @@ use std::alloc::{AllocError, Global};
 pub(crate) struct Findings {
     pub(crate) answered: Answered,
     pub(crate) crossings: Crossings,
-    pub(crate) losses: Option<Losses>,
     pub(crate) unjudged: Vec<Unjudged>,
+    losses: Option<Losses>,
+    relaying: Option<Relaying>,
+    ended: Option<Ended>,
+    /// Relayed addresses of nobody, up to the end of the interface that ended.
+    unknown_addresses: u64,
+    /// When the last datagram left a listen address.
+    last_response: u64,
 }
 
-/// Clocks are told to differ where so many departures, or more, come before their arrivals.
+/// Clocks are taken to differ if so many departures come before their arrivals.
 const LEAST_CROSSINGS: u64 = 3;
 
-/// A capture's interfaces end together, where they end within so many nanoseconds of the last one.
-const TOGETHER: u64 = 1_000_000_000;
+/// What is advised of captures, in the order of the page. The cost is the number of records times its logarithm.
+pub fn advice_of(
+    alloc: Global,
+    survey: &Survey,
+    policy: &Policy,
+    sheet: &Sheet<'_>,
+) -> Result<Vec<Advice>, AllocError> {
+    let found = find_all(alloc, survey, policy, sheet)?;
+    advise(alloc, survey, policy, &found)
+}
+
+/// What the records show.
+pub(crate) fn find_all(
+    alloc: Global,
+    survey: &Survey,
+    policy: &Policy,
+    sheet: &Sheet<'_>,
+) -> Result<Findings, AllocError> {
+    let crossings = find_crossings(alloc, sheet)?;
+    let ended = find_ended(alloc, &survey.interfaces, &crossings.causeless, sheet)?;
+    let until = match ended {
+        Some(ended) => ended.end,
+        None => u64::MAX,
+    };
+    Ok(Findings {
+        answered: count_answered(alloc, sheet)?,
+        crossings,
+        unjudged: count_unjudged(alloc, sheet)?,
+        losses: find_losses(alloc, sheet)?,
+        relaying: find_relaying(alloc, sheet)?,
+        ended,
+        unknown_addresses: count_unknown(alloc, sheet, until)?,
+        last_response: last_response(policy, sheet),
+    })
+}
+
+/// When the last datagram left a listen address; 0 if none did.
+fn last_response(policy: &Policy, sheet: &Sheet<'_>) -> u64 {
+    let mut last = 0u64;
+    for at in 0..sheet.len() {
+        if let Some(record) = sheet.record(at) {
+            if matches!(record.side, Side::Leaves) && policy.listens(record.from) {
+                last = last.max(record.stamp);
+            }
+        }
+    }
+    last
+}
 
 /// What is advised, in the order of the page.
 pub(crate) fn advise(
@@ -40,7 +96,7 @@ pub(crate) fn advise(
             all.push(Advice::Translate(*alias))?;
         }
     }
-    of_unjudged(found, &mut all)?;
+    of_unjudged(found, survey.fragments_of(policy) > 0, &mut all)?;
     of_clocks(policy, found, &mut all)?;
     let longest = longest_delay(found);
     if longest > policy.hold {
@@ -50,9 +106,11 @@ pub(crate) fn advise(
         all.push(Advice::Lost(losses))?;
     }
     if let Some(closed) = survey.closed_of(policy) {
-        all.push(Advice::Closed(closed))?;
+        all.push(of_closed(closed, found))?;
     }
-    of_ends(survey, found, &mut all)?;
+    if let Some(ended) = found.ended {
+        all.push(Advice::Ended(ended))?;
+    }
     Ok(all)
 }
 
@@ -81,7 +139,7 @@ fn of_frames(survey: &Survey, policy: &Policy, all: &mut Vec<Advice>) -> Result<
     }
     let cuts = survey.cuts_of(policy);
     if cuts > 0 {
-        all.push(Advice::Cut(cuts))?;
+        all.push(Advice::Truncated(cuts))?;
     }
     let frames = survey.long;
     let channel_data = survey.merged_of(policy);
@@ -95,25 +153,58 @@ fn of_frames(survey: &Survey, policy: &Policy, all: &mut Vec<Advice>) -> Result<
 }
 
 /// The kinds for which `cut` is advised, in the order of the page. Those that go with clients from before are no lines of their own.
-const ADVISED: [ReasonKind; 6] = [
+const ADVISED: [ReasonKind; 7] = [
     ReasonKind::Client,
     ReasonKind::Address,
+    ReasonKind::Released,
     ReasonKind::AddressTold,
     ReasonKind::Dtls,
     ReasonKind::Inner,
     ReasonKind::Inside,
 ];
 
-fn of_unjudged(found: &Findings, all: &mut Vec<Advice>) -> Result<(), AllocError> {
+fn of_unjudged(
+    found: &Findings,
+    has_fragments: bool,
+    all: &mut Vec<Advice>,
+) -> Result<(), AllocError> {
     for kind in ADVISED {
         for one in &found.unjudged {
             if one.kind == kind {
-                let lines = one.lines;
-                all.push(Advice::SetAside { kind, lines })?;
+                of_kind(found, one, has_fragments, all)?;
             }
         }
     }
     Ok(())
+}
+
+/// Whose an address is that nobody is seen to have, fragments may show.
+fn of_kind(
+    found: &Findings,
+    one: &Unjudged,
+    has_fragments: bool,
+    all: &mut Vec<Advice>,
+) -> Result<(), AllocError> {
+    let kind = one.kind;
+    let lines = match kind {
+        ReasonKind::Address if has_fragments => 0,
+        ReasonKind::Address => found.unknown_addresses,
+        _ => one.lines,
+    };
+    match (kind, found.relaying) {
+        (ReasonKind::Released, Some(relaying)) => all.push(Advice::Released(relaying))?,
+        _ if lines > 0 => all.push(Advice::Exclude { kind, lines })?,
+        _ => {}
+    }
+    Ok(())
+}
+
+fn of_closed(closed: Closed, found: &Findings) -> Advice {
+    if found.last_response > closed.last {
+        Advice::Restarted(closed)
+    } else {
+        Advice::Stopped(closed)
+    }
 }
 
 fn of_clocks(policy: &Policy, found: &Findings, all: &mut Vec<Advice>) -> Result<(), AllocError> {
@@ -149,29 +240,4 @@ fn longest_delay(found: &Findings) -> u64 {
         }
     }
     longest
-}
-
-/// Departures without a cause behind the end of the interface that ends first.
-fn of_ends(survey: &Survey, found: &Findings, all: &mut Vec<Advice>) -> Result<(), AllocError> {
-    let mut last = 0u64;
-    for one in &survey.interfaces {
-        last = last.max(one.stamps.last);
-    }
-    let mut end = last;
-    for one in &survey.interfaces {
-        let here = one.stamps.last;
-        if one.stamps.frames > 0 && here.saturating_add(TOGETHER) >= last {
-            end = end.min(here);
-        }
-    }
-    let mut departures = 0u64;
-    for stamp in &found.crossings.causeless {
-        if *stamp > end {
-            departures = departures.saturating_add(1);
-        }
-    }
-    if departures > 0 {
-        all.push(Advice::Ended { departures, end })?;
-    }
-    Ok(())
 }

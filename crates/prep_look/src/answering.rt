@@ -25,7 +25,10 @@ fn line_of_answers(
 ) -> Result<String, AllocError>
     ensures { IfOk result (λ line. string_bytes line ≡ answer_by addr answers.now listens) }
 {
-    let count = answers.binding.saturating_add(answers.allocate);
+    let count = answers
+        .binding
+        .saturating_add(answers.allocate)
+        .saturating_add(answers.other);
     let ending = ending(listens);
     format!(in alloc; "answers {addr} {count}{ending}")
 }

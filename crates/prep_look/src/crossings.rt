@@ -22,7 +22,7 @@ pub(crate) struct Crossing {
 pub(crate) struct Crossings {
     /// By the interface of the arrival and that of the departure, of data that arrived once and left once.
     pub(crate) between: BTreeMap<(u16, u16), Crossing>,
-    /// The stamps of departures that are more than the arrivals of their data.
+    /// The stamps of departures that are more than the arrivals of their data, and that `cut` doesn't exclude.
     pub(crate) causeless: Vec<u64>,
 }
 
@@ -99,7 +99,10 @@ pub(crate) fn find_crossings(alloc: Global, sheet: &Sheet<'_>) -> Result<Crossin
             }
             None => Group::of(&one),
         };
-        if one.leaves && longer.departures > longer.arrivals {
+        if one.leaves
+            && longer.departures > longer.arrivals
+            && sheet.line_of(*at as usize).is_none()
+        {
             all.causeless.push(one.stamp)?;
         }
         group = Some(longer);

@@ -5,7 +5,7 @@ ghost use Rattle.std.specs.List.{count_by};
 ghost use Rattle.audit_model.specs.Policy.{relays};
 ghost use Rattle.prep_look.specs.PolicyLines.{counts_text, granted_line, granted_text, last_port, ports_text};
 
-use crate::advice::Ip;
+use crate::ip::Ip;
 use crate::told::{ToldAddress, split_ip};
 use audit_model::Policy;
 use std::alloc::{AllocError, Global};

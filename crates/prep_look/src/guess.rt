@@ -22,9 +22,7 @@ pub enum GuessFault {
 impl fmt::Display for GuessFault {
     fn fmt<W: fmt::Write>(&self, f: &mut fmt::Formatter<W>) -> fmt::Result {
         f.write_str(match self {
-            GuessFault::NoAnswer => {
-                "no listen address is seen: no Binding or Allocate success by UDP"
-            }
+            GuessFault::NoAnswer => { "no listen address is seen: no STUN response by UDP" }
             GuessFault::NoPolicy => "what answers makes no policy: say it by --policy",
             GuessFault::Memory => "out of memory",
         })
@@ -72,7 +70,8 @@ struct Range {
     low: u16,
 }
 
-/// Guesses that those listen who answer an Allocate, or else a Binding, and that it is relayed from the addresses told.
+/// Guesses that those listen that grant allocations, or else that send other responses of TURN, or else to Binding, and that the server
+/// relays from the addresses that it grants.
 pub fn guess_policy(alloc: Global, survey: &Survey) -> Result<Guess, GuessFault> {
     let listen = listening(alloc, survey)?;
     if listen.is_empty() {
@@ -91,17 +90,24 @@ pub fn guess_policy(alloc: Global, survey: &Survey) -> Result<Guess, GuessFault>
 
 fn listening(alloc: Global, survey: &Survey) -> Result<Vec<Addr>, AllocError> {
     let mut all = Vec::new(alloc);
-    let mut allocating = Vec::new(alloc);
+    let mut relaying = Vec::new(alloc);
+    let mut granting = Vec::new(alloc);
     for (addr, answers) in survey.answers.iter() {
         all.push(*addr)?;
+        if answers.other > 0 {
+            relaying.push(*addr)?;
+        }
         if answers.allocate > 0 {
-            allocating.push(*addr)?;
+            granting.push(*addr)?;
         }
     }
-    if allocating.is_empty() {
+    if !granting.is_empty() {
+        return Ok(granting);
+    }
+    if relaying.is_empty() {
         Ok(all)
     } else {
-        Ok(allocating)
+        Ok(relaying)
     }
 }
 

@@ -66,18 +66,24 @@ pub(crate) struct Interface {
     pub(crate) datagrams: u64,
     /// Statistics blocks.
     pub(crate) statistics: u64,
+    /// How many nanoseconds a tick of its stamps has, if that is known.
+    pub(crate) tick: Option<u64>,
+    /// When its last statistics were written; none if they don't say it.
+    pub(crate) until: Option<u64>,
     /// Frames that hold no such datagram.
     pub(crate) passed: BTreeMap<Passed, u64>,
 }
 
 impl Interface {
     /// Without a frame. It takes no memory.
-    pub(crate) fn new(alloc: Global, number: u32) -> Self {
+    pub(crate) fn new(alloc: Global, number: u32, tick: Option<u64>) -> Self {
         Interface {
             number,
             stamps: Stamps::none(),
             datagrams: 0,
             statistics: 0,
+            tick,
+            until: None,
             passed: BTreeMap::new(alloc),
         }
     }

@@ -7,13 +7,13 @@ use std::alloc::{AllocError, Global};
 
 /// What shows that allocations were lost. Moments are nanoseconds since 1970.
 #[derive(Clone, Copy, Debug)]
-pub(crate) struct Losses {
-    pub(crate) count: u64,
+pub struct Losses {
+    pub count: u64,
     /// When the first request arrived whose response shows it.
-    pub(crate) first: u64,
+    pub first: u64,
     /// The longest time before in which nothing left.
-    pub(crate) quiet_from: u64,
-    pub(crate) quiet_to: u64,
+    pub quiet_from: u64,
+    pub quiet_to: u64,
 }
 
 /// The allocation that a client has.

@@ -3,16 +3,12 @@
 ghost use Rattle.std.specs.Prelude.{◌≡◌, ◌++◌, IfOk, List, ℕ, string_bytes};
 ghost use Rattle.prep_look.specs.PolicyLines.{answers_text, granted_text};
 
-use crate::advising::{Findings, advise};
+use crate::advising::{Findings, advise, find_all};
 use crate::answering::lines_of_answers;
-use crate::crossings::find_crossings;
 use crate::granting::lines_of_granted;
 use crate::interface::Interface;
-use crate::losses::find_losses;
 use crate::passed::Passed;
-use crate::responses::count_answered;
 use crate::survey::Survey;
-use crate::unjudged::count_unjudged;
 use audit_model::{Policy, Side};
 use prep_reasons::Sheet;
 use prep_records::{Content, Record};
@@ -104,12 +100,7 @@ fn rest_of(
     policy: &Policy,
     sheet: &Sheet<'_>,
 ) -> Result<String, AllocError> {
-    let found = Findings {
-        answered: count_answered(alloc, sheet)?,
-        crossings: find_crossings(alloc, sheet)?,
-        losses: find_losses(alloc, sheet)?,
-        unjudged: count_unjudged(alloc, sheet)?,
-    };
+    let found = find_all(alloc, survey, policy, sheet)?;
     let mut rest = String::new(alloc);
     write_findings(&mut rest, &found)?;
     let advices = advise(alloc, survey, policy, &found)?;

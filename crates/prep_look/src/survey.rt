@@ -6,19 +6,43 @@ use audit_model::{Addr, Policy};
 use std::alloc::Global;
 use std::collections::BTreeMap;
 
-/// The successes that an address sent.
+/// The responses that an address sent.
 #[derive(Clone, Copy, Debug)]
 pub(crate) struct Answers {
+    /// Success responses to Binding.
     pub(crate) binding: u64,
+    /// Success responses to Allocate.
     pub(crate) allocate: u64,
+    /// All other responses except errors to Binding: a peer sends none of these.
+    pub(crate) other: u64,
+}
+
+impl Answers {
+    /// None.
+    pub(crate) fn none() -> Self {
+        Answers {
+            binding: 0,
+            allocate: 0,
+            other: 0,
+        }
+    }
+
+    /// With those of another count.
+    pub(crate) fn plus(self, more: Answers) -> Self {
+        Answers {
+            binding: self.binding.saturating_add(more.binding),
+            allocate: self.allocate.saturating_add(more.allocate),
+            other: self.other.saturating_add(more.other),
+        }
+    }
 }
 
 /// ICMP errors that say that a port is closed, with their least and greatest stamps.
 #[derive(Clone, Copy, Debug)]
-pub(crate) struct Closed {
-    pub(crate) count: u64,
-    pub(crate) first: u64,
-    pub(crate) last: u64,
+pub struct Closed {
+    pub count: u64,
+    pub first: u64,
+    pub last: u64,
 }
 
 impl Closed {
@@ -47,7 +71,7 @@ pub struct Survey {
     pub(crate) cuts: BTreeMap<(u32, u32), u64>,
     /// Those that are cut before their addresses.
     pub(crate) unnamed_cuts: u64,
-    /// UDP in frames that are longer than Ethernet's.
+    /// UDP that mustn't be fragmented, in frames that are longer than Ethernet's.
     pub(crate) long: u64,
     /// ChannelData with more behind it than padding, by source and destination.
     pub(crate) merged: BTreeMap<(Addr, Addr), u64>,

@@ -1,5 +1,6 @@
 //! Surveying captures that come in pieces.
 
+use crate::clock::{closing_time, nanoseconds_of_tick};
 use crate::interface::Interface;
 use crate::passed::{Passed, closed_in, passed_as};
 use crate::survey::{Answers, Closed, Survey};
@@ -9,9 +10,9 @@ use audit_packets::Seen;
 use audit_pcapng::{BlockKind, CaptureFault};
 use audit_stun::numbers::attribute::XOR_RELAYED_ADDRESS;
 use audit_stun::numbers::method;
-use audit_stun::{Class, address, channel_data, message};
+use audit_stun::{Class, Message, address, channel_data, message};
 use prep_blocks::{Block, BlockSplitter, PacketHead};
-use prep_frames::{frame_of, seen_of};
+use prep_frames::{byte_at, content_place, frame_of, seen_of};
 use std::alloc::{AllocError, Global};
 use std::collections::{BTreeMap, BTreeSet};
 
@@ -95,7 +96,7 @@ impl Surveyor {
     fn take(&mut self, block: &Block) -> Result<(), AllocError> {
         match block.kind {
             BlockKind::Section => self.before_section = self.all.interfaces.len(),
-            BlockKind::Interface => self.describe()?,
+            BlockKind::Interface => self.describe(block)?,
             BlockKind::Statistics => self.count_statistics(block),
             _ => {}
         }
@@ -106,7 +107,7 @@ impl Surveyor {
     }
 
     /// An interface more.
-    fn describe(&mut self) -> Result<(), AllocError> {
+    fn describe(&mut self, block: &Block) -> Result<(), AllocError> {
         let in_capture = self
             .all
             .interfaces
@@ -116,9 +117,7 @@ impl Surveyor {
             .capture
             .saturating_mul(64)
             .saturating_add(u32::try_from(in_capture).unwrap_or(u32::MAX));
-        self.all
-            .interfaces
-            .push(Interface::new(self.alloc, number))?;
+        self.all.interfaces.push(Interface::new(self.alloc, number, nanoseconds_of_tick(block)))?;
         Ok(())
     }
 
@@ -131,6 +130,8 @@ impl Surveyor {
         let place = self.before_section.saturating_add(id);
         if let Some(interface) = self.all.interfaces.get_mut(place) {
             interface.statistics = interface.statistics.saturating_add(1);
+            let until = closing_time(block, interface.tick);
+            interface.until = interface.until.max(until);
         }
     }
 
@@ -158,7 +159,7 @@ impl Surveyor {
     ) -> Result<(), AllocError> {
         match seen {
             Seen::Udp { from, to, payload } => {
-                if head.captured > LONGEST_FRAME {
+                if head.captured > LONGEST_FRAME && is_unfragmentable(frame) {
                     self.all.long = self.all.long.saturating_add(1);
                 }
                 self.wire.insert(from)?;
@@ -210,39 +211,51 @@ impl Surveyor {
         let Some(message) = message(payload) else {
             return Ok(());
         };
-        if !matches!(message.class(), Class::Success) {
-            return Ok(());
-        }
-        match message.method() {
-            method::BINDING => self.count_answer(from, 1, 0),
-            method::ALLOCATE => {
-                if let Some(value) = message.first(XOR_RELAYED_ADDRESS) {
-                    if let Some(relayed) = address(value) {
-                        self.told.insert(relayed)?;
-                    }
+        let is_granted = matches!(message.class(), Class::Success)
+            && message.method() == method::ALLOCATE;
+        if is_granted {
+            if let Some(value) = message.first(XOR_RELAYED_ADDRESS) {
+                if let Some(relayed) = address(value) {
+                    self.told.insert(relayed)?;
                 }
-                self.count_answer(from, 0, 1)
             }
-            _ => Ok(()),
+        }
+        match answers_in(&message) {
+            Some(answers) => self.count_answers(from, answers),
+            None => Ok(()),
         }
     }
 
-    /// Counts successes to Binding and to Allocate.
-    fn count_answer(&mut self, from: Addr, binding: u64, allocate: u64) -> Result<(), AllocError> {
+    /// Counts a response.
+    fn count_answers(&mut self, from: Addr, more: Answers) -> Result<(), AllocError> {
         let earlier = match self.all.answers.get(&from) {
             Some(answers) => *answers,
-            None => Answers {
-                binding: 0,
-                allocate: 0,
-            },
+            None => Answers::none(),
         };
-        let answers = Answers {
-            binding: earlier.binding.saturating_add(binding),
-            allocate: earlier.allocate.saturating_add(allocate),
-        };
-        self.all.answers.insert(from, answers)?;
+        self.all.answers.insert(from, earlier.plus(more))?;
         Ok(())
     }
+}
+
+/// A message as a response. A peer sends errors to Binding, too, so that they are none here.
+fn answers_in(message: &Message<'_>) -> Option<Answers> {
+    let none = Answers::none();
+    match (message.class(), message.method()) {
+        (Class::Success, method::BINDING) => Some(Answers { binding: 1, ..none }),
+        (Class::Success, method::ALLOCATE) => Some(Answers {
+            allocate: 1,
+            ..none
+        }),
+        (Class::Success | Class::Error, number) if number != method::BINDING => {
+            Some(Answers { other: 1, ..none })
+        }
+        _ => None,
+    }
+}
+
+/// Whether an IPv4 packet mustn't be fragmented (RFC 791). What fragments are reassembled to may be, whatever its length.
+fn is_unfragmentable(frame: &[u8]) -> bool {
+    byte_at(frame, content_place(frame) + 6) & 0x40 != 0
 }
 
 /// Counts a frame between two addresses.

@@ -19,13 +19,13 @@ pub(crate) struct ToldAddress {
 
 /// An address that was told and isn't on the wire, and one that answers and has ports that were told of the other.
 #[derive(Clone, Copy, Debug)]
-pub(crate) struct Alias {
-    pub(crate) public: u32,
-    pub(crate) private: u32,
+pub struct Alias {
+    pub public: u32,
+    pub private: u32,
     /// How many ports.
-    pub(crate) ports: u64,
-    /// How many ports were told.
-    pub(crate) of: u64,
+    pub ports: u64,
+    /// How many ports were granted.
+    pub of: u64,
 }
 
 impl Alias {

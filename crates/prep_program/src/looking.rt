@@ -6,7 +6,7 @@ use crate::recording::record_captures;
 use crate::source::Source;
 use crate::stop::Stop;
 use crate::surveying::survey_captures;
-use crate::text::read_text;
+use crate::text::read_policy_text;
 use audit_model::{Policy, Sink, put_all, read_policy};
 use prep_cut::Stated;
 use prep_look::{Guess, Survey, guess_policy, page_of};
@@ -59,7 +59,7 @@ pub fn run_look<S: Source, O: Sink>(
 
 /// A policy that is a file. Its text is suggested as it is.
 fn policy_in<S: Source>(alloc: Global, name: &str, source: &mut S) -> Result<Taken, Stop> {
-    let suggested = read_text(alloc, source, name)?;
+    let suggested = read_policy_text(alloc, source, name)?;
     let policy = read_policy(alloc, &suggested)?;
     Ok(Taken { policy, suggested })
 }
@@ -73,7 +73,10 @@ fn guessed(alloc: Global, survey: &Survey) -> Result<Taken, Stop> {
     })
 }
 
-/// Nothing is stated but how long allocations from before last.
+/// The longest time that `cut` takes for what is relayed after deletions, in milliseconds.
+const LONGEST_RELEASED: u64 = 60_000;
+
+/// How long allocations from before last, and the longest time after deletions, so that the page has the time that the captures show.
 fn stated_for(lifetime: u64) -> Stated {
     Stated {
         since: None,
@@ -82,6 +85,6 @@ fn stated_for(lifetime: u64) -> Stated {
         has_no_tcp: false,
         keeps_inner: false,
         lifetime,
-        released_ms: 0,
+        released_ms: LONGEST_RELEASED,
     }
 }
