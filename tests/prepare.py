@@ -11,6 +11,7 @@ of 0 (tests/hang_ups.py).
 
 import hashlib
 import pathlib
+import struct
 import subprocess
 import sys
 import tempfile
@@ -18,6 +19,8 @@ import tempfile
 import hang_ups
 
 HERE = pathlib.Path(__file__).resolve().parent / "prepare"
+# Moments at which clients of long-midcall.pcapng have calls that began before, in nanoseconds since 1970.
+MOMENTS = 1795670931076547165, 1795670931464667317, 1795670932777584387
 
 
 def run(program, words):
@@ -62,7 +65,7 @@ def check_files(program):
         torn = pathlib.Path(folder) / "torn"
         torn.write_bytes((HERE / "inputs/ring1.pcapng").read_bytes()[:-3])
         done = run(program, ["join", "-o", f"{folder}/out2", str(torn)])
-        if done.stderr != "turnprep: refused C1 in capture 0\n":
+        if done.stderr != "turnprep: refused C1 in capture 0: the capture ends inside a block\n":
             faults.append("takes a torn capture")
         done = run(program, ["join", "-o", f"{folder}/out3", f"{folder}/absent"])
         if done.returncode != 4:
@@ -84,7 +87,7 @@ def check_cut(program):
         if run(program, ["cut", *words]).returncode != 4:
             faults.append("cuts over a file that is there")
         done = run(program, ["cut", "--policy", "inputs/plain.conf", *words[2:]])
-        if done.returncode != 2 or not done.stderr.endswith("in policy line 1\n"):
+        if done.returncode != 2 or not done.stderr.endswith("in policy line 1: a line of another form, or a line too few\n"):
             faults.append("takes a policy that is none")
         for wrong in (["--since", "2", "--until", "1"], ["--since", "x"], ["--released-ms", "60001"], ["--released-ms", "x"]):
             if run(program, ["cut", *wrong, *words]).returncode != 5:
@@ -109,9 +112,40 @@ def check_released(program):
     return faults
 
 
+def begun_at(capture, moment):
+    """The blocks of a little-endian capture with stamps in nanoseconds, without the packets before a moment."""
+    kept, at = b"", 0
+    while at < len(capture):
+        kind, size = struct.unpack_from("<II", capture, at)
+        high, low = struct.unpack_from("<II", capture, at + 12)
+        if kind != 6 or high << 32 | low >= moment:
+            kept += capture[at : at + size]
+        at += size
+    return kept
+
+
+def check_since(program):
+    """With --since the same is written as of a capture that begins at that moment."""
+    faults = []
+    capture = (HERE / "inputs/long-midcall.pcapng").read_bytes()
+    for moment in MOMENTS:
+        with tempfile.TemporaryDirectory() as room:
+            folder = pathlib.Path(room)
+            for name in ("since", "begun"):
+                (folder / name).mkdir()
+            (folder / "long-midcall.pcapng").write_bytes(begun_at(capture, moment))
+            words = ["cut", "--policy", "inputs/policy", "-o"]
+            done = run(program, [*words, f"{room}/since", "--since", str(moment), "inputs/long-midcall.pcapng"])
+            run(program, [*words, f"{room}/begun", f"{room}/long-midcall.pcapng"])
+            written = [(folder / name / "long-midcall.pcapng").read_bytes() for name in ("since", "begun")]
+            if done.returncode != 0 or written[0] != written[1]:
+                faults.append(f"--since {moment} differs from a capture that begins there: {done.stdout}{done.stderr}")
+    return faults
+
+
 def main():
     program = pathlib.Path(sys.argv[1]).resolve()
-    faults = check_files(program) + check_cut(program) + check_released(program)
+    faults = check_files(program) + check_cut(program) + check_released(program) + check_since(program)
     cases = [line.split(" | ") for line in (HERE / "cases").read_text().splitlines()]
     for name, words in cases:
         if told_by(program, words.split()) != expected(name):

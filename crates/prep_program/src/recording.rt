@@ -1,6 +1,6 @@
 //! Recording captures that are files.
 
-ghost use Rattle.std.specs.Prelude.{◌≡◌, [], ℕ, List, Some, OnOk, IfOk};
+ghost use Rattle.std.specs.Prelude.{◌≡◌, [], ℕ, List, Option, Some, OnOk, IfOk};
 ghost use Rattle.std.specs.List.{AllZip};
 ghost use Rattle.audit_model.specs.declared.policy.Policy.{Policy as AnyPolicy};
 ghost use Rattle.prep_blocks.specs.declared.block.Block.{Block};
@@ -23,8 +23,8 @@ fn record_capture<S: Source>(
     capture: u32,
 ) -> Result<(), Stop>
     ensures kept { S.holds source.new ≡ S.holds source.old }
-    ensures records { (text : List ℕ) (policy : AnyPolicy) (earlier : List Block) → S.holds source.old name.now ≡ Some text →
-        IsRecording recorder.old policy earlier [] [] → OnOk result (Recorded recorder.new policy earlier text) }
+    ensures records { (text : List ℕ) (policy : AnyPolicy) (since : Option ℕ) (earlier : List Block) → S.holds source.old name.now ≡ Some text →
+        IsRecording recorder.old policy since earlier [] [] → OnOk result (Recorded recorder.new policy since earlier text) }
 {
     let mut piece = vec![in alloc; 0u8; PIECE]?;
     let mut at = 0u64;
@@ -46,8 +46,8 @@ fn record_capture<S: Source>(
 
 /// Ends a capture.
 fn end_capture(recorder: &mut Recorder<'_>, capture: u32) -> Result<(), Stop>
-    ensures { (policy : AnyPolicy) (earlier : List Block) (text : List ℕ) (current : List Block) →
-        IsRecording recorder.old policy earlier text current → OnOk result (Ended recorder.new policy earlier text current) }
+    ensures { (policy : AnyPolicy) (since : Option ℕ) (earlier : List Block) (text : List ℕ) (current : List Block) →
+        IsRecording recorder.old policy since earlier text current → OnOk result (Ended recorder.new policy since earlier text current) }
 {
     match recorder.end() {
         Ok(()) => Ok(()),
@@ -55,7 +55,8 @@ fn end_capture(recorder: &mut Recorder<'_>, capture: u32) -> Result<(), Stop>
     }
 }
 
-/// Reads captures for what is to be proposed. What they ask and grant of allocations is noted whole.
+/// Reads captures for what is to be proposed. What they ask and grant of allocations is noted whole, but for packets before the moment that
+/// is stated.
 pub fn record_captures<S: Source>(
     alloc: Global,
     source: &mut S,
@@ -65,7 +66,7 @@ pub fn record_captures<S: Source>(
 ) -> Result<Records, Stop>
     ensures kept { S.holds source.new ≡ S.holds source.old }
     ensures noted { (texts : List (List ℕ)) → AllZip (λ name text. S.holds source.old name.now ≡ Some text) names.now texts →
-        IfOk result (λ records. RecordedAll texts policy.now records.allocations) }
+        IfOk result (λ records. RecordedAll texts policy.now stated.since records.allocations) }
 {
     let mut recorder = Recorder::new(alloc, policy, stated);
     let mut capture = 0u32;

@@ -1,4 +1,4 @@
-//! Which records are outside the stated moments, and whose the others are.
+//! Which records are after the stated moments, and whose the others are.
 
 use crate::members::Members;
 use crate::sheet::Sheet;
@@ -9,7 +9,7 @@ use std::alloc::AllocError;
 use std::collections::BTreeMap;
 
 impl<'a> Sheet<'a> {
-    /// The line of what is outside the moments that are stated.
+    /// The line of what is after the moments that are stated.
     pub(crate) fn leave_outside(&mut self) -> Result<(), AllocError> {
         let stated = self.stated;
         for at in 0..self.records.len() {
@@ -20,9 +20,7 @@ impl<'a> Sheet<'a> {
                 Side::Leaves => record.stamp,
                 Side::Arrives => record.stamp.saturating_sub(self.slack),
             };
-            if stated.is_early(record.stamp) {
-                self.leave(at, Reason::BeforeSince)?;
-            } else if stated.is_late(late) {
+            if stated.is_late(late) {
                 self.leave(at, Reason::AfterUntil)?;
             }
         }

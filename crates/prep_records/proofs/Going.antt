@@ -1,6 +1,7 @@
 -- A recorder's relation, step by step.
 use Rattle.std.proofs.Common.{◌≡◌, ◌⊎◌, inl, inr, ℕ, Bool, true, false, List, [], ◌∷◌, ◌++◌, Option, Some, None, refl, sym, ap, subst, ◌∙◌, append_assoc, length, arith}
 use Rattle.std.proofs.lemmas.List.{append-nil}
+use Rattle.std.proofs.lemmas.List.Elements.{filter-append}
 use Rattle.audit_model.specs.declared.policy.Policy.{Policy}
 use Rattle.prep_blocks.specs.declared.block.Block.{Block}
 use Rattle.prep_blocks.specs.Splitting.{StandsFor, Gave, IsWhole}
@@ -13,7 +14,8 @@ use Rattle.prep_cut.specs.Releasing.{AreReleased, IsReleaseIn, IsShownBy, is_rel
 use Rattle.prep_cut.specs.Sending.{AreSenders, IsSentIn, SendsIn, is_sender}
 use Rattle.audit_model.specs.declared.address.Addr.{Addr}
 use Rattle.prep_records.specs.declared.recorder.Recorder.{Recorder}
-use Rattle.prep_records.specs.Recording.{IsRecording, GoesOn, Ended}
+use Rattle.prep_cut.specs.declared.stated.Stated.{Stated}
+use Rattle.prep_records.specs.Recording.{IsRecording, GoesOn, Ended, blocks_from, is_from}
 use Rattle.prep_records.proofs.Learning.{Learns, events_more, only_more, after_more}
 use Rattle.prep_cut.specs.declared.lease.Event.{Event}
 use Rattle.prep_cut.specs.Noted.{events_at}
@@ -82,57 +84,89 @@ noted_more policy old new blocks b noted one keeps adds joins learns = record {
   first = after_more old.first new.first blocks b learns.less noted.first learns.least;
 }
 
-pub nothing_yet : (recorder : Recorder) (policy : Policy) (earlier : List Block) (text : List ℕ) (current : List Block) (piece : List ℕ)
-    → IsRecording recorder policy earlier text current → GoesOn recorder policy earlier text current piece piece
-nothing_yet recorder policy earlier text current piece r = record { taken = []; more = []; cut = refl; recording = rw (append-nil text, append-nil current) r }
+pub nothing_yet : (recorder : Recorder) (policy : Policy) (since : Option ℕ) (earlier : List Block) (text : List ℕ) (current : List Block) (piece : List ℕ)
+    → IsRecording recorder policy since earlier text current → GoesOn recorder policy since earlier text current piece piece
+nothing_yet recorder policy since earlier text current piece r = record { taken = []; more = []; cut = refl; recording = rw (append-nil text, append-nil current) r }
+
+from_nothing : (since : Option ℕ) (b : Block) → is_from since b.packet ≡ true → blocks_from since (b ∷ []) ≡ b ∷ []
+from_nothing since b is = rw is refl
+
+before_it : (since : Option ℕ) (b : Block) → is_from since b.packet ≡ false → blocks_from since (b ∷ []) ≡ []
+before_it since b is = rw is refl
+
+-- a block before the stated moment changes nothing
+pub noted_without : (policy : Policy) (since : Option ℕ) (all : Allocations) (blocks : List Block) (b : Block) → is_from since b.packet ≡ false
+    → AreNoted policy all (blocks_from since blocks) → AreNoted policy all (blocks_from since (blocks ++ b ∷ []))
+noted_without policy since all blocks b is noted =
+    subst (λ (bs : List Block). AreNoted policy all bs)
+    (sym (filter-append (λ (block : Block). is_from since block.packet) blocks (b ∷ []) ∙ ap (λ (bs : List Block). blocks_from since blocks ++ bs) (before_it since b is) ∙ append-nil (blocks_from since blocks)))
+    noted
+
+-- another one is noted
+pub noted_with : (policy : Policy) (since : Option ℕ) (old new : Allocations) (blocks : List Block) (b : Block) → is_from since b.packet ≡ true
+    → AreNoted policy old (blocks_from since blocks) → is_noted_in policy new b ≡ true → Keeps old new
+    → Adds policy old new b → Joins policy old new b → Learns policy old new b → AreNoted policy new (blocks_from since (blocks ++ b ∷ []))
+noted_with policy since old new blocks b is noted one keeps adds joins learns =
+    subst (λ (bs : List Block). AreNoted policy new bs)
+    (sym (filter-append (λ (block : Block). is_from since block.packet) blocks (b ∷ []) ∙ ap (λ (bs : List Block). blocks_from since blocks ++ bs) (from_nothing since b is)))
+    (noted_more policy old new (blocks_from since blocks) b noted one keeps adds joins learns)
+
+-- what a block adds
+abbrev pub Notes : Recorder → Recorder → Block → Type 0
+Notes old new b = (blocks : List Block) → AreNoted old.policy.now old.allocations (blocks_from old.stated.since blocks) → AreNoted old.policy.now new.allocations (blocks_from old.stated.since (blocks ++ b ∷ []))
 
 -- one block more
-pub step : (old new : Recorder) (policy : Policy) (earlier : List Block) (text : List ℕ) (current : List Block) (piece rest behind : List ℕ) (b : Block)
-    → (g : GoesOn old policy earlier text current piece rest) → Gave new.splitter (text ++ g.taken) (current ++ g.more) rest b behind
-    → new.policy.now ≡ old.policy.now → is_noted_in old.policy.now new.allocations b ≡ true → Keeps old.allocations new.allocations
-    → Adds old.policy.now old.allocations new.allocations b → Joins old.policy.now old.allocations new.allocations b → Learns old.policy.now old.allocations new.allocations b
-    → GoesOn new policy earlier text current piece behind
-step old new policy earlier text current piece rest behind b g gave same noted keeps adds joins learns =
+pub step : (old new : Recorder) (policy : Policy) (since : Option ℕ) (earlier : List Block) (text : List ℕ) (current : List Block) (piece rest behind : List ℕ) (b : Block)
+    → (g : GoesOn old policy since earlier text current piece rest) → Gave new.splitter (text ++ g.taken) (current ++ g.more) rest b behind
+    → new.policy.now ≡ old.policy.now → new.stated ≡ old.stated → Notes old new b
+    → GoesOn new policy since earlier text current piece behind
+step old new policy since earlier text current piece rest behind b g gave same states notes =
     let text_so = append_assoc text g.taken gave.taken in
     let blocks_so = append_assoc current g.more (b ∷ []) in
-    let one : is_noted_in policy new.allocations b ≡ true = ap (λ (p : Policy). is_noted_in p new.allocations b) (sym g.recording.policy_is) ∙ noted in
-    let more : Adds policy old.allocations new.allocations b = subst (λ (p : Policy). Adds p old.allocations new.allocations b) g.recording.policy_is adds in
-    let most : Joins policy old.allocations new.allocations b = subst (λ (p : Policy). Joins p old.allocations new.allocations b) g.recording.policy_is joins in
-    let learnt : Learns policy old.allocations new.allocations b = subst (λ (p : Policy). Learns p old.allocations new.allocations b) g.recording.policy_is learns in
-    let all = noted_more policy old.allocations new.allocations (earlier ++ (current ++ g.more)) b g.recording.noted one keeps more most learnt in
-    let noted_so : AreNoted policy new.allocations (earlier ++ ((current ++ g.more) ++ b ∷ [])) =
-    subst (λ (bs : List Block). AreNoted policy new.allocations bs) (append_assoc earlier (current ++ g.more) (b ∷ [])) all in
+    let since_so : old.stated.since ≡ since = g.recording.since_is in
+    let blocks = earlier ++ (current ++ g.more) in
+    let had : AreNoted old.policy.now old.allocations (blocks_from old.stated.since blocks) = rw (g.recording.policy_is, since_so) g.recording.noted in
+    let all : AreNoted policy new.allocations (blocks_from since (blocks ++ b ∷ [])) =
+    subst (λ (s : Option ℕ). AreNoted policy new.allocations (blocks_from s (blocks ++ b ∷ []))) since_so
+    (subst (λ (p : Policy). AreNoted p new.allocations (blocks_from old.stated.since (blocks ++ b ∷ []))) g.recording.policy_is (notes blocks had)) in
+    let noted_so : AreNoted policy new.allocations (blocks_from since (earlier ++ ((current ++ g.more) ++ b ∷ []))) =
+    subst (λ (bs : List Block). AreNoted policy new.allocations (blocks_from since bs)) (append_assoc earlier (current ++ g.more) (b ∷ [])) all in
     record {
       taken = g.taken ++ gave.taken;
       more = g.more ++ b ∷ [];
       cut = g.cut ∙ ap (λ (t : List ℕ). g.taken ++ t) gave.cut ∙ sym (append_assoc g.taken gave.taken behind);
-      recording = subst (λ (t : List ℕ). IsRecording new policy earlier t (current ++ (g.more ++ b ∷ []))) text_so
-          (subst (λ (bs : List Block). IsRecording new policy earlier ((text ++ g.taken) ++ gave.taken) bs) blocks_so
-          (record { policy_is = same ∙ g.recording.policy_is; splits = gave.stands; noted = noted_so }));
+      recording = subst (λ (t : List ℕ). IsRecording new policy since earlier t (current ++ (g.more ++ b ∷ []))) text_so
+          (subst (λ (bs : List Block). IsRecording new policy since earlier ((text ++ g.taken) ++ gave.taken) bs) blocks_so
+          (record { policy_is = same ∙ g.recording.policy_is; splits = gave.stands; since_is = ap (λ (s : Stated). s.since) states ∙ since_so; noted = noted_so }));
     }
 
 -- the rest of the piece is no whole block
-pub all_taken : (old new : Recorder) (policy : Policy) (earlier : List Block) (text : List ℕ) (current : List Block) (piece rest : List ℕ)
-    → (g : GoesOn old policy earlier text current piece rest) → StandsFor new.splitter ((text ++ g.taken) ++ rest) (current ++ g.more)
-    → new.policy.now ≡ old.policy.now → new.allocations ≡ old.allocations → GoesOn new policy earlier text current piece []
-all_taken old new policy earlier text current piece rest g stands same noted = record {
+pub all_taken : (old new : Recorder) (policy : Policy) (since : Option ℕ) (earlier : List Block) (text : List ℕ) (current : List Block) (piece rest : List ℕ)
+    → (g : GoesOn old policy since earlier text current piece rest) → StandsFor new.splitter ((text ++ g.taken) ++ rest) (current ++ g.more)
+    → new.policy.now ≡ old.policy.now → new.stated ≡ old.stated → new.allocations ≡ old.allocations → GoesOn new policy since earlier text current piece []
+all_taken old new policy since earlier text current piece rest g stands same states noted = record {
   taken = g.taken ++ rest;
   more = g.more;
   cut = g.cut ∙ sym (append-nil (g.taken ++ rest));
-  recording = subst (λ (t : List ℕ). IsRecording new policy earlier t (current ++ g.more)) (append_assoc text g.taken rest)
-      (record { policy_is = same ∙ g.recording.policy_is; splits = stands; noted = rw noted g.recording.noted });
+  recording = subst (λ (t : List ℕ). IsRecording new policy since earlier t (current ++ g.more)) (append_assoc text g.taken rest)
+      (record { policy_is = same ∙ g.recording.policy_is; splits = stands; since_is = ap (λ (s : Stated). s.since) states ∙ g.recording.since_is; noted = rw noted g.recording.noted });
 }
 
-pub at_end : (recorder : Recorder) (policy : Policy) (earlier : List Block) (text : List ℕ) (current : List Block) (piece rest : List ℕ)
-    → rest ≡ [] → GoesOn recorder policy earlier text current piece rest → GoesOn recorder policy earlier text current piece []
-at_end recorder policy earlier text current piece rest none g = subst (λ (r : List ℕ). GoesOn recorder policy earlier text current piece r) none g
+pub at_end : (recorder : Recorder) (policy : Policy) (since : Option ℕ) (earlier : List Block) (text : List ℕ) (current : List Block) (piece rest : List ℕ)
+    → rest ≡ [] → GoesOn recorder policy since earlier text current piece rest → GoesOn recorder policy since earlier text current piece []
+at_end recorder policy since earlier text current piece rest none g = subst (λ (r : List ℕ). GoesOn recorder policy since earlier text current piece r) none g
 
 -- a capture's end
-pub ended : (old new : Recorder) (policy : Policy) (earlier : List Block) (text : List ℕ) (current : List Block) → IsRecording old policy earlier text current
-    → IsWhole text current → StandsFor new.splitter [] [] → new.policy.now ≡ old.policy.now → new.allocations ≡ old.allocations → Ended new policy earlier text current
-ended old new policy earlier text current r whole stands same noted = record {
+pub ended : (old new : Recorder) (policy : Policy) (since : Option ℕ) (earlier : List Block) (text : List ℕ) (current : List Block) → IsRecording old policy since earlier text current
+    → IsWhole text current → StandsFor new.splitter [] [] → new.policy.now ≡ old.policy.now → new.stated ≡ old.stated → new.allocations ≡ old.allocations → Ended new policy since earlier text current
+ended old new policy since earlier text current r whole stands same states noted = record {
   whole = whole;
-  next = record { policy_is = same ∙ r.policy_is; splits = stands; noted = rw (noted, append-nil (earlier ++ current)) r.noted };
+  next = record {
+    policy_is = same ∙ r.policy_is;
+    splits = stands;
+    since_is = ap (λ (s : Stated). s.since) states ∙ r.since_is;
+    noted = rw (noted, append-nil (earlier ++ current)) r.noted;
+  };
 }
 
 differ : {b : Bool} → b ≡ true → b ≡ false → ⊥
@@ -141,13 +175,14 @@ differ e f = absurd cc
 empty : (event : Event) (events : List Event) → events ≡ [] → Contains events event → ⊥
 empty event events none (k, within, is) = let short : length events ≡ 0 = ap length none in omega (arith, short, within)
 
-pub first : (recorder : Recorder) (policy : Policy) → recorder.policy.now ≡ policy → StandsFor recorder.splitter [] []
+pub first : (recorder : Recorder) (policy : Policy) (since : Option ℕ) → recorder.policy.now ≡ policy → recorder.stated.since ≡ since → StandsFor recorder.splitter [] []
     → ((release : Release) → is_released recorder.allocations release ≡ false)
     → ((client listen : Addr) → is_sender recorder.allocations client listen ≡ false)
-    → ((client listen : Addr) → events_at recorder.allocations.leases.clients client listen ≡ []) → IsRecording recorder policy [] [] []
-first recorder policy same stands none nobody nothing = record {
+    → ((client listen : Addr) → events_at recorder.allocations.leases.clients client listen ≡ []) → IsRecording recorder policy since [] [] []
+first recorder policy since same states stands none nobody nothing = record {
   policy_is = same;
   splits = stands;
+  since_is = states;
   noted = record {
     noted = tt;
     released = λ release is. absurd (differ is (none release));
@@ -158,5 +193,5 @@ first recorder policy same stands none nobody nothing = record {
   };
 }
 
-pub finished : (recorder : Recorder) (policy : Policy) (earlier : List Block) → IsRecording recorder policy earlier [] [] → AreNoted policy recorder.allocations earlier
-finished recorder policy earlier r = subst (λ (bs : List Block). AreNoted policy recorder.allocations bs) (append-nil earlier) r.noted
+pub finished : (recorder : Recorder) (policy : Policy) (since : Option ℕ) (earlier : List Block) → IsRecording recorder policy since earlier [] [] → AreNoted policy recorder.allocations (blocks_from since earlier)
+finished recorder policy since earlier r = subst (λ (bs : List Block). AreNoted policy recorder.allocations (blocks_from since bs)) (append-nil earlier) r.noted

@@ -83,6 +83,10 @@ impl<'p> Keeper<'p> {
 
     fn take_packet(&mut self, block: &Block, head: PacketHead) -> Result<(), AllocError> {
         self.note_moment(head.stamp)?;
+        if self.stated.is_early(head.stamp) {
+            self.packets.count = self.packets.count.saturating_add(1);
+            return Ok(());
+        }
         let frame = frame_in(block, head);
         let packet = PacketSlice {
             stamp: head.stamp,

@@ -10,31 +10,31 @@ pub pieces-init : goal.pieces-init
 pieces-init g c = record {
   room = omega (arith, c.in_ok-piece.ensures.len);
   same = refl;
-  fed = λ text policy earlier holds recording. nothing_recorded c.args.recorder.now policy earlier recording;
+  fed = λ text policy since earlier holds recording. nothing_recorded c.args.recorder.now policy since earlier recording;
 }
 
 pub returns-then-read-eq0-clause-records : goal.returns-then-read-eq0-clause-records
-returns-then-read-eq0-clause-records g c = λ text policy earlier holds recording.
+returns-then-read-eq0-clause-records g c = λ text policy since earlier holds recording.
     let now : g.S.Source.holds c.pieces.source c.args.name.now ≡ Some text = ap (λ (h : List ℕ → Option (List ℕ)). h c.args.name.now) c.pieces.invariant.same ∙ holds in
     let piece : IsPieceAt text c.pieces.at c.in_ok-read.read c.piece.new.into = c.in_ok-read.ensures.bytes text now in
     let all = take_all c.pieces.at text (piece.last c.if-read-eq0.true (omega (arith, c.pieces.invariant.room, c.piece.auto.into, c.deref_mut.ensures.len))) in
-    let s = c.pieces.invariant.fed text policy earlier holds recording in
-    recorded_whole c.pieces.recorder c.end_capture.new.recorder policy earlier (take c.pieces.at text) text c.end_capture.result all s (c.end_capture.ensures policy earlier (take c.pieces.at text) s.current s.recording)
+    let s = c.pieces.invariant.fed text policy since earlier holds recording in
+    recorded_whole c.pieces.recorder c.end_capture.new.recorder policy since earlier (take c.pieces.at text) text c.end_capture.result all s (c.end_capture.ensures policy since earlier (take c.pieces.at text) s.current s.recording)
 
 pub pieces-preserved : goal.pieces-preserved
 pieces-preserved g c = record {
   room = c.pieces.invariant.room;
   same = c.piece.ensures.kept ∙ c.pieces.invariant.same;
-  fed = λ text policy earlier holds recording.
+  fed = λ text policy since earlier holds recording.
       let at = c.pieces.at in
       let read = c.in_ok-read.read in
       let now : g.S.Source.holds c.pieces.source c.args.name.now ≡ Some text = ap (λ (h : List ℕ → Option (List ℕ)). h c.args.name.now) c.pieces.invariant.same ∙ holds in
       let within_piece : read ≤ length c.piece.new.into = omega (arith, c.in_ok-read.ensures.within, c.piece.auto.into) in
       let short : read ≤ c.pieces.piece.len = omega (arith, c.in_ok-read.ensures.within, c.deref_mut.ensures.len) in
       let piece : IsPieceAt text at read c.piece.new.into = c.in_ok-read.ensures.bytes text now in
-      let s = c.pieces.invariant.fed text policy earlier holds recording in
-      let on = c.in_default.ensures policy earlier (take at text) s.current s.recording in
-      subst (λ (t : List ℕ). RecordedSoFar c.feed.new.self policy earlier t)
+      let s = c.pieces.invariant.fed text policy since earlier holds recording in
+      let on = c.in_default.ensures policy since earlier (take at text) s.current s.recording in
+      subst (λ (t : List ℕ). RecordedSoFar c.feed.new.self policy since earlier t)
       (ap (λ (l : List ℕ). take at text ++ take read l) c.deref.ensures.value ∙ ap (λ (l : List ℕ). take at text ++ l) (read_of c.piece.new.into _ c.pieces.piece.len read short within_piece) ∙ fed_more text c.piece.new.into at read piece.same ∙ ap (λ (n : ℕ). take n text) (sym c.in-Some.ensures.1))
-      (recorded_more c.pieces.recorder c.feed.new.self policy earlier (take at text) _ s on);
+      (recorded_more c.pieces.recorder c.feed.new.self policy since earlier (take at text) _ s on);
 }

@@ -1,4 +1,4 @@
-use Rattle.std.proofs.Common.{◌≡◌, ◌<◌, ℕ, List, [], Some, take}
+use Rattle.std.proofs.Common.{◌≡◌, ◌<◌, ℕ, List, Option, [], Some, take}
 use Rattle.audit_model.specs.declared.policy.Policy.{Policy}
 use Rattle.prep_blocks.specs.declared.block.Block.{Block}
 use Rattle.prep_records.specs.Recording.{IsRecording}
@@ -10,6 +10,6 @@ abbrev pub invariant-pieces : goal.invariant-pieces
 invariant-pieces g l = record {
   room : 0 < l.piece.len;
   same : g.S.Source.holds l.source ≡ g.S.Source.holds l.fn.source;
-  fed : (text : List ℕ) (policy : Policy) (earlier : List Block) → g.S.Source.holds l.fn.source l.fn.name ≡ Some text → IsRecording l.fn.recorder policy earlier [] []
-      → RecordedSoFar l.recorder policy earlier (take l.at text);
+  fed : (text : List ℕ) (policy : Policy) (since : Option ℕ) (earlier : List Block) → g.S.Source.holds l.fn.source l.fn.name ≡ Some text → IsRecording l.fn.recorder policy since earlier [] []
+      → RecordedSoFar l.recorder policy since earlier (take l.at text);
 }

@@ -8,5 +8,5 @@ abbrev pub invariant-loop-name : goal.invariant-loop-name
 invariant-loop-name g l = record {
   same : g.S.Source.holds l.source ≡ g.S.Source.holds l.fn.source;
   fed : (texts : List (List ℕ)) → AllZip (λ name text. g.S.Source.holds l.fn.source name.now ≡ Some text) l.names texts
-      → AreRecorded l.recorder l.fn.policy (take l.name-index texts);
+      → AreRecorded l.recorder l.fn.policy l.fn.stated.since (take l.name-index texts);
 }
