@@ -34,7 +34,7 @@ OUT = out
 ## deb          pack what is built, into out/: seconds; dpkg-deb and binutils
 ## test         every proof, all tests and the examples: 80 minutes, 12 GB
 ## edits        try all must-fail edits: hours; CRATES="audit_rules" of these alone
-## fuzz         damaged input for SECONDS=60; proves and builds turnaudit first
+## fuzz         damaged input for SECONDS=60, twice; proves and builds turnaudit and turnprep first
 ## format       lay out the code of every crate, before a commit: seconds
 ## PROGRAM=FILE, BESIDE='FILE..': other programs for install and deb; BESIDE= none
 help:
@@ -94,6 +94,7 @@ test:
 	python3 tests/beside_plain.py $(PROGRAM) examples/*
 	python3 tests/second_opinion.py $(PROGRAM)
 	python3 tests/hostile.py $(PROGRAM)
+	python3 tests/hostile_beside.py $(PREPARES)
 	python3 tests/handed_on.py $(PROGRAM)
 	python3 tests/sha256.py $(PROGRAM)
 	python3 tests/skews.py $(PROGRAM)
@@ -107,6 +108,7 @@ test:
 	tests/fleet.sh $(PROGRAM)
 	python3 tests/fleet_steps.py $(PROGRAM)
 	python3 tests/fuzz.py $(PROGRAM) --seconds 20 --seed 1 examples/*
+	python3 tests/fuzz_beside.py $(PREPARES) --seconds 20 --seed 1 examples/*
 	python3 tests/random_captures.py $(PROGRAM) --count 500 --most 0
 	python3 tests/call_captures.py $(PROGRAM) --count 200 --most 0
 	python3 tests/edge_captures.py $(PROGRAM) --count 2000 --most 13
@@ -114,7 +116,8 @@ test:
 	python3 tests/machine_captures.py $(MACHINE) $(PROGRAM)
 	python3 tests/prepare.py $(PREPARES)
 	python3 tests/prepared.py $(PREPARES) $(PROGRAM)
-	python3 tests/prepare_fails.py $(PREPARES)
+	python3 tests/failing_calls.py $(PREPARES) --every 10
+	python3 tests/wrong_files.py $(PREPARES)
 	python3 tests/looking.py $(PREPARES)
 	python3 tests/fragments.py $(PREPARES) $(PROGRAM)
 	python3 tests/shown_faults.py $(EXPLAINS) $(PROGRAM)
@@ -122,6 +125,7 @@ test:
 	python3 tests/explain_page.py $(EXPLAINS)
 	tests/kit.sh $(PROGRAM) $(EXPLAINS)
 
-# Gives the program damaged captures, policies, credentials and certificates, and looks at how it answers.
-fuzz: $(PROGRAM)
+# Gives both programs damaged captures, policies, credentials, configurations and certificates, and looks at how they answer.
+fuzz: $(PROGRAM) turnprep
 	python3 tests/fuzz.py $(PROGRAM) --seconds $(SECONDS) examples/*
+	python3 tests/fuzz_beside.py $(PREPARES) --seconds $(SECONDS) examples/*

@@ -116,7 +116,7 @@ def cases():
     yield "too many bytes", refused(*over), "fragments of more than 65535 bytes in capture 0"
     many = [ip_frame(b"z" * 8, ident=n, more=True) for n in range(1025)]
     yield "1025 at a time", refused(*many), "fragments of more than 1024 datagrams at a time in capture 0"
-    yield "a torn capture", refused(*one)[:-3], "C1 in capture 0"
+    yield "a torn capture", refused(*one)[:-3], "C1 in capture 0: the capture ends inside a block"
 
 
 def run(program, folder, capture):

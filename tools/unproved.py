@@ -25,8 +25,8 @@ import crates
 # The programs, and a command of each that reads a file, whose name is FILE here, at once.
 READING = {
     "turnaudit": ["check", "--policy", "FILE", "--cert", "FILE", "FILE"],
-    "turnprep": ["look", "--policy", "FILE", "FILE"],
-    "turnexplain": ["verdict", "--policy", "FILE", "FILE"],
+    "turnprep": ["policy", "--turnserver-conf", "FILE"],
+    "turnexplain": ["faults", "--policy", "FILE", "FILE"],
 }
 # The crates whose line of the release says what they are proved with.
 PAGES = ("audit_program", "prep_program", "explain_program")
@@ -93,7 +93,7 @@ def build(program_name):
         pipe = f"{room}/policy"
         os.mkfifo(pipe)
         command = ["rt", "try", "--", *(pipe if word == "FILE" else word for word in READING[program_name])]
-        environment = {**os.environ, "RT_SECONDS": "600"}
+        environment = {**os.environ, "RT_SECONDS": "1800"}
         with open(f"{room}/said", "w+", encoding="utf-8") as said:
             tried = subprocess.Popen(command, cwd=copy / "crates" / program_name, stdin=subprocess.DEVNULL, stdout=said, stderr=said, env=environment, start_new_session=True)
             try:

@@ -5,6 +5,7 @@ mod address;
 mod moment;
 mod payload;
 mod quoted;
+mod reasons;
 mod rule;
 mod stun_words;
 
@@ -12,5 +13,6 @@ pub use address::Ip;
 pub use moment::{Exactly, Seconds, Since, SinceShort, Utc};
 pub use payload::{Datagram, FirstBytes};
 pub use quoted::{Escaped, Quoted};
+pub use reasons::refusal_reason;
 pub use rule::{anchor, cause, code, expected, meaning};
 pub use stun_words::{AttributeBytes, CodeWord, MethodWord, code_says};

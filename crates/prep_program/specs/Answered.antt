@@ -31,7 +31,7 @@ IsSuccess done = IfOk done (λ status. status ≡ 0)
 abbrev pub Answers : Streams → Request → Result ℕ Stop → Type 0
 Answers streams (Join captures file) done = IsSilent streams × IsSuccess done
 Answers streams (Look request) done = IsSilent streams × IsSuccess done
-Answers streams (Translate request) done = IsSilent streams × IsSuccess done
+Answers streams (Translate request) done = IsSuccess done
 Answers streams (Reassemble request) done = IsSilent streams × IsSuccess done
 Answers streams (Policy file listening relaying translated) done = IsSuccess done
 Answers streams (Users request) done = IsSuccess done

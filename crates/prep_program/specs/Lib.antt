@@ -11,6 +11,7 @@ pub mod AllCuts
 pub mod ListText
 pub mod Listing
 pub mod CutStatus
+pub mod TranslateStatus
 pub mod CutRuns
 pub mod Words
 pub mod Requests

@@ -1,10 +1,12 @@
 -- The exit statuses that say why a run ended.
 use Rattle.std.specs.Prelude.{ℕ}
 use Rattle.prep_program.specs.declared.stop.Stop.{Stop}
-use Rattle.prep_program.specs.declared.stop.Stop.TheVariants.{Conf, Capture, Cut, Missing, Policy, Renaming, Translate, Reassemble, Users, SameName, Guess, Words, Memory, Read, Write, Exists}
+use Rattle.prep_program.specs.declared.stop.Stop.TheVariants.{Conf, Text, ReadOnce, Capture, Cut, Missing, Policy, Renaming, Translate, Reassemble, Users, SameName, Guess, Words, Memory, Read, Write, Exists}
 
 abbrev pub status_of_stop : Stop → ℕ
 status_of_stop (Conf fault) = 2
+status_of_stop (Text fault) = 2
+status_of_stop (ReadOnce name) = 2
 status_of_stop (Capture refused) = 2
 status_of_stop (Cut refused) = 2
 status_of_stop (Missing gap) = 2

@@ -11,6 +11,7 @@ mod look;
 mod options;
 mod policy;
 mod reassemble;
+mod refusal;
 mod translate;
 mod users;
 mod values;
@@ -20,6 +21,7 @@ use self::cut::cut_request;
 use self::look::look_request;
 use self::policy::policy_request;
 use self::reassemble::reassemble_request;
+use self::refusal::usage_text;
 use self::translate::translate_request;
 use self::users::users_request;
 use self::values::{all_values, value_of};
@@ -76,7 +78,11 @@ fn usage<'a>(alloc: Global, text: &str) -> Result<Option<Request<'a>>, AllocErro
 }
 
 /// The request that an error of clap stands for, which is no command's.
-fn refused<'a>(alloc: Global, error: Error) -> Result<Request<'a>, AllocError>
+fn refused<'a, N: AsStr>(
+    alloc: Global,
+    error: Error,
+    words: &[N],
+) -> Result<Request<'a>, AllocError>
     ensures { (named : Option (Text × List Row)) (kinds : Kinds) → HasKind kinds error → IfOk result (Asks named kinds) }
 {
     let text = format!(in alloc; "{error}")?;
@@ -89,7 +95,7 @@ fn refused<'a>(alloc: Global, error: Error) -> Result<Request<'a>, AllocError>
     if error.kind() == ErrorKind::DisplayVersion {
         return Ok(Request::Release);
     }
-    Ok(Request::Usage(text))
+    Ok(Request::Usage(usage_text(alloc, words)?))
 }
 
 /// The request that the arguments of the command `join` are.
@@ -158,7 +164,7 @@ pub fn read<'a, N: AsStr>(alloc: Global, words: &'a [N]) -> Result<Request<'a>, 
 {
     let matches = match command(alloc)?.try_get_matches_from(words) {
         Ok(matches) => matches,
-        Err(error) => return refused(alloc, error),
+        Err(error) => return refused(alloc, error, words),
     };
     match request_of(alloc, &matches)? {
         Some(request) => Ok(request),

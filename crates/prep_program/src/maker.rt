@@ -5,6 +5,7 @@ ghost use Rattle.audit_model.specs.Sink.{followed_by};
 ghost use Rattle.prep_program.specs.Making.{emptied, files_of, opened_by};
 
 use audit_model::{Sink, SinkFailed};
+use host_files::Failure;
 
 /// Why a file could not be made.
 #[derive(Clone, Copy, Debug, PartialEq, Eq)]
@@ -12,9 +13,11 @@ pub enum MakeFault {
     /// A file of that name is there.
     Exists,
     Failed,
+    Memory,
 }
 
-/// Makes files, and puts what it is given into the one that it made last. A file that is there is never written over.
+/// Makes files, and puts what it is given into the one that it made last. They get their names once all are written: before, no other program
+/// finds one under its name. A file that is there is never written over.
 pub trait Maker: Sink {
     ghost use Rattle.std.specs.Prelude.{Option};
     ghost use Rattle.prep_program.specs.Making.{Making};
@@ -33,6 +36,17 @@ pub trait Maker: Sink {
         ensures took { IfOk result (λ n. Self.taken self.new ≡ followed_by (Self.taken self.old) (take n piece.now)) }
         ensures failed { OnErr result (Self.taken self.new ≡ Self.taken self.old) }
         ensures others { making self.new ≡ making self.old };
+
+    /// Gives the files that it made their names: all, or none.
+    fn publish(&mut self) -> Result<(), MakeFault>
+        ensures files { making self.new ≡ making self.old }
+        ensures bytes { Self.taken self.new ≡ Self.taken self.old };
+
+    /// Removes the files that have no names yet.
+    fn discard(&mut self);
+
+    /// The file that couldn't be made, written or named, and why; none where none was noted.
+    fn failure(&self) -> Option<&Failure>;
 }
 
 /// Appends all of the bytes to the file that was made last, piece by piece.

@@ -4,7 +4,7 @@ ghost use Rattle.prep_program.specs.Answered.{IsSuccess};
 
 use crate::source::Source;
 use crate::stop::Stop;
-use crate::text::read_text;
+use crate::text::read_conf_text;
 use audit_model::{Sink, put_all};
 use prep_coturn::{Asked, prepare};
 use std::alloc::Global;
@@ -20,7 +20,7 @@ pub fn run_policy<S: Source, O: Sink, E: Sink>(
 ) -> Result<u8, Stop>
     ensures { IsSuccess result }
 {
-    let text = read_text(alloc, source, file)?;
+    let text = read_conf_text(alloc, source, file)?;
     let prepared = prepare(alloc, &text, asked)?;
     put_all(out, prepared.policy.as_bytes())?;
     put_all(err, prepared.notes.as_bytes())?;

@@ -104,5 +104,6 @@ pub fn run_reassemble<S: Source, M: Maker, O: Sink>(
         capture = capture.saturating_add(1);
     }
     put_all(out, report.as_bytes())?;
+    maker.publish()?;
     Ok(0)
 }

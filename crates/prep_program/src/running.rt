@@ -1,37 +1,69 @@
 //! The whole program as a function.
 
-ghost use Rattle.std.specs.Prelude.{◌≡◌, OnOk, map};
+ghost use Rattle.std.specs.Prelude.{◌≡◌, ℕ, IfOk, OnOk, map};
 ghost use Rattle.audit_model.specs.Sink.{followed_by};
 ghost use Rattle.prep_program.specs.Answered.{Answers, IsSuccess, IsRun};
+ghost use Rattle.prep_program.specs.CutStatus.{EndsByKept};
 
 use crate::command_line::{Request, read as read_words};
 use crate::joining::join_captures;
-use crate::looking::run_look;
+use crate::looking::{LookRequest, run_look};
 use crate::maker::Maker;
 use crate::pages::release;
 use crate::policy::run_policy;
 use crate::reassembling::run_reassemble;
 use crate::ring_name::gap_in;
-use crate::set_aside::run_cut;
-use crate::source::Source;
+use crate::set_aside::{CutRequest, run_cut};
+use crate::source::{Source, check_repeatable};
 use crate::stop::Stop;
 use crate::translating::run_translate;
 use crate::users::run_users;
 use audit_model::{Sink, put_all};
+use explain_text::Escaped;
 use prep_coturn::Asked;
-use std::alloc::Global;
+use std::alloc::{AllocError, Global};
 use std::convert::AsStr;
 
+/// The line that says why a run ended: what can't be read or written by its name, and the system's reason.
+fn line_of<S: Source, M: Maker>(
+    alloc: Global,
+    source: &S,
+    maker: &M,
+    stop: &Stop,
+) -> Result<String, AllocError> {
+    let (verb, failure) = match stop {
+        Stop::Read => ("read", source.failure()),
+        Stop::Write | Stop::Exists => ("write", maker.failure()),
+        _ => ("", None),
+    };
+    let Some(failure) = failure else {
+        return format!(in alloc; "turnprep: {stop}\n");
+    };
+    let name = Escaped {
+        bytes: failure.name.as_bytes(),
+    };
+    format!(in alloc; "turnprep: can't {verb} {name}: {failure}\n")
+}
+
 /// Puts the line that says why the run ended. Nothing more can be done where that fails.
-fn put_line<W: Sink>(alloc: Global, sink: &mut W, stop: &Stop) {
-    match format!(in alloc; "turnprep: {stop}\n") {
+fn put_stop<S: Source, M: Maker, W: Sink>(
+    alloc: Global,
+    source: &S,
+    maker: &M,
+    stop: &Stop,
+    err: &mut W,
+) {
+    match line_of(alloc, source, maker, stop) {
         Ok(line) => {
-            let _ = put_all(sink, line.as_bytes());
+            let _ = put_all(err, line.as_bytes());
         }
-        Err(_) => {
-            let _ = put_all(sink, b"turnprep: out of memory\n");
-        }
+        Err(_) => put_no_memory(err),
     }
+}
+
+/// Puts that there was no memory.
+fn put_no_memory<W: Sink>(err: &mut W) {
+    let _ = put_all(err, b"turnprep: out of memory\n");
 }
 
 /// Puts a text.
@@ -68,7 +100,38 @@ fn run_join<S: Source, M: Maker, O: Sink>(
         )?;
         put_all(out, line.as_bytes())?;
     }
+    maker.publish()?;
     Ok(0)
+}
+
+/// Cuts captures, which are read twice, and gives the files that are made their names at the end.
+fn cut_and_publish<S: Source, M: Maker, O: Sink, E: Sink>(
+    alloc: Global,
+    request: &CutRequest<'_>,
+    source: &mut S,
+    maker: &mut M,
+    out: &mut O,
+    err: &mut E,
+) -> Result<u8, Stop>
+    ensures { IfOk result (λ status. (kept : ℕ) × EndsByKept kept status (E.taken err.old) (E.taken err.new)) }
+{
+    check_repeatable(alloc, source, &request.captures)?;
+    let status = run_cut(alloc, request, source, maker, out, err)?;
+    maker.publish()?;
+    Ok(status)
+}
+
+/// Prints what captures have, which are read twice.
+fn look<S: Source, O: Sink>(
+    alloc: Global,
+    request: &LookRequest<'_>,
+    source: &mut S,
+    out: &mut O,
+) -> Result<u8, Stop>
+    ensures { IsSuccess result }
+{
+    check_repeatable(alloc, source, &request.captures)?;
+    run_look(alloc, request, source, out)
 }
 
 /// Does what is requested, and returns the exit status.
@@ -97,9 +160,9 @@ fn run_request<S: Source, M: Maker, O: Sink, E: Sink>(
             };
             run_policy(alloc, file, &asked, source, out, err)
         }
-        Request::Look(asked) => run_look(alloc, asked, source, out),
-        Request::Cut(words) => run_cut(alloc, words, source, maker, out, err),
-        Request::Translate(asked) => run_translate(alloc, asked, source, maker, out),
+        Request::Look(asked) => look(alloc, asked, source, out),
+        Request::Cut(words) => cut_and_publish(alloc, words, source, maker, out, err),
+        Request::Translate(asked) => run_translate(alloc, asked, source, maker, out, err),
         Request::Reassemble(asked) => run_reassemble(alloc, asked, source, maker, out),
         Request::Users(asked) => run_users(alloc, asked, source, out, err),
         Request::Help(page) => {
@@ -135,14 +198,15 @@ pub fn run<N: AsStr, S: Source, M: Maker, O: Sink, E: Sink>(
     let request = match read_words(alloc, words) {
         Ok(request) => request,
         Err(_) => {
-            put_line(alloc, err, &Stop::Memory);
+            put_no_memory(err);
             return Stop::Memory.status();
         }
     };
     match run_request(alloc, &request, source, maker, out, err) {
         Ok(status) => status,
         Err(stop) => {
-            put_line(alloc, err, &stop);
+            maker.discard();
+            put_stop(alloc, source, maker, &stop, err);
             stop.status()
         }
     }

@@ -16,7 +16,7 @@ use crate::maker::{Maker, append_all};
 use crate::recording::record_captures;
 use crate::source::Source;
 use crate::stop::Stop;
-use crate::text::read_text;
+use crate::text::read_policy_text;
 use audit_model::{Listed, Sink, put_all, read_policy};
 use prep_cut::{Allocations, LineNumber, Plan, Stated};
 use prep_reasons::{Proposed, decide};
@@ -102,7 +102,7 @@ fn plan_of<S: Source>(
         IfOk result (λ planned. IsPlanOf planned.plan request.now.stated policy captures) }
 {
     let stated = request.stated;
-    let text = read_text(alloc, source, request.policy)?;
+    let text = read_policy_text(alloc, source, request.policy)?;
     let policy = read_policy(alloc, &text)?;
     let mut records = record_captures(alloc, source, &request.captures, &policy, stated)?;
     let allocations = mem::replace(&mut records.allocations, Allocations::new(alloc));

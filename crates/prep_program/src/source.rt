@@ -3,6 +3,10 @@
 ghost use Rattle.std.specs.Prelude.{◌≡◌, ◌≤◌, ℕ, IfOk, List, Some, length};
 ghost use Rattle.prep_program.specs.Pieces.{IsPieceAt};
 
+use crate::stop::Stop;
+use host_files::Failure;
+use std::alloc::Global;
+
 /// How many bytes are asked for at once.
 pub const PIECE: usize = 65_536;
 
@@ -22,4 +26,20 @@ pub trait Source {
         ensures within { IfOk result (λ n. n ≤ length into.old) }
         ensures kept { holds self.new ≡ holds self.old }
         ensures bytes { (bytes : List ℕ) → holds self.old name.now ≡ Some bytes → IfOk result (λ n. IsPieceAt bytes at n into.new) };
+
+    /// Whether a file can be read more than once, as a pipe can't.
+    fn is_repeatable(&self, name: &str) -> bool;
+
+    /// The file that couldn't be read, and why; none where none was noted.
+    fn failure(&self) -> Option<&Failure>;
+}
+
+/// Refuses captures of which one can't be read twice, before any is read.
+pub fn check_repeatable<S: Source>(alloc: Global, source: &S, names: &[&str]) -> Result<(), Stop> {
+    for name in names {
+        if !source.is_repeatable(name) {
+            return Err(Stop::ReadOnce(String::from_str(alloc, name)?));
+        }
+    }
+    Ok(())
 }

@@ -4,10 +4,13 @@ ghost use Rattle.std.specs.Prelude.{◌≡◌};
 ghost use Rattle.prep_program.specs.Stops.{status_of_stop};
 
 use crate::maker::MakeFault;
+use crate::reason::Reason;
 use crate::ring_name::Gap;
 use crate::source::ReadFailed;
+use crate::text_fault::TextFault;
 use audit_model::{PolicyFault, PolicyFaultKind, SinkFailed};
 use audit_pcapng::CaptureFault;
+use explain_text::Escaped;
 use prep_coturn::ConfFault;
 use prep_cut::{CutFault, CutRefused};
 use prep_fragments::Refused as ReassembleRefused;
@@ -23,6 +26,10 @@ use std::fmt;
 pub enum Stop {
     /// No policy is made of a configuration.
     Conf(ConfFault),
+    /// A file is no configuration.
+    Text(TextFault),
+    /// The capture of this name can't be read twice.
+    ReadOnce(String),
     /// A capture was refused.
     Capture(Refused),
     /// A capture was refused that is to be cut.
@@ -62,6 +69,7 @@ impl Stop {
     {
         match self {
             Stop::Conf(_) | Stop::Capture(_) | Stop::Missing(_) => 2,
+            Stop::Text(_) | Stop::ReadOnce(_) => 2,
             Stop::Policy(_)
             | Stop::Renaming(_)
             | Stop::Translate(_)
@@ -96,10 +104,21 @@ impl Stop {
 /// The line that goes to standard error, without its end.
 impl fmt::Display for Stop {
     fn fmt<W: fmt::Write>(&self, f: &mut fmt::Formatter<W>) -> fmt::Result {
+        let reason = Reason { stop: self };
         match self {
             Stop::Conf(fault) => write!(f, "refused {fault}"),
-            Stop::Capture(refused) => write!(f, "refused {refused}"),
-            Stop::Cut(refused) => write!(f, "refused {refused}"),
+            Stop::Text(fault) => write!(f, "refused {fault}"),
+            Stop::ReadOnce(name) => {
+                let name = Escaped {
+                    bytes: name.as_bytes(),
+                };
+                write!(
+                    f,
+                    "refused {name}: it has to be a file that can be read twice"
+                )
+            }
+            Stop::Capture(refused) => write!(f, "refused {refused}{reason}"),
+            Stop::Cut(refused) => write!(f, "refused {refused}{reason}"),
             Stop::Missing(gap) => {
                 let capture = gap.capture;
                 let earlier = capture.saturating_sub(1);
@@ -113,11 +132,11 @@ impl fmt::Display for Stop {
             Stop::Policy(fault) => {
                 let code = fault.kind.code();
                 let line = fault.line;
-                write!(f, "refused {code} in policy line {line}")
+                write!(f, "refused {code} in policy line {line}{reason}")
             }
             Stop::Renaming(fault) => write!(f, "refused {fault}"),
-            Stop::Translate(refused) => write!(f, "refused {refused}"),
-            Stop::Reassemble(refused) => write!(f, "refused {refused}"),
+            Stop::Translate(refused) => write!(f, "refused {refused}{reason}"),
+            Stop::Reassemble(refused) => write!(f, "refused {refused}{reason}"),
             Stop::Users(fault) => write!(f, "refused {fault}"),
             Stop::Guess(fault) => write!(f, "refused {fault}"),
             Stop::SameName(capture) => write!(
@@ -126,8 +145,8 @@ impl fmt::Display for Stop {
             ),
             Stop::Words(text) => f.write_str(text),
             Stop::Memory => f.write_str("out of memory"),
-            Stop::Read => f.write_str("read failed"),
-            Stop::Write => f.write_str("write failed"),
+            Stop::Read => f.write_str("a file can't be read"),
+            Stop::Write => f.write_str("the answer can't be written"),
             Stop::Exists => f.write_str("a file of that name exists"),
         }
     }
@@ -162,6 +181,7 @@ impl From<MakeFault> for Stop {
         match fault {
             MakeFault::Exists => Stop::Exists,
             MakeFault::Failed => Stop::Write,
+            MakeFault::Memory => Stop::Memory,
         }
     }
 }

@@ -1,13 +1,19 @@
-//! Texts that are read whole.
+//! Texts that are kept whole, and checked while they are read.
 
 ghost use Rattle.std.specs.Prelude.{◌≡◌, ℕ, List, Some, IfOk};
 
 use crate::source::{PIECE, Source};
 use crate::stop::Stop;
+use crate::text_check::{ConfCheck, PolicyCheck, TextCheck};
 use std::alloc::Global;
 
-/// The bytes of a file, from its first to its last.
-pub fn read_text<S: Source>(alloc: Global, source: &mut S, name: &str) -> Result<Vec<u8>, Stop>
+/// The bytes of a file, from its first to its last, unless the check refuses what was read so far.
+fn read_checked<S: Source, C: TextCheck>(
+    alloc: Global,
+    source: &mut S,
+    name: &str,
+    check: &mut C,
+) -> Result<Vec<u8>, Stop>
     ensures kept { S.holds source.new ≡ S.holds source.old }
     ensures whole { (bytes : List ℕ) → S.holds source.old name.now ≡ Some bytes → IfOk result (λ text. text.items ≡ bytes) }
 {
@@ -20,10 +26,31 @@ pub fn read_text<S: Source>(alloc: Global, source: &mut S, name: &str) -> Result
             return Ok(text);
         }
         text.extend_from_slice(&piece[..read])?;
+        check.take(&piece[..read])?;
         let Some(next) = at.checked_add(read as u64) else {
             return Err(Stop::Read);
         };
         at = next;
     }
     Err(Stop::Read)
+}
+
+/// The bytes of a policy's file. A wrong file is refused at its first fault, and not read on.
+pub fn read_policy_text<S: Source>(
+    alloc: Global,
+    source: &mut S,
+    name: &str,
+) -> Result<Vec<u8>, Stop>
+    ensures kept { S.holds source.new ≡ S.holds source.old }
+    ensures whole { (bytes : List ℕ) → S.holds source.old name.now ≡ Some bytes → IfOk result (λ text. text.items ≡ bytes) }
+{
+    read_checked(alloc, source, name, &mut PolicyCheck::new(alloc))
+}
+
+/// The bytes of a configuration's file. A file that no configuration is, is refused where that shows, and not read on.
+pub fn read_conf_text<S: Source>(alloc: Global, source: &mut S, name: &str) -> Result<Vec<u8>, Stop>
+    ensures kept { S.holds source.new ≡ S.holds source.old }
+    ensures whole { (bytes : List ℕ) → S.holds source.old name.now ≡ Some bytes → IfOk result (λ text. text.items ≡ bytes) }
+{
+    read_checked(alloc, source, name, &mut ConfCheck::new())
 }

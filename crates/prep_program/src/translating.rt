@@ -5,12 +5,13 @@ ghost use Rattle.prep_blocks.specs.declared.block.Block.{Block};
 ghost use Rattle.prep_translate.specs.Translating.{IsDone, IsTranslating};
 ghost use Rattle.prep_program.specs.Translations.{Translates};
 ghost use Rattle.prep_program.specs.Answered.{IsSuccess};
+ghost use Rattle.prep_program.specs.TranslateStatus.{EndsByTranslated};
 
 use crate::folder::{check_parts, last_part, path_in};
 use crate::maker::Maker;
 use crate::source::{PIECE, Source};
 use crate::stop::Stop;
-use crate::text::read_text;
+use crate::text::read_policy_text;
 use audit_model::{Policy, Sink, put_all, read_policy};
 use audit_pcapng::CaptureFault;
 use prep_translate::{
@@ -125,17 +126,35 @@ fn report_of(alloc: Global, translations: &[Translation]) -> Result<String, Allo
     Ok(report)
 }
 
-/// Translates captures to files of their names in a folder, and writes what was translated there and to `out`.
-pub fn run_translate<S: Source, M: Maker, O: Sink>(
+/// What standard error has if no datagram is translated.
+const NOTHING_TRANSLATED: &str =
+    "turnprep: translated 0 datagrams: the captures have no private address of --external-ip at a relayed port\n";
+
+/// The exit status of a call that translated so many datagrams. If there are none, it says so on `err`.
+fn end_translate<E: Sink>(total: u64, err: &mut E) -> Result<u8, Stop>
+    ensures done { IsSuccess result }
+    ensures said { IfOk result (λ status. EndsByTranslated total status (E.taken err.old) (E.taken err.new)) }
+{
+    if total > 0 {
+        return Ok(0);
+    }
+    put_all(err, NOTHING_TRANSLATED.as_bytes())?;
+    Ok(0)
+}
+
+/// Translates captures to files of their names in a folder, and writes what was translated there and to `out`. If no datagram is translated,
+/// it says so on `err`.
+pub fn run_translate<S: Source, M: Maker, O: Sink, E: Sink>(
     alloc: Global,
     request: &TranslateRequest<'_>,
     source: &mut S,
     maker: &mut M,
     out: &mut O,
+    err: &mut E,
 ) -> Result<u8, Stop>
     ensures { IsSuccess result }
 {
-    let text = read_text(alloc, source, request.policy)?;
+    let text = read_policy_text(alloc, source, request.policy)?;
     let policy = read_policy(alloc, &text)?;
     let renaming = renaming_of(alloc, policy, &request.translations)?;
     check_parts(&request.captures)?;
@@ -155,5 +174,6 @@ pub fn run_translate<S: Source, M: Maker, O: Sink>(
     maker.make(file.as_str())?;
     put_all(maker, report.as_bytes())?;
     put_all(out, report.as_bytes())?;
-    Ok(0)
+    maker.publish()?;
+    end_translate(total, err)
 }

@@ -4,7 +4,7 @@ ghost use Rattle.prep_program.specs.Answered.{IsSuccess};
 
 use crate::source::{PIECE, Source};
 use crate::stop::Stop;
-use crate::text::read_text;
+use crate::text::read_conf_text;
 use audit_model::{Listed, Sink, put_all};
 use audit_pcapng::CaptureFault;
 use prep_join::JoinFault;
@@ -106,7 +106,7 @@ pub fn run_users<S: Source, O: Sink, E: Sink>(
             write_signed(alloc, roll, captures, source, out, err)
         }
         UsersSource::Configuration(file) => {
-            let text = read_text(alloc, source, file)?;
+            let text = read_conf_text(alloc, source, file)?;
             let realm = request.realm.map(|realm| realm.as_bytes());
             match wanted_of(alloc, &text, realm)? {
                 Wanted::Named(accounts) => {

@@ -3,25 +3,40 @@
 ghost use Rattle.std.specs.Prelude.{◌≡◌, None};
 
 use audit_model::{Sink, SinkFailed};
+use host_files::{Failure, NewFault, NewFiles, is_repeatable};
 use prep_program::{MakeFault, Maker, ReadFailed, Source};
-use std::fs;
+use std::alloc::Global;
 use std::fs::File;
-use std::io::{ErrorKind, Read, Write};
+use std::io::{Read, Write};
 use std::rt::Files;
+use std::{fs, io};
 
 /// The files of the machine, each read from front to back, one at a time.
 #[derive(Drop)]
 pub struct HostFiles<'r, R: Files<File = File>> {
     rt: &'r R,
+    alloc: Global,
     opened: Option<File>,
+    failure: Option<Failure>,
 }
 
 impl<'r, R: Files<File = File>> HostFiles<'r, R> {
     /// No file is open.
-    pub fn new(rt: &'r R) -> Self
+    pub fn new(rt: &'r R, alloc: Global) -> Self
         ensures { result.opened ≡ None }
     {
-        HostFiles { rt, opened: None }
+        HostFiles {
+            rt,
+            alloc,
+            opened: None,
+            failure: None,
+        }
+    }
+
+    /// Notes why a file can't be read. Without memory for that, it is not noted.
+    fn fail(&mut self, name: &str, error: io::Error) -> ReadFailed {
+        self.failure = Failure::new(self.alloc, name, error).ok();
+        ReadFailed
     }
 }
 
@@ -34,7 +49,7 @@ impl<R: Files<File = File>> Source for HostFiles<'_, R> {
         if at == 0 {
             match fs::open(self.rt, name) {
                 Ok(file) => self.opened = Some(file),
-                Err(_) => return Err(ReadFailed),
+                Err(error) => return Err(self.fail(name, error)),
             }
         }
         let Some(file) = &mut self.opened else {
@@ -42,24 +57,40 @@ impl<R: Files<File = File>> Source for HostFiles<'_, R> {
         };
         match file.read(into) {
             Ok(read) => Ok(read),
-            Err(_) => Err(ReadFailed),
+            Err(error) => Err(self.fail(name, error)),
         }
+    }
+
+    fn is_repeatable(&self, name: &str) -> bool {
+        is_repeatable(self.rt, name)
+    }
+
+    fn failure(&self) -> Option<&Failure> {
+        self.failure.as_ref()
     }
 }
 
 /// New files of the machine, one at a time.
 #[derive(Drop)]
 pub struct HostMaker<'r, R: Files<File = File>> {
-    rt: &'r R,
-    made: Option<File>,
+    files: NewFiles<'r, R>,
 }
 
 impl<'r, R: Files<File = File>> HostMaker<'r, R> {
     /// No file is made.
-    pub fn new(rt: &'r R) -> Self
-        ensures { result.made ≡ None }
-    {
-        HostMaker { rt, made: None }
+    pub fn new(rt: &'r R, alloc: Global) -> Self {
+        HostMaker {
+            files: NewFiles::new(rt, alloc),
+        }
+    }
+}
+
+/// Why a file isn't made, for the program.
+fn fault_of(fault: NewFault) -> MakeFault {
+    match fault {
+        NewFault::Exists => MakeFault::Exists,
+        NewFault::Failed => MakeFault::Failed,
+        NewFault::Memory => MakeFault::Memory,
     }
 }
 
@@ -71,10 +102,7 @@ impl<R: Files<File = File>> Sink for HostMaker<'_, R> {
     ghost failures = { λ _. None };
 
     fn put(&mut self, piece: &[u8]) -> Result<usize, SinkFailed> {
-        let Some(file) = &mut self.made else {
-            return Err(SinkFailed);
-        };
-        match file.write(piece) {
+        match self.files.write(piece) {
             Ok(taken) => Ok(taken),
             Err(_) => Err(SinkFailed),
         }
@@ -87,18 +115,29 @@ impl<R: Files<File = File>> Maker for HostMaker<'_, R> {
     ghost making = { λ _. None };
 
     fn make(&mut self, name: &str) -> Result<(), MakeFault> {
-        match File::create_new(self.rt, name) {
-            Ok(file) => {
-                self.made = Some(file);
-                Ok(())
-            }
-            Err(error) if error.kind() == ErrorKind::AlreadyExists => Err(MakeFault::Exists),
-            Err(_) => Err(MakeFault::Failed),
+        match self.files.make(name) {
+            Ok(()) => Ok(()),
+            Err(fault) => Err(fault_of(fault)),
         }
     }
 
     fn append(&mut self, piece: &[u8]) -> Result<usize, SinkFailed> {
         self.put(piece)
+    }
+
+    fn publish(&mut self) -> Result<(), MakeFault> {
+        match self.files.publish() {
+            Ok(()) => Ok(()),
+            Err(fault) => Err(fault_of(fault)),
+        }
+    }
+
+    fn discard(&mut self) {
+        self.files.discard();
+    }
+
+    fn failure(&self) -> Option<&Failure> {
+        self.files.failure()
     }
 }
 

@@ -38,8 +38,8 @@ fn main(rt: HostRuntime) -> ExitCode {
         Ok(words) => run(
             alloc,
             &words,
-            &mut HostFiles::new(&rt),
-            &mut HostMaker::new(&rt),
+            &mut HostFiles::new(&rt, alloc),
+            &mut HostMaker::new(&rt, alloc),
             &mut out,
             &mut err,
         ),

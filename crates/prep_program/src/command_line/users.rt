@@ -11,7 +11,9 @@ use crate::users::{UsersRequest, UsersSource};
 use clap::ArgMatches;
 use std::alloc::{AllocError, Global};
 
-const ONE_SOURCE: &str = "turnprep: users takes --turnserver-conf or --secret, and not both\n";
+const NO_SOURCE: &str = "turnprep: users takes --turnserver-conf or --secret\n";
+
+const TWO_SOURCES: &str = "turnprep: users takes --turnserver-conf or --secret, and not both\n";
 
 /// Where the users come from, if it is one of both.
 fn source_of<'a>(matches: &ArgMatches<'a>) -> Option<UsersSource<'a>>
@@ -28,6 +30,14 @@ fn source_of<'a>(matches: &ArgMatches<'a>) -> Option<UsersSource<'a>>
     }
 }
 
+/// What is wrong if it isn't one of both.
+fn wrong_source(matches: &ArgMatches<'_>) -> &'static str {
+    match value_of(matches, "secret") {
+        Some(_) => TWO_SOURCES,
+        None => NO_SOURCE,
+    }
+}
+
 /// The request that the arguments are.
 pub fn users_request<'a>(
     alloc: Global,
@@ -37,7 +47,7 @@ pub fn users_request<'a>(
     ensures none { IfOk result (λ found. IfNone found (NamesNothing (Some (codes "users", rows_of (found_of matches.now))))) }
 {
     let Some(source) = source_of(matches) else {
-        return usage(alloc, ONE_SOURCE);
+        return usage(alloc, wrong_source(matches));
     };
     Ok(Some(Request::Users(UsersRequest {
         source,

@@ -25,5 +25,5 @@ returns g c =
       said,
       c.run_request.ensures,
       c.status-in-Err-run_request.ensures ∙ sym (ap status_given c.in-Err-run_request.is),
-      subst (λ done. OnOk done (g.E.Sink.taken c.put_line-in-Err-run_request.new.sink ≡ said)) (sym c.in-Err-run_request.is) tt,
+      subst (λ done. OnOk done (g.E.Sink.taken c.put_stop.new.err ≡ said)) (sym c.in-Err-run_request.is) tt,
     )

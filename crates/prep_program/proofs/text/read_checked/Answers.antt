@@ -2,7 +2,7 @@ use Rattle.std.proofs.Common.{◌≡◌, ◌++◌, ◌≤◌, ◌∙◌, ℕ, Li
 use Rattle.std.proofs.lemmas.List.{take_all}
 use Rattle.prep_program.specs.Pieces.{IsPieceAt}
 use Rattle.prep_program.proofs.Pieces.{read_of, fed_more}
-use Rattle.prep_program.proofs.text.read_text.Goals as goal
+use Rattle.prep_program.proofs.text.read_checked.Goals as goal
 
 pub pieces-init : goal.pieces-init
 pieces-init g c = record {

@@ -1,12 +1,14 @@
 #!/usr/bin/env python3
-"""Refuses turnprep each allocation, each opening, each read and each write in turn.
+"""Refuses turnprep each allocation, each opening, read, write, sync and link in turn.
 
-    tests/prepare_fails.py TURNPREP
+    tests/failing_calls.py TURNPREP [--every N]
 
-Of an allocation that is refused comes status 3, of the others status 4, each with one line; what stands on standard output
-is a front of the answer. Reads and writes of a byte at a time change nothing. It needs gcc.
+If an allocation is refused, the status is 3, else 4, each with one line; what is on standard output is the beginning of the answer, and no
+file is left. Reads and writes of a byte at a time change nothing. With `--every 10` each tenth call of a command fails, the first 300 of
+them all. It needs gcc.
 """
 
+import argparse
 import os
 import pathlib
 import subprocess
@@ -15,16 +17,20 @@ import tempfile
 
 HERE = pathlib.Path(__file__).resolve().parent
 # The commands, each on a small input. OUT is a folder.
-COMMANDS = {
+PREPARING = {
     "join": "join -o OUT/ring.pcapng inputs/ring1.pcapng inputs/ring2.pcapng",
     "policy": "policy --turnserver-conf inputs/two.conf",
     "users": "users --secret north --realm realm inputs/rest-secret.pcapng",
+    "users of a configuration": "users --turnserver-conf inputs/plain.conf",
     "translate": "translate --policy inputs/policy-outer --external-ip 198.18.0.1/192.0.2.1 -o OUT inputs/external-ip.pcapng",
     "reassemble": "reassemble -o OUT inputs/external-ip.pcapng",
+    "look": "look --policy inputs/policy inputs/relay2relay-coturn.pcapng",
+    "look without a policy": "look inputs/relay2relay-coturn.pcapng",
     "cut": "cut --policy inputs/policy -o OUT inputs/relay2relay-coturn.pcapng",
 }
 # Standard error where nothing failed: how many calls there were.
 COUNTED = ("allocations: ", "calls: ")
+FIRST = 300
 
 
 def built(room, name):
@@ -35,7 +41,7 @@ def built(room, name):
 
 
 def run(program, words, room, **environment):
-    """What a command does in a folder of its own: its status, what it tells, and what it wrote."""
+    """What a command does in a folder of its own: its status, what it prints, and what it wrote."""
     with tempfile.TemporaryDirectory(dir=room) as folder:
         # Paths from the root don't count as calls that may fail.
         out = os.path.relpath(folder, HERE / "prepare")
@@ -49,42 +55,48 @@ def run(program, words, room, **environment):
     return done, written
 
 
-def told(done):
+def said(done):
     """Standard error without the line that counts calls."""
     lines = done.stderr.decode().splitlines()
     return [line for line in lines if not line.startswith(COUNTED)]
 
 
-def fail_each(program, name, words, room, library, status, most=20_000):
-    """Fails each call in turn, until none is left: the faults, and how many there were."""
+def fail_each(program, name, words, room, library, status, every, most=200_000):
+    """Fails calls in turn, until none is left: the faults, and how many there were."""
     whole, _ = run(program, words, room)
     faults, number = [], 0
     while number < most:
-        number += 1
-        done, _ = run(program, words, room, LD_PRELOAD=library, FAIL_AT=number)
-        if done.returncode == whole.returncode and done.stdout == whole.stdout:
+        number += 1 if number < FIRST else every
+        done, written = run(program, words, room, LD_PRELOAD=library, FAIL_AT=number)
+        if done.returncode == whole.returncode and done.stdout == whole.stdout and said(done) == said(whole):
             return faults, number - 1
-        if done.returncode != status or len(told(done)) != 1 or not whole.stdout.startswith(done.stdout):
+        if done.returncode != status or len(said(done)) != 1 or not whole.stdout.startswith(done.stdout):
             faults.append(f"{name}, {library.stem} {number}: status {done.returncode}, {done.stderr[:200]!r}")
+        if written:
+            faults.append(f"{name}, {library.stem} {number}: left {sorted(written)}")
     return [*faults, f"{name}: more than {most} calls"], number
 
 
 def main():
-    program = pathlib.Path(sys.argv[1]).resolve()
+    words = argparse.ArgumentParser(description="Refuses turnprep each allocation and each call on a file.")
+    words.add_argument("prepare", type=pathlib.Path)
+    words.add_argument("--every", type=int, default=1)
+    asked = words.parse_args()
     faults = []
     with tempfile.TemporaryDirectory(dir=HERE) as room:
         memory, files = built(room, "failing_malloc"), built(room, "failing_io")
-        for name, words in COMMANDS.items():
-            found, allocations = fail_each(program, name, words, room, memory, 3)
-            more, calls = fail_each(program, name, words, room, files, 4)
+        program = asked.prepare.resolve()
+        for name, words in PREPARING.items():
+            found, allocations = fail_each(program, name, words, room, memory, 3, asked.every)
+            more, calls = fail_each(program, name, words, room, files, 4, 1)
             whole, short = (run(program, words, room), run(program, words, room, LD_PRELOAD=files, SHORT=1))
             faults += found + more
-            if (whole[0].stdout, whole[0].returncode, whole[1]) != (short[0].stdout, short[0].returncode, short[1]):
+            if (whole[0].stdout, whole[0].returncode, sorted(whole[1])) != (short[0].stdout, short[0].returncode, sorted(short[1])):
                 faults.append(f"{name}: answers otherwise by a byte at a time")
-            print(f"{name}: {allocations} allocations and {calls} calls failed in turn")
-    for fault in faults:
+            print(f"{name}: {allocations} allocations and {calls} calls failed in turn", flush=True)
+    for fault in faults[:40]:
         print(fault)
-    print(f"{len(faults)} failed")
+    print(f"failing calls: {len(faults)} failed")
     return 1 if faults else 0
 
 

@@ -1,5 +1,5 @@
 use Rattle.std.proofs.Common.{◌≡◌, ◌<◌, ℕ, List, Some, take}
-use Rattle.prep_program.proofs.text.read_text.Given as goal
+use Rattle.prep_program.proofs.text.read_checked.Given as goal
 
 -- the bytes up to the offset are read
 abbrev pub invariant-pieces : goal.invariant-pieces

@@ -1,0 +1,156 @@
+#!/usr/bin/env python3
+"""Gives turnprep damaged captures, policies and configurations, and looks at how it answers.
+
+    python3 tests/fuzz_beside.py TURNPREP [--seconds 60] [--seed N] [--jobs N] [--keep FOLDER] FOLDER..
+
+A folder is a stored case: policy, captures, perhaps creds. Captures are cut to their first blocks. Each try damages one or more files
+(tests/fuzz.py), runs three of the commands on them, and stops where
+
+- a status isn't one of the command's, a signal ended the program, or a run took over 10 seconds;
+- what is written doesn't belong to the status: a refusal is one line on standard error, and nothing else;
+- something that is printed has a control byte;
+- a file is left after a status that isn't 0 or 6, or one under its temporary name.
+
+The input that showed it is kept in FOLDER, with the arguments in `words`. The seed decides all tries; it is printed.
+"""
+
+import argparse
+import collections
+import concurrent.futures
+import os
+import pathlib
+import random
+import subprocess
+import sys
+import tempfile
+import time
+
+sys.path.insert(0, str(pathlib.Path(__file__).parent))
+
+from beside_plain import captures_in
+from fuzz import LONGEST, Stored, damaged, front_of
+from plain.reading import read_policy
+
+CONF = (pathlib.Path(__file__).parent / "prepare" / "inputs" / "secret.conf").read_bytes()
+ENDS = {0, 2, 3, 4}
+"""The statuses of every command; `cut` has 6, too."""
+
+
+class Case:
+    """A stored case, from which tries are made."""
+
+    def __init__(self, folder):
+        captures = captures_in(folder)
+        self.files = {f"capture{number}": front_of(path.read_bytes()) for number, path in enumerate(captures)}
+        self.captures = list(self.files)
+        self.policy = read_policy(folder / "policy")
+        self.files["policy"] = (folder / "policy").read_bytes()
+        self.files["conf"] = CONF
+        if (folder / "creds").exists():
+            self.files["creds"] = (folder / "creds").read_bytes()
+
+    def commands(self, chance):
+        """Three commands on the files."""
+        lines = self.files["policy"].decode().splitlines()
+        address = lines[1].split(" ")[1].partition(":")[0]
+        prepares = [
+            ["look", *self.captures],
+            ["look", "--policy", "policy", *self.captures],
+            ["cut", "--policy", "policy", "-o", "out", *self.captures],
+            ["cut", "--policy", "policy", "--from-start", "--no-tcp", "-o", "out", *self.captures],
+            ["cut", "--policy", "policy", "--released-ms", "1000", "-o", "out", *self.captures],
+            ["join", "-o", "out/joined", *self.captures],
+            ["reassemble", "-o", "out", *self.captures],
+            ["translate", "--policy", "policy", "--external-ip", f"{address}/10.0.0.1", "-o", "out", *self.captures],
+            ["policy", "--turnserver-conf", "conf"],
+            ["users", "--turnserver-conf", "conf", *self.captures],
+            ["users", "--secret", "north", *self.captures],
+        ]
+        return chance.sample(prepares, 3)
+
+
+def has_control(data):
+    """Whether a terminal would act on one of the bytes."""
+    return any(byte < 32 and byte not in b"\n\t" or byte == 127 for byte in data)
+
+
+def fault_of(words, done, seconds, left):
+    """What is wrong with what a command did, or None."""
+    also = {"cut": {6}}.get(words[0], set())
+    if seconds > LONGEST:
+        return f"took over {LONGEST} seconds"
+    if done.returncode not in ENDS | also:
+        return f"status {done.returncode}, {done.stderr[:300]!r}"
+    if has_control(done.stdout) or has_control(done.stderr):
+        return "a control byte"
+    is_done = done.returncode in (0, 6)
+    if not is_done and (done.stdout or done.stderr.count(b"\n") != 1 or not done.stderr.startswith(b"turnprep: ")):
+        return f"status {done.returncode} with {done.stdout[:200]!r} and {done.stderr[:300]!r}"
+    if not is_done and left or any(file.endswith(".part") for file in left):
+        return f"status {done.returncode} leaves {left}"
+    if is_done and "-o" in words and not left:
+        return "writes nothing"
+    return None
+
+
+def tried(program, cases, seed, number, keep):
+    """What is wrong with the answers to a try, or None; and how often each status came."""
+    statuses = collections.Counter()
+    chance = random.Random(f"{seed} {number}")
+    case = cases[number % len(cases)]
+    files = dict(case.files)
+    for _ in range(chance.choice((1, 1, 1, 2, 5))):
+        name = chance.choice([*case.captures, *case.captures, *sorted(files)])
+        files[name] = damaged(chance, case.policy, name, files[name], files[name] is case.files[name])
+    for words in case.commands(chance):
+        with tempfile.TemporaryDirectory() as place:
+            place = pathlib.Path(place)
+            (place / "out").mkdir()
+            Stored.write(place, files)
+            began = time.monotonic()
+            try:
+                done = subprocess.run([program, *words], cwd=place, capture_output=True, timeout=4 * LONGEST)
+                left = sorted(file.name for file in (place / "out").iterdir())
+                what = fault_of(words, done, time.monotonic() - began, left)
+                statuses[f"{words[0]} {done.returncode}"] += 1
+            except subprocess.TimeoutExpired:
+                what = f"took over {4 * LONGEST} seconds"
+        if what:
+            keep = keep / f"{seed}-{number}"
+            keep.mkdir(parents=True, exist_ok=True)
+            Stored.write(keep, files)
+            (keep / "words").write_text(" ".join(words) + "\n")
+            return f"try {number}: {' '.join(words)}: {what}\n    kept in {keep}", statuses
+    return None, statuses
+
+
+def main():
+    words = argparse.ArgumentParser(description="Gives turnprep damaged input.")
+    words.add_argument("prepare", type=pathlib.Path)
+    words.add_argument("folders", type=pathlib.Path, nargs="+")
+    words.add_argument("--seconds", type=float, default=60)
+    words.add_argument("--seed", type=int, default=int(time.time()))
+    words.add_argument("--jobs", type=int, default=os.cpu_count() or 1)
+    words.add_argument("--keep", type=pathlib.Path, default=pathlib.Path("fuzz-kept"))
+    asked = words.parse_args()
+    program = asked.prepare.resolve()
+    cases = [Case(folder) for folder in asked.folders if (folder / "policy").exists() and captures_in(folder)]
+    print(f"seed {asked.seed}, {len(cases)} stored cases")
+    end, number, wrong, statuses = time.monotonic() + asked.seconds, 0, [], collections.Counter()
+    with concurrent.futures.ThreadPoolExecutor(asked.jobs) as pool:
+        while time.monotonic() < end and not wrong:
+            batch = range(number, number + 8 * asked.jobs)
+            for what, counted in pool.map(lambda n: tried(program, cases, asked.seed, n, asked.keep), batch):
+                statuses.update(counted)
+                if what:
+                    wrong.append(what)
+            number = batch.stop
+    for what in wrong[:10]:
+        print(what)
+    print("statuses: " + ", ".join(f"{words} {count} times" for words, count in sorted(statuses.items())))
+    print(f"{number} tries, {len(wrong)} wrong")
+    sys.exit(1 if wrong else 0)
+
+
+if __name__ == "__main__":
+    main()
