@@ -119,6 +119,7 @@ test:
 	python3 tests/failing_calls.py $(PREPARES) --every 10
 	python3 tests/wrong_files.py $(PREPARES)
 	python3 tests/looking.py $(PREPARES)
+	python3 tests/progress.py $(PREPARES)
 	python3 tests/fragments.py $(PREPARES) $(PROGRAM)
 	python3 tests/shown_faults.py $(EXPLAINS) $(PROGRAM)
 	python3 tests/explain.py $(EXPLAINS)

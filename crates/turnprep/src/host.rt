@@ -4,32 +4,49 @@ ghost use Rattle.std.specs.Prelude.{◌≡◌, None};
 
 use audit_model::{Sink, SinkFailed};
 use host_files::{Failure, NewFault, NewFiles, is_repeatable};
+use host_progress::Progress;
 use prep_program::{MakeFault, Maker, ReadFailed, Source};
 use std::alloc::Global;
 use std::fs::File;
 use std::io::{Read, Write};
 use std::rt::Files;
+use std::time::Clock;
 use std::{fs, io};
 
 /// The files of the machine, each read from front to back, one at a time.
 #[derive(Drop)]
-pub struct HostFiles<'r, R: Files<File = File>> {
+pub struct HostFiles<'r, R: Files<File = File> + Clock> {
     rt: &'r R,
     alloc: Global,
+    /// The line on a terminal that says how far a file is read.
+    progress: &'r Progress<'r, R>,
     opened: Option<File>,
     failure: Option<Failure>,
 }
 
-impl<'r, R: Files<File = File>> HostFiles<'r, R> {
+impl<'r, R: Files<File = File> + Clock> HostFiles<'r, R> {
     /// No file is open.
-    pub fn new(rt: &'r R, alloc: Global) -> Self
+    pub fn new(rt: &'r R, alloc: Global, progress: &'r Progress<'r, R>) -> Self
         ensures { result.opened ≡ None }
     {
         HostFiles {
             rt,
             alloc,
+            progress,
             opened: None,
             failure: None,
+        }
+    }
+
+    /// Opens a file, in the place of the one that is open.
+    fn open(&mut self, name: &str) -> Result<(), ReadFailed> {
+        match fs::open(self.rt, name) {
+            Ok(file) => {
+                self.progress.begin(size_of(&file));
+                self.opened = Some(file);
+                Ok(())
+            }
+            Err(error) => Err(self.fail(name, error)),
         }
     }
 
@@ -40,23 +57,31 @@ impl<'r, R: Files<File = File>> HostFiles<'r, R> {
     }
 }
 
-impl<R: Files<File = File>> Source for HostFiles<'_, R> {
+/// The bytes that a file has, 0 where the system doesn't say.
+fn size_of(file: &File) -> u64 {
+    match file.metadata() {
+        Ok(metadata) => metadata.len(),
+        Err(_) => 0,
+    }
+}
+
+impl<R: Files<File = File> + Clock> Source for HostFiles<'_, R> {
     ghost use Rattle.std.specs.Prelude.{None};
 
     ghost holds = { λ _ _. None };
 
     fn piece(&mut self, name: &str, at: u64, into: &mut [u8]) -> Result<usize, ReadFailed> {
         if at == 0 {
-            match fs::open(self.rt, name) {
-                Ok(file) => self.opened = Some(file),
-                Err(error) => return Err(self.fail(name, error)),
-            }
+            self.open(name)?;
         }
         let Some(file) = &mut self.opened else {
             return Err(ReadFailed);
         };
         match file.read(into) {
-            Ok(read) => Ok(read),
+            Ok(read) => {
+                self.progress.advance(name, read);
+                Ok(read)
+            }
             Err(error) => Err(self.fail(name, error)),
         }
     }
@@ -149,20 +174,22 @@ pub fn hold_stream<R: Files<File = File>>(rt: &R) -> Option<File> {
 
 /// A stream of the machine. It claims nothing of what reaches it.
 #[derive(Drop)]
-pub struct HostStream<W: Write> {
+pub struct HostStream<'r, R: Files<File = File> + Clock, W: Write> {
     stream: W,
+    /// The line on a terminal, which goes before the stream is written to.
+    progress: &'r Progress<'r, R>,
 }
 
-impl<W: Write> HostStream<W> {
+impl<'r, R: Files<File = File> + Clock, W: Write> HostStream<'r, R, W> {
     /// The stream, of which nothing was written.
-    pub fn new(stream: W) -> Self
+    pub fn new(stream: W, progress: &'r Progress<'r, R>) -> Self
         ensures { result.stream ≡ stream }
     {
-        HostStream { stream }
+        HostStream { stream, progress }
     }
 }
 
-impl<W: Write> Sink for HostStream<W> {
+impl<R: Files<File = File> + Clock, W: Write> Sink for HostStream<'_, R, W> {
     ghost use Rattle.std.specs.Prelude.{None};
 
     ghost taken = { λ _. None };
@@ -170,6 +197,7 @@ impl<W: Write> Sink for HostStream<W> {
     ghost failures = { λ _. None };
 
     fn put(&mut self, piece: &[u8]) -> Result<usize, SinkFailed> {
+        self.progress.clear();
         let Ok(taken) = self.stream.write(piece) else {
             return Err(SinkFailed);
         };

@@ -5,6 +5,7 @@ mod host;
 
 use audit_model::{Sink, put_all};
 use host::{HostFiles, HostMaker, HostStream, hold_stream};
+use host_progress::Progress;
 use prep_program::run;
 use std::process::ExitCode;
 use std::rt::Env;
@@ -32,18 +33,20 @@ fn refuse_words<W: Sink>(err: &mut W, error: &io::Error) -> u8 {
 fn main(rt: HostRuntime) -> ExitCode {
     let _streams = (hold_stream(&rt), hold_stream(&rt), hold_stream(&rt));
     let alloc = rt.alloc();
-    let mut out = HostStream::new(rt.stdout());
-    let mut err = HostStream::new(rt.stderr());
+    let progress = Progress::new(&rt, alloc, "turnprep");
+    let mut out = HostStream::new(rt.stdout(), &progress);
+    let mut err = HostStream::new(rt.stderr(), &progress);
     let status = match words_of(&rt) {
         Ok(words) => run(
             alloc,
             &words,
-            &mut HostFiles::new(&rt, alloc),
+            &mut HostFiles::new(&rt, alloc, &progress),
             &mut HostMaker::new(&rt, alloc),
             &mut out,
             &mut err,
         ),
         Err(error) => refuse_words(&mut err, &error),
     };
+    progress.clear();
     ExitCode::from(status)
 }
