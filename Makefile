@@ -34,7 +34,7 @@ OUT = out
 ## deb          pack what is built, into out/: seconds; dpkg-deb and binutils
 ## test         every proof, all tests and the examples: 80 minutes, 12 GB
 ## edits        try all must-fail edits: hours; CRATES="audit_rules" of these alone
-## fuzz         damaged input for SECONDS=60, twice; proves and builds turnaudit and turnprep first
+## fuzz         damaged input, SECONDS=60 a program; proves and builds it first
 ## format       lay out the code of every crate, before a commit: seconds
 ## PROGRAM=FILE, BESIDE='FILE..': other programs for install and deb; BESIDE= none
 help:
@@ -118,6 +118,7 @@ test:
 	python3 tests/prepared.py $(PREPARES) $(PROGRAM)
 	python3 tests/failing_calls.py $(PREPARES) --every 10
 	python3 tests/wrong_files.py $(PREPARES)
+	python3 tests/ready.py $(PREPARES) $(PROGRAM)
 	python3 tests/looking.py $(PREPARES)
 	python3 tests/progress.py $(PREPARES)
 	python3 tests/fragments.py $(PREPARES) $(PROGRAM)

@@ -10,18 +10,19 @@ _turnprep() {
         fi
     done
     case $command in
-        '') offered='policy users join reassemble translate look cut help --help --version -h -V' ;;
+        '') offered='ready policy users join reassemble translate look cut help --help --version -h -V' ;;
+        ready) offered='--turnserver-conf --policy --creds -o --since --until --lifetime --released-ms --from-start --no-tcp --keep-inner --help -h' ;;
         policy) offered='--turnserver-conf --listening-ip --relay-ip --translated --help -h' ;;
         users) offered='--turnserver-conf --secret --realm --help -h' ;;
         join | reassemble) offered='-o --help -h' ;;
         translate) offered='--policy --external-ip -o --help -h' ;;
         look) offered='--policy --lifetime --help -h' ;;
         cut) offered='--policy -o --since --until --lifetime --released-ms --from-start --no-tcp --keep-inner --help -h' ;;
-        help) offered='policy users join reassemble translate look cut' ;;
+        help) offered='ready policy users join reassemble translate look cut' ;;
         *) return ;;
     esac
     case $before in
-        --policy | --turnserver-conf) offered='' ;;
+        --policy | --turnserver-conf | --creds) offered='' ;;
         -o)
             offered=''
             if [[ $command != join ]]; then places=-d; fi

@@ -27,6 +27,8 @@ PREPARING = {
     "look": "look --policy inputs/policy inputs/relay2relay-coturn.pcapng",
     "look without a policy": "look inputs/relay2relay-coturn.pcapng",
     "cut": "cut --policy inputs/policy -o OUT inputs/relay2relay-coturn.pcapng",
+    "ready": "ready --policy inputs/policy --creds inputs/creds -o OUT/made inputs/relay2relay-coturn.pcapng",
+    "ready of a configuration": "ready --turnserver-conf inputs/plain.conf -o OUT/made inputs/ring1.pcapng inputs/ring2.pcapng",
 }
 # Standard error where nothing failed: how many calls there were.
 COUNTED = ("allocations: ", "calls: ")
@@ -51,7 +53,9 @@ def run(program, words, room, **environment):
             capture_output=True,
             env={**os.environ, **{name: str(value) for name, value in environment.items()}},
         )
-        written = {file.name: file.read_bytes() for file in pathlib.Path(folder).iterdir()}
+        # `ready` prints where its folder is
+        done.stdout = done.stdout.replace(out.encode(), b"OUT")
+        written = {file.name: file.read_bytes() if file.is_file() else b"" for file in pathlib.Path(folder).rglob("*")}
     return done, written
 
 
@@ -70,7 +74,9 @@ def fail_each(program, name, words, room, library, status, every, most=200_000):
         done, written = run(program, words, room, LD_PRELOAD=library, FAIL_AT=number)
         if done.returncode == whole.returncode and done.stdout == whole.stdout and said(done) == said(whole):
             return faults, number - 1
-        if done.returncode != status or len(said(done)) != 1 or not whole.stdout.startswith(done.stdout):
+        # notes about a configuration come before
+        why = [line for line in said(done) if line not in said(whole)]
+        if done.returncode != status or len(why) != 1 or not whole.stdout.startswith(done.stdout):
             faults.append(f"{name}, {library.stem} {number}: status {done.returncode}, {done.stderr[:200]!r}")
         if written:
             faults.append(f"{name}, {library.stem} {number}: left {sorted(written)}")

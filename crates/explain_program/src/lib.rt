@@ -26,7 +26,6 @@ mod page_rows;
 mod pages;
 mod picture;
 mod reading;
-mod reasons;
 mod refusal;
 mod running;
 mod shape;

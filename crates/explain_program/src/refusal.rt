@@ -5,10 +5,9 @@ use crate::digesting::Digesting;
 use crate::host::{Explaining, Trouble};
 use crate::line_of_text::{LineOfText, line_of_text};
 use crate::mistakes::{Kind, mistake};
-use crate::reasons::reason;
 use crate::shape::Shape;
 use audit_files::{Place, Stop};
-use explain_text::Quoted;
+use explain_text::{Quoted, refusal_reason};
 use std::alloc::{AllocError, Global};
 
 /// A line of a file, and what it was to be.
@@ -78,7 +77,7 @@ fn told_of_refused(
     let name = Quoted {
         bytes: spot.name.as_bytes(),
     };
-    let reason = reason(code);
+    let reason = refusal_reason(code);
     let likely = in_brackets(alloc, spot.kind, found)?;
     if spot.kind == Kind::Capture {
         return format!(in alloc; "{name}: {reason}, {code}{likely}");

@@ -6,10 +6,11 @@ use Rattle.clap.specs.declared.error.Error.{Error}
 use Rattle.clap.specs.declared.error.kind.ErrorKind.{ErrorKind}
 use Rattle.clap.specs.declared.error.kind.ErrorKind.TheVariants as kind
 use Rattle.prep_program.specs.declared.command_line.Request.{Request}
-use Rattle.prep_program.specs.declared.command_line.Request.TheVariants.{Join, Policy, Look, Cut, Translate, Reassemble, Users, Help, Release, Usage}
+use Rattle.prep_program.specs.declared.command_line.Request.TheVariants.{Join, Policy, Look, Cut, Translate, Reassemble, Users, Ready, Help, Release, Usage}
 use Rattle.prep_cut.specs.declared.stated.Stated.{Stated}
+use Rattle.prep_program.specs.declared.ready.PolicySource.{PolicySource}
 use Rattle.prep_program.specs.declared.users.UsersSource.{UsersSource}
-use Rattle.prep_program.specs.Requests.{Asks, HasAddresses, HasCaptures, HasSource, IsStated, Names, NamesNothing, Requests, Says, all_read, command_of, number_given, values_of}
+use Rattle.prep_program.specs.Requests.{Asks, HasAddresses, HasCaptures, HasPolicySource, HasSource, IsStated, Names, NamesNothing, Requests, Says, all_read, command_of, number_given, values_of}
 use Rattle.prep_translate.specs.Words.{pair_of}
 use Rattle.prep_translate.specs.declared.translation.Translation.{Translation}
 
@@ -22,6 +23,7 @@ requested_is_asked named kinds (Cut request) is = is
 requested_is_asked named kinds (Translate request) is = is
 requested_is_asked named kinds (Reassemble request) is = is
 requested_is_asked named kinds (Users request) is = is
+requested_is_asked named kinds (Ready request) is = is
 requested_is_asked named kinds (Help page) is = absurd is
 requested_is_asked named kinds Release is = absurd is
 requested_is_asked named kinds (Usage text) is = inr is
@@ -42,6 +44,10 @@ none_of name rows lacks request named = lacks request (ap (name_in name) named.1
 abbrev pub letter : Text → ℕ
 letter name = slice_index name 0
 
+-- but for those of two, whose fourth letters do
+abbrev pub fourth : Text → ℕ
+fourth name = slice_index name 3
+
 -- what `join` needs isn't there
 only_join : (rows : List Row) → ((file : Text) (names : List Text) → first_of (codes "out") rows ≡ Some file → all_of (codes "captures") rows ≡ Some names → ⊥) → (request : Request) → codes "join" ≡ command_of request → Says rows request → ⊥
 only_join rows lacks (Join captures file) is says = lacks file.now (map (λ name. name.now) captures.items) says.0 says.1
@@ -51,6 +57,7 @@ only_join rows lacks (Cut request) is says = absurd (omega (arith, ap letter is)
 only_join rows lacks (Translate request) is says = absurd (omega (arith, ap letter is))
 only_join rows lacks (Reassemble request) is says = absurd (omega (arith, ap letter is))
 only_join rows lacks (Users request) is says = absurd (omega (arith, ap letter is))
+only_join rows lacks (Ready request) is says = absurd (omega (arith, ap letter is))
 only_join rows lacks (Help page) is says = says
 only_join rows lacks Release is says = says
 only_join rows lacks (Usage text) is says = says
@@ -67,6 +74,7 @@ only_policy rows lacks (Cut request) is says = absurd (omega (arith, ap letter i
 only_policy rows lacks (Translate request) is says = absurd (omega (arith, ap letter is))
 only_policy rows lacks (Reassemble request) is says = absurd (omega (arith, ap letter is))
 only_policy rows lacks (Users request) is says = absurd (omega (arith, ap letter is))
+only_policy rows lacks (Ready request) is says = absurd (omega (arith, ap letter is))
 only_policy rows lacks (Help page) is says = says
 only_policy rows lacks Release is says = says
 only_policy rows lacks (Usage text) is says = says
@@ -83,6 +91,7 @@ only_look rows lacks (Cut request) is says = absurd (omega (arith, ap letter is)
 only_look rows lacks (Translate request) is says = absurd (omega (arith, ap letter is))
 only_look rows lacks (Reassemble request) is says = absurd (omega (arith, ap letter is))
 only_look rows lacks (Users request) is says = absurd (omega (arith, ap letter is))
+only_look rows lacks (Ready request) is says = absurd (omega (arith, ap letter is))
 only_look rows lacks (Help page) is says = says
 only_look rows lacks Release is says = says
 only_look rows lacks (Usage text) is says = says
@@ -99,6 +108,7 @@ only_cut rows lacks (Cut request) is says = lacks (map (λ name. name.now) reque
 only_cut rows lacks (Translate request) is says = absurd (omega (arith, ap letter is))
 only_cut rows lacks (Reassemble request) is says = absurd (omega (arith, ap letter is))
 only_cut rows lacks (Users request) is says = absurd (omega (arith, ap letter is))
+only_cut rows lacks (Ready request) is says = absurd (omega (arith, ap letter is))
 only_cut rows lacks (Help page) is says = says
 only_cut rows lacks Release is says = says
 only_cut rows lacks (Usage text) is says = says
@@ -116,6 +126,7 @@ only_translate rows lacks (Cut request) is says = absurd (omega (arith, ap lette
 only_translate rows lacks (Translate request) is says = lacks (map (λ name. name.now) request.captures.items) request.policy.now request.folder.now request.translations.items says.0 says.1 says.2 says.3 says.4
 only_translate rows lacks (Reassemble request) is says = absurd (omega (arith, ap letter is))
 only_translate rows lacks (Users request) is says = absurd (omega (arith, ap letter is))
+only_translate rows lacks (Ready request) is says = absurd (omega (arith, ap letter is))
 only_translate rows lacks (Help page) is says = says
 only_translate rows lacks Release is says = says
 only_translate rows lacks (Usage text) is says = says
@@ -133,6 +144,7 @@ only_reassemble rows lacks (Cut request) is says = absurd (omega (arith, ap lett
 only_reassemble rows lacks (Translate request) is says = absurd (omega (arith, ap letter is))
 only_reassemble rows lacks (Reassemble request) is says = lacks (map (λ name. name.now) request.captures.items) request.folder.now says.0 says.1
 only_reassemble rows lacks (Users request) is says = absurd (omega (arith, ap letter is))
+only_reassemble rows lacks (Ready request) is says = absurd (omega (arith, ap fourth is))
 only_reassemble rows lacks (Help page) is says = says
 only_reassemble rows lacks Release is says = says
 only_reassemble rows lacks (Usage text) is says = says
@@ -149,6 +161,7 @@ only_users rows lacks (Cut request) is says = absurd (omega (arith, ap letter is
 only_users rows lacks (Translate request) is says = absurd (omega (arith, ap letter is))
 only_users rows lacks (Reassemble request) is says = absurd (omega (arith, ap letter is))
 only_users rows lacks (Users request) is says = lacks request.source says.0
+only_users rows lacks (Ready request) is says = absurd (omega (arith, ap letter is))
 only_users rows lacks (Help page) is says = says
 only_users rows lacks Release is says = says
 only_users rows lacks (Usage text) is says = says
@@ -156,8 +169,25 @@ only_users rows lacks (Usage text) is says = says
 pub no_users : (rows : List Row) → ((source : UsersSource) → HasSource rows source → ⊥) → NamesNothing (Some (codes "users", rows))
 no_users rows lacks = none_of (codes "users") rows (only_users rows lacks)
 
--- no command is named where each of the seven isn't
-pub none_of_seven : (named : Option (Text × List Row))
+-- what `ready` needs isn't there
+only_ready : (rows : List Row) → ((source : PolicySource) (folder : Text) (names : List Text) (stated : Stated) → HasPolicySource rows source → first_of (codes "out") rows ≡ Some folder → all_of (codes "captures") rows ≡ Some names → IsStated rows stated → ⊥) → (request : Request) → codes "ready" ≡ command_of request → Says rows request → ⊥
+only_ready rows lacks (Join captures file) is says = absurd (omega (arith, ap letter is))
+only_ready rows lacks (Policy file listening relaying translated) is says = absurd (omega (arith, ap letter is))
+only_ready rows lacks (Look request) is says = absurd (omega (arith, ap letter is))
+only_ready rows lacks (Cut request) is says = absurd (omega (arith, ap letter is))
+only_ready rows lacks (Translate request) is says = absurd (omega (arith, ap letter is))
+only_ready rows lacks (Reassemble request) is says = absurd (omega (arith, ap fourth is))
+only_ready rows lacks (Users request) is says = absurd (omega (arith, ap letter is))
+only_ready rows lacks (Ready request) is says = lacks request.source request.folder.now (map (λ name. name.now) request.captures.items) request.stated says.0 says.2 says.3 says.4
+only_ready rows lacks (Help page) is says = says
+only_ready rows lacks Release is says = says
+only_ready rows lacks (Usage text) is says = says
+
+pub no_ready : (rows : List Row) → ((source : PolicySource) (folder : Text) (names : List Text) (stated : Stated) → HasPolicySource rows source → first_of (codes "out") rows ≡ Some folder → all_of (codes "captures") rows ≡ Some names → IsStated rows stated → ⊥) → NamesNothing (Some (codes "ready", rows))
+no_ready rows lacks = none_of (codes "ready") rows (only_ready rows lacks)
+
+-- no command is named where each of the eight isn't
+pub none_of_eight : (named : Option (Text × List Row))
     → ((rows : List Row) → named ≡ Some (codes "join", rows) → ⊥)
     → ((rows : List Row) → named ≡ Some (codes "policy", rows) → ⊥)
     → ((rows : List Row) → named ≡ Some (codes "look", rows) → ⊥)
@@ -165,17 +195,19 @@ pub none_of_seven : (named : Option (Text × List Row))
     → ((rows : List Row) → named ≡ Some (codes "translate", rows) → ⊥)
     → ((rows : List Row) → named ≡ Some (codes "users", rows) → ⊥)
     → ((rows : List Row) → named ≡ Some (codes "reassemble", rows) → ⊥)
+    → ((rows : List Row) → named ≡ Some (codes "ready", rows) → ⊥)
     → NamesNothing named
-none_of_seven named join policy look cut translate users reassemble (Join captures file) names = join names.0 names.1
-none_of_seven named join policy look cut translate users reassemble (Policy file listening relaying translated) names = policy names.0 names.1
-none_of_seven named join policy look cut translate users reassemble (Look request) names = look names.0 names.1
-none_of_seven named join policy look cut translate users reassemble (Cut request) names = cut names.0 names.1
-none_of_seven named join policy look cut translate users reassemble (Translate request) names = translate names.0 names.1
-none_of_seven named join policy look cut translate users reassemble (Reassemble request) names = reassemble names.0 names.1
-none_of_seven named join policy look cut translate users reassemble (Users request) names = users names.0 names.1
-none_of_seven named join policy look cut translate users reassemble (Help page) names = names.2
-none_of_seven named join policy look cut translate users reassemble Release names = names.2
-none_of_seven named join policy look cut translate users reassemble (Usage text) names = names.2
+none_of_eight named join policy look cut translate users reassemble ready (Join captures file) names = join names.0 names.1
+none_of_eight named join policy look cut translate users reassemble ready (Policy file listening relaying translated) names = policy names.0 names.1
+none_of_eight named join policy look cut translate users reassemble ready (Look request) names = look names.0 names.1
+none_of_eight named join policy look cut translate users reassemble ready (Cut request) names = cut names.0 names.1
+none_of_eight named join policy look cut translate users reassemble ready (Translate request) names = translate names.0 names.1
+none_of_eight named join policy look cut translate users reassemble ready (Reassemble request) names = reassemble names.0 names.1
+none_of_eight named join policy look cut translate users reassemble ready (Users request) names = users names.0 names.1
+none_of_eight named join policy look cut translate users reassemble ready (Ready request) names = ready names.0 names.1
+none_of_eight named join policy look cut translate users reassemble ready (Help page) names = names.2
+none_of_eight named join policy look cut translate users reassemble ready Release names = names.2
+none_of_eight named join policy look cut translate users reassemble ready (Usage text) names = names.2
 
 -- an error's kind is one of those that may come, unless memory ran out
 pub is_among : (error : Error) (kinds : Kinds) (k : ErrorKind) → HasKind kinds error → kind_of error ≢ kind.OutOfMemory → kind_of error ≡ k → IsAmong k kinds

@@ -1,9 +1,9 @@
 -- What a request comes to: what is written to standard output and to standard error, and the exit status.
-use Rattle.std.specs.Prelude.{◌≡◌, ◌⊎◌, ℕ, List, Option, Ok, Err, Result, IfOk, OnOk, string_bytes}
+use Rattle.std.specs.Prelude.{◌≡◌, ◌⊎◌, ◌==◌, ◌||◌, true, ℕ, List, Option, Ok, Err, Result, IfOk, OnOk, string_bytes}
 use Rattle.audit_model.specs.Sink.{followed_by}
 use Rattle.clap.specs.Words.{Text, fault_of, subcommand_of}
 use Rattle.prep_program.specs.declared.command_line.Request.{Request}
-use Rattle.prep_program.specs.declared.command_line.Request.TheVariants.{Join, Policy, Look, Cut, Translate, Reassemble, Users, Help, Release, Usage}
+use Rattle.prep_program.specs.declared.command_line.Request.TheVariants.{Join, Policy, Look, Cut, Translate, Reassemble, Users, Ready, Help, Release, Usage}
 use Rattle.prep_program.specs.declared.stop.Stop.{Stop}
 use Rattle.prep_program.specs.CutStatus.{EndsByKept}
 use Rattle.prep_program.specs.Pages.{page_text, release_text}
@@ -26,6 +26,10 @@ IsSilent streams = streams.said_after ≡ streams.said_before
 abbrev pub IsSuccess : Result ℕ Stop → Type 0
 IsSuccess done = IfOk done (λ status. status ≡ 0)
 
+-- `ready` has status 0, or status 6 if it keeps no datagram
+abbrev pub IsReady : Result ℕ Stop → Type 0
+IsReady done = IfOk done (λ status. ((status == 0) || (status == 6)) ≡ true)
+
 -- `cut` has status 6 and a line on standard error if it kept no datagram, and else status 0 and none. A page of help, or the line of the release, goes to standard output alone, and what is no request to standard error alone, with status 5.
 -- What each command makes is in the contract of its own function; those that take no standard error leave it.
 abbrev pub Answers : Streams → Request → Result ℕ Stop → Type 0
@@ -35,6 +39,7 @@ Answers streams (Translate request) done = IsSuccess done
 Answers streams (Reassemble request) done = IsSilent streams × IsSuccess done
 Answers streams (Policy file listening relaying translated) done = IsSuccess done
 Answers streams (Users request) done = IsSuccess done
+Answers streams (Ready request) done = IsReady done
 Answers streams (Cut request) done = IfOk done (λ status. (kept : ℕ) × EndsByKept kept status streams.said_before streams.said_after)
 Answers streams (Help page) done = IsSilent streams × IfOk done (λ status. (status ≡ 0) × (streams.after ≡ followed_by streams.before (page_text page)))
 Answers streams Release done = IsSilent streams × IfOk done (λ status. (status ≡ 0) × (streams.after ≡ followed_by streams.before release_text))

@@ -2,7 +2,7 @@
 use Rattle.std.specs.Prelude.{Bool, List, ℕ, codes, take}
 use Rattle.std.specs.Str.{bytes_eq}
 use Rattle.prep_program.specs.declared.pages.Page.{Page}
-use Rattle.prep_program.specs.declared.pages.Page.TheVariants.{Program, Policy, Users, Join, Reassemble, Translate, Look, Cut}
+use Rattle.prep_program.specs.declared.pages.Page.TheVariants.{Program, Policy, Users, Join, Reassemble, Translate, Look, Cut, Ready}
 use Rattle.prep_program.specs.declared.pages.TheConstants as texts
 
 abbrev pub page_text : Page → List ℕ
@@ -14,6 +14,7 @@ page_text Reassemble = texts.REASSEMBLE.now
 page_text Translate = texts.TRANSLATE.now
 page_text Look = texts.LOOK.now
 page_text Cut = texts.CUT.now
+page_text Ready = texts.READY.now
 
 abbrev pub release_text : List ℕ
 release_text = texts.RELEASE.now

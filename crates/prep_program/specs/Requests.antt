@@ -8,7 +8,9 @@ use Rattle.clap.specs.declared.error.kind.ErrorKind.{ErrorKind}
 use Rattle.clap.specs.declared.error.kind.ErrorKind.TheVariants as kind
 use Rattle.prep_cut.specs.declared.stated.Stated.{Stated}
 use Rattle.prep_program.specs.declared.command_line.Request.{Request}
-use Rattle.prep_program.specs.declared.command_line.Request.TheVariants.{Join, Policy, Look, Cut, Translate, Reassemble, Users, Help, Release, Usage}
+use Rattle.prep_program.specs.declared.command_line.Request.TheVariants.{Join, Policy, Look, Cut, Translate, Reassemble, Users, Ready, Help, Release, Usage}
+use Rattle.prep_program.specs.declared.ready.PolicySource.{PolicySource}
+use Rattle.prep_program.specs.declared.ready.PolicySource.TheVariants as policies
 use Rattle.prep_program.specs.declared.users.UsersSource.{UsersSource}
 use Rattle.prep_program.specs.declared.users.UsersSource.TheVariants.{Configuration, Secret}
 use Rattle.prep_translate.specs.Words.{pair_of}
@@ -76,6 +78,11 @@ abbrev pub HasSource : List Row → UsersSource → Type 0
 HasSource rows (Configuration file) = (first_of (codes "turnserver-conf") rows ≡ Some file.now) × (first_of (codes "secret") rows ≡ None)
 HasSource rows (Secret secret) = (first_of (codes "turnserver-conf") rows ≡ None) × (first_of (codes "secret") rows ≡ Some secret.now)
 
+-- one of both sources of a policy, and not the other
+abbrev pub HasPolicySource : List Row → PolicySource → Type 0
+HasPolicySource rows (policies.Configuration file) = (first_of (codes "turnserver-conf") rows ≡ Some file.now) × (first_of (codes "policy") rows ≡ None)
+HasPolicySource rows (policies.Policy file) = (first_of (codes "turnserver-conf") rows ≡ None) × (first_of (codes "policy") rows ≡ Some file.now)
+
 -- the name of a request's command
 abbrev pub command_of : Request → Text
 command_of (Join captures file) = codes "join"
@@ -85,6 +92,7 @@ command_of (Cut request) = codes "cut"
 command_of (Translate request) = codes "translate"
 command_of (Reassemble request) = codes "reassemble"
 command_of (Users request) = codes "users"
+command_of (Ready request) = codes "ready"
 command_of (Help page) = []
 command_of Release = []
 command_of (Usage text) = []
@@ -106,6 +114,9 @@ Says rows (Translate request) =
 Says rows (Reassemble request) = HasCaptures rows (map (λ name. name.now) request.captures.items) × (first_of (codes "out") rows ≡ Some request.folder.now)
 Says rows (Users request) =
     HasSource rows request.source × (first_of (codes "realm") rows ≡ option_map (λ name. name.now) request.realm) × (values_of (codes "captures") rows ≡ map (λ name. name.now) request.captures.items)
+Says rows (Ready request) =
+    HasPolicySource rows request.source × (first_of (codes "creds") rows ≡ option_map (λ name. name.now) request.creds) × (first_of (codes "out") rows ≡ Some request.folder.now)
+    × (all_of (codes "captures") rows ≡ Some (map (λ name. name.now) request.captures.items)) × IsStated rows request.stated
 Says rows (Help page) = ⊥
 Says rows Release = ⊥
 Says rows (Usage text) = ⊥
@@ -134,6 +145,7 @@ Requests named (Cut request) = Names named (Cut request)
 Requests named (Translate request) = Names named (Translate request)
 Requests named (Reassemble request) = Names named (Reassemble request)
 Requests named (Users request) = Names named (Users request)
+Requests named (Ready request) = Names named (Ready request)
 
 -- A command is requested by its name, and help and the release by what stands for them. Arguments are no request where `clap` refuses them
 -- for one of these kinds, or they name no command with all that it needs.
@@ -148,3 +160,4 @@ Asks named kinds (Cut request) = Names named (Cut request)
 Asks named kinds (Translate request) = Names named (Translate request)
 Asks named kinds (Reassemble request) = Names named (Reassemble request)
 Asks named kinds (Users request) = Names named (Users request)
+Asks named kinds (Ready request) = Names named (Ready request)

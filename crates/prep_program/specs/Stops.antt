@@ -1,7 +1,7 @@
 -- The exit statuses that say why a run ended.
 use Rattle.std.specs.Prelude.{ℕ}
 use Rattle.prep_program.specs.declared.stop.Stop.{Stop}
-use Rattle.prep_program.specs.declared.stop.Stop.TheVariants.{Conf, Text, ReadOnce, Capture, Cut, Missing, Policy, Renaming, Translate, Reassemble, Users, SameName, Guess, Words, Memory, Read, Write, Exists}
+use Rattle.prep_program.specs.declared.stop.Stop.TheVariants.{Conf, Text, ReadOnce, Capture, Cut, Missing, Policy, Renaming, Translate, Reassemble, Users, SameName, Guess, Restarted, Words, Memory, Read, Write, Exists}
 
 abbrev pub status_of_stop : Stop → ℕ
 status_of_stop (Conf fault) = 2
@@ -17,6 +17,7 @@ status_of_stop (Reassemble refused) = 2
 status_of_stop (Users fault) = 2
 status_of_stop (SameName capture) = 2
 status_of_stop (Guess fault) = 2
+status_of_stop (Restarted restart) = 2
 status_of_stop (Words text) = 5
 status_of_stop Memory = 3
 status_of_stop Read = 4

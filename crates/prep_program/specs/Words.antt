@@ -74,14 +74,28 @@ cut_numbers = with_rule (with_rule (with_rule (with_rule cut_files (valued (code
 abbrev pub cut : App
 cut = with_rule (with_rule (with_rule (with_rule cut_numbers (flag (codes "from-start"))) (flag (codes "no-tcp"))) (flag (codes "keep-inner"))) captures
 
+-- what the policy and the credentials are made of, and the folder
+abbrev pub ready_files : App
+ready_files = with_rule (with_rule (with_rule (with_rule (new_app (codes "ready")) (file (codes "turnserver-conf"))) (file (codes "policy"))) (file (codes "creds"))) output
+
+abbrev pub ready_numbers : App
+ready_numbers = with_rule (with_rule (with_rule (with_rule ready_files (valued (codes "since"))) (valued (codes "until"))) (valued (codes "lifetime"))) (valued (codes "released-ms"))
+
+abbrev pub ready : App
+ready = with_rule (with_rule (with_rule (with_rule ready_numbers (flag (codes "from-start"))) (flag (codes "no-tcp"))) (flag (codes "keep-inner"))) captures
+
 abbrev pub program : App
 program =
     let named = new_app (codes "turnprep") in
     record named { top = record named.top { has_version = true; arg_required_else_help = true; subcommand_required = true } }
 
--- with the commands that write a policy and credentials
+-- with the command that does all that captures need
+abbrev pub preparing : App
+preparing = with_subcommand program ready.top
+
+-- and with the commands that write a policy and credentials
 abbrev pub writing : App
-writing = with_subcommand (with_subcommand program policy.top) users.top
+writing = with_subcommand (with_subcommand preparing policy.top) users.top
 
 -- `turnprep` with its commands
 abbrev pub turnprep : App

@@ -10,6 +10,7 @@ mod cut;
 mod look;
 mod options;
 mod policy;
+mod ready;
 mod reassemble;
 mod refusal;
 mod translate;
@@ -20,13 +21,16 @@ use self::commands::command;
 use self::cut::cut_request;
 use self::look::look_request;
 use self::policy::policy_request;
+use self::ready::ready_request;
 use self::reassemble::reassemble_request;
 use self::refusal::usage_text;
 use self::translate::translate_request;
 use self::users::users_request;
 use self::values::{all_values, value_of};
 use crate::looking::LookRequest;
-use crate::pages::{Page, page_of};
+use crate::page_of::page_of;
+use crate::pages::Page;
+use crate::ready::ReadyRequest;
 use crate::reassembling::ReassembleRequest;
 use crate::set_aside::CutRequest;
 use crate::translating::TranslateRequest;
@@ -61,6 +65,8 @@ pub enum Request<'a> {
     Reassemble(ReassembleRequest<'a>),
     /// Write credentials.
     Users(UsersRequest<'a>),
+    /// Do all that captures need before an audit.
+    Ready(ReadyRequest<'a>),
     /// Print how to use the program, on standard output.
     Help(Page),
     /// Print the release, on standard output.
@@ -154,6 +160,9 @@ fn request_of<'a>(
     }
     if let Some(reassemble) = arguments_of(matches, "reassemble") {
         return reassemble_request(alloc, reassemble);
+    }
+    if let Some(ready) = arguments_of(matches, "ready") {
+        return ready_request(alloc, ready);
     }
     Ok(None)
 }

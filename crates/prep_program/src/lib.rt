@@ -1,17 +1,21 @@
 //! The whole program as a function: words in, files by a source, new files by a maker, what is told by two sinks, and the exit status.
 #![tactic(auto)]
 
+mod collected;
 mod command_line;
 mod cutting;
 mod folder;
+mod folders;
 mod joining;
 mod list;
 mod list_head;
 mod list_totals;
 mod looking;
 mod maker;
+mod page_of;
 mod pages;
 mod policy;
+mod ready;
 mod reason;
 mod reassembling;
 mod recording;
@@ -28,9 +32,11 @@ mod translating;
 mod users;
 
 pub use cutting::{AllCut, ToCut, cut_capture, cut_captures};
+pub use folders::Folders;
 pub use joining::join_captures;
 pub use looking::LookRequest;
 pub use maker::{MakeFault, Maker};
+pub use ready::{PolicySource, ReadyRequest};
 pub use reassembling::{ReassembleRequest, reassemble_capture};
 pub use recording::record_captures;
 pub use ring_name::{RingName, gap_in};

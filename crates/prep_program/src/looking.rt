@@ -74,7 +74,7 @@ fn guessed(alloc: Global, survey: &Survey) -> Result<Taken, Stop> {
 }
 
 /// The longest time that `cut` takes for what is relayed after deletions, in milliseconds.
-const LONGEST_RELEASED: u64 = 60_000;
+pub const LONGEST_RELEASED: u64 = 60_000;
 
 /// How long allocations from before last, and the longest time after deletions, so that the page has the time that the captures show.
 fn stated_for(lifetime: u64) -> Stated {

@@ -1,6 +1,6 @@
 //! The pages of help, each line of at most 80 characters, and the line of the release.
 
-ghost use Rattle.std.specs.Prelude.{◌≡◌, false, IfSome};
+ghost use Rattle.std.specs.Prelude.{◌≡◌, false};
 ghost use Rattle.prep_program.specs.Pages.{begins_a_report, page_text, release_text};
 
 /// A page of help.
@@ -22,6 +22,8 @@ pub enum Page {
     Look,
     /// The command `cut`.
     Cut,
+    /// The command `ready`.
+    Ready,
 }
 
 /// The release, and the line of `rt version` that names what it is proved with.
@@ -33,6 +35,8 @@ Makes captures and a policy ready for turnaudit. It judges nothing
 Usage: turnprep <COMMAND>
 
 Commands:
+  ready       Does all that the captures of a relay in use need before an audit,
+              and writes a folder that turnaudit audits
   policy      Writes the policy that coturn's configuration comes to
   users       Writes the credentials of the users that coturn's configuration
               names, or of those whose requests in captures are signed by a
@@ -227,6 +231,42 @@ writes ready/call.pcapng, and ready/set-aside, the list of what was left out,
 which is printed as well.
 ";
 
+const READY: &str = "\
+Does all that the captures of a relay in use need before an audit, and writes a
+folder that turnaudit audits
+
+Usage: turnprep ready [OPTIONS] -o <DIR> <CAPTURE>...
+
+Arguments:
+  <CAPTURE>...  Captures, as dumpcap writes them, also the files of a ring
+
+Options:
+      --turnserver-conf <FILE>  coturn's configuration, which the policy and the
+                                credentials are made of
+      --policy <FILE>           The policy, in place of a configuration
+      --creds <FILE>            The credentials, in place of those that the
+                                configuration names
+  -o <DIR>                      The folder that is made; one that is there is
+                                never written over
+      --since <MOMENT>          As of turnprep cut, with the others below
+      --until <MOMENT>
+      --lifetime <SECONDS>
+      --released-ms <MS>
+      --from-start
+      --no-tcp
+      --keep-inner
+  -h, --help                    Print help
+
+Example:
+  turnprep ready --turnserver-conf turnserver.conf -o ready call.pcapng
+
+joins the files of a ring, reassembles fragments, translates addresses and
+excludes what can't be judged, each only if the captures need it. ready/ has the
+captures, policy, creds, set-aside (the list of what was excluded) and steps
+(the commands that do the same by hand). The last line that is printed is the
+command that audits the folder.
+";
+
 impl Page {
     /// What is printed, with its last LF. It is the front of no report.
     pub fn text(self) -> &'static str
@@ -242,6 +282,7 @@ impl Page {
             Page::Translate => TRANSLATE,
             Page::Look => LOOK,
             Page::Cut => CUT,
+            Page::Ready => READY,
         }
     }
 }
@@ -252,21 +293,4 @@ pub fn release() -> &'static str
     ensures no_report { begins_a_report result.now ≡ false }
 {
     RELEASE
-}
-
-/// The page of this text, if it is one.
-pub fn page_of(text: &str) -> Option<Page>
-    ensures { IfSome result (λ page. page_text page ≡ text.now) }
-{
-    let pages = [
-        Page::Program,
-        Page::Policy,
-        Page::Users,
-        Page::Join,
-        Page::Reassemble,
-        Page::Translate,
-        Page::Look,
-        Page::Cut,
-    ];
-    pages.into_iter().find(|page| page.text() == text)
 }

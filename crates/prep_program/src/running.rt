@@ -6,11 +6,13 @@ ghost use Rattle.prep_program.specs.Answered.{Answers, IsSuccess, IsRun};
 ghost use Rattle.prep_program.specs.CutStatus.{EndsByKept};
 
 use crate::command_line::{Request, read as read_words};
+use crate::folders::Folders;
 use crate::joining::join_captures;
 use crate::looking::{LookRequest, run_look};
 use crate::maker::Maker;
 use crate::pages::release;
 use crate::policy::run_policy;
+use crate::ready::run_ready;
 use crate::reassembling::run_reassemble;
 use crate::ring_name::gap_in;
 use crate::set_aside::{CutRequest, run_cut};
@@ -25,15 +27,16 @@ use std::alloc::{AllocError, Global};
 use std::convert::AsStr;
 
 /// The line that says why a run ended: what can't be read or written by its name, and the system's reason.
-fn line_of<S: Source, M: Maker>(
+fn line_of<'x, S: Source, M: Maker, F: Folders>(
     alloc: Global,
-    source: &S,
-    maker: &M,
+    source: &'x S,
+    maker: &'x M,
+    folders: &'x F,
     stop: &Stop,
 ) -> Result<String, AllocError> {
     let (verb, failure) = match stop {
         Stop::Read => ("read", source.failure()),
-        Stop::Write | Stop::Exists => ("write", maker.failure()),
+        Stop::Write | Stop::Exists => ("write", maker.failure().or(folders.failure())),
         _ => ("", None),
     };
     let Some(failure) = failure else {
@@ -46,14 +49,15 @@ fn line_of<S: Source, M: Maker>(
 }
 
 /// Puts the line that says why the run ended. Nothing more can be done where that fails.
-fn put_stop<S: Source, M: Maker, W: Sink>(
+fn put_stop<S: Source, M: Maker, F: Folders, W: Sink>(
     alloc: Global,
     source: &S,
     maker: &M,
+    folders: &F,
     stop: &Stop,
     err: &mut W,
 ) {
-    match line_of(alloc, source, maker, stop) {
+    match line_of(alloc, source, maker, folders, stop) {
         Ok(line) => {
             let _ = put_all(err, line.as_bytes());
         }
@@ -135,11 +139,12 @@ fn look<S: Source, O: Sink>(
 }
 
 /// Does what is requested, and returns the exit status.
-fn run_request<S: Source, M: Maker, O: Sink, E: Sink>(
+fn run_request<S: Source, M: Maker, F: Folders, O: Sink, E: Sink>(
     alloc: Global,
     request: &Request<'_>,
     source: &mut S,
     maker: &mut M,
+    folders: &mut F,
     out: &mut O,
     err: &mut E,
 ) -> Result<u8, Stop>
@@ -165,6 +170,7 @@ fn run_request<S: Source, M: Maker, O: Sink, E: Sink>(
         Request::Translate(asked) => run_translate(alloc, asked, source, maker, out, err),
         Request::Reassemble(asked) => run_reassemble(alloc, asked, source, maker, out),
         Request::Users(asked) => run_users(alloc, asked, source, out, err),
+        Request::Ready(words) => run_ready(alloc, words, source, maker, folders, out, err),
         Request::Help(page) => {
             put_text(out, page.text())?;
             Ok(0)
@@ -181,14 +187,15 @@ fn run_request<S: Source, M: Maker, O: Sink, E: Sink>(
 }
 
 /// Runs the program on its words, the first of which is its name, and gives its exit status: 0 done, help or the release; 2 an input is
-/// refused; 3 out of memory; 4 a file that can't be read or made, or something that can't be written; 5 words that are no request; 6 `cut` is done and kept
+/// refused; 3 out of memory; 4 a file that can't be read or made, or something that can't be written; 5 words that are no request; 6 `cut` is done, or `ready`, and kept
 /// no datagram.
 /// What ended it is one line on `err`.
-pub fn run<N: AsStr, S: Source, M: Maker, O: Sink, E: Sink>(
+pub fn run<N: AsStr, S: Source, M: Maker, F: Folders, O: Sink, E: Sink>(
     alloc: Global,
     words: &[N],
     source: &mut S,
     maker: &mut M,
+    folders: &mut F,
     out: &mut O,
     err: &mut E,
 ) -> u8
@@ -202,11 +209,11 @@ pub fn run<N: AsStr, S: Source, M: Maker, O: Sink, E: Sink>(
             return Stop::Memory.status();
         }
     };
-    match run_request(alloc, &request, source, maker, out, err) {
+    match run_request(alloc, &request, source, maker, folders, out, err) {
         Ok(status) => status,
         Err(stop) => {
             maker.discard();
-            put_stop(alloc, source, maker, &stop, err);
+            put_stop(alloc, source, maker, folders, &stop, err);
             stop.status()
         }
     }

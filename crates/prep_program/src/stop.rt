@@ -15,7 +15,7 @@ use prep_coturn::ConfFault;
 use prep_cut::{CutFault, CutRefused};
 use prep_fragments::Refused as ReassembleRefused;
 use prep_join::{JoinFault, Refused};
-use prep_look::GuessFault;
+use prep_look::{GuessFault, Restart};
 use prep_translate::{Refused as TranslateRefused, RenamingFault};
 use prep_users::{ConfiguredFault, UsersFault};
 use std::alloc::{AllocError, AllocFailed};
@@ -50,6 +50,8 @@ pub enum Stop {
     SameName(u32),
     /// No policy is guessed.
     Guess(GuessFault),
+    /// The server was restarted: which of both times is meant is for the caller to say.
+    Restarted(Restart),
     /// The words are no request.
     Words(&'static str),
     /// There was no memory.
@@ -77,6 +79,7 @@ impl Stop {
             | Stop::Users(_)
             | Stop::Reassemble(_)
             | Stop::Guess(_)
+            | Stop::Restarted(_)
             | Stop::Cut(_) => 2,
             Stop::Words(_) => 5,
             Stop::Memory => 3,
@@ -143,6 +146,14 @@ impl fmt::Display for Stop {
                 f,
                 "refused the name of capture {capture}: an earlier one has it"
             ),
+            Stop::Restarted(restart) => {
+                let until = restart.until;
+                let since = restart.since;
+                write!(
+                    f,
+                    "the server was restarted: add --until {until} for the time before, or --since {since} --from-start for the time after"
+                )
+            }
             Stop::Words(text) => f.write_str(text),
             Stop::Memory => f.write_str("out of memory"),
             Stop::Read => f.write_str("a file can't be read"),

@@ -1,9 +1,11 @@
 //! turnprep makes captures and a policy ready for turnaudit.
 #![tactic(auto)]
 
+mod folders;
 mod host;
 
 use audit_model::{Sink, put_all};
+use folders::HostFolders;
 use host::{HostFiles, HostMaker, HostStream, hold_stream};
 use host_progress::Progress;
 use prep_program::run;
@@ -42,6 +44,7 @@ fn main(rt: HostRuntime) -> ExitCode {
             &words,
             &mut HostFiles::new(&rt, alloc, &progress),
             &mut HostMaker::new(&rt, alloc),
+            &mut HostFolders::new(&rt, alloc),
             &mut out,
             &mut err,
         ),

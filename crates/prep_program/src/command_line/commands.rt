@@ -126,6 +126,43 @@ fn cut_command<'a>(alloc: Global) -> Result<Command<'a>, AllocError>
         .arg(captures(alloc))
 }
 
+/// The command `ready` with its files.
+fn ready_files<'a>(alloc: Global) -> Result<Command<'a>, AllocError>
+    ensures app { IfOk result (λ command. app_of command ≡ words.ready_files) }
+    ensures local { IfOk result (λ command. (fields_of command).has_globals ≡ false) }
+{
+    Command::new(alloc, "ready")
+        .override_help(Page::Ready.text())
+        .arg(file(alloc, "turnserver-conf"))?
+        .arg(file(alloc, "policy"))?
+        .arg(file(alloc, "creds"))?
+        .arg(output(alloc, "DIR"))
+}
+
+/// The command `ready` with its files and numbers.
+fn ready_numbers<'a>(alloc: Global) -> Result<Command<'a>, AllocError>
+    ensures app { IfOk result (λ command. app_of command ≡ words.ready_numbers) }
+    ensures local { IfOk result (λ command. (fields_of command).has_globals ≡ false) }
+{
+    ready_files(alloc)?
+        .arg(value(alloc, "since", "MOMENT"))?
+        .arg(value(alloc, "until", "MOMENT"))?
+        .arg(value(alloc, "lifetime", "SECONDS"))?
+        .arg(value(alloc, "released-ms", "MS"))
+}
+
+/// The command `ready`.
+fn ready_command<'a>(alloc: Global) -> Result<Command<'a>, AllocError>
+    ensures app { IfOk result (λ command. app_of command ≡ words.ready) }
+    ensures local { IfOk result (λ command. (fields_of command).has_globals ≡ false) }
+{
+    ready_numbers(alloc)?
+        .arg(flag(alloc, "from-start"))?
+        .arg(flag(alloc, "no-tcp"))?
+        .arg(flag(alloc, "keep-inner"))?
+        .arg(captures(alloc))
+}
+
 /// The program, without its commands.
 fn program<'a>(alloc: Global) -> Command<'a>
     ensures app { app_of result ≡ words.program }
@@ -137,11 +174,18 @@ fn program<'a>(alloc: Global) -> Command<'a>
         .subcommand_required(true)
 }
 
-/// The program with the commands that write a policy and credentials.
+/// The program with the command that does all that captures need.
+fn preparing<'a>(alloc: Global) -> Result<Command<'a>, AllocError>
+    ensures { IfOk result (λ command. app_of command ≡ words.preparing) }
+{
+    program(alloc).subcommand(ready_command(alloc)?)
+}
+
+/// And with the commands that write a policy and credentials.
 fn writing<'a>(alloc: Global) -> Result<Command<'a>, AllocError>
     ensures { IfOk result (λ command. app_of command ≡ words.writing) }
 {
-    program(alloc)
+    preparing(alloc)?
         .subcommand(policy_command(alloc)?)?
         .subcommand(users_command(alloc)?)
 }

@@ -38,7 +38,7 @@ fn is_ordered(since: Option<u64>, until: Option<u64>) -> bool
 }
 
 /// What the arguments state, or what is wrong with them.
-fn stated_by(matches: &ArgMatches<'_>) -> Result<Stated, &'static str>
+pub fn stated_by(matches: &ArgMatches<'_>) -> Result<Stated, &'static str>
     ensures ok { IfOk result (IsStated (rows_of (found_of matches.now))) }
     ensures err { IfErr result (λ text. (any : AnyStated) → IsStated (rows_of (found_of matches.now)) any → ⊥) }
 {
