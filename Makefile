@@ -123,6 +123,7 @@ test:
 	python3 tests/progress.py $(PREPARES)
 	python3 tests/fragments.py $(PREPARES) $(PROGRAM)
 	python3 tests/shown_faults.py $(EXPLAINS) $(PROGRAM)
+	python3 tests/repeated_data.py $(EXPLAINS)
 	python3 tests/explain.py $(EXPLAINS)
 	python3 tests/explain_page.py $(EXPLAINS)
 	tests/kit.sh $(PROGRAM) $(EXPLAINS)

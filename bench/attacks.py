@@ -13,6 +13,7 @@ and the caches come to 5, what is quadratic to 16), or an attack takes over 8 ti
   colliding   four requests by each of 65,536 clients whose addresses meet in the table of clients where its seed is 0 (needs gcc)
   denied      64 Send indications of equal data to a peer without a permission, in messages of 54 kB that are all attributes, and departures
               that carry it all the same, each with 7 requests of other clients about it, for which it waits
+  refused     Send indications of two data in turn to a peer without a permission, each relayed all the same
   unasked     departures with the data of the last Send indication, which was relayed already, so that no arrival explains them
   silent      Allocate requests that nobody answers, all of one transaction, and at the end a success to it for each
   copies      one datagram of a peer again and again, each relayed to the client
@@ -154,6 +155,19 @@ def denied(folder, datagrams, size):
             source = (f"198.51.{number >> 8 & 255}.{number & 255}", 40000 + other)
             capture.client.put(moment + other, source, SERVER, message(BINDING, struct.pack(">III", 0, other, number), []))
         moment += 8
+    capture.close()
+
+
+def refused(folder, datagrams, size):
+    capture = Capture(folder, 1)
+    client = Client(0, capture.sides())
+    client.open(START)
+    stranger, moment = ("203.0.112.1", 9), START + 1000
+    for number in range(datagrams // 2):
+        data = bytes([number % 2]) * size
+        capture.client.put(moment, client.endpoint, SERVER, send(client, stranger, data))
+        capture.peer.put(moment + 10, client.relayed, stranger, data)
+        moment += 20
     capture.close()
 
 
@@ -325,7 +339,7 @@ def main():
     program, explains = asked.program.resolve(), asked.explains and asked.explains.resolve()
     # The datagrams at n, and how many bytes of data each has.
     small, large = (int(32_768 * asked.scale), 60), (int(512 * asked.scale), 54_000)
-    attacks = {users: small, clients: small, silent: small, copies: small, denied: small, unasked: large, same: small}
+    attacks = {users: small, clients: small, silent: small, copies: small, denied: small, refused: small, unasked: large, same: small}
     attacks |= {permissions: small, channels: small, handed: small, outstanding: small, reversed_stamps: small}
     if shutil.which("gcc"):
         attacks[colliding] = small

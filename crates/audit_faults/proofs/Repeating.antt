@@ -1,5 +1,5 @@
 -- What repeats a datagram explains no more than that.
-use Rattle.std.proofs.Common.{◌≡◌, ◌⊎◌, inl, inr, ◌<◌, ◌≤◌, ◌-◌, ℕ, Option, Some, IfSome, List, [], ◌∷◌, ◌++◌, length, length-append, get_or, sym, ◌∙◌, ap, subst, arith}
+use Rattle.std.proofs.Common.{◌≡◌, ◌⊎◌, inl, inr, None, true, false, IsTrue, ◌<◌, ◌≤◌, ◌-◌, ◌+◌, zero, suc, ℕ, Option, Some, IfSome, List, [], ◌∷◌, ◌++◌, length, length-append, get_or, sym, ◌∙◌, ap, subst, arith}
 use Rattle.std.proofs.Math.ListN.{get_or-append}
 use Rattle.std.proofs.Math.Seq.{get_or-append_seam}
 use Rattle.std.specs.Prelude.{slice_index_or}
@@ -9,6 +9,10 @@ use Rattle.audit_model.specs.declared.address.Addr.{Addr}
 use Rattle.audit_model.specs.declared.policy.Policy.{Policy}
 use Rattle.audit_model.specs.declared.sighting.SightId.{SightId}
 use Rattle.audit_model.specs.declared.sighting.Sighting.{Sighting}
+use Rattle.audit_model.specs.Policy.{listens, relays}
+use Rattle.audit_model.specs.Window.{later}
+use Rattle.audit_stun.specs.ChannelData.{channel_data_of}
+use Rattle.audit_stun.specs.declared.class.Class.TheVariants.{Request, Indication}
 use Rattle.audit_rules.specs.Keys.{KeyFor}
 use Rattle.audit_sightings.specs.Intake.{Taken, sighting_at}
 use Rattle.audit_faults.specs.declared.fault.Fault.{Fault}
@@ -17,14 +21,16 @@ use Rattle.audit_faults.specs.declared.fault.Grant.{Grant}
 use Rattle.audit_faults.specs.declared.fault.Lease.{Lease}
 use Rattle.audit_faults.specs.declared.fault.Lease.TheVariants.{Allocation, Permission, Channel}
 use Rattle.audit_faults.specs.declared.keyed.Keyed.{Keyed}
-use Rattle.audit_faults.specs.Asks.{InReach}
-use Rattle.audit_faults.specs.Beginning.{SentOnOnce, SentInChannelOnce, ToldOnce, ToldInChannelOnce, Begins}
+use Rattle.audit_faults.specs.Asks.{InReach, Responds, SentInChannel, SentOn}
+use Rattle.audit_faults.specs.Beginning.{SentOnOnce, SentInChannelOnce, ToldOnce, ToldInChannelOnce, WasWanted, Begins}
 use Rattle.audit_faults.specs.Explains.{IsWanted, IsProved, Holds, Reasons, Explains}
 use Rattle.audit_faults.specs.Fits.{IsFit}
 use Rattle.audit_faults.specs.Grants.{HasGrant, MayLast}
 use Rattle.audit_faults.specs.Keyed.{HasKeyed}
 use Rattle.audit_faults.proofs.Keying.{NoneFrom}
-use Rattle.audit_faults.specs.Repeats.{AreRepeats, HasBefore, IsPlaced, IsRepeat, IsRepeated}
+use Rattle.audit_faults.specs.RepeatBlocks.{AreBlocks, AreRepeatedInReach, IsBlock}
+use Rattle.audit_faults.specs.Repeats.{AreRepeats, AreSame, HasBefore, IsPlaced, IsRepeat, IsRepeated, IsSentAgain}
+use Rattle.audit_faults.specs.declared.repeat_blocks.RepeatBlock.{RepeatBlock}
 
 -- ---- the earlier one has all reasons of the later one
 
@@ -45,10 +51,7 @@ lasts policy (Allocation relayed) moment needed sooner le last = tt
 lasts policy (Permission ip) moment needed sooner le last = omega (arith, le, last)
 lasts policy (Channel number peer) moment needed sooner le last = omega (arith, le, last)
 
-module _ (taken : Taken) (key_for : KeyFor) (fault : Fault) (later given : Sighting) (stamp lo hi : ℕ) (id : SightId) (le : lo ≤ later.lo) where
-  abbrev earlier : Sighting
-  earlier = record later { stamp = stamp; lo = lo; hi = hi; id = id }
-
+module _ (taken : Taken) (fault : Fault) (earlier later given : Sighting) (le : earlier.lo ≤ later.lo) where
   granted : (grant : Grant) → HasGrant taken grant later given → HasGrant taken grant earlier given
   granted grant (request, captured, (asks, (success, there, answers))) = (
     request,
@@ -59,7 +62,7 @@ module _ (taken : Taken) (key_for : KeyFor) (fault : Fault) (later given : Sight
         from = asks.from;
         to = asks.to;
         before = asks.before;
-        lasts = lasts taken.policy grant.lease _ later.lo lo le asks.lasts;
+        lasts = lasts taken.policy grant.lease _ later.lo earlier.lo le asks.lasts;
         asks = asks.asks;
       },
       (
@@ -70,7 +73,7 @@ module _ (taken : Taken) (key_for : KeyFor) (fault : Fault) (later given : Sight
           from = answers.from;
           to = answers.to;
           after = answers.after;
-          lasts = lasts taken.policy grant.lease success.hi later.lo lo le answers.lasts;
+          lasts = lasts taken.policy grant.lease success.hi later.lo earlier.lo le answers.lasts;
           succeeds = answers.succeeds;
           same_id = answers.same_id;
           tells = answers.tells;
@@ -79,8 +82,15 @@ module _ (taken : Taken) (key_for : KeyFor) (fault : Fault) (later given : Sight
     ),
   )
 
+  held_sooner : (client listen : Addr) (lease : Lease) → Holds taken fault client listen lease later given → Holds taken fault client listen lease earlier given
+  held_sooner client listen lease = wanted fault lease _ _ (granted (record { client = client; listen = listen; lease = lease }))
+
+module _ (taken : Taken) (key_for : KeyFor) (fault : Fault) (later given : Sighting) (stamp lo hi : ℕ) (id : SightId) (le : lo ≤ later.lo) where
+  abbrev earlier : Sighting
+  earlier = record later { stamp = stamp; lo = lo; hi = hi; id = id }
+
   held : (client listen : Addr) (lease : Lease) → Holds taken fault client listen lease later given → Holds taken fault client listen lease earlier given
-  held client listen lease = wanted fault lease _ _ (granted (record { client = client; listen = listen; lease = lease }))
+  held = held_sooner taken fault earlier later given le
 
   fits : IsFit later given → IsFit earlier given
   fits fit = record { success = fit.success; error = fit.error }
@@ -155,11 +165,75 @@ module _ (taken : Taken) (key_for : KeyFor) (fault : Fault) (later given : Sight
   as_earlier : InReach taken.policy.hold earlier given → Explains taken key_for fault later given → Explains taken key_for fault earlier given
   as_earlier near e = record { arrives = e.arrives; in_reach = near; reasons = reasons e.reasons }
 
-pub explained_by_repeated : (taken : Taken) (key_for : KeyFor) (fault : Fault) (earlier later given : Sighting) → IsRepeat earlier later → InReach taken.policy.hold earlier given →
+explained_by_same : (taken : Taken) (key_for : KeyFor) (fault : Fault) (earlier later given : Sighting) → earlier.lo ≤ later.lo → AreSame earlier later → InReach taken.policy.hold earlier given →
     Explains taken key_for fault later given → Explains taken key_for fault earlier given
-explained_by_repeated taken key_for fault earlier later given repeats near e =
-    subst (λ (s : Sighting). Explains taken key_for fault s given) (sym repeats.same)
-    (as_earlier taken key_for fault later given earlier.stamp earlier.lo earlier.hi earlier.id repeats.first (subst (λ (s : Sighting). InReach taken.policy.hold s given) repeats.same near) e)
+explained_by_same taken key_for fault earlier later given le same near e =
+    subst (λ (s : Sighting). Explains taken key_for fault s given) (sym same)
+    (as_earlier taken key_for fault later given earlier.stamp earlier.lo earlier.hi earlier.id le (subst (λ (s : Sighting). InReach taken.policy.hold s given) same near) e)
+
+-- a Send indication has the data and the peer of another, and asks for nothing else
+module _ (taken : Taken) (earlier later given : Sighting) (again : IsSentAgain taken.policy earlier later) where
+  sent_before : SentOn taken.policy later given → SentOn taken.policy earlier given
+  sent_before sent = record {
+    served = subst (λ (a : Addr). IsTrue (listens taken.policy a)) (sym again.to) sent.served;
+    relayed = sent.relayed;
+    indication = again.payload.first;
+    peer = again.payload.peer ∙ sent.peer;
+    sends = again.payload.content ∙ sent.sends;
+  }
+
+  no_request : Responds taken.policy later given → ⊥
+  no_request responds = let k : Request ≡ Indication = sym responds.request.1 ∙ again.payload.again.1 in cc
+
+  no_channel : (number : ℕ) → SentInChannel taken.policy number later given → ⊥
+  no_channel number sent = let k : channel_data_of later.payload ≡ None = again.payload.not_channel in let h : channel_data_of later.payload ≡ Some (number, given.payload, sent.past) = sent.says in cc
+
+  not_relayed : IsTrue (relays taken.policy later.to) → ⊥
+  not_relayed relayed = let k : true ≡ false = sym relayed ∙ again.to_server in cc
+
+  moved : (fault : Fault) (lease : Lease) → Holds taken fault later.from later.to lease earlier given → Holds taken fault earlier.from earlier.to lease earlier given
+  moved fault lease h =
+      subst (λ (from : Addr). Holds taken fault from earlier.to lease earlier given) (sym again.from) (subst (λ (to : Addr). Holds taken fault later.from to lease earlier given) (sym again.to) h)
+
+  once : (fault : Fault) (until : ℕ) (lease : Lease) → WasWanted taken fault until later.from later.to lease → WasWanted taken fault until earlier.from earlier.to lease
+  once fault until lease h =
+      subst (λ (from : Addr). WasWanted taken fault until from earlier.to lease) (sym again.from) (subst (λ (to : Addr). WasWanted taken fault until later.from to lease) (sym again.to) h)
+
+  explained_by_sent : (key_for : KeyFor) (fault : Fault) → earlier.lo ≤ later.lo → InReach taken.policy.hold earlier given → Explains taken key_for fault later given → Explains taken key_for fault earlier given
+  explained_by_sent key_for fault le near e = record {
+    arrives = again.side ∙ e.arrives;
+    in_reach = near;
+    reasons = elim e.reasons [
+      | inl responds ↦ absurd (no_request responds.0)
+      | inr (inl (sent, allocated, permitted)) ↦ inr (inl (
+        sent_before sent,
+        moved fault (Allocation given.from) (held_sooner taken fault earlier later given le later.from later.to _ allocated),
+        moved fault (Permission given.to.ip) (held_sooner taken fault earlier later given le later.from later.to _ permitted),
+      ))
+      | inr (inr (inl (number, sent, _, _))) ↦ absurd (no_channel number sent)
+      | inr (inr (inr (inl (told, _, _)))) ↦ absurd (not_relayed told.relayed)
+      | inr (inr (inr (inr (number, told, _, _, _)))) ↦ absurd (not_relayed told.relayed)
+    ];
+  }
+
+  begun_by_sent : (fault : Fault) (until : ℕ) → InReach taken.policy.hold earlier given → Begins taken fault until given later → Begins taken fault until given earlier
+  begun_by_sent fault until near (arrives, _, asks) = (
+    again.side ∙ arrives,
+    near,
+    elim asks [
+      | inl (sent, allocated, permitted) ↦ inl (sent_before sent, once fault until (Allocation given.from) allocated, once fault until (Permission given.to.ip) permitted)
+      | inr (inl (number, sent, _, _)) ↦ absurd (no_channel number sent)
+      | inr (inr (inl (told, _, _))) ↦ absurd (not_relayed told.relayed)
+      | inr (inr (inr (number, told, _, _, _))) ↦ absurd (not_relayed told.relayed)
+    ],
+  )
+
+pub explained_by_repeated : (taken : Taken) (key_for : KeyFor) (fault : Fault) (earlier later given : Sighting) → IsRepeat taken.policy earlier later → InReach taken.policy.hold earlier given →
+    Explains taken key_for fault later given → Explains taken key_for fault earlier given
+explained_by_repeated taken key_for fault earlier later given repeats near e = elim repeats.same [
+  | inl same ↦ explained_by_same taken key_for fault earlier later given repeats.first same near e
+  | inr again ↦ explained_by_sent taken earlier later given again key_for fault repeats.first near e
+]
 
 -- ---- and what asked for a departure at the later one asked for it at the earlier one
 
@@ -219,10 +293,14 @@ module _ (taken : Taken) (fault : Fault) (until : ℕ) (later given : Sighting) 
   as_sooner : InReach taken.policy.hold sooner given → Begins taken fault until given later → Begins taken fault until given sooner
   as_sooner near (arrives, _, asks) = (arrives, near, forms asks)
 
-pub begun_by_repeated : (taken : Taken) (fault : Fault) (until : ℕ) (earlier later given : Sighting) → IsRepeat earlier later → InReach taken.policy.hold earlier given → Begins taken fault until given later → Begins taken fault until given earlier
-begun_by_repeated taken fault until earlier later given repeats near e =
-    subst (Begins taken fault until given) (sym repeats.same)
-    (as_sooner taken fault until later given earlier.stamp earlier.lo earlier.hi earlier.id (subst (λ (s : Sighting). InReach taken.policy.hold s given) repeats.same near) e)
+pub begun_by_repeated : (taken : Taken) (fault : Fault) (until : ℕ) (earlier later given : Sighting) → IsRepeat taken.policy earlier later → InReach taken.policy.hold earlier given →
+    Begins taken fault until given later → Begins taken fault until given earlier
+begun_by_repeated taken fault until earlier later given repeats near e = elim repeats.same [
+  | inl same ↦
+      subst (Begins taken fault until given) (sym same)
+      (as_sooner taken fault until later given earlier.stamp earlier.lo earlier.hi earlier.id (subst (λ (s : Sighting). InReach taken.policy.hold s given) same near) e)
+  | inr again ↦ begun_by_sent taken earlier later given again fault until near e
+]
 
 -- ---- so the places of repeats may be passed over
 
@@ -260,9 +338,55 @@ module _ (taken : Taken) (P : Sighting → Type 0) (key low high first : ℕ) (k
         | inr ge ↦ let j-is : j ≡ n - 1 = omega (arith, ge, below) in here t (subst (λ (i : ℕ). IsPlaced taken keyed i t) j-is at) q
       ]
 
+  -- so many places down
+  earlier_skip : (d n m : ℕ) → m ≡ n + d → OnlyWithEarlier m → ((k : ℕ) → n ≤ k → k < m → (s : Sighting) → IsPlaced taken keyed k s → P s → HasBefore taken keyed P first k) → OnlyWithEarlier n
+  earlier_skip zero n m is so_far here = subst (λ (i : ℕ). OnlyWithEarlier i) (omega (arith, is)) so_far
+  earlier_skip (suc d) n m is so_far here =
+      earlier_skip d n (m - 1) (omega (arith, is)) (earlier_down m (omega (arith, is)) so_far (λ s at p. here (m - 1) (omega (arith, is)) (omega (arith, is)) s at p))
+      (λ k from below. here k from (omega (arith, below)))
+
+  -- down to a place that has no such sighting, where those after it have one only with an earlier place
+  pub earlier_past : (past place : ℕ) → place < past → OnlyWithEarlier past →
+      ((k : ℕ) → place + 1 ≤ k → k < past → (s : Sighting) → IsPlaced taken keyed k s → P s → HasBefore taken keyed P first k) → ((s : Sighting) → IsPlaced taken keyed place s → P s → ⊥) → OnlyWithEarlier place
+  earlier_past past place below so_far others none = earlier_skip (past - place) place past (omega (arith, below)) so_far (λ k from under s at p. elim (cases_lt place k) [
+    | inl lt ↦ others k (omega (arith, lt)) under s at p
+    | inr ge ↦ absurd (let k-is : k ≡ place = omega (arith, from, ge) in none s (subst (λ (i : ℕ). IsPlaced taken keyed i s) k-is at) p)
+  ])
+
   -- at the first place nothing comes before
-  pub none_of_earlier : (n : ℕ) → n ≤ first → OnlyWithEarlier n → NoneFrom taken P key low high keyed n
+  none_of_earlier : (n : ℕ) → n ≤ first → OnlyWithEarlier n → NoneFrom taken P key low high keyed n
   none_of_earlier n near so_far k far one inside is e from to s there p = let h = so_far k far one inside is e from to s there p in omega (arith, near, h.1, h.2)
+
+  -- so where all places from the first on have one only with an earlier place, none has
+  pub none_at_last : (past : ℕ) → OnlyWithEarlier past → ((k : ℕ) → first ≤ k → k < past → (s : Sighting) → IsPlaced taken keyed k s → P s → HasBefore taken keyed P first k) →
+      (n : ℕ) × (n ≤ first) × NoneFrom taken P key low high keyed n
+  none_at_last past so_far others = elim (cases_lt first past) [
+    | inl lt ↦ (first, omega arith, none_of_earlier first (omega arith) (earlier_skip (past - first) first past (omega (arith, lt)) so_far others))
+    | inr ge ↦ (past, ge, none_of_earlier past ge so_far)
+  ]
+
+-- ---- a place of a repeat has one only with an earlier place
+
+module _ (taken : Taken) (places : List Keyed) (given : Sighting) (first low past : ℕ) (repeated : AreRepeatedInReach taken places given first low past) where
+  pub explained_with_earlier : (key_for : KeyFor) (fault : Fault) (k : ℕ) → low ≤ k → k < past → (s : Sighting) → IsPlaced taken places k s → Explains taken key_for fault s given →
+      HasBefore taken places (λ (t : Sighting). Explains taken key_for fault t given) first k
+  explained_with_earlier key_for fault k from below s at e =
+      let one = repeated k from below in
+      let repeats = one.2.0 in
+      let same : s ≡ repeats.later = one_sighting taken places k s repeats.later at repeats.here in
+      let later = subst (λ (t : Sighting). Explains taken key_for fault t given) same e in
+      let reach : InReach taken.policy.hold repeats.earlier given = (omega (arith, repeats.repeats.first, later.in_reach.0), one.2.1) in
+      (one.0, one.1, repeats.ahead, (repeats.earlier, repeats.there, explained_by_repeated taken key_for fault repeats.earlier repeats.later given repeats.repeats reach later))
+
+  pub begun_with_earlier : (fault : Fault) (until : ℕ) (k : ℕ) → low ≤ k → k < past → (s : Sighting) → IsPlaced taken places k s → Begins taken fault until given s →
+      HasBefore taken places (Begins taken fault until given) first k
+  begun_with_earlier fault until k from below s at e =
+      let one = repeated k from below in
+      let repeats = one.2.0 in
+      let same : s ≡ repeats.later = one_sighting taken places k s repeats.later at repeats.here in
+      let later = subst (Begins taken fault until given) same e in
+      let reach : InReach taken.policy.hold repeats.earlier given = (omega (arith, repeats.repeats.first, later.1.0), one.2.1) in
+      (one.0, one.1, repeats.ahead, (repeats.earlier, repeats.there, begun_by_repeated taken fault until repeats.earlier repeats.later given repeats.repeats reach later))
 
 -- ---- the list of them grows
 
@@ -282,3 +406,42 @@ module _ (taken : Taken) (keyed : List Keyed) where
             let is_one : one ≡ Some before = sym (get_or-append_seam repeats one [] one) ∙ subst (λ (i : ℕ). get_or more i one ≡ Some before) last there in
             subst (λ (i : ℕ). IsRepeated taken keyed before i) (sym last) (subst (λ (o : Option ℕ). IfSome o (λ before. IsRepeated taken keyed before (length repeats))) is_one is)
       ]
+
+-- ---- and so does that of the blocks
+
+module _ (taken : Taken) (keyed : List Keyed) where
+  pub no_blocks : AreBlocks taken keyed []
+  no_blocks place block at = absurd (let h = slice_get_within {A = RepeatBlock} [] place block at in omega (arith, h))
+
+  pub more_blocks : (blocks : List RepeatBlock) (one : RepeatBlock) → AreBlocks taken keyed blocks → IsBlock taken keyed (length blocks) one → AreBlocks taken keyed (blocks ++ one ∷ [])
+  more_blocks blocks one are is place block at =
+      let more = blocks ++ one ∷ [] in
+      let within = slice_get_within more place block at in
+      let there : get_or more place one ≡ block = same_Some (get_or more place one) block (sym (slice_get-get_or more place one within) ∙ at) in
+      elim (cases_lt place (length blocks)) [
+        | inl lt ↦ are place block (slice_get-get_or blocks place one lt ∙ ap Some (sym (get_or-append blocks (one ∷ []) one place lt) ∙ there))
+        | inr ge ↦
+            let last : place ≡ length blocks = omega (arith, ge, within, length-append blocks (one ∷ [])) in
+            let is_one : one ≡ block = sym (get_or-append_seam blocks one [] one) ∙ subst (λ (i : ℕ). get_or more i one ≡ block) last there in
+            subst (λ (i : ℕ). IsBlock taken keyed i block) (sym last) (subst (λ (b : RepeatBlock). IsBlock taken keyed (length blocks) b) is_one is)
+      ]
+
+  -- two blocks of which one ends where the other begins
+  pub one_block : (first since end since' end' first' place : ℕ) → 0 < first' → IsBlock taken keyed (first' - 1) (record { first = first; since = since; end = end }) →
+      IsBlock taken keyed place (record { first = first'; since = since'; end = end' }) → (least least-end : ℕ) → least ≤ since → least ≤ since' → least-end ≤ end → least-end ≤ end' →
+      IsBlock taken keyed place (record { first = first; since = least; end = least-end })
+  one_block first since end since' end' first' place some before block least least-end a b c d = record {
+    inside = let h = before.inside in let g = block.inside in omega (arith, some, h, g);
+    all = λ ends k from to. elim (cases_lt k first') [
+      | inl lt ↦ let one = before.all (omega (arith, ends, c)) k from (omega (arith, lt)) in (one.0, omega (arith, one.1, a), (one.2.0, omega (arith, one.2.1, c)))
+      | inr ge ↦ let one = block.all (omega (arith, ends, d)) k ge to in (one.0, omega (arith, one.1, b), (one.2.0, omega (arith, one.2.1, d)))
+    ];
+  }
+
+  -- a block before those that are passed over is passed over, too, if all that it repeats is in reach
+  pub skip_block : (given : Sighting) (first place past : ℕ) (block : RepeatBlock) → 0 < place → IsBlock taken keyed (place - 1) block → 0 < block.end → first ≤ block.since → given.lo ≤ later block.end taken.policy.hold →
+      AreRepeatedInReach taken keyed given first place past → AreRepeatedInReach taken keyed given first block.first past
+  skip_block given first place past block some is ends since near others k from below = elim (cases_lt k place) [
+    | inl lt ↦ let one = is.all ends k from (omega (arith, lt)) in (one.0, omega (arith, one.1, since), (one.2.0, omega (arith, one.2.1, near)))
+    | inr ge ↦ others k ge below
+  ]

@@ -5,6 +5,7 @@ use Rattle.audit_faults.specs.declared.index.Index.{Index}
 use Rattle.audit_faults.specs.Asked.{IsAsking}
 use Rattle.audit_faults.specs.Leased.{AreLeases}
 use Rattle.audit_faults.specs.Reach.{AreExtents}
+use Rattle.audit_faults.specs.RepeatBlocks.{AreBlocks}
 use Rattle.audit_faults.specs.Repeats.{AreRepeats}
 use Rattle.audit_faults.specs.declared.repeats.Asking.{Asking}
 
@@ -12,6 +13,7 @@ use Rattle.audit_faults.specs.declared.repeats.Asking.{Asking}
 pub record AreAsked (taken : Taken) (asking : Asking) : Type 0 where
   pub keyed : IsAsking taken asking.by_key
   pub repeats : AreRepeats taken asking.by_key.places.now asking.repeats.now
+  pub blocks : AreBlocks taken asking.by_key.places.now asking.blocks.now
 
 -- what it says of moments, of leases and of what was asked for is so
 pub record IsIndex (taken : Taken) (index : Index) : Type 0 where

@@ -1,13 +1,43 @@
--- Datagrams that arrived again: the same, from and to the same addresses.
-use Rattle.std.specs.Prelude.{◌≡◌, ℕ, ◌<◌, ◌≤◌, List, Option, Some, slice_get}
+-- Datagrams that arrived again: the same, or the same data by another Send indication, from and to the same addresses.
+use Rattle.std.specs.Prelude.{◌≡◌, ◌⊎◌, ℕ, ◌<◌, ◌≤◌, IsFalse, List, Option, None, Some, slice_get}
+use Rattle.audit_model.specs.declared.policy.Policy.{Policy}
 use Rattle.audit_model.specs.declared.sighting.Sighting.{Sighting}
+use Rattle.audit_model.specs.Policy.{relays}
+use Rattle.audit_stun.specs.declared.class.Class.TheVariants.{Indication}
+use Rattle.audit_stun.specs.declared.numbers.attribute.TheConstants.{DATA, XOR_PEER_ADDRESS}
+use Rattle.audit_stun.specs.declared.numbers.method.TheConstants.{SEND}
+use Rattle.audit_stun.specs.ChannelData.{channel_data_of}
+use Rattle.audit_stun.specs.Counted.{first_of}
+use Rattle.audit_stun.specs.Parts.{parts_of}
+use Rattle.audit_rules.specs.Situation.{IsOf}
+use Rattle.audit_rules.specs.Values.{address_named}
 use Rattle.audit_sightings.specs.Intake.{Taken, sighting_at}
 use Rattle.audit_faults.specs.declared.keyed.Keyed.{Keyed}
 
--- they differ by their moments alone, and the earlier one may have come first
-pub record IsRepeat (earlier later : Sighting) : Type 0 where
-  pub same : earlier ≡ record later { stamp = earlier.stamp; lo = earlier.lo; hi = earlier.hi; id = earlier.id }
+-- they differ by their moments alone
+abbrev pub AreSame : Sighting → Sighting → Type 0
+AreSame earlier later = earlier ≡ record later { stamp = earlier.stamp; lo = earlier.lo; hi = earlier.hi; id = earlier.id }
+
+-- Send indications with the same data for the same peer (RFC 8656, section 11.1)
+pub record AreSameSend (earlier later : List ℕ) : Type 0 where
+  pub first : IsOf earlier Indication SEND
+  pub again : IsOf later Indication SEND
+  pub not_channel : channel_data_of later ≡ None
+  pub peer : address_named XOR_PEER_ADDRESS (parts_of earlier) ≡ address_named XOR_PEER_ADDRESS (parts_of later)
+  pub content : first_of DATA (parts_of earlier).attributes ≡ first_of DATA (parts_of later).attributes
+
+-- a client sent the same data to the same peer by another Send indication
+pub record IsSentAgain (policy : Policy) (earlier later : Sighting) : Type 0 where
+  pub side : earlier.side ≡ later.side
+  pub from : earlier.from ≡ later.from
+  pub to : earlier.to ≡ later.to
+  pub to_server : IsFalse (relays policy later.to)
+  pub payload : AreSameSend earlier.payload later.payload
+
+-- the later one says no more than the earlier one, which may have come first
+pub record IsRepeat (policy : Policy) (earlier later : Sighting) : Type 0 where
   pub first : earlier.lo ≤ later.lo
+  pub same : AreSame earlier later ⊎ IsSentAgain policy earlier later
 
 module _ (taken : Taken) (places : List Keyed) where
   -- the sighting stands at this place
@@ -21,7 +51,7 @@ module _ (taken : Taken) (places : List Keyed) where
     pub there : IsPlaced before earlier
     pub later : Sighting
     pub here : IsPlaced place later
-    pub repeats : IsRepeat earlier later
+    pub repeats : IsRepeat taken.policy earlier later
 
   -- each place that is said to repeat another does
   abbrev pub AreRepeats : List (Option ℕ) → Type 0

@@ -9,7 +9,7 @@ ghost use Rattle.audit_faults.specs.Beginning.{Begins, WasBegun};
 ghost use Rattle.audit_faults.specs.Grants.{IsCaptured};
 ghost use Rattle.audit_faults.specs.Index.{AreAsked, IsIndex};
 ghost use Rattle.audit_faults.specs.Keyed.{digest_of};
-ghost use Rattle.audit_faults.specs.Repeats.{HasBefore, IsPlaced};
+ghost use Rattle.audit_faults.specs.Repeats.{IsPlaced};
 
 use crate::asked::{channel_key, message_key};
 use crate::beginning::begins;
@@ -17,7 +17,8 @@ use crate::fault::Fault;
 use crate::index::Index;
 use crate::keyed::{digest, span_of_key};
 use crate::reach::Span;
-use crate::repeats::{Asking, repeats_in_reach};
+use crate::repeat_blocks::last_unrepeated;
+use crate::repeats::Asking;
 use crate::sought::earliest;
 use audit_model::{SightId, Sighting};
 use audit_sightings::Intake;
@@ -43,30 +44,24 @@ fn begins_at(
     begins(intake, index, fault, always, left, asked, given)
 }
 
-/// Whether what stands at a place did, and repeats nothing that did.
-fn begins_first(
+/// Whether what stands at a place did.
+fn begins_from(
     intake: &Intake,
     asking: Asking<'_>,
     index: &Index<'_>,
     fault: Fault,
     always: &Sighting,
     left: &Sighting,
-    first: usize,
     place: usize,
     given: &Sighting,
 ) -> bool
     requires index { IsIndex (taken intake.now) index.now }
     requires always { always.now.lo ≡ 0 }
-    requires asking { AreAsked (taken intake.now) asking }
     ensures some { IsTrue result → ((asked : Sighting) × IsCaptured (taken intake.now) asked
         × Begins (taken intake.now) fault left.now.hi given.now asked) }
     ensures none { IsFalse result → (asked : Sighting) → IsPlaced (taken intake.now) asking.entry.by_key.places.now place asked →
-        Begins (taken intake.now) fault left.now.hi given.now asked →
-        HasBefore (taken intake.now) asking.entry.by_key.places.now (Begins (taken intake.now) fault left.now.hi given.now) first place }
+        Begins (taken intake.now) fault left.now.hi given.now asked → ⊥ }
 {
-    if repeats_in_reach(intake, asking, first, place, given) {
-        return false;
-    }
     let Some(one) = asking.by_key.places.get(place) else {
         return false;
     };
@@ -122,14 +117,12 @@ fn begun_by(
     if begins_last(intake, asking, index, fault, always, left, span, given) {
         return true;
     }
-    let mut place = span.past;
-    'places: while span.first < place {
-        place -= 1;
-        if begins_first(
-            intake, asking, index, fault, always, left, span.first, place, given,
-        ) {
+    let mut past = span.past;
+    'places: while let Some(place) = last_unrepeated(intake, asking, span.first, past, given) {
+        if begins_from(intake, asking, index, fault, always, left, place, given) {
             return true;
         }
+        past = place;
     }
     false
 }

@@ -21,6 +21,7 @@ use crate::index::{Index, extents_by_interface};
 use crate::last_grant::last_grant;
 use crate::laws::fault_excludes;
 use crate::leased::Leases;
+use crate::repeat_blocks::blocks_of;
 use crate::repeats::{Asking, repeats_of};
 use crate::requests::requests_of;
 use crate::telling::first_fault;
@@ -251,10 +252,14 @@ pub fn shown_faults(
     let requests = requests_kept.by_key();
     let asking_kept = asking_of(alloc, intake)?;
     let by_key = asking_kept.by_key();
-    let repeats = repeats_of(alloc, intake, by_key.places)?;
+    let repeats_kept = repeats_of(alloc, intake, by_key.places)?;
+    let repeats = repeats_kept.as_slice();
+    let blocks_kept = blocks_of(alloc, intake, by_key.places, repeats)?;
+    let blocks = blocks_kept.as_slice();
     let asking = Asking {
         by_key,
-        repeats: repeats.as_slice(),
+        repeats,
+        blocks,
     };
     let index = Index {
         extents: extents.as_slice(),

@@ -1,16 +1,18 @@
-//! Datagrams that arrived again: the same, from and to the same addresses.
+//! Datagrams that arrived again: the same, or the same data by another Send indication, from and to the same addresses.
 
-ghost use Rattle.std.specs.Prelude.{◌≡◌, ◌≤◌, ℕ, IfOk, IfSome, IsTrue};
-ghost use Rattle.audit_model.specs.declared.sighting.Sighting.{Sighting as OneSighting};
+ghost use Rattle.std.specs.Prelude.{◌≡◌, IfOk, IfSome, IsTrue};
 ghost use Rattle.audit_sightings.specs.Intake.{taken};
-ghost use Rattle.audit_faults.specs.Asks.{InReach};
-ghost use Rattle.audit_faults.specs.Repeats.{AreRepeats, IsPlaced, IsRepeat, IsRepeated};
+ghost use Rattle.audit_faults.specs.Repeats.{AreRepeats, AreSame, AreSameSend, IsRepeat, IsRepeated, IsSentAgain};
 
-use crate::asks::in_reach;
 use crate::keyed::{ByKey, Keyed, digest};
 use crate::lease_keys::{address_number, mixed};
-use audit_model::Sighting;
+use crate::repeat_blocks::RepeatBlock;
+use crate::values::{address_in, message_of};
+use audit_model::{Policy, Sighting};
 use audit_sightings::Intake;
+use audit_stun::numbers::attribute::{DATA, XOR_PEER_ADDRESS};
+use audit_stun::numbers::method::SEND;
+use audit_stun::{Class, channel_data};
 use std::alloc::{AllocError, Global};
 use std::collections::BTreeMap;
 
@@ -20,24 +22,74 @@ pub struct Asking<'a> {
     pub by_key: ByKey<'a>,
     /// Of each place that of the same datagram which came last before it, if there is one.
     pub repeats: &'a [Option<u32>],
+    /// Of each place the block that ends there.
+    pub blocks: &'a [RepeatBlock],
 }
 
-/// Whether a datagram is the same as another, which may have come before it.
-fn is_repeat(earlier: &Sighting, later: &Sighting) -> bool
-    ensures { IsTrue result → IsRepeat earlier.now later.now }
+/// Whether two datagrams were captured on their way between the same addresses.
+fn have_same_path(earlier: &Sighting, later: &Sighting) -> bool
+    ensures { IsTrue result → (earlier.now.side ≡ later.now.side) × (earlier.now.from ≡ later.now.from) × (earlier.now.to ≡ later.now.to) }
 {
-    earlier.lo <= later.lo
-        && earlier.side == later.side
-        && earlier.from == later.from
-        && earlier.to == later.to
-        && earlier.payload.as_slice() == later.payload.as_slice()
+    earlier.side == later.side && earlier.from == later.from && earlier.to == later.to
 }
 
-/// A number for the datagram at a place: equal ones of one key have the same.
+/// Whether they differ by their moments alone.
+fn are_same(earlier: &Sighting, later: &Sighting) -> bool
+    ensures { IsTrue result → AreSame earlier.now later.now }
+{
+    have_same_path(earlier, later) && earlier.payload.as_slice() == later.payload.as_slice()
+}
+
+/// Whether two payloads are Send indications with the same data for the same peer. Each has a transaction id of its own
+/// (RFC 8656, section 11.1).
+fn are_same_send(earlier: &[u8], later: &[u8]) -> bool
+    ensures { IsTrue result → AreSameSend earlier.now later.now }
+{
+    let Some(one) = message_of(earlier, Class::Indication, SEND) else {
+        return false;
+    };
+    let Some(other) = message_of(later, Class::Indication, SEND) else {
+        return false;
+    };
+    if channel_data(later).is_some() {
+        return false;
+    }
+    address_in(&one, XOR_PEER_ADDRESS) == address_in(&other, XOR_PEER_ADDRESS)
+        && one.first(DATA) == other.first(DATA)
+}
+
+/// Whether a client sent the same data to the same peer by another Send indication.
+fn is_sent_again(policy: &Policy, earlier: &Sighting, later: &Sighting) -> bool
+    ensures { IsTrue result → IsSentAgain policy.now earlier.now later.now }
+{
+    have_same_path(earlier, later)
+        && !policy.relays(later.to)
+        && are_same_send(earlier.payload.as_slice(), later.payload.as_slice())
+}
+
+/// Whether a datagram repeats another, which may have come before it.
+fn is_repeat(policy: &Policy, earlier: &Sighting, later: &Sighting) -> bool
+    ensures { IsTrue result → IsRepeat policy.now earlier.now later.now }
+{
+    earlier.lo <= later.lo && (are_same(earlier, later) || is_sent_again(policy, earlier, later))
+}
+
+/// A number for what a payload says: repeats have the same. Of a Send indication the data has the key.
+fn content_number(payload: &[u8]) -> u64 {
+    if let Some(indication) = message_of(payload, Class::Indication, SEND) {
+        if let Some(peer) = address_in(&indication, XOR_PEER_ADDRESS) {
+            return address_number(peer);
+        }
+    }
+    digest(payload)
+}
+
+/// A number for the datagram at a place: repeats of one key have the same.
 fn number_at(intake: &Intake, place: &Keyed) -> Option<u64> {
     let sighting = intake.sighting(place.sight)?;
     let ends = mixed(address_number(sighting.from), address_number(sighting.to));
-    Some(mixed(mixed(place.key, ends), digest(sighting.payload.as_slice())))
+    let content = content_number(sighting.payload.as_slice());
+    Some(mixed(mixed(place.key, ends), content))
 }
 
 /// The place before, where that at this place repeats it.
@@ -51,7 +103,7 @@ fn repeated(intake: &Intake, places: &[Keyed], before: u32, place: usize) -> Opt
     let other = places.get(place)?;
     let earlier = intake.sighting(one.sight)?;
     let later = intake.sighting(other.sight)?;
-    if !is_repeat(earlier, later) {
+    if !is_repeat(intake.policy(), earlier, later) {
         return None;
     }
     Some(before)
@@ -93,33 +145,4 @@ pub fn repeats_of(
         repeats.push(before)?;
     }
     Ok(repeats)
-}
-
-/// Whether what stands at a place repeats what stands at another, no earlier than the first, that is in reach of the departure too:
-/// then it explains it only where that does.
-pub fn repeats_in_reach(
-    intake: &Intake,
-    asking: Asking<'_>,
-    first: usize,
-    place: usize,
-    given: &Sighting,
-) -> bool
-    requires { AreRepeats (taken intake.now) asking.by_key.places.now asking.repeats.now }
-    ensures { IsTrue result → (before : ℕ) × (first ≤ before) × IsRepeated (taken intake.now) asking.entry.by_key.places.now before place
-        × ((earlier : OneSighting) → IsPlaced (taken intake.now) asking.entry.by_key.places.now before earlier → InReach (taken intake.now).policy.hold earlier given.now) }
-{
-    let Some(Some(before)) = asking.repeats.get(place) else {
-        return false;
-    };
-    let before = *before as usize;
-    if before < first {
-        return false;
-    }
-    let Some(one) = asking.by_key.places.get(before) else {
-        return false;
-    };
-    let Some(earlier) = intake.sighting(one.sight) else {
-        return false;
-    };
-    in_reach(intake.policy().hold, earlier, given)
 }

@@ -11,7 +11,7 @@ ghost use Rattle.audit_faults.specs.Explains.{Explains};
 ghost use Rattle.audit_faults.specs.Grants.{IsCaptured};
 ghost use Rattle.audit_faults.specs.Index.{AreAsked, IsIndex};
 ghost use Rattle.audit_faults.specs.Keyed.{digest_of};
-ghost use Rattle.audit_faults.specs.Repeats.{HasBefore, IsPlaced};
+ghost use Rattle.audit_faults.specs.Repeats.{IsPlaced};
 
 use crate::asked::{channel_key, message_key};
 use crate::explains::explains;
@@ -20,7 +20,8 @@ use crate::index::Index;
 use crate::keyed::{digest, span_of_key};
 use crate::needs::has_needed_leases;
 use crate::reach::Span;
-use crate::repeats::{Asking, repeats_in_reach};
+use crate::repeat_blocks::last_unrepeated;
+use crate::repeats::Asking;
 use audit_keys::Credentials;
 use audit_model::{SightId, Sighting};
 use audit_sightings::Intake;
@@ -74,28 +75,22 @@ fn explains_at(
     explains_by_leases(intake, index, credentials, fault, asked, given)
 }
 
-/// Whether what stands at a place explains the departure, and repeats nothing that does.
-fn explains_first(
+/// Whether what stands at a place explains the departure.
+fn explains_from(
     intake: &Intake,
     index: &Index<'_>,
     asking: Asking<'_>,
     credentials: &Credentials,
     fault: Fault,
-    first: usize,
     place: usize,
     given: &Sighting,
 ) -> bool
-    requires index { IsIndex (taken intake.now) index.now }
-    requires asking { AreAsked (taken intake.now) asking }
+    requires { IsIndex (taken intake.now) index.now }
     ensures some { IsTrue result → ((asked : Sighting) × IsCaptured (taken intake.now) asked
         × Explains (taken intake.now) (key_for credentials.now) fault asked given.now) }
     ensures none { IsFalse result → (asked : Sighting) → IsPlaced (taken intake.now) asking.entry.by_key.places.now place asked →
-        Explains (taken intake.now) (key_for credentials.now) fault asked given.now →
-        HasBefore (taken intake.now) asking.entry.by_key.places.now (λ s. Explains (taken intake.now) (key_for credentials.now) fault s given.now) first place }
+        Explains (taken intake.now) (key_for credentials.now) fault asked given.now → ⊥ }
 {
-    if repeats_in_reach(intake, asking, first, place, given) {
-        return false;
-    }
     let Some(one) = asking.by_key.places.get(place) else {
         return false;
     };
@@ -125,8 +120,9 @@ fn explains_last(
     explains_at(intake, index, credentials, fault, one.sight, given)
 }
 
-/// Whether something explains the departure that arrived with the key, the last one first. Of equal datagrams the first in reach alone is
-/// asked, since it explains what any of them does.
+/// Whether something explains the departure that arrived with the key, the last one first. Of equal datagrams the first
+/// in reach alone is checked, since it explains what any of them does: if a client repeats one datagram, each search
+/// takes logarithmic time.
 fn explained_by(
     intake: &Intake,
     index: &Index<'_>,
@@ -148,21 +144,12 @@ fn explained_by(
     if explains_last(intake, index, asking, credentials, fault, span, given) {
         return true;
     }
-    let mut place = span.past;
-    'places: while span.first < place {
-        place -= 1;
-        if explains_first(
-            intake,
-            index,
-            asking,
-            credentials,
-            fault,
-            span.first,
-            place,
-            given,
-        ) {
+    let mut past = span.past;
+    'places: while let Some(place) = last_unrepeated(intake, asking, span.first, past, given) {
+        if explains_from(intake, index, asking, credentials, fault, place, given) {
             return true;
         }
+        past = place;
     }
     false
 }

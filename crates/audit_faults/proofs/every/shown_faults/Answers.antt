@@ -30,7 +30,8 @@ returns-clause-no_certificate c =
 pub add_of_interface-requires-clause-asking : goal.add_of_interface-requires-clause-asking
 add_of_interface-requires-clause-asking c = record {
   keyed = rw (c.by_key-by_key.ensures.places, c.by_key-by_key.ensures.width) c.in_ok-asking_kept.ensures;
-  repeats = rw c.as_slice.ensures.value c.in_ok-repeats.ensures;
+  repeats = rw c.as_slice-repeats.ensures.value c.in_ok-repeats_kept.ensures;
+  blocks = rw c.as_slice-blocks.ensures.value c.in_ok-blocks_kept.ensures;
 }
 
 pub add_of_interface-requires-clause-index : goal.add_of_interface-requires-clause-index
@@ -39,6 +40,10 @@ add_of_interface-requires-clause-index c = record {
   leases = search rules;
   asking = record {
     keyed = rw (c.by_key-by_key.ensures.places, c.by_key-by_key.ensures.width) c.in_ok-asking_kept.ensures;
-    repeats = rw c.as_slice.ensures.value c.in_ok-repeats.ensures;
+    repeats = rw c.as_slice-repeats.ensures.value c.in_ok-repeats_kept.ensures;
+    blocks = rw c.as_slice-blocks.ensures.value c.in_ok-blocks_kept.ensures;
   };
 }
+
+pub blocks_of-requires : goal.blocks_of-requires
+blocks_of-requires c = rw c.as_slice-repeats.ensures.value c.in_ok-repeats_kept.ensures

@@ -1,4 +1,4 @@
-use Rattle.std.proofs.Common.{◌≤◌, sym, subst, arith}
+use Rattle.std.proofs.Common.{◌≤◌, ◌+◌, sym, subst, arith}
 use Rattle.audit_model.specs.declared.sighting.Sighting.{Sighting}
 use Rattle.audit_keys.specs.KeyFor.{key_for}
 use Rattle.audit_model.specs.Window.{later}
@@ -7,7 +7,7 @@ use Rattle.audit_sightings.specs.Intake.{taken}
 use Rattle.audit_faults.specs.Asked.{IsAskedBy}
 use Rattle.audit_faults.specs.Explains.{Explains}
 use Rattle.audit_faults.proofs.Keying.{none_of_key}
-use Rattle.audit_faults.proofs.Repeating.{earlier_behind, earlier_down, none_of_earlier}
+use Rattle.audit_faults.proofs.Repeating.{earlier_behind, earlier_past, explained_with_earlier, none_at_last}
 use Rattle.audit_faults.proofs.sought.explained_by.Goals as goal
 
 pub places-init : goal.places-init
@@ -19,20 +19,27 @@ places-init c = record {
 
 pub places-preserved : goal.places-preserved
 places-preserved c =
-    let test = c.places-test.true in
+    let taken = taken c.args.intake.now in
+    let key_for = key_for c.args.credentials.now in
+    let given = c.args.given.now in
+    let keyed = c.args.asking.by_key.places.now in
+    let first = c.span_of_key-span.result.first in
+    let place = c.in-Some.place in
     record {
-      bound = omega (arith, c.places.invariant.bound);
-      none = earlier_down (taken c.args.intake.now) (λ (s : Sighting). Explains (taken c.args.intake.now) (key_for c.args.credentials.now) c.args.fault s c.args.given.now) c.args.key c.earliest-first.result c.args.given.now.hi
-          c.span_of_key-span.result.first c.args.asking.by_key.places.now c.places.place (omega (arith, test)) c.places.invariant.none (c.explains_first.ensures.none c.if-explains_first.false);
+      bound = omega (arith, c.in-Some.ensures.place.1, c.places.invariant.bound);
+      none = earlier_past taken (λ (s : Sighting). Explains taken key_for c.args.fault s given) c.args.key c.earliest-first.result given.hi first keyed c.places.past place c.in-Some.ensures.place.1 c.places.invariant.none
+          (explained_with_earlier taken keyed given first (place + 1) c.places.past c.in-Some.ensures.others key_for c.args.fault) (c.explains_from.ensures.none c.if-explains_from.false);
     }
 
 pub returns-clause-all : goal.returns-clause-all
 returns-clause-all c asked captured may e =
-    let test = c.places-test.false in
-    let taken' = taken c.args.intake.now in
+    let taken = taken c.args.intake.now in
+    let key_for = key_for c.args.credentials.now in
+    let given = c.args.given.now in
     let keyed = c.args.asking.by_key.places.now in
-    absurd (none_of_key taken' (λ (s : Sighting). Explains taken' (key_for c.args.credentials.now) c.args.fault s c.args.given.now) c.args.key c.earliest-first.result c.args.given.now.hi keyed
-    (IsAskedBy taken'.policy) c.args.asking.by_key.width c.span_of_key-span.result.first c.span_of_key-span.result.past c.places.place (c.span_of_key-span.ensures.has c.requires.asking.keyed.sorted)
-    (omega (arith, test))
-    (none_of_earlier taken' (λ (s : Sighting). Explains taken' (key_for c.args.credentials.now) c.args.fault s c.args.given.now) c.args.key c.earliest-first.result c.args.given.now.hi c.span_of_key-span.result.first keyed c.places.place (omega (arith, test)) c.places.invariant.none)
-    c.requires.asking.keyed asked captured may (λ narrow. (c.earliest-first.ensures asked.lo asked.hi (subst (λ (p : Policy). c.args.given.now.lo ≤ later asked.hi p.hold) (sym c.policy.ensures) e.in_reach.1) narrow.0, e.in_reach.0)) e)
+    let first = c.span_of_key-span.result.first in
+    let none = none_at_last taken (λ (s : Sighting). Explains taken key_for c.args.fault s given) c.args.key c.earliest-first.result given.hi first keyed c.places.past c.places.invariant.none
+    (explained_with_earlier taken keyed given first first c.places.past c.in_default.ensures.others key_for c.args.fault) in
+    absurd (none_of_key taken (λ (s : Sighting). Explains taken key_for c.args.fault s given) c.args.key c.earliest-first.result given.hi keyed
+    (IsAskedBy taken.policy) c.args.asking.by_key.width first c.span_of_key-span.result.past none.0 (c.span_of_key-span.ensures.has c.requires.asking.keyed.sorted) none.1 none.2
+    c.requires.asking.keyed asked captured may (λ narrow. (c.earliest-first.ensures asked.lo asked.hi (subst (λ (p : Policy). given.lo ≤ later asked.hi p.hold) (sym c.policy.ensures) e.in_reach.1) narrow.0, e.in_reach.0)) e)
