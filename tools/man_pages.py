@@ -26,11 +26,12 @@ WIDTH = 78
 
 ESCAPES = {"\\": "\\e", "~": "\\(ti", "^": "\\(ha", "`": "\\(ga"}
 LITERALS = {**ESCAPES, "-": "\\-", "'": "\\(aq"}
-# Of a text: code, a link, what is bold, what is emphasized, and a character that stands for itself.
+# Of a text: code, a link, an anchor, what is bold, what is emphasized, and a character that stands for itself.
 SPAN = re.compile(
     r"(`+)(?P<code>.+?)\1(?!`)"
     r"|!?\[(?P<label>[^\]]*)\]\((?P<target>[^)\s]*)\)"
     r"|<(?P<address>https?://[^>\s]+)>"
+    r"|(?P<anchor><a id=\"[\w-]+\"></a>)"
     r"|\*\*(?P<bold>.+?)\*\*"
     r"|(?<![\w*])\*(?![\s*])(?P<star>.+?)(?<![\s*])\*(?![\w*])"
     r"|(?<!\w)_(?!\s)(?P<line>.+?)(?<!\s)_(?!\w)"
@@ -91,6 +92,8 @@ def inline(text, font="R"):
                 made.append(f" ({escaped(span['target'], literals=True)})")
         elif span["address"] is not None:
             made.append(escaped(span["address"], literals=True))
+        elif span["anchor"] is not None:
+            continue
         elif span["bold"] is not None:
             made.append(in_font(inline(span["bold"], "B"), "B", font))
         elif span["itself"] is not None:
@@ -103,7 +106,7 @@ def inline(text, font="R"):
 
 def plain(text):
     """A text without emphasis, for a heading."""
-    return SPAN.sub(lambda span: span["code"] or span["label"] or span["address"] or span["bold"] or span["star"] or span["line"] or span["itself"], text)
+    return SPAN.sub(lambda span: span["code"] or span["label"] or span["address"] or span["bold"] or span["star"] or span["line"] or span["itself"] or "", text)
 
 
 def protected(line):
