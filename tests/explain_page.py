@@ -5,7 +5,9 @@
 
 It is HTML whose elements are closed, asks for nothing from elsewhere and has no script; the same inputs give the same page; the
 digests, sizes, packets and moments are those of the files; it has no password, and no digest of one; names out of files can't become
-markup; a file that is there is kept; it has the list of what turnprep cut; of a capture that changes meanwhile there is none. Where there is a Chromium, it opens the page without an error on its console and prints it.
+markup; a file that is there is kept; it has the list of what turnprep cut; of a capture that changes meanwhile there is none; its
+picture has an axis, a legend and the deleted allocations, and each mark is inside it. Where there is a Chromium, it opens the page
+without an error on its console and prints it.
 """
 
 import hashlib
@@ -20,6 +22,8 @@ import sys
 import tempfile
 import threading
 import time
+
+import explain_captures
 
 TOP = pathlib.Path(__file__).resolve().parent.parent
 VOID = {"meta", "br", "rect"}
@@ -85,13 +89,13 @@ def check_example(program, example, status, folder):
         faults.append(f"status {done.returncode}: {done.stderr}")
     for file in (policy, *captures):
         content = file.read_bytes()
-        if hashlib.sha256(content).hexdigest() not in page or f"<td>{len(content)}</td>" not in page:
+        if hashlib.sha256(content).hexdigest() not in page or f"<td class=\"number\">{len(content)}</td>" not in page:
             faults.append(f"lacks the digest or the size of {file.name}")
     if hashlib.sha256(users.read_bytes()).hexdigest() in page:
         faults.append("has a digest by which passwords can be tried")
     for line in users.read_text().splitlines():
         name, realm, password = line.split("\t")
-        told = re.sub(r"<td>[^<]*</td>", "", page)
+        told = re.sub(r"<td[^>]*>[^<]*</td>", "", page)
         if re.search(rf"\b{re.escape(password)}\b", told) and password not in (name, realm, "pass"):  # a word of the account, too
             faults.append("has a password")
     if hashlib.sha256((TOP / "docs" / "headline.txt").read_bytes()).hexdigest() not in page:
@@ -202,6 +206,33 @@ def check_changing(program, folder):
     return faults
 
 
+def check_picture(program, folder):
+    """The picture of a breach: each mark is inside, the axis has the times, a deleted allocation is drawn in its own pattern, and the legend has each mark."""
+    (folder / "policy").write_text(explain_captures.POLICY)
+    (folder / "users").write_text(explain_captures.USERS)
+    (folder / "r4.pcapng").write_bytes(explain_captures.DELETED)
+    done, page = page_of(program, ["--policy", folder / "policy", "--creds", folder / "users", folder / "r4.pcapng"], folder, "picture.html")
+    faults = looked_at(page)
+    picture = page[page.find("<svg"):page.find("</svg>")]
+    width = int(re.search(r'viewBox="0 0 (\d+) ', picture)[1])
+    ends = [int(x) + int(wide) for x, wide in re.findall(r'<rect x="(\d+)" y="\d+" width="(\d+)"', picture)]
+    if done.returncode != 1 or not ends or max(ends) >= width:
+        faults.append(f"a mark ends at {max(ends, default=None)} of {width}")
+    # The client's datagrams are seen from 1.000 to 503.200 milliseconds after the first frame.
+    for time_of_axis in ("+0.0010 s", "+0.1266 s", "+0.2521 s", "+0.3777 s", "+0.5032 s"):
+        if f">{time_of_axis}<" not in picture:
+            faults.append(f"the axis lacks {time_of_axis}")
+    if picture.count("stroke-dasharray") != 1 or "allocation 192.0.2.1:50000" not in picture:
+        faults.append("the deleted allocation isn't drawn")
+    for words in ("lasts", "in the grace", "ended by a request", "a datagram of the client", "the datagram that breaks the rule"):
+        if words not in page[page.find('class="legend"'):]:
+            faults.append(f"the legend lacks: {words}")
+    proved = b", proved with " in subprocess.run([program, "--version"], capture_output=True).stdout
+    if proved == ("built without its proofs" in page):
+        faults.append("doesn't say whether the program is proved")
+    return [f"picture: {fault}" for fault in faults]
+
+
 def check_browser(folder):
     """What Chromium says of the pages."""
     browser = shutil.which("chromium") or shutil.which("chromium-browser") or shutil.which("google-chrome")
@@ -226,6 +257,7 @@ def main():
         faults += check_markup(program, folder)
         faults += check_cut(program, folder)
         faults += check_changing(program, folder)
+        faults += check_picture(program, pathlib.Path(folder))
         faults += check_browser(folder)
     for fault in faults:
         print(fault)

@@ -2,6 +2,7 @@
 //! elsewhere. The same facts give the same bytes.
 #![tactic(auto)]
 
+mod axis;
 mod commands;
 mod facts;
 mod file_reading;
@@ -17,4 +18,4 @@ pub use facts::{CaptureRow, ClientRow, CommentRow, Facts, FileRow, Role, UserRow
 pub use file_reading::FileReading;
 pub use hashed::{Digests, Hashing};
 pub use page::page_of;
-pub use picture::{Bar, Mark, Picture};
+pub use picture::{Bar, BarKind, Mark, Picture};

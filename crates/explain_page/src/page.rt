@@ -5,12 +5,17 @@ use crate::facts::Facts;
 use crate::markup::Plain;
 use crate::style::{HEAD, STYLE};
 use crate::tables::{captures, clients, comments, files, users};
-use crate::words::{CONFORMING, CUT, NOT_SAID, NOT_SHOWN, REPEATS};
+use crate::words::{CONFORMING, CUT, NOT_PROVED, NOT_SAID, NOT_SHOWN, PROVED, REPEATS};
 use std::alloc::{AllocError, Global};
 
 /// A section.
 fn section(alloc: Global, title: &str, body: &str) -> Result<String, AllocError> {
     format!(in alloc; "<h2>{title}</h2>\n{body}")
+}
+
+/// Whether the program was built with its proofs, as its release says.
+fn is_proved(facts: &Facts<'_>) -> bool {
+    !facts.release.ends_with("not proved")
 }
 
 /// What stands at the top: the verdict, and what it says.
@@ -21,9 +26,14 @@ fn verdict(alloc: Global, facts: &Facts<'_>) -> Result<String, AllocError> {
     } else {
         NOT_SHOWN
     };
+    let proved = match (is_proved(facts), facts.is_conforming) {
+        (false, _) => NOT_PROVED,
+        (true, true) => PROVED,
+        (true, false) => "",
+    };
     let cut = if facts.excluded.is_some() { CUT } else { "" };
     format!(in alloc;
-        "{HEAD}<title>turnaudit: {head}</title>\n{STYLE}</head>\n<body>\n<h1>Audit of a TURN server by RFC 8656</h1>\n<p class=\"word\">{head}</p>\n{cut}{says}{NOT_SAID}"
+        "{HEAD}<title>turnaudit: {head}</title>\n{STYLE}</head>\n<body>\n<h1>Audit of a TURN server by RFC 8656</h1>\n<p class=\"word\">{head}</p>\n{cut}{says}{proved}{NOT_SAID}"
     )
 }
 
@@ -49,12 +59,12 @@ fn program(alloc: Global, facts: &Facts<'_>) -> Result<String, AllocError> {
         Some(digests) => {
             let size = digests.size;
             format!(in alloc;
-                "<p>turnexplain {release}</p>\n<p>The program: {size} bytes, SHA-256 <code>{digests}</code></p>\n<p>What is proved, docs/headline.txt: SHA-256 <code>{headline}</code></p>\n"
+                "<p>turnexplain {release}</p>\n<p>The program: {size} bytes, SHA-256 <code>{digests}</code></p>\n<p>The statement that the proofs are about, docs/headline.txt: SHA-256 <code>{headline}</code></p>\n"
             )
         }
         None => {
             format!(in alloc;
-                "<p>turnexplain {release}</p>\n<p>The program's file can't be read.</p>\n<p>What is proved, docs/headline.txt: SHA-256 <code>{headline}</code></p>\n"
+                "<p>turnexplain {release}</p>\n<p>The program's file can't be read.</p>\n<p>The statement that the proofs are about, docs/headline.txt: SHA-256 <code>{headline}</code></p>\n"
             )
         }
     }

@@ -1,20 +1,33 @@
 //! A picture of what a client had over time, and of its datagrams.
 
+use crate::axis::axis;
 use crate::markup::Plain;
 use std::alloc::{AllocError, Global};
 
-/// Where the times begin, behind the names; how wide they are; and how high a row is, in the picture's units.
-const LEFT: u64 = 260;
+/// Where the times begin, after the names; how wide they are; what is free after them; and how high a row is, in the picture's units.
+pub(crate) const LEFT: u64 = 260;
 
-const WIDTH: u64 = 720;
+pub(crate) const WIDTH: u64 = 700;
+
+const RIGHT: u64 = 40;
 
 const ROW: u64 = 20;
+
+/// Whether a lease was ended by a request or not.
+#[derive(Clone, Copy, Debug, PartialEq, Eq)]
+pub enum BarKind {
+    /// It ends by its time-to-expiry.
+    Lasting,
+    /// It was deleted, or replaced by another.
+    Ended,
+}
 
 /// A lease. Moments are nanoseconds since 1970.
 #[derive(Clone, Copy)]
 pub struct Bar<'p> {
     /// What it is of. It is plain.
     pub name: &'p str,
+    pub kind: BarKind,
     pub from: u64,
     pub until: u64,
     /// With the policy's grace.
@@ -33,6 +46,8 @@ pub struct Mark {
 /// What is drawn between two moments.
 #[derive(Clone, Copy)]
 pub struct Picture<'p> {
+    /// From which the times of the axis count: the first frame of all captures. Nanoseconds since 1970.
+    pub origin: u64,
     /// Nanoseconds since 1970.
     pub first: u64,
     pub last: u64,
@@ -40,9 +55,13 @@ pub struct Picture<'p> {
     pub marks: &'p [Mark],
 }
 
+/// What each mark means, below the picture.
+const LEGEND: &str =
+    "<p class=\"legend\"><svg viewBox=\"0 0 24 12\" class=\"key\"><rect x=\"0\" y=\"0\" width=\"24\" height=\"12\" fill=\"#607d8b\"/></svg> lasts; <svg viewBox=\"0 0 24 12\" class=\"key\"><rect x=\"0\" y=\"0\" width=\"24\" height=\"12\" fill=\"#cfd8dc\"/></svg> expired, in the grace; <svg viewBox=\"0 0 24 12\" class=\"key\"><rect x=\"0\" y=\"0\" width=\"24\" height=\"12\" fill=\"#eceff1\" stroke=\"#607d8b\" stroke-width=\"2\" stroke-dasharray=\"4 3\"/></svg> ended by a request (deleted or replaced); <svg viewBox=\"0 0 24 12\" class=\"key\"><rect x=\"11\" y=\"0\" width=\"1\" height=\"12\" fill=\"#111\"/></svg> a datagram of the client; <svg viewBox=\"0 0 24 12\" class=\"key\"><rect x=\"11\" y=\"0\" width=\"2\" height=\"12\" fill=\"#c62828\"/></svg> the datagram that breaks the rule. Times count from the first frame of all captures.</p>\n";
+
 impl Picture<'_> {
     /// How far to the right a moment stands.
-    fn place(&self, moment: u64) -> u64 {
+    pub(crate) fn place(&self, moment: u64) -> u64 {
         let length = self.last.saturating_sub(self.first).max(1);
         let way = moment.clamp(self.first, self.first.max(self.last)) - self.first;
         // In steps of a thousandth at the least, so that no product is too great.
@@ -57,8 +76,12 @@ impl Picture<'_> {
         let lasts = self.place(bar.until).saturating_sub(from).max(1);
         let with_grace = self.place(bar.last).saturating_sub(from).max(1);
         let base = top.saturating_add(14);
+        let look = match bar.kind {
+            BarKind::Lasting => "fill=\"#607d8b\"",
+            BarKind::Ended => "fill=\"#eceff1\" stroke=\"#607d8b\" stroke-dasharray=\"4 3\"",
+        };
         format!(in alloc;
-            "<text x=\"0\" y=\"{base}\">{name}</text>\n<rect x=\"{from}\" y=\"{top}\" width=\"{with_grace}\" height=\"16\" fill=\"#cfd8dc\"/>\n<rect x=\"{from}\" y=\"{top}\" width=\"{lasts}\" height=\"16\" fill=\"#607d8b\"/>\n"
+            "<text x=\"0\" y=\"{base}\">{name}</text>\n<rect x=\"{from}\" y=\"{top}\" width=\"{with_grace}\" height=\"16\" fill=\"#cfd8dc\"/>\n<rect x=\"{from}\" y=\"{top}\" width=\"{lasts}\" height=\"16\" {look}/>\n"
         )
     }
 
@@ -66,8 +89,9 @@ impl Picture<'_> {
     fn mark(&self, alloc: Global, mark: &Mark, top: u64) -> Result<String, AllocError> {
         let at = self.place(mark.moment);
         if mark.is_breach {
+            let height = top.saturating_add(12);
             return format!(in alloc;
-                "<rect x=\"{at}\" y=\"0\" width=\"2\" height=\"{top}\" fill=\"#c62828\"/>\n"
+                "<rect x=\"{at}\" y=\"0\" width=\"2\" height=\"{height}\" fill=\"#c62828\"/>\n"
             );
         }
         format!(in alloc;
@@ -75,8 +99,8 @@ impl Picture<'_> {
         )
     }
 
-    /// The picture as SVG.
-    pub fn drawn(&self, alloc: Global) -> Result<String, AllocError> {
+    /// The rows of the leases and the marks below them, and how high they are.
+    fn rows(&self, alloc: Global) -> Result<(String, u64), AllocError> {
         let mut rows = String::new(alloc);
         let mut top = 4u64;
         for bar in self.bars {
@@ -86,11 +110,18 @@ impl Picture<'_> {
         for mark in self.marks {
             rows.push_str(self.mark(alloc, mark, top)?.as_str())?;
         }
+        Ok((rows, top))
+    }
+
+    /// The picture as SVG, and its legend.
+    pub fn drawn(&self, alloc: Global) -> Result<String, AllocError> {
+        let (rows, top) = self.rows(alloc)?;
         let base = top.saturating_add(12);
-        let height = top.saturating_add(24);
-        let width = LEFT + WIDTH;
+        let axis = axis(alloc, self, top.saturating_add(16))?;
+        let height = top.saturating_add(44);
+        let width = LEFT + WIDTH + RIGHT;
         format!(in alloc;
-            "<svg viewBox=\"0 0 {width} {height}\" font-size=\"13\" font-family=\"sans-serif\" role=\"img\" aria-label=\"What the client had over time\">\n{rows}<text x=\"0\" y=\"{base}\">its datagrams</text>\n</svg>\n"
+            "<svg viewBox=\"0 0 {width} {height}\" font-size=\"13\" font-family=\"sans-serif\" role=\"img\" aria-label=\"What the client had over time\">\n{rows}<text x=\"0\" y=\"{base}\">its datagrams</text>\n{axis}</svg>\n{LEGEND}"
         )
     }
 }

@@ -13,7 +13,7 @@ fn file_row(alloc: Global, row: &FileRow<'_>) -> Result<String, AllocError> {
         Some(digests) => {
             let size = digests.size;
             format!(in alloc;
-                "<tr><td>{role}</td><td>{name}</td><td>{size}</td><td><code>{digests}</code></td></tr>\n"
+                "<tr><td>{role}</td><td>{name}</td><td class=\"number\">{size}</td><td><code>{digests}</code></td></tr>\n"
             )
         }
         None => {
@@ -47,7 +47,9 @@ fn moment(alloc: Global, moment: Option<u64>) -> Result<String, AllocError> {
     match moment {
         Some(moment) => {
             let utc = Utc { moment };
-            format!(in alloc; "{utc} ({moment})")
+            format!(in alloc;
+                "<span class=\"number\">{utc}</span> <span class=\"number\">({moment})</span>"
+            )
         }
         None => String::from_str(alloc, "none"),
     }

@@ -6,7 +6,14 @@ pub const CUT: &str =
 
 /// What `conforming` says.
 pub const CONFORMING: &str =
-    "<p>Some one order of all captured datagrams of the service, each at a moment in its stamp window, keeps every interface's own order and is a run of the RFC 8656 server from an empty table. So every relayed datagram had a live allocation, and a live permission or channel. This is proved of the program (docs/HEADLINE.md).</p>\n";
+    "<p>Some one order of all captured datagrams of the service, each at a moment in its stamp window, keeps every interface's own order and is a run of the RFC 8656 server from an empty table. So every relayed datagram had a live allocation, and a live permission or channel.</p>\n";
+
+/// What is said of both if the program was built with its proofs.
+pub const PROVED: &str = "<p>This is proved of the program (docs/HEADLINE.md).</p>\n";
+
+/// What is said if it wasn't.
+pub const NOT_PROVED: &str =
+    "<p><strong>This program was built without its proofs</strong>: nothing is proved of it, and no verdict should come from it.</p>\n";
 
 /// What `not shown` says.
 pub const NOT_SHOWN: &str =

@@ -8,12 +8,13 @@ ghost use Rattle.explain_program.specs.Explained.{IsExplained};
 use crate::command_line::Inputs;
 use crate::digesting::{Digesting, unread};
 use crate::explaining::{case_of, status};
+use crate::filed_texts::{excluded_of, users_of};
 use crate::frames::look_up;
 use crate::head::{head, put_answer};
 use crate::host::PageFile;
 use crate::judged::{Judged, judge_files};
 use crate::lanes::breach_of;
-use crate::named::{NamedFile, NamedUser, facts_of_captures, named_files, plain_lines, users_in};
+use crate::named::{NamedFile, NamedUser, facts_of_captures, named_files, plain_lines};
 use crate::page_rows::{
     Clients, bars_of, capture_rows, client_rows, comment_rows, file_rows, picture_of, user_rows,
 };
@@ -36,13 +37,8 @@ use std::thread::Threads;
 /// How many clients are listed.
 const MOST_CLIENTS: usize = 200;
 
-/// How many bytes of the policy are told, and of the users looked at.
+/// How many bytes of the policy are filed.
 const MOST_POLICY: usize = 65_536;
-
-/// How many bytes of the list of what was excluded are filed.
-const MOST_EXCLUDED: usize = 16_777_216;
-
-const MOST_USERS: usize = 16_777_216;
 
 /// The program that runs.
 const SELF: &str = "/proc/self/exe";
@@ -54,6 +50,8 @@ const HEADLINE: &str = "60534a8eea0789ebb764bc3f154c4b2fd978537746605782e2d7e460
 #[derive(Drop)]
 struct Gathered {
     story: String,
+    /// When the first frame of all captures was seen, in nanoseconds since 1970.
+    first: u64,
     clients: Clients,
     files: Vec<NamedFile>,
     captures: Vec<CaptureFacts>,
@@ -105,14 +103,14 @@ fn clients_of(
     }
 }
 
-/// The account of a verdict, and the clients: what is told by frames, which one pass over the captures looks up.
+/// The account of a verdict, when the first frame was seen, and the clients: what is told by frames, which one pass over the captures looks up.
 fn by_frames<S: Source>(
     alloc: Global,
     source: &mut S,
     case: Case<'_>,
     lanes: Option<&Lanes<'_>>,
     verdict: &Verdict,
-) -> Result<(String, Clients), Stop> {
+) -> Result<(String, u64, Clients), Stop> {
     let (story, shown) = story_in(alloc, case, verdict)?;
     let mut frames = Frames::new(alloc);
     story.ask(&mut frames)?;
@@ -133,7 +131,11 @@ fn by_frames<S: Source>(
     let mut account = head(alloc, verdict)?;
     let length = account.len();
     account.push_str(verdict_lines(alloc, &teller, verdict, &story, shown, length)?.as_str())?;
-    Ok((account, clients_of(alloc, &teller, lanes, verdict)?))
+    Ok((
+        account,
+        teller.first(),
+        clients_of(alloc, &teller, lanes, verdict)?,
+    ))
 }
 
 /// What is drawn where a lane breaks a rule.
@@ -152,37 +154,6 @@ fn drawing_in(
     }
 }
 
-/// The users that a file names.
-fn users_of<S: Source>(
-    alloc: Global,
-    source: &mut S,
-    inputs: &Inputs<'_>,
-) -> Result<Vec<NamedUser>, AllocError> {
-    match inputs.credentials {
-        Some(name) => {
-            let text = text_of(alloc, source, name, MOST_USERS)?;
-            users_in(alloc, text.as_slice())
-        }
-        None => Ok(Vec::new(alloc)),
-    }
-}
-
-/// The list of what was excluded, if one is named.
-fn excluded_of<S: Source>(
-    alloc: Global,
-    source: &mut S,
-    name: Option<&str>,
-) -> Result<Option<String>, Stop> {
-    let Some(name) = name else {
-        return Ok(None);
-    };
-    let text = text_of(alloc, source, name, MOST_EXCLUDED)?;
-    if text.is_empty() {
-        return Err(Stop::Read);
-    }
-    Ok(Some(plain_lines(alloc, text.as_slice())?))
-}
-
 /// Gathers what the page shows.
 fn gather<S: Source>(
     alloc: Global,
@@ -194,12 +165,13 @@ fn gather<S: Source>(
 ) -> Result<Gathered, Stop> {
     let verdict = &judged.verdict;
     let lanes = lanes_of(alloc, case)?;
-    let (story, clients) = by_frames(alloc, source, case, lanes.as_ref(), verdict)?;
+    let (story, first, clients) = by_frames(alloc, source, case, lanes.as_ref(), verdict)?;
     let policy = text_of(alloc, source, inputs.policy, MOST_POLICY)?;
     let excluded = excluded_of(alloc, source, excluded)?;
     let captures = facts_of_captures(alloc, source, &inputs.captures)?;
     Ok(Gathered {
         story,
+        first,
         clients,
         files: named_files(alloc, source, inputs)?,
         captures,
@@ -225,7 +197,7 @@ fn page<S: Source>(
     let comments = comment_rows(alloc, gathered.captures.as_slice())?;
     let grace = judged.files.intake.policy().grace;
     let rows = bars_of(alloc, &gathered.drawing, grace)?;
-    let picture = picture_of(&gathered.drawing, rows.as_slice());
+    let picture = picture_of(&gathered.drawing, rows.as_slice(), gathered.first);
     let program = digests_of(alloc, source, SELF)?;
     let release = String::from_str(alloc, version())?;
     let facts = Facts {

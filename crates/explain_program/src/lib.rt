@@ -11,6 +11,7 @@ mod conforming;
 mod digesting;
 mod evidence;
 mod explaining;
+mod filed_texts;
 mod frames;
 mod head;
 mod host;

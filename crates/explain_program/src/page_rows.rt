@@ -3,7 +3,7 @@
 use crate::named::{NamedFile, NamedUser};
 use crate::picture::{Drawing, DrawnLease};
 use crate::reading::CaptureFacts;
-use explain_page::{Bar, CaptureRow, ClientRow, CommentRow, FileRow, Picture, UserRow};
+use explain_page::{Bar, BarKind, CaptureRow, ClientRow, CommentRow, FileRow, Picture, UserRow};
 use std::alloc::{AllocError, Global};
 
 /// The clients' lines, and what is told of all.
@@ -102,9 +102,13 @@ fn bars<'g>(
     for lease in leases {
         rows.push(Bar {
             name: lease.name.as_str(),
+            kind: lease.kind,
             from: lease.from,
             until: lease.until,
-            last: lease.until.saturating_add(grace),
+            last: match lease.kind {
+                BarKind::Lasting => lease.until.saturating_add(grace),
+                BarKind::Ended => lease.until,
+            },
         })?;
     }
     Ok(rows)
@@ -122,11 +126,16 @@ pub fn bars_of<'g>(
     }
 }
 
-/// What is drawn, with its bars.
-pub fn picture_of<'g>(drawing: &'g Option<Drawing>, rows: &'g [Bar<'g>]) -> Option<Picture<'g>> {
+/// What is drawn, with its bars. Its times count from a moment.
+pub fn picture_of<'g>(
+    drawing: &'g Option<Drawing>,
+    rows: &'g [Bar<'g>],
+    origin: u64,
+) -> Option<Picture<'g>> {
     match drawing {
         Some(drawing) => {
             let picture = Picture {
+                origin,
                 first: drawing.first,
                 last: drawing.last,
                 bars: rows,

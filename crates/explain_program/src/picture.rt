@@ -2,8 +2,8 @@
 
 use audit_lane::{LaneEvent, LaneInput};
 use audit_model::{Breach, Sighting};
-use explain_page::Mark;
-use explain_state::{LaneAt, LeaseKind, LeaseRow, lane_before};
+use explain_page::{BarKind, Mark};
+use explain_state::{Ended, LaneAt, LeaseKind, LeaseRow, lane_before};
 use explain_story::{Case, Lanes};
 use explain_text::Ip;
 use std::alloc::{AllocError, Global};
@@ -14,10 +14,14 @@ const MOST_MARKS: usize = 2_000;
 /// How many leases are drawn, at the most.
 const MOST_BARS: usize = 40;
 
+/// How many of the allocations that were ended are drawn, at the most: the last ones.
+const MOST_ENDED: usize = 4;
+
 /// A lease, as it is drawn. Moments are nanoseconds since 1970.
 #[derive(Drop)]
 pub struct DrawnLease {
     pub name: String,
+    pub kind: BarKind,
     pub from: u64,
     pub until: u64,
 }
@@ -53,8 +57,30 @@ fn drawn(alloc: Global, case: Case<'_>, row: &LeaseRow) -> Result<Option<DrawnLe
     };
     Ok(Some(DrawnLease {
         name: name_of(alloc, row.kind)?,
+        kind: BarKind::Lasting,
         from: request.stamp,
         until: row.until,
+    }))
+}
+
+/// An allocation that was ended by an act whose response is there.
+fn drawn_ended(
+    alloc: Global,
+    case: Case<'_>,
+    ended: &Ended,
+) -> Result<Option<DrawnLease>, AllocError> {
+    let (Some(request), Some(response)) = (
+        case.intake.sighting(ended.made.arrives),
+        case.intake.sighting(ended.ending.leaves),
+    ) else {
+        return Ok(None);
+    };
+    let relayed = ended.relayed;
+    Ok(Some(DrawnLease {
+        name: format!(in alloc; "allocation {relayed}")?,
+        kind: BarKind::Ended,
+        from: request.stamp,
+        until: response.stamp.min(ended.until),
     }))
 }
 
@@ -74,13 +100,19 @@ fn add_lease(
     Ok(())
 }
 
-/// The leases that a client has.
+/// The last allocations that were ended, and the leases that a client has.
 fn leases_of(
     alloc: Global,
     case: Case<'_>,
     lane: &LaneAt<'_>,
 ) -> Result<Vec<DrawnLease>, AllocError> {
     let mut leases = Vec::new(alloc);
+    let earlier = lane.ended().len().saturating_sub(MOST_ENDED);
+    for ended in lane.ended().get(earlier..).unwrap_or(&[]) {
+        if let Some(lease) = drawn_ended(alloc, case, ended)? {
+            leases.push(lease)?;
+        }
+    }
     if let Some(row) = lane.allocation() {
         add_lease(alloc, case, &row, &mut leases)?;
     }
