@@ -11,7 +11,7 @@ _turnexplain() {
     done
     case $command in
         '') offered='verdict lanes client faults evidence help --help --version -h -V' ;;
-        verdict) offered='--policy --creds --cert --workers --json --help -h' ;;
+        verdict) offered='--policy --creds --cert --workers --json --expect-answers --help -h' ;;
         lanes) offered='--policy --creds --cert --workers --json --broken --help -h' ;;
         client) offered='--policy --creds --cert --workers --json --lane --around --help -h' ;;
         faults) offered='--policy --creds --workers --help -h' ;;
@@ -23,9 +23,10 @@ _turnexplain() {
         --policy | --creds | --cert | --output | -o | --excluded) offered='' ;;
         --workers) offered='1 2 4 8 16' ;;
         --around) offered='5 20 100 1000000' ;;
+        --expect-answers) offered='1 50 90 100' ;;
         --lane) return ;;
     esac
-    if [[ -n $offered && ($word == -* || -z $command || $command == help || $before == --workers || $before == --around) ]]; then
+    if [[ -n $offered && ($word == -* || -z $command || $command == help || $before == --workers || $before == --around || $before == --expect-answers) ]]; then
         mapfile -t COMPREPLY < <(compgen -W "$offered" -- "$word")
         return
     fi

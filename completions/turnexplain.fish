@@ -31,6 +31,7 @@ complete -c turnexplain -n "__turnexplain_command_is $judging" -l creds -r -F -d
 complete -c turnexplain -n "__turnexplain_command_is verdict lanes client evidence" -l cert -r -F -d "The certificate to judge by"
 complete -c turnexplain -n "__turnexplain_command_is $judging" -l workers -x -a "1 2 4 8 16" -d "How many threads go to work at once, 1 to 256"
 complete -c turnexplain -n "__turnexplain_command_is verdict lanes client" -l json -d "One JSON object in place of the text"
+complete -c turnexplain -n "__turnexplain_command_is verdict" -l expect-answers -x -a "1 50 90 100" -d "Status 6 if fewer requests have a response, 0 to 100"
 complete -c turnexplain -n "__turnexplain_command_is lanes" -l broken -d "Only the clients that break a rule"
 complete -c turnexplain -n "__turnexplain_command_is client" -l lane -x -d "The client's lane, 0 to 65535"
 complete -c turnexplain -n "__turnexplain_command_is client" -l around -x -a "5 20 100 1000000" -d "How many events each side of its first breach, 0 to 1000000"

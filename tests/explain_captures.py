@@ -151,6 +151,10 @@ CASES |= {
     "r2-one-of-two-signed": capture(*BEGUN, *exchange(2_000, message(0x008, b"perm", address(0x12, PEER), *SIGNER, key=b"wrong"), permitted()[1])),
 }
 
+CASES |= {
+    "nobody-responds": capture((1_000, CLIENT, SERVER, allocate(b"a")), (2_000, OTHER, SERVER, allocate(b"b"))),
+}
+
 # Data that leaves for a client 0.4998 seconds after the success response to its Refresh with LIFETIME 0, which leaves at 3,400 microseconds.
 DELETED = capture(
     *BEGUN, *exchange(2_000, *permitted()), *exchange(3_000, *refreshed(b"gone", 0)), (503_000, *FROM_PEER), (503_200, SERVER, CLIENT, message(0x017, b"data", address(0x12, PEER), attribute(0x13, b"hello")))

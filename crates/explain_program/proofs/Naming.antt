@@ -43,12 +43,12 @@ no_inputs command rows lacks (Usage text) named = named
 module _ (rows : List Row) where
   -- `client` needs two numbers
   pub no_client : ((number events : ℕ) → HasNumber (codes "lane") rows number → HasNumber (codes "around") rows events → ⊥) → NamesNothing (Some (codes "client", rows))
-  no_client lacks (Explain inputs Verdict) named = absurd (omega (arith, ap letter named.1))
+  no_client lacks (Explain inputs (Verdict percent)) named = absurd (omega (arith, ap letter named.1))
   no_client lacks (Explain inputs (Lanes broken)) named = absurd (omega (arith, ap letter named.1))
   no_client lacks (Explain inputs (Client number events)) named =
       let same = ap (rows_in rows) named.1 in
       lacks number events (subst (λ r. HasNumber (codes "lane") r number) (sym same) named.4.0) (subst (λ r. HasNumber (codes "around") r events) (sym same) named.4.1)
-  no_client lacks (AsJson inputs Verdict) named = absurd (omega (arith, ap letter named.1))
+  no_client lacks (AsJson inputs (Verdict percent)) named = absurd (omega (arith, ap letter named.1))
   no_client lacks (AsJson inputs (Lanes broken)) named = absurd (omega (arith, ap letter named.1))
   no_client lacks (AsJson inputs (Client number events)) named =
       let same = ap (rows_in rows) named.1 in
@@ -61,10 +61,10 @@ module _ (rows : List Row) where
 
   -- `evidence` needs a file
   pub no_evidence : ((file : Text) → first_of (codes "output") rows ≡ Some file → ⊥) → NamesNothing (Some (codes "evidence", rows))
-  no_evidence lacks (Explain inputs Verdict) named = absurd (omega (arith, ap letter named.1))
+  no_evidence lacks (Explain inputs (Verdict percent)) named = absurd (omega (arith, ap letter named.1))
   no_evidence lacks (Explain inputs (Lanes broken)) named = absurd (omega (arith, ap letter named.1))
   no_evidence lacks (Explain inputs (Client number events)) named = absurd (omega (arith, ap letter named.1))
-  no_evidence lacks (AsJson inputs Verdict) named = absurd (omega (arith, ap letter named.1))
+  no_evidence lacks (AsJson inputs (Verdict percent)) named = absurd (omega (arith, ap letter named.1))
   no_evidence lacks (AsJson inputs (Lanes broken)) named = absurd (omega (arith, ap letter named.1))
   no_evidence lacks (AsJson inputs (Client number events)) named = absurd (omega (arith, ap letter named.1))
   no_evidence lacks (Faults inputs) named = absurd (omega (arith, ap letter named.1))
@@ -77,10 +77,10 @@ module _ (rows : List Row) where
 pub none_of_five : (asked : Option (Text × List Row)) → ((rows : List Row) → asked ≡ Some (codes "verdict", rows) → ⊥) → ((rows : List Row) → asked ≡ Some (codes "lanes", rows) → ⊥)
     → ((rows : List Row) → asked ≡ Some (codes "client", rows) → ⊥) → ((rows : List Row) → asked ≡ Some (codes "faults", rows) → ⊥) → ((rows : List Row) → asked ≡ Some (codes "evidence", rows) → ⊥)
     → NamesNothing asked
-none_of_five asked verdict lanes client faults evidence (Explain inputs Verdict) named = verdict named.0 named.1
+none_of_five asked verdict lanes client faults evidence (Explain inputs (Verdict percent)) named = verdict named.0 named.1
 none_of_five asked verdict lanes client faults evidence (Explain inputs (Lanes broken)) named = lanes named.0 named.1
 none_of_five asked verdict lanes client faults evidence (Explain inputs (Client number events)) named = client named.0 named.1
-none_of_five asked verdict lanes client faults evidence (AsJson inputs Verdict) named = verdict named.0 named.1
+none_of_five asked verdict lanes client faults evidence (AsJson inputs (Verdict percent)) named = verdict named.0 named.1
 none_of_five asked verdict lanes client faults evidence (AsJson inputs (Lanes broken)) named = lanes named.0 named.1
 none_of_five asked verdict lanes client faults evidence (AsJson inputs (Client number events)) named = client named.0 named.1
 none_of_five asked verdict lanes client faults evidence (Faults inputs) named = faults named.0 named.1

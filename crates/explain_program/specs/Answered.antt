@@ -1,5 +1,5 @@
 -- What a request comes to, from the bytes of its files to what is written and the status.
-use Rattle.std.specs.Prelude.{◌≡◌, ◌⊎◌, ℕ, List, [], Option, Some, Ok, Err, Result, IfNone, IfOk, IfSome, OnOk, string_bytes}
+use Rattle.std.specs.Prelude.{◌≡◌, ◌⊎◌, ℕ, List, [], Option, Some, None, Ok, Err, Result, IfNone, IfOk, IfSome, OnOk, string_bytes}
 use Rattle.std.specs.List.{AllZip}
 use Rattle.audit_files.specs.declared.stop.Stop.{Stop}
 use Rattle.audit_files.specs.Stops.{status_of_stop}
@@ -10,7 +10,7 @@ use Rattle.explain_faults.specs.Told.{AreToldOf}
 use Rattle.explain_program.specs.declared.command_line.Inputs.{Inputs}
 use Rattle.explain_program.specs.declared.command_line.Request.{Request}
 use Rattle.explain_program.specs.declared.command_line.Request.TheVariants.{Explain, AsJson, Faults, Evidence, Help, Release, Usage}
-use Rattle.explain_program.specs.Explained.{IsExplained, IsToldAsJson}
+use Rattle.explain_program.specs.Explained.{IsExplained, IsToldAsJson, expected_by}
 use Rattle.explain_program.specs.Pages.{page_text, release_text}
 use Rattle.explain_program.specs.Words.{Asks, turnexplain}
 
@@ -39,16 +39,16 @@ module _ (holds : List ℕ → Option (List ℕ)) (streams : Streams) where
   abbrev pub Answers : Request → Result ℕ Stop → Type 0
   Answers (Explain inputs asked) done =
       IsSilent streams × ((policy users : List ℕ) (captures : List (List ℕ)) → HaveTexts holds inputs policy users captures →
-      IfOk done (λ status. (by : Certificate) × IsExplained policy users captures by streams.before streams.after status))
+      IfOk done (λ status. (by : Certificate) × IsExplained (expected_by asked) policy users captures by streams.before streams.after status))
   Answers (AsJson inputs asked) done =
       IsSilent streams × ((policy users : List ℕ) (captures : List (List ℕ)) → HaveTexts holds inputs policy users captures →
-      IfOk done (λ status. (by : Certificate) × IsToldAsJson policy users captures by streams.before streams.after status))
+      IfOk done (λ status. (by : Certificate) × IsToldAsJson (expected_by asked) policy users captures by streams.before streams.after status))
   Answers (Faults inputs) done =
       IsSilent streams × ((policy users : List ℕ) (captures : List (List ℕ)) → HaveTexts holds inputs policy users captures →
       IfOk done (AreToldOf policy users captures streams.before streams.after))
   Answers (Evidence inputs file list) done =
       IsSilent streams × ((policy users : List ℕ) (captures : List (List ℕ)) → HaveTexts holds inputs policy users captures →
-      IfOk done (λ status. (by : Certificate) × IsExplained policy users captures by streams.before streams.after status))
+      IfOk done (λ status. (by : Certificate) × IsExplained None policy users captures by streams.before streams.after status))
   Answers (Help page) done = IsSilent streams × IfOk done (λ status. (status ≡ 0) × (streams.after ≡ followed_by streams.before (page_text page)))
   Answers Release done = IsSilent streams × IfOk done (λ status. (status ≡ 0) × (streams.after ≡ followed_by streams.before release_text))
   Answers (Usage text) done = (streams.after ≡ streams.before) × IfOk done (λ status. (status ≡ 5) × (streams.said_after ≡ followed_by streams.said_before (string_bytes text)))

@@ -44,6 +44,10 @@ workers = counted (codes "workers") (codes "1" ∷ []) 1 256
 abbrev pub lane : Rule
 lane = record (counted (codes "lane") [] 0 65535) { required = true }
 
+-- the percentage of requests that is expected to have a response
+abbrev pub expected : Rule
+expected = counted (codes "expect-answers") [] 0 100
+
 abbrev pub around : Rule
 around = counted (codes "around") (codes "20" ∷ []) 0 1000000
 
@@ -77,6 +81,9 @@ judging name = with_rule (with_rule (with_rule (reading name) certificate) worke
 abbrev pub telling : Text → App
 telling name = with_rule (judging name) (flag (codes "json"))
 
+abbrev pub verdict : App
+verdict = with_rule (telling (codes "verdict")) expected
+
 abbrev pub lanes : App
 lanes = with_rule (telling (codes "lanes")) (flag (codes "broken"))
 
@@ -96,11 +103,16 @@ program =
 
 -- `turnexplain` with its commands
 abbrev pub turnexplain : App
-turnexplain = with_subcommand (with_subcommand (with_subcommand (with_subcommand (with_subcommand program (telling (codes "verdict")).top) lanes.top) client.top) faults.top) evidence.top
+turnexplain = with_subcommand (with_subcommand (with_subcommand (with_subcommand (with_subcommand program verdict.top) lanes.top) client.top) faults.top) evidence.top
 
 -- the number that an option has, as `u32` reads it
 abbrev pub HasNumber : Text → List Row → ℕ → Type 0
 HasNumber name rows number = (text : Text) × (one_of name rows ≡ Some text) × ParsesUnsigned {E = ⊤} 32 10 text (Ok number)
+
+-- the number that an option has, or that it has none
+abbrev pub HasOptional : Text → List Row → Option ℕ → Type 0
+HasOptional name rows (Some number) = HasNumber name rows number
+HasOptional name rows None = (number : ℕ) → HasNumber name rows number → ⊥
 
 -- an option without a value is given, or isn't
 abbrev pub HasFlag : Text → List Row → Bool → Type 0
@@ -120,13 +132,13 @@ IsByNamed rows inputs = first_of (codes "cert") rows ≡ option_map (λ name. na
 
 -- the command by which part of a verdict is requested
 abbrev pub command_name : Asked → Text
-command_name Verdict = codes "verdict"
+command_name (Verdict percent) = codes "verdict"
 command_name (Lanes broken) = codes "lanes"
 command_name (Client number events) = codes "client"
 
 -- and what its own options say
 abbrev pub HasOptions : List Row → Asked → Type 0
-HasOptions rows Verdict = ⊤
+HasOptions rows (Verdict percent) = HasOptional (codes "expect-answers") rows percent
 HasOptions rows (Lanes broken) = HasFlag (codes "broken") rows broken
 HasOptions rows (Client number events) = HasNumber (codes "lane") rows number × HasNumber (codes "around") rows events
 

@@ -3,11 +3,11 @@
 ghost use Rattle.std.specs.Prelude.{◌≡◌, [], ℕ, IfNone, IfOk, IfSome, List, OnOk, Some};
 ghost use Rattle.std.specs.List.{AllZip};
 ghost use Rattle.audit_model.specs.declared.certificate.Certificate.{Certificate as Found};
-ghost use Rattle.explain_program.specs.Explained.{IsJsonBehind, IsToldAsJson};
+ghost use Rattle.explain_program.specs.Explained.{IsJsonBehind, IsToldAsJson, expected_by};
 
 use crate::command_line::Asked;
 use crate::digesting::{Digesting, unread};
-use crate::explaining::{case_of, status};
+use crate::explaining::{case_of, expected_by, expected_status};
 use crate::inputs::add_inputs;
 use crate::json::tell_asked;
 use crate::judged::judge_files;
@@ -47,7 +47,7 @@ pub fn explain_as_json<R: Threads + Wait + Sync, F: CertificateFinder, S: Source
         S.holds source.old.inner policy.now ≡ Some policy_text →
         IfSome users.entry (λ name. S.holds source.old.inner name.now ≡ Some users_text) → IfNone users.entry (users_text ≡ []) →
         AllZip (λ name text. S.holds source.old.inner name.now ≡ Some text) captures.now texts →
-        IfOk result (λ status. (by : Found) × IsToldAsJson policy_text users_text texts by (O.taken out.old) (O.taken out.new) status) }
+        IfOk result (λ status. (by : Found) × IsToldAsJson (expected_by asked) policy_text users_text texts by (O.taken out.old) (O.taken out.new) status) }
 {
     source.watch(unread(alloc, policy, users, certificate, captures)?);
     let judged = judge_files(
@@ -84,5 +84,7 @@ pub fn explain_as_json<R: Threads + Wait + Sync, F: CertificateFinder, S: Source
         return Err(Stop::Read);
     }
     put_json(verdict, answer, out)?;
-    Ok(status(verdict))
+    let expected = expected_by(asked);
+    let status = expected_status(alloc, &judged.files.intake, verdict, expected)?;
+    Ok(status)
 }

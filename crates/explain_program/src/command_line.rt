@@ -4,7 +4,7 @@ ghost use Rattle.std.specs.Prelude.{◌≡◌, ℕ, true, false, IfNone, IfOk, I
 ghost use Rattle.clap.specs.Words.{HasKind, Kinds, Row, Text, fault_of, found_of, rows_of, subcommand_of, subcommand_rows_of};
 ghost use Rattle.explain_program.specs.declared.command_line.Inputs.{Inputs as AnyInputs};
 ghost use Rattle.audit_files.specs.declared.workers.Workers.{Workers as AnyWorkers};
-ghost use Rattle.explain_program.specs.Words.{AreNamed, Asks, HasFlag, HasNumber, HasOptions, Names, NamesNothing, command_name, turnexplain};
+ghost use Rattle.explain_program.specs.Words.{AreNamed, Asks, HasFlag, HasNumber, HasOptional, HasOptions, Names, NamesNothing, command_name, turnexplain};
 
 use crate::commands::command;
 use crate::pages::{Page, page_of};
@@ -49,8 +49,8 @@ pub enum Request<'a> {
 /// What is requested of a verdict.
 #[derive(Clone, Copy)]
 pub enum Asked {
-    /// What it means.
-    Verdict,
+    /// What it means, and the percentage of requests that is expected to have a response.
+    Verdict { expected: Option<u32> },
     /// A line for each client, or for those alone that break a rule.
     Lanes { broken: bool },
     /// The events of a client, so many each side of its first breach.
@@ -166,6 +166,28 @@ fn explain_request<'a>(
     Ok(Some(Request::Explain { inputs, asked }))
 }
 
+/// The number that the words of a command give an option, or none.
+fn optional_number_of(matches: &ArgMatches<'_>, name: &str) -> Option<u32>
+    ensures { HasOptional name.now (rows_of (found_of matches.now)) result }
+{
+    match number_of(matches, name) {
+        Some(number) => Some(number),
+        None => None,
+    }
+}
+
+/// The request that the words of the command `verdict` are.
+fn verdict_request<'a>(
+    alloc: Global,
+    matches: &ArgMatches<'a>,
+) -> Result<Option<Request<'a>>, AllocError>
+    ensures named { IfOk result (λ request. IfSome request (Names (Some (codes "verdict", rows_of (found_of matches.now))))) }
+    ensures none { IfOk result (λ request. IfNone request (NamesNothing (Some (codes "verdict", rows_of (found_of matches.now))))) }
+{
+    let expected = optional_number_of(matches, "expect-answers");
+    explain_request(alloc, matches, Asked::Verdict { expected })
+}
+
 /// The request that the words of the command `lanes` are.
 fn lanes_request<'a>(
     alloc: Global,
@@ -240,7 +262,7 @@ fn request_of<'a>(
     ensures none { IfOk result (λ request. IfNone request (NamesNothing (subcommand_rows_of matches.now))) }
 {
     if let Some(verdict) = words_of(matches, "verdict") {
-        return explain_request(alloc, verdict, Asked::Verdict);
+        return verdict_request(alloc, verdict);
     }
     if let Some(lanes) = words_of(matches, "lanes") {
         return lanes_request(alloc, lanes);

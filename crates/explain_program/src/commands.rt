@@ -111,6 +111,26 @@ fn telling_command<'a>(alloc: Global, name: &'a str, page: Page) -> Result<Comma
     judging_command(alloc, name, page)?.arg(flag(alloc, "json"))
 }
 
+/// The option of `verdict` with the percentage of requests that is expected to have a response.
+fn expected_option<'a>(alloc: Global) -> Arg<'a>
+    ensures rule { rule_of result ≡ words.expected }
+    ensures local { result.global ≡ false }
+{
+    Arg::new(alloc, "expect-answers")
+        .long("expect-answers")
+        .value_name("PERCENT")
+        .action(ArgAction::Set)
+        .value_parser(clap::value_parser!(u32).range(0..=100))
+}
+
+/// The command `verdict`.
+fn verdict_command<'a>(alloc: Global) -> Result<Command<'a>, AllocError>
+    ensures app { IfOk result (λ command. app_of command ≡ words.verdict) }
+    ensures local { IfOk result (λ command. (fields_of command).has_globals ≡ false) }
+{
+    telling_command(alloc, "verdict", Page::Verdict)?.arg(expected_option(alloc))
+}
+
 /// The command `lanes`, one option of which leaves out whom no rule is broken for.
 fn lanes_command<'a>(alloc: Global) -> Result<Command<'a>, AllocError>
     ensures app { IfOk result (λ command. app_of command ≡ words.lanes) }
@@ -209,7 +229,7 @@ pub fn command<'a>(alloc: Global) -> Result<Command<'a>, AllocError>
     ensures { IfOk result (λ command. app_of command ≡ words.turnexplain) }
 {
     program(alloc)
-        .subcommand(telling_command(alloc, "verdict", Page::Verdict)?)?
+        .subcommand(verdict_command(alloc)?)?
         .subcommand(lanes_command(alloc)?)?
         .subcommand(client_command(alloc)?)?
         .subcommand(faults_command(alloc)?)?

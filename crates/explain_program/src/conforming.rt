@@ -1,5 +1,6 @@
 //! What is told of captures that conform.
 
+use explain_clients::count_answered;
 use explain_story::Teller;
 use std::alloc::{AllocError, Global};
 
@@ -9,11 +10,32 @@ const MEANING: &str =
 const NOTHING: &str =
     "Nothing was judged: no datagram of the captures has one end in the policy's addresses.\nLook at the policy's addresses, and at which interface was captured (docs/VERDICTS.md#what-was-judged).\n";
 
+const NO_RESPONSE: &str =
+    "No request has a response: a server that sends nothing conforms (docs/VERDICTS.md#what-was-judged).\n";
+
 /// What stands behind the head.
 pub fn conforming_lines(alloc: Global, teller: &Teller<'_>) -> Result<String, AllocError> {
     let (_, sightings) = teller.case.intake.counts();
     if sightings == 0 {
         return String::from_str(alloc, NOTHING);
     }
-    String::from_str(alloc, MEANING)
+    let mut lines = String::from_str(alloc, MEANING)?;
+    lines.push_str(lines_of_answered(alloc, teller)?.as_str())?;
+    Ok(lines)
+}
+
+/// How many requests have a response: a server that never responds conforms.
+fn lines_of_answered(alloc: Global, teller: &Teller<'_>) -> Result<String, AllocError> {
+    let all = count_answered(alloc, teller.case.intake)?;
+    let requests = all.requests;
+    let answered = all.answered;
+    let clients = all.clients;
+    let unanswered = all.unanswered_clients;
+    let mut lines = format!(in alloc;
+        "Requests with a response: {answered} of {requests}. Clients that sent requests and got nothing: {unanswered} of {clients}.\n"
+    )?;
+    if requests > 0 && answered == 0 {
+        lines.push_str(NO_RESPONSE)?;
+    }
+    Ok(lines)
 }

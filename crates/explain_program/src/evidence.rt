@@ -1,6 +1,6 @@
 //! The command `evidence`: the page that is filed.
 
-ghost use Rattle.std.specs.Prelude.{◌≡◌, [], ℕ, IfNone, IfOk, IfSome, List, Some};
+ghost use Rattle.std.specs.Prelude.{◌≡◌, [], ℕ, IfNone, IfOk, IfSome, List, None, Some};
 ghost use Rattle.std.specs.List.{AllZip};
 ghost use Rattle.audit_model.specs.declared.certificate.Certificate.{Certificate as Found};
 ghost use Rattle.explain_program.specs.Explained.{IsExplained};
@@ -238,7 +238,7 @@ pub fn evidence<R: Threads + Wait + Sync, F: CertificateFinder, S: Source, O: Si
         S.holds source.old.inner inputs.now.policy.now ≡ Some policy_text →
         IfSome inputs.now.credentials (λ name. S.holds source.old.inner name.now ≡ Some users_text) → IfNone inputs.now.credentials (users_text ≡ []) →
         AllZip (λ name text. S.holds source.old.inner name.now ≡ Some text) inputs.now.captures.items texts →
-        IfOk result (λ status. (by : Found) × IsExplained policy_text users_text texts by (O.taken out.old) (O.taken out.new) status) }
+        IfOk result (λ status. (by : Found) × IsExplained None policy_text users_text texts by (O.taken out.old) (O.taken out.new) status) }
 {
     source.watch(unread(
         alloc,

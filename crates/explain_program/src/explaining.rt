@@ -4,7 +4,7 @@ ghost use Rattle.std.specs.Prelude.{◌≡◌, [], ℕ, IfNone, IfOk, IfSome, Li
 ghost use Rattle.std.specs.List.{AllZip};
 ghost use Rattle.audit_files.specs.Judged.{status_of};
 ghost use Rattle.audit_model.specs.declared.certificate.Certificate.{Certificate as Found};
-ghost use Rattle.explain_program.specs.Explained.{IsExplained};
+ghost use Rattle.explain_program.specs.Explained.{IsExplained, IsStatus, expected_by};
 
 use crate::client::rest_of_client;
 use crate::command_line::Asked;
@@ -16,8 +16,10 @@ use crate::verdict::rest_of_verdict;
 use audit_files::{Source, Stop, Workers};
 use audit_finding::CertificateFinder;
 use audit_model::{Sink, Verdict};
+use audit_sightings::Intake;
+use explain_clients::count_answered;
 use explain_story::Case;
-use std::alloc::Global;
+use std::alloc::{AllocError, Global};
 use std::sync::Wait;
 use std::thread::Threads;
 
@@ -41,7 +43,7 @@ fn rest_of<S: Source>(
 ) -> Result<String, Stop> {
     let length = head(alloc, verdict)?.len();
     match asked {
-        Asked::Verdict => rest_of_verdict(alloc, source, case, verdict, length),
+        Asked::Verdict { .. } => rest_of_verdict(alloc, source, case, verdict, length),
         Asked::Lanes { broken } => rest_of_lanes(alloc, source, case, verdict, broken, length),
         Asked::Client { lane, around } => {
             rest_of_client(alloc, source, case, lane, around, length)
@@ -57,6 +59,36 @@ pub fn status(verdict: &Verdict) -> u8
         Verdict::Conforming { .. } => 0,
         Verdict::NotShown(_) => 1,
     }
+}
+
+/// The percentage that a command expects.
+pub fn expected_by(asked: Asked) -> Option<u32>
+    ensures { result ≡ expected_by asked }
+{
+    match asked {
+        Asked::Verdict { expected } => expected,
+        Asked::Lanes { .. } | Asked::Client { .. } => None,
+    }
+}
+
+/// The exit status of a verdict: 6 if the captures conform and fewer of their requests than this percentage have a response.
+pub fn expected_status(
+    alloc: Global,
+    intake: &Intake,
+    verdict: &Verdict,
+    expected: Option<u32>,
+) -> Result<u8, AllocError>
+    ensures { IfOk result (IsStatus expected verdict.now) }
+{
+    let judged = status(verdict);
+    let Some(percent) = expected else {
+        return Ok(judged);
+    };
+    let answered = count_answered(alloc, intake)?;
+    if judged == 0 && answered.percent() < u64::from(percent) {
+        return Ok(6);
+    }
+    Ok(judged)
 }
 
 /// Judges captures, and reports what is requested of the verdict: the answer begins with the verdict. It returns 0 if they conform, and 1 if
@@ -78,7 +110,7 @@ pub fn explain<R: Threads + Wait + Sync, F: CertificateFinder, S: Source, O: Sin
         S.holds source.old.inner policy.now ≡ Some policy_text →
         IfSome users.entry (λ name. S.holds source.old.inner name.now ≡ Some users_text) → IfNone users.entry (users_text ≡ []) →
         AllZip (λ name text. S.holds source.old.inner name.now ≡ Some text) captures.now texts →
-        IfOk result (λ status. (by : Found) × IsExplained policy_text users_text texts by (O.taken out.old) (O.taken out.new) status) }
+        IfOk result (λ status. (by : Found) × IsExplained (expected_by asked) policy_text users_text texts by (O.taken out.old) (O.taken out.new) status) }
 {
     source.watch(unread(alloc, policy, users, certificate, captures)?);
     let judged = judge_files(
@@ -98,5 +130,7 @@ pub fn explain<R: Threads + Wait + Sync, F: CertificateFinder, S: Source, O: Sin
         return Err(Stop::Read);
     }
     put_answer(alloc, &judged.verdict, rest.as_str(), out)?;
-    Ok(status(&judged.verdict))
+    let expected = expected_by(asked);
+    let status = expected_status(alloc, &judged.files.intake, &judged.verdict, expected)?;
+    Ok(status)
 }

@@ -215,7 +215,7 @@ pub fn tell_asked<S: Source>(
     answer: &mut Object,
 ) -> Result<(), Stop> {
     match asked {
-        Asked::Verdict => {
+        Asked::Verdict { .. } => {
             answer.text("command", "verdict")?;
             tell_verdict(alloc, source, case, verdict, answer)
         }

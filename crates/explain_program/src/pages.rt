@@ -53,6 +53,7 @@ Exit status, that of turnaudit:
   3  out of memory
   4  a file can't be read or has changed, or the answer can't be written
   5  usage error
+  6  conforming, but fewer responses than verdict --expect-answers expects
 ";
 
 const VERDICT: &str = "\
@@ -74,6 +75,9 @@ Options:
       --workers <N>          How many threads go to work at once, 1 to 256; the
                              answer is the same [default: 1]
       --json                 One JSON object in place of the text (docs/JSON.md)
+      --expect-answers <PERCENT>
+                             Status 6 if the captures conform and fewer of their
+                             requests have a response, 0 to 100
   -h, --help                 Print help
 
 Example:

@@ -1,3 +1,4 @@
+use Rattle.std.proofs.Common.{sym}
 use Rattle.audit_keys.specs.KeyFor.{key_for}
 use Rattle.audit_sightings.specs.Intake.{taken}
 use Rattle.explain_program.proofs.explaining.explain.Goals as goal
@@ -14,6 +15,6 @@ returns g c = λ policy_text users_text texts policy users none captures.
         judges = c.in_ok-judged.ensures.by;
         rest = _;
         written = c.in_ok-put_answer.ensures;
-        told = c.status.ensures;
+        told = rw (sym c.expected_by-expected.ensures) c.in_ok-status.ensures;
       },
     )
