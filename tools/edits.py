@@ -14,6 +14,7 @@ all of theirs were tried, and of these up to MOST, since a merge has a time limi
                                       they are still as they were then
 """
 
+import functools
 import hashlib
 import os
 import re
@@ -71,6 +72,7 @@ def digest_of(crate):
     return total.hexdigest()
 
 
+@functools.cache
 def kit():
     return subprocess.run(["rt", "version"], capture_output=True, text=True, check=True).stdout.strip()
 
