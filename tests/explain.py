@@ -225,6 +225,9 @@ def main(program, write=False):
             answered = run(program, room, ["verdict", "--expect-answers", str(percent), "--policy", "policy", "--creds", "users", "nobody-responds.pcapng"])
             if answered[2] != status:
                 sys.exit(f"nobody-responds: with {percent} percent status {answered[2]}")
+            if name in explain_captures.FAULTS:
+                compare(program, f"{name}-faults", room, ["faults", *words[1:]], write)
+                cases += 1
         for name, (data, certificate) in explain_captures.CERTIFIED.items():
             (room / f"{name}.pcapng").write_bytes(data)
             (room / f"{name}.cert").write_text(certificate)

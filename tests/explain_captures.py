@@ -151,14 +151,30 @@ CASES |= {
     "r2-one-of-two-signed": capture(*BEGUN, *exchange(2_000, message(0x008, b"perm", address(0x12, PEER), *SIGNER, key=b"wrong"), permitted()[1])),
 }
 
-CASES |= {
-    "nobody-responds": capture((1_000, CLIENT, SERVER, allocate(b"a")), (2_000, OTHER, SERVER, allocate(b"b"))),
-}
-
 # Data that leaves for a client 0.4998 seconds after the success response to its Refresh with LIFETIME 0, which leaves at 3,400 microseconds.
 DELETED = capture(
     *BEGUN, *exchange(2_000, *permitted()), *exchange(3_000, *refreshed(b"gone", 0)), (503_000, *FROM_PEER), (503_200, SERVER, CLIENT, message(0x017, b"data", address(0x12, PEER), attribute(0x13, b"hello")))
 )
+
+# What leaves for a client as the data of a peer, and two clients with an address each.
+DELIVERED = message(0x017, b"data", address(0x12, PEER), attribute(0x13, b"hello"))
+TWO = (*BEGUN, *exchange(2_000, *permitted()), *exchange(3_000, allocate(b"b"), allocated(b"b", RELAYED2, OTHER), OTHER))
+LONG = b"hello, there is more"
+CASES |= {
+    "r4-within-a-second": DELETED,
+    "r4-later-than-a-second": capture(*BEGUN, *exchange(2_000, *permitted()), *exchange(3_000, *refreshed(b"gone", 0)), (2_003_000, *FROM_PEER), (2_003_401, SERVER, CLIENT, DELIVERED)),
+    # The first of the bytes that differ is the thirteenth.
+    "r13-later-byte": capture(*BEGUN, *exchange(2_000, *bound()), (4_000, CLIENT, SERVER, channel(0x4000, LONG)), (4_400, RELAYED, PEER, LONG[:12] + b"X" + LONG[13:])),
+    "s1-to-a-silent-client": capture(*BEGUN, *exchange(2_000, *permitted()), (4_000, *FROM_PEER), (4_400, SERVER, OTHER, DELIVERED)),
+    "s11-to-another-client": capture(*TWO, (4_000, *FROM_PEER), (4_400, SERVER, OTHER, DELIVERED)),
+    "s11-of-another-client": capture(*TWO, (4_000, CLIENT, SERVER, message(0x016, b"send", address(0x12, RELAYED2), attribute(0x13, b"hello"))), (4_400, SERVER, OTHER, message(0x017, b"data", address(0x12, RELAYED), attribute(0x13, b"hello")))),
+    "s11-nearest-of-a-peer": capture(*BEGUN, *exchange(2_000, *permitted()), (4_000, RELAYED, PEER, b"hello"), (4_040, *FROM_PEER)),
+    "s11-dtls": capture(*BEGUN, (4_000, SERVER, CLIENT, b"\x16\xfe\xfd" + bytes(20))),
+    "s11-not-translated": capture(*BEGUN, (4_000, PEER, ("10.0.0.1", 50000), b"hello"), (4_400, SERVER, CLIENT, DELIVERED)),
+    "nobody-responds": capture((1_000, CLIENT, SERVER, allocate(b"a")), (2_000, OTHER, SERVER, allocate(b"b"))),
+}
+# Those of which `faults` is printed, too.
+FAULTS = ("s1-to-a-silent-client", "s11-to-another-client", "s11-of-another-client", "s11-dtls", "s11-not-translated", "s11-told-over-tcp", "s11-policy-lacks-listen", "s11-left-without-act")
 
 
 def certificate(*lines):

@@ -1,18 +1,19 @@
 -- What a run comes to, from the bytes of its files to its report.
-use Rattle.std.specs.Prelude.{◌≡◌, ℕ, List, Option}
-use Rattle.audit_faults.specs.declared.fault.ShownFault.{ShownFault}
+use Rattle.std.specs.Prelude.{◌≡◌, ℕ, List, Option, map}
 use Rattle.audit_faults.specs.Shown.{AreFaults}
 use Rattle.audit_files.specs.Judged.{AreRead}
 use Rattle.audit_model.specs.Sink.{followed_by}
 use Rattle.audit_rules.specs.Keys.{KeyFor}
 use Rattle.audit_sightings.specs.Intake.{Taken}
+use Rattle.explain_faults.specs.declared.reported.Reported.{Reported}
 use Rattle.explain_faults.specs.FaultsText.{faults_text, status_of}
 
--- all faults that the captures show were written, and the status says whether there are any
+-- All faults that the captures show were written, with notes that the clause leaves open, and the status says whether there are any.
 pub record AreTold (taken : Taken) (key_for : KeyFor) (before after : Option (List ℕ)) (status : ℕ) : Type 0 where
-  pub faults : List ShownFault
-  pub all : AreFaults taken key_for faults
-  pub written : after ≡ followed_by before (faults_text taken faults)
+  pub faults : List Reported
+  pub all : AreFaults taken key_for (map (λ reported. reported.shown) faults)
+  pub first : List ℕ
+  pub written : after ≡ followed_by before (faults_text taken first faults)
   pub told : status ≡ status_of faults
 
 -- those that the bytes of these files show

@@ -15,16 +15,21 @@ title_of Unfit = codes "responded wrongly"
 title_of Unauthentic = codes "granted without a user's request"
 
 -- first whether the captures have the beginning of the allocation of a client that asked for it, where that matters
-abbrev pub beginning_of : Fault → Bool → List ℕ
-beginning_of Unasked predates = []
-beginning_of Unallocated true = codes "beginning not captured: the capture began too late for that relayed address; no captured Allocate success told it to a client that asked for it before it\n"
-beginning_of Unallocated false = codes "beginning captured\n"
-beginning_of Unpermitted true = codes "beginning not captured: the capture began too late for that relayed address; no captured Allocate success told it to a client that asked for it before it\n"
-beginning_of Unpermitted false = codes "beginning captured\n"
-beginning_of Unbound true = codes "beginning not captured: the capture began too late for that relayed address; no captured Allocate success told it to a client that asked for it before it\n"
-beginning_of Unbound false = codes "beginning captured\n"
-beginning_of Unfit predates = []
-beginning_of Unauthentic predates = []
+abbrev pub beginning_in_time : Fault → Bool → List ℕ
+beginning_in_time Unasked predates = []
+beginning_in_time Unallocated true = codes "beginning not captured: the capture began too late for that relayed address; no captured Allocate success told it to a client that asked for it before it\n"
+beginning_in_time Unallocated false = codes "beginning captured\n"
+beginning_in_time Unpermitted true = codes "beginning not captured: the capture began too late for that relayed address; no captured Allocate success told it to a client that asked for it before it\n"
+beginning_in_time Unpermitted false = codes "beginning captured\n"
+beginning_in_time Unbound true = codes "beginning not captured: the capture began too late for that relayed address; no captured Allocate success told it to a client that asked for it before it\n"
+beginning_in_time Unbound false = codes "beginning captured\n"
+beginning_in_time Unfit predates = []
+beginning_in_time Unauthentic predates = []
+
+-- and not of data that was for another client
+abbrev pub beginning_of : Fault → Bool → Bool → List ℕ
+beginning_of fault predates true = []
+beginning_of fault predates false = beginning_in_time fault predates
 
 -- when the lease was granted that it lacked
 abbrev pub allocation_reason : Granted → List ℕ

@@ -4,8 +4,9 @@ ghost use Rattle.std.specs.Prelude.{◌≡◌, ◌++◌, Some, IfOk, OnOk, count
 ghost use Rattle.audit_model.specs.Sink.{followed_by};
 ghost use Rattle.audit_report.specs.ReportText.{datagram_text, name_text, sighting_line};
 ghost use Rattle.audit_sightings.specs.Intake.{taken};
-ghost use Rattle.explain_faults.specs.FaultsText.{title_lines, last_line, fault_lines, all_lines, heading, number_of_fault, first_counts, last_counts, counts_line, faults_text, status_of};
+ghost use Rattle.explain_faults.specs.FaultsText.{is_not_begun, title_lines, last_line, fault_lines, all_lines, heading, number_of_fault, first_counts, last_counts, counts_line, faults_text, status_of};
 
+use crate::reported::Reported;
 use crate::wording::{beginning, is_same, reason, title};
 use audit_faults::{Fault, LastGrant, ShownFault};
 use audit_model::{Policy, SightId, Sighting, Sink, WriteFault, put_all};
@@ -48,13 +49,17 @@ fn line_of_sighting(
 }
 
 /// The first lines of a fault.
-fn lines_of_title(alloc: Global, shown: ShownFault) -> Result<String, AllocError>
-    ensures { IfOk result (λ lines. string_bytes lines ≡ title_lines shown) }
+fn lines_of_title(
+    alloc: Global,
+    shown: ShownFault,
+    is_misdelivered: bool,
+) -> Result<String, AllocError>
+    ensures { IfOk result (λ lines. string_bytes lines ≡ title_lines shown is_misdelivered) }
 {
     let iface = shown.sight.iface;
     let index = shown.sight.index;
     let title = title(shown.fault);
-    let beginning = beginning(shown.fault, shown.may_predate);
+    let beginning = beginning(shown.fault, shown.may_predate, is_misdelivered);
     format!(in alloc; "fault {iface}.{index} {title}\n{beginning}")
 }
 
@@ -83,24 +88,26 @@ fn line_of_last(alloc: Global, last: Option<LastGrant>) -> Result<String, AllocE
 }
 
 /// The lines of a fault.
-fn lines_of_fault(alloc: Global, intake: &Intake, shown: ShownFault) -> Result<String, AllocError>
-    ensures { IfOk result (λ lines. string_bytes lines ≡ fault_lines (taken intake.now) shown) }
+fn lines_of_fault(alloc: Global, intake: &Intake, reported: &Reported) -> Result<String, AllocError>
+    ensures { IfOk result (λ lines. string_bytes lines ≡ fault_lines (taken intake.now) reported.now) }
 {
-    let mut lines = lines_of_title(alloc, shown)?;
+    let shown = reported.shown;
+    let mut lines = lines_of_title(alloc, shown, reported.is_misdelivered)?;
     let sighting = intake.sighting(shown.sight);
     lines.push_str(line_of_sighting(alloc, shown.sight, sighting)?.as_str())?;
     lines.push_str(reason(shown.fault, shown.granted))?;
     lines.push_str(line_of_last(alloc, shown.last)?.as_str())?;
+    lines.push_str(reported.note.as_str())?;
     Ok(lines)
 }
 
 /// The lines of all faults.
-fn lines_of_all(alloc: Global, intake: &Intake, faults: &[ShownFault]) -> Result<String, AllocError>
+fn lines_of_all(alloc: Global, intake: &Intake, faults: &[Reported]) -> Result<String, AllocError>
     ensures { IfOk result (λ lines. string_bytes lines ≡ all_lines (taken intake.now) faults.now) }
 {
     let mut lines = String::new(alloc);
-    'faults: for shown in faults {
-        lines.push_str(lines_of_fault(alloc, intake, *shown)?.as_str())?;
+    'faults: for reported in faults {
+        lines.push_str(lines_of_fault(alloc, intake, reported)?.as_str())?;
     }
     Ok(lines)
 }
@@ -118,24 +125,27 @@ fn lines_of_heading(alloc: Global, policy: &Policy) -> Result<String, AllocError
 }
 
 /// How many are this fault.
-fn number(faults: &[ShownFault], fault: Fault) -> usize
+fn number(faults: &[Reported], fault: Fault) -> usize
     ensures { result ≡ number_of_fault fault faults.now }
 {
     faults
         .iter()
-        .filter(|shown| is_same(shown.fault, fault))
+        .filter(|reported| is_same(reported.shown.fault, fault))
         .count()
 }
 
 /// How many may be the captures' fault.
-fn not_begun(faults: &[ShownFault]) -> usize
-    ensures { result ≡ count_by (λ shown. shown.may_predate) faults.now }
+fn not_begun(faults: &[Reported]) -> usize
+    ensures { result ≡ count_by is_not_begun faults.now }
 {
-    faults.iter().filter(|shown| shown.may_predate).count()
+    faults
+        .iter()
+        .filter(|reported| reported.shown.may_predate && !reported.is_misdelivered)
+        .count()
 }
 
 /// The first half of the last line.
-fn text_of_first_counts(alloc: Global, faults: &[ShownFault]) -> Result<String, AllocError>
+fn text_of_first_counts(alloc: Global, faults: &[Reported]) -> Result<String, AllocError>
     ensures { IfOk result (λ text. string_bytes text ≡ first_counts faults.now) }
 {
     let all = faults.len();
@@ -151,7 +161,7 @@ fn text_of_first_counts(alloc: Global, faults: &[ShownFault]) -> Result<String, 
 fn text_of_last_counts(
     alloc: Global,
     intake: &Intake,
-    faults: &[ShownFault],
+    faults: &[Reported],
 ) -> Result<String, AllocError>
     ensures { IfOk result (λ text. string_bytes text ≡ last_counts (taken intake.now) faults.now) }
 {
@@ -166,11 +176,7 @@ fn text_of_last_counts(
 }
 
 /// The last line.
-fn line_of_counts(
-    alloc: Global,
-    intake: &Intake,
-    faults: &[ShownFault],
-) -> Result<String, AllocError>
+fn line_of_counts(alloc: Global, intake: &Intake, faults: &[Reported]) -> Result<String, AllocError>
     ensures { IfOk result (λ line. string_bytes line ≡ counts_line (taken intake.now) faults.now) }
 {
     let mut line = text_of_first_counts(alloc, faults)?;
@@ -179,17 +185,23 @@ fn line_of_counts(
 }
 
 /// The whole report.
-fn whole_report(alloc: Global, intake: &Intake, faults: &[ShownFault]) -> Result<String, AllocError>
-    ensures { IfOk result (λ text. string_bytes text ≡ faults_text (taken intake.now) faults.now) }
+fn whole_report(
+    alloc: Global,
+    intake: &Intake,
+    first: &str,
+    faults: &[Reported],
+) -> Result<String, AllocError>
+    ensures { IfOk result (λ text. string_bytes text ≡ faults_text (taken intake.now) first.now faults.now) }
 {
     let mut text = lines_of_heading(alloc, intake.policy())?;
+    text.push_str(first)?;
     text.push_str(lines_of_all(alloc, intake, faults)?.as_str())?;
     text.push_str(line_of_counts(alloc, intake, faults)?.as_str())?;
     Ok(text)
 }
 
 /// The status that says whether there are any.
-pub fn status(faults: &[ShownFault]) -> u8
+pub fn status(faults: &[Reported]) -> u8
     ensures { result ≡ status_of faults.now }
 {
     match faults {
@@ -198,16 +210,17 @@ pub fn status(faults: &[ShownFault]) -> u8
     }
 }
 
-/// Writes the report of faults. It takes memory for the text.
+/// Writes the report of faults, after a note on all of them. It takes memory for the text.
 pub fn report_faults<W: Sink>(
     alloc: Global,
     intake: &Intake,
-    faults: &[ShownFault],
+    first: &str,
+    faults: &[Reported],
     out: &mut W,
 ) -> Result<(), WriteFault>
-    ensures { OnOk result (W.taken out.new ≡ followed_by (W.taken out.old) (faults_text (taken intake.now) faults.now)) }
+    ensures { OnOk result (W.taken out.new ≡ followed_by (W.taken out.old) (faults_text (taken intake.now) first.now faults.now)) }
 {
-    let text = whole_report(alloc, intake, faults)?;
+    let text = whole_report(alloc, intake, first, faults)?;
     put_all(out, text.as_bytes())?;
     Ok(())
 }

@@ -1,4 +1,4 @@
-//! What no order of captures explains, told.
+//! What no order of captures explains, as a report.
 
 ghost use Rattle.std.specs.Prelude.{◌≡◌, [], ℕ, IfNone, IfOk, IfSome, List, Some};
 ghost use Rattle.std.specs.List.{AllZip};
@@ -6,18 +6,64 @@ ghost use Rattle.audit_keys.specs.KeyFor.{key_for};
 ghost use Rattle.audit_sightings.specs.Intake.{taken};
 ghost use Rattle.explain_faults.specs.Told.{AreTold, AreToldOf};
 
+use crate::noting::{Notes, ask_frames};
+use crate::reported::with_notes;
 use crate::reporting::{report_faults, status};
-use audit_faults::shown_faults;
+use audit_faults::{ShownFault, shown_faults};
 use audit_files::{Source, Stop, Workers, read_files};
 use audit_keys::Credentials;
 use audit_model::Sink;
 use audit_sightings::Intake;
+use explain_clients::{Owners, has_relayed, is_response};
+use explain_frames::Frames;
+use explain_lookup::look_up;
 use std::alloc::Global;
 use std::thread::Threads;
 
-/// Writes all faults that the captures of an intake show, and gives 1 where there are some and 0 where there are none.
-pub fn tell_faults<O: Sink>(
+/// What is said first if no datagram of the captures is at a relayed address of the policy.
+const NOTHING_RELAYED: &str =
+    "note: no captured datagram is at a relayed address of the policy, so that no data below shows a fault of the server: check its relay lines, the captured interfaces, and whether turnprep translate was left out\n";
+
+/// What notes are made by. The captures are read once more, for frames that aren't judged.
+fn notes_of<'a, S: Source>(
     alloc: Global,
+    source: &mut S,
+    captures: &'a [&'a str],
+    intake: &'a Intake,
+    faults: &[ShownFault],
+) -> Result<Notes<'a>, Stop> {
+    let owners = Owners::of(alloc, intake)?;
+    let mut frames = Frames::new(alloc);
+    ask_frames(intake, &owners, faults, &mut frames)?;
+    if frames.asks_told() {
+        look_up(alloc, source, intake.policy(), captures, &mut frames)?;
+    }
+    Ok(Notes {
+        intake,
+        owners,
+        frames,
+        captures,
+    })
+}
+
+/// What is said first of faults.
+fn first_note(intake: &Intake, faults: &[ShownFault]) -> &'static str {
+    let is_of_data = faults.iter().any(|shown| match intake.sighting(shown.sight) {
+        Some(sighting) => !is_response(sighting.payload.as_slice()),
+        None => false,
+    });
+    if is_of_data && !has_relayed(intake) {
+        NOTHING_RELAYED
+    } else {
+        ""
+    }
+}
+
+/// Writes all faults that the captures of an intake show, with notes, and returns 1 if there are some and 0 if there are none.
+pub fn tell_faults<S: Source, O: Sink>(
+    alloc: Global,
+    source: &mut S,
+    captures: &[&str],
     intake: &Intake,
     users: &Credentials,
     out: &mut O,
@@ -25,8 +71,13 @@ pub fn tell_faults<O: Sink>(
     ensures { IfOk result (AreTold (taken intake.now) (key_for users.now) (O.taken out.old) (O.taken out.new)) }
 {
     let faults = shown_faults(alloc, intake, users)?;
-    report_faults(alloc, intake, faults.as_slice(), out)?;
-    Ok(status(faults.as_slice()))
+    let found = faults.as_slice();
+    let notes = notes_of(alloc, source, captures, intake, found)?;
+    let first = first_note(intake, found);
+    let all = with_notes(alloc, &notes, found)?;
+    let reported = all.as_slice();
+    report_faults(alloc, intake, first, reported, out)?;
+    Ok(status(reported))
 }
 
 /// The same of files. They are read in this order: policy, users, captures; each is judged before the next is read.
@@ -47,5 +98,5 @@ pub fn faults_of_files<R: Threads + Sync, S: Source, O: Sink>(
         IfOk result (AreToldOf policy_text users_text texts (O.taken out.old) (O.taken out.new)) }
 {
     let files = read_files(rt, alloc, source, policy, users, captures, workers)?;
-    tell_faults(alloc, &files.intake, &files.users, out)
+    tell_faults(alloc, source, captures, &files.intake, &files.users, out)
 }

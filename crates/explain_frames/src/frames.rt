@@ -7,11 +7,12 @@ ghost use Rattle.audit_model.specs.declared.sighting.SightId.{SightId};
 ghost use Rattle.audit_model.specs.Sames.{same_sight};
 ghost use Rattle.explain_frames.specs.FramesOf.{Shows, frames_of, kept_for};
 
-use crate::told::{ToldFrame, told_in};
+use crate::told::{GrantedBy, ToldFrame, granted_in};
 use audit_model::{Addr, Policy, SightId};
 use audit_pcapng::PacketSlice;
 use audit_sights::SightMap;
 use std::alloc::{AllocError, Global};
+use std::collections::BTreeMap;
 
 /// A frame of a capture.
 #[derive(Clone, Copy, Debug, PartialEq, Eq)]
@@ -28,9 +29,8 @@ pub struct Frames {
     found: SightMap<Option<Frame>>,
     /// The least stamp of all packets so far.
     first: Option<u64>,
-    /// The relayed address that is asked for, and the first frame that tells it and isn't judged.
-    relayed: Option<Addr>,
-    told: Option<ToldFrame>,
+    /// The relayed addresses that are asked for, each with the first frame that grants it and isn't judged.
+    granted: BTreeMap<Addr, Option<ToldFrame>>,
     alloc: Global,
 }
 
@@ -42,8 +42,7 @@ impl Frames {
         Frames {
             found: SightMap::new(alloc),
             first: None,
-            relayed: None,
-            told: None,
+            granted: BTreeMap::new(alloc),
             alloc,
         }
     }
@@ -72,16 +71,22 @@ impl Frames {
         self.first
     }
 
-    /// Asks which frame tells this relayed address and isn't judged: one of TCP or IPv6, or of an endpoint that the policy lacks.
-    pub fn ask_told(&mut self, relayed: Addr)
+    /// Asks which frame grants this relayed address and isn't judged: one of TCP or IPv6, or of an endpoint that the policy lacks.
+    pub fn ask_told(&mut self, relayed: Addr) -> Result<(), AllocError>
         ensures { self.new.found ≡ self.old.found }
     {
-        self.relayed = Some(relayed);
+        self.granted.insert(relayed, None)?;
+        Ok(())
+    }
+
+    /// Whether any such address is asked for.
+    pub fn asks_told(&self) -> bool {
+        !self.granted.is_empty()
     }
 
     /// The first such frame.
-    pub fn told(&self) -> Option<ToldFrame> {
-        self.told
+    pub fn told(&self, relayed: Addr) -> Option<ToldFrame> {
+        *self.granted.get(&relayed)?
     }
 
     /// Notes that a packet was seen then.
@@ -105,7 +110,7 @@ impl Frames {
         self.found.put(sight, Some(frame))
     }
 
-    /// Looks whether a packet that isn't the service's tells the relayed address that is asked for.
+    /// Looks whether a packet that isn't the service's grants a relayed address that is asked for.
     pub(crate) fn note_told(
         &mut self,
         policy: &Policy,
@@ -115,12 +120,28 @@ impl Frames {
     ) -> Result<(), AllocError>
         ensures { self.new.found ≡ self.old.found }
     {
-        let (Some(relayed), None) = (self.relayed, self.told) else {
+        if self.granted.is_empty() {
             return Ok(());
-        };
-        if let Some(told) = told_in(self.alloc, policy, packet, relayed)? {
-            self.told = Some(ToldFrame { told, file, number });
         }
+        let found = granted_in(self.alloc, policy, packet)?;
+        note_grants(&mut self.granted, &found, file, number);
         Ok(())
+    }
+}
+
+/// Notes the frame of each address that is asked for and has none yet.
+fn note_grants(
+    granted: &mut BTreeMap<Addr, Option<ToldFrame>>,
+    found: &[GrantedBy],
+    file: u16,
+    number: u64,
+) {
+    for one in found {
+        if let Some(frame) = granted.get_mut(&one.relayed) {
+            if frame.is_none() {
+                let told = one.told;
+                *frame = Some(ToldFrame { told, file, number });
+            }
+        }
     }
 }

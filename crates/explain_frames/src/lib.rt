@@ -8,4 +8,4 @@ mod told;
 
 pub use counter::FrameCounter;
 pub use frames::{Frame, Frames};
-pub use told::{ToldBy, ToldFrame, tells_address};
+pub use told::{ToldBy, ToldFrame, granted_address};

@@ -29,56 +29,58 @@ pub struct ToldFrame {
     pub number: u64,
 }
 
-/// Whether a payload is an Allocate success that tells this relayed address.
-pub fn tells_address(payload: &[u8], relayed: Addr) -> bool {
-    let Some(told) = message(payload) else {
-        return false;
-    };
-    if told.class() != Class::Success || told.method() != ALLOCATE {
-        return false;
+/// The relayed address that a payload grants, if it is an Allocate success response.
+pub fn granted_address(payload: &[u8]) -> Option<Addr> {
+    let response = message(payload)?;
+    if response.class() != Class::Success || response.method() != ALLOCATE {
+        return None;
     }
-    match told.first(XOR_RELAYED_ADDRESS) {
-        Some(value) => address(value) == Some(relayed),
-        None => false,
-    }
+    address(response.first(XOR_RELAYED_ADDRESS)?)
 }
 
-/// The one to whom a frame that is TCP or IPv6 tells this relayed address.
+/// A relayed address that a packet grants which isn't the service's.
+#[derive(Clone, Copy, Debug)]
+pub(crate) struct GrantedBy {
+    pub(crate) relayed: Addr,
+    pub(crate) told: ToldBy,
+}
+
+/// What a frame of TCP or IPv6 grants.
 fn elsewhere(
     alloc: Global,
     policy: &Policy,
     packet: PacketSlice<'_>,
-    relayed: Addr,
-) -> Result<Option<ToldBy>, AllocError> {
+) -> Result<Vec<GrantedBy>, AllocError> {
+    let mut found = Vec::new(alloc);
+    note_told(policy, packet.stamp, packet.bytes, &mut found)?;
     let mut all = Vec::new(alloc);
-    note_told(policy, packet.stamp, packet.bytes, &mut all)?;
-    for one in &all {
-        if one.relayed == relayed {
-            return Ok(Some(ToldBy::Elsewhere(one.client)));
-        }
+    for one in &found {
+        all.push(GrantedBy {
+            relayed: one.relayed,
+            told: ToldBy::Elsewhere(one.client),
+        })?;
     }
-    Ok(None)
+    Ok(all)
 }
 
-/// How a packet that isn't the service's tells this relayed address; none where it doesn't.
-pub(crate) fn told_in(
+/// What a packet grants that isn't the service's.
+pub(crate) fn granted_in(
     alloc: Global,
     policy: &Policy,
     packet: PacketSlice<'_>,
-    relayed: Addr,
-) -> Result<Option<ToldBy>, AllocError> {
-    match slice_datagram(packet) {
-        Seen::Udp { from, to, payload } => {
-            if !tells_address(payload, relayed) {
-                return Ok(None);
-            }
-            Ok(Some(ToldBy::Unlisted {
+) -> Result<Vec<GrantedBy>, AllocError> {
+    let Seen::Udp { from, to, payload } = slice_datagram(packet) else {
+        return elsewhere(alloc, policy, packet);
+    };
+    let mut all = Vec::new(alloc);
+    if let Some(relayed) = granted_address(payload) {
+        all.push(GrantedBy {
+            relayed,
+            told: ToldBy::Unlisted {
                 server: from,
                 client: to,
-            }))
-        }
-        Seen::Other | Seen::Fragment { .. } | Seen::Cut { .. } => {
-            elsewhere(alloc, policy, packet, relayed)
-        }
+            },
+        })?;
     }
+    Ok(all)
 }

@@ -5,6 +5,7 @@ use crate::object::{List, Object};
 use crate::sighting::sighting_of;
 use audit_model::{Addr, Rule, SightId};
 use explain_frames::{ToldBy, ToldFrame};
+use explain_state::GrantAct;
 use explain_story::{Account, ClientOf, Line, Story, Teller};
 use explain_text::{anchor, cause, code, meaning};
 use std::alloc::{AllocError, Global};
@@ -74,6 +75,16 @@ fn words_with(
     Ok(object)
 }
 
+/// Words with an act among them, whose departure is the datagram.
+fn words_with_act(
+    alloc: Global,
+    teller: &Teller<'_>,
+    words: &str,
+    act: &GrantAct,
+) -> Result<Object, AllocError> {
+    words_with(alloc, teller, words, act.leaves, "")
+}
+
 /// The frame that tells a relayed address and isn't judged.
 fn told_of(
     alloc: Global,
@@ -118,10 +129,16 @@ fn tell_line(
         Line::Datagram(sight) => account.object(shown(alloc, teller, *sight)?),
         Line::Lease(row) => account.object(lease_of(alloc, teller, row, moment)?),
         Line::Ended(ended) => account.object(ended_of(alloc, teller, ended)?),
-        Line::ToldElsewhere(relayed) => match teller.frames.told() {
+        Line::ToldElsewhere(relayed) => match teller.frames.told(*relayed) {
             Some(frame) => account.object(told_of(alloc, teller, *relayed, frame)?),
             None => Ok(()),
         },
+        Line::WithAct { words, act } => account.object(words_with_act(
+            alloc,
+            teller,
+            words.as_str(),
+            act,
+        )?),
         Line::UpTo {
             words,
             sight,

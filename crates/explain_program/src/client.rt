@@ -1,10 +1,10 @@
 //! The command `client`.
 
-use crate::frames::look_up;
 use crate::last_lines::behind_head;
 use audit_files::{Source, Stop};
 use audit_lane::{Finding, Outcome};
 use explain_frames::Frames;
+use explain_lookup::look_up;
 use explain_story::{Case, Teller, ask_span, ladder_lines, lanes_of, rungs_of, span_of};
 use std::alloc::{AllocError, Global};
 

@@ -9,7 +9,6 @@ use crate::command_line::Inputs;
 use crate::digesting::{Digesting, unread};
 use crate::explaining::{case_of, status};
 use crate::filed_texts::{excluded_of, users_of};
-use crate::frames::look_up;
 use crate::head::{head, put_answer};
 use crate::host::PageFile;
 use crate::judged::{Judged, judge_files};
@@ -26,6 +25,7 @@ use audit_files::{Source, Stop};
 use audit_finding::CertificateFinder;
 use audit_model::{Sink, Verdict, put_all};
 use explain_frames::Frames;
+use explain_lookup::look_up;
 use explain_page::{Facts, page_of};
 use explain_story::{
     Case, Lanes, Teller, ask_breaches, is_broken, lane_line, lanes_of, sum_lines, sums_of,

@@ -1,7 +1,6 @@
 //! What is asked of a verdict, as JSON.
 
 use crate::command_line::Asked;
-use crate::frames::look_up;
 use crate::lanes::breach_of;
 use crate::last_lines::{fault_name, interfaces};
 use crate::verdict::story_in;
@@ -14,6 +13,7 @@ use explain_json::{
     Captured, Object, tell_account, tell_captured, tell_events, tell_lane, tell_lanes,
     tell_no_lanes,
 };
+use explain_lookup::look_up;
 use explain_story::{
     Case, InEveryOrder, Lanes, Rung, Teller, ask_breaches, ask_span, lanes_of, rungs_of, span_of,
     sums_of,

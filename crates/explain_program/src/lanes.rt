@@ -1,10 +1,10 @@
 //! The command `lanes`.
 
-use crate::frames::look_up;
 use crate::last_lines::behind_head;
 use audit_files::{Source, Stop};
 use audit_model::{Breach, Verdict};
 use explain_frames::Frames;
+use explain_lookup::look_up;
 use explain_story::{
     Case, Lanes, Teller, ask_breaches, is_broken, lane_line, lanes_of, sum_lines, sums_of,
 };

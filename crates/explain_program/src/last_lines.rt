@@ -1,7 +1,9 @@
 //! What stands behind the head, and the last lines of a story.
 
 use audit_faults::Fault;
-use audit_model::{SightId, Verdict};
+use audit_model::SightId;
+use audit_sightings::Intake;
+use explain_clients::{has_relayed, is_response};
 use explain_story::{InEveryOrder, Story, Teller};
 use explain_text::{Quoted, Utc};
 use std::alloc::{AllocError, Global};
@@ -147,15 +149,18 @@ pub fn fault_name(fault: Fault) -> &'static str {
 const TOO_LATE: &str =
     " The capture began too late for its relayed address, so that it shows no fault of the server.";
 
+/// After a fault if no datagram is at a relayed address.
+const NOTHING_RELAYED: &str =
+    " No captured datagram is at a relayed address of the policy, so that it shows no fault of the server: check its relay lines, the captured interfaces, and whether turnprep translate was left out.";
+
 /// What is said of the breach's datagram.
 fn line_of_this(
     alloc: Global,
     fault: Fault,
     count: usize,
-    too_late: bool,
+    ending: &str,
 ) -> Result<String, AllocError> {
     let name = fault_name(fault);
-    let ending = if too_late { TOO_LATE } else { "" };
     format!(in alloc;
         "Shown: no order of what was captured explains this datagram ({name}; {count} such in all).{ending}\n"
     )
@@ -174,8 +179,32 @@ fn line_of_others(alloc: Global, count: usize) -> Result<String, AllocError> {
     )
 }
 
+/// Whether a departure is no response, and the captures have no datagram at a relayed address.
+fn lacks_relay_side(intake: &Intake, departure: Option<SightId>) -> bool {
+    let Some(sight) = departure else {
+        return false;
+    };
+    match intake.sighting(sight) {
+        Some(sighting) => !is_response(sighting.payload.as_slice()) && !has_relayed(intake),
+        None => false,
+    }
+}
+
+/// Why the fault of a departure is none of the server's, if that is so.
+fn excuse(intake: &Intake, departure: Option<SightId>, too_late: bool) -> &'static str {
+    if lacks_relay_side(intake, departure) {
+        return NOTHING_RELAYED;
+    }
+    if too_late { TOO_LATE } else { "" }
+}
+
 /// Whether another order may explain what breaks a rule.
-pub fn last_line(alloc: Global, shown: Option<InEveryOrder>) -> Result<String, AllocError> {
+pub fn last_line(
+    alloc: Global,
+    intake: &Intake,
+    departure: Option<SightId>,
+    shown: Option<InEveryOrder>,
+) -> Result<String, AllocError> {
     match shown {
         Some(
             InEveryOrder::Here {
@@ -183,7 +212,7 @@ pub fn last_line(alloc: Global, shown: Option<InEveryOrder>) -> Result<String, A
                 count,
                 too_late,
             },
-        ) => line_of_this(alloc, fault, count, too_late),
+        ) => line_of_this(alloc, fault, count, excuse(intake, departure, too_late)),
         Some(InEveryOrder::Elsewhere { count }) => line_of_others(alloc, count),
         None => String::from_str(
             alloc,

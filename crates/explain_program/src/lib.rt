@@ -12,7 +12,6 @@ mod digesting;
 mod evidence;
 mod explaining;
 mod filed_texts;
-mod frames;
 mod head;
 mod host;
 mod inputs;

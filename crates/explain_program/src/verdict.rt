@@ -1,13 +1,46 @@
 //! The command `verdict`.
 
 use crate::conforming::conforming_lines;
-use crate::frames::look_up;
 use crate::last_lines::{behind_head, last_line, look_lines};
 use audit_files::{Source, Stop};
-use audit_model::Verdict;
+use audit_model::{SightId, Verdict};
+use explain_clients::Owners;
 use explain_frames::Frames;
+use explain_lookup::look_up;
 use explain_story::{Case, InEveryOrder, Story, Teller, story_of};
 use std::alloc::{AllocError, Global};
+
+/// What a departure shows, but that captures didn't begin too late for data that was for another client.
+fn of_receiver(
+    alloc: Global,
+    case: Case<'_>,
+    departure: Option<SightId>,
+    shown: Option<InEveryOrder>,
+) -> Result<Option<InEveryOrder>, AllocError> {
+    let Some(
+        InEveryOrder::Here {
+            fault,
+            count,
+            too_late: true,
+        },
+    ) = shown
+    else {
+        return Ok(shown);
+    };
+    let owners = Owners::of(alloc, case.intake)?;
+    let is_misdelivered = match departure {
+        Some(sight) => match case.intake.sighting(sight) {
+            Some(departure) => owners.misdelivery(departure).is_some(),
+            None => false,
+        },
+        None => false,
+    };
+    Ok(Some(InEveryOrder::Here {
+        fault,
+        count,
+        too_late: !is_misdelivered,
+    }))
+}
 
 /// What a verdict means; nothing of captures that conform.
 pub fn story_in(
@@ -17,7 +50,11 @@ pub fn story_in(
 ) -> Result<(Story, Option<InEveryOrder>), AllocError> {
     match verdict {
         Verdict::Conforming { .. } => Ok((Story::new(alloc, 0), None)),
-        Verdict::NotShown(breach) => story_of(alloc, case, breach),
+        Verdict::NotShown(breach) => {
+            let (story, shown) = story_of(alloc, case, breach)?;
+            let shown = of_receiver(alloc, case, story.departure, shown)?;
+            Ok((story, shown))
+        }
     }
 }
 
@@ -38,7 +75,8 @@ pub fn verdict_lines(
         Verdict::NotShown(_) => {
             rest.push_str(teller.lines(alloc, story)?.as_str())?;
             rest.push_str(look_lines(alloc, teller, story)?.as_str())?;
-            rest.push_str(last_line(alloc, shown)?.as_str())?;
+            let last = last_line(alloc, teller.case.intake, story.departure, shown)?;
+            rest.push_str(last.as_str())?;
         }
     }
     Ok(rest)

@@ -11,7 +11,7 @@ use audit_stun::numbers::attribute::{
     XOR_RELAYED_ADDRESS,
 };
 use audit_stun::{Message, address};
-use explain_text::{AttributeBytes, FirstBytes, MethodWord, Quoted};
+use explain_text::{AttributeBytes, BytesAround, FirstBytes, MethodWord, Quoted};
 use std::alloc::{AllocError, Global};
 
 /// What is told of a request that no user signed.
@@ -84,6 +84,37 @@ fn of_peer(alloc: Global, scene: &Scene<'_>) -> Result<String, AllocError> {
         }
         Way::Response => format!(in alloc; "  the request names {named}"),
     }
+}
+
+/// The data that came and the data that left.
+fn both_data<'s>(scene: &Scene<'s>) -> (&'s [u8], &'s [u8]) {
+    let clients = scene.clients_data().unwrap_or(&[]);
+    match scene.way() {
+        Way::Down => (scene.arrives.payload.as_slice(), clients),
+        Way::Up | Way::Response => (clients, scene.leaves.payload.as_slice()),
+    }
+}
+
+/// The place of the first byte that one has and the other hasn't.
+fn first_difference(one: &[u8], other: &[u8]) -> usize {
+    for (at, (byte, next)) in one.iter().zip(other.iter()).enumerate() {
+        if byte != next {
+            return at;
+        }
+    }
+    one.len().min(other.len())
+}
+
+/// Where two data differ first, with bytes of each around it.
+fn of_difference(alloc: Global, scene: &Scene<'_>) -> Result<String, AllocError> {
+    let (came, left) = both_data(scene);
+    let at = first_difference(came, left);
+    let from = BytesAround::begin(at);
+    let came = BytesAround { bytes: came, at };
+    let left = BytesAround { bytes: left, at };
+    format!(in alloc;
+        "  first difference at byte {at}, counted from 0; from byte {from} on: came {came}, left {left}"
+    )
 }
 
 /// What is told of data.
@@ -244,6 +275,9 @@ pub fn tell_got(scene: &Scene<'_>, rule: Rule, story: &mut Story) -> Result<(), 
         _ => return Ok(()),
     };
     story.say(words)?;
+    if rule == Rule::DataDiffers {
+        story.say(of_difference(alloc, scene)?)?;
+    }
     if rule == Rule::NotAuthentic {
         tell_signed(scene, story)?;
     }

@@ -81,8 +81,10 @@ pub enum Step {
 #[derive(Clone, Copy)]
 pub struct Rung {
     pub place: u32,
-    /// In nanoseconds since 1970.
+    /// Its moment in the certificate, in nanoseconds since 1970.
     pub moment: u64,
+    /// The stamp of its datagram, of an act that of the departure.
+    pub stamp: u64,
     /// Whether it is the lane's first breach.
     pub is_breach: bool,
     pub step: Step,
@@ -108,11 +110,20 @@ fn what_lasts(scene: &Scene<'_>) -> Lasting {
     }
 }
 
-/// What happens at an event, and when.
-fn step_of(case: Case<'_>, lane: &LaneAt<'_>, event: &LaneEvent<'_>) -> (Step, u64) {
+/// When an event happens: its moment in the certificate, and the stamp of its datagram, of an act that of the departure.
+fn moments_of(event: &LaneEvent<'_>) -> (u64, u64) {
     match event {
-        LaneEvent::In { sighting, key, .. } => (Step::Arrives(sighting.id), key.moment),
-        LaneEvent::Out { sighting, key } => (Step::Leaves(sighting.id), key.moment),
+        LaneEvent::In { sighting, key, .. } => (key.moment, sighting.stamp),
+        LaneEvent::Out { sighting, key } => (key.moment, sighting.stamp),
+        LaneEvent::Act { leaves, key, .. } => (key.moment, leaves.stamp),
+    }
+}
+
+/// What happens at an event.
+fn step_of(case: Case<'_>, lane: &LaneAt<'_>, event: &LaneEvent<'_>) -> Step {
+    match event {
+        LaneEvent::In { sighting, .. } => Step::Arrives(sighting.id),
+        LaneEvent::Out { sighting, .. } => Step::Leaves(sighting.id),
         LaneEvent::Act {
             arrives,
             leaves,
@@ -125,13 +136,12 @@ fn step_of(case: Case<'_>, lane: &LaneAt<'_>, event: &LaneEvent<'_>) -> (Step, u
                 leaves,
                 moment: key.moment,
             };
-            let step = Step::Act {
+            Step::Act {
                 arrives: arrives.id,
                 leaves: leaves.id,
                 way: scene.way(),
                 lasting: what_lasts(&scene),
-            };
-            (step, key.moment)
+            }
         }
     }
 }
@@ -164,12 +174,13 @@ pub fn rungs_of(
     let mut goes_on = true;
     for place in span.from..span.to {
         if let Some(event) = input.events().get(place as usize) {
-            let (step, moment) = step_of(case, &lane, event);
+            let (moment, stamp) = moments_of(event);
             rungs.push(Rung {
                 place,
                 moment,
+                stamp,
                 is_breach: breach == Some(place),
-                step,
+                step: step_of(case, &lane, event),
             })?;
         }
         if goes_on {

@@ -2,6 +2,7 @@
 #![tactic(auto)]
 
 mod case;
+mod deletion;
 mod expected;
 mod got;
 mod held_twice;

@@ -39,6 +39,11 @@ pub enum Line {
     Lease(LeaseRow),
     /// An allocation that is there no more, with the frames that made and ended it.
     Ended(Ended),
+    /// Words, then the frames of an act.
+    WithAct {
+        words: String,
+        act: GrantAct,
+    },
     /// Words, then the frame of a datagram, then words.
     UpTo {
         words: String,
@@ -55,6 +60,8 @@ pub struct Story {
     pub lines: Vec<Line>,
     /// In nanoseconds since 1970.
     pub moment: u64,
+    /// The departure that breaks a rule, if it is one.
+    pub departure: Option<SightId>,
     alloc: Global,
 }
 
@@ -78,6 +85,7 @@ fn add_sights(sights: &mut Vec<SightId>, line: &Line) -> Result<(), AllocError> 
             add_act(sights, &row.made)?;
             add_act(sights, &row.last)
         }
+        Line::WithAct { act, .. } => add_act(sights, act),
         Line::Ended(ended) => {
             add_act(sights, &ended.made)?;
             add_act(sights, &ended.ending)
@@ -91,6 +99,7 @@ impl Story {
         Story {
             lines: Vec::new(alloc),
             moment,
+            departure: None,
             alloc,
         }
     }
@@ -152,7 +161,7 @@ impl Story {
         }
         for line in &self.lines {
             if let Line::ToldElsewhere(relayed) = line {
-                frames.ask_told(*relayed);
+                frames.ask_told(*relayed)?;
             }
         }
         Ok(())

@@ -4,7 +4,7 @@ use crate::case::Case;
 use crate::line::{Line, Story};
 use audit_lane::{LaneEvent, LaneInput};
 use audit_model::{SightId, Sighting};
-use explain_frames::tells_address;
+use explain_frames::granted_address;
 use explain_text::Seconds;
 use std::alloc::AllocError;
 
@@ -132,7 +132,7 @@ pub fn tell_held_out(
 /// The Allocate success of an interface that told the address from which a departure left.
 fn telling_on(case: Case<'_>, iface: u32, departure: &Sighting) -> Option<SightId> {
     for sighting in case.intake.interface(iface) {
-        if tells_address(sighting.payload.as_slice(), departure.from) {
+        if granted_address(sighting.payload.as_slice()) == Some(departure.from) {
             return Some(sighting.id);
         }
     }

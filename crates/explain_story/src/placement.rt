@@ -82,7 +82,7 @@ fn tell_unplaced(case: Case<'_>, sighting: &Sighting, story: &mut Story) -> Resu
                 )?;
             }
             tell_whose(case, sighting, story)?;
-            tell_nearest(case, None, sighting, story)
+            tell_nearest(case, sighting, story)
         }
     }
 }

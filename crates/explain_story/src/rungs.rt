@@ -89,7 +89,7 @@ fn rung_line(alloc: Global, teller: &Teller<'_>, rung: &Rung) -> Result<String, 
     };
     let mark = if rung.is_breach { "=>" } else { "  " };
     let place = rung.place;
-    let time = teller.since(rung.moment);
+    let time = teller.since(rung.stamp);
     format!(in alloc; "{mark}{place:>7}  {time}  {told}\n")
 }
 

@@ -72,7 +72,7 @@ impl Teller<'_> {
 
     /// The frame that tells a relayed address and isn't judged.
     fn told_line(&self, alloc: Global, relayed: Addr) -> Result<String, AllocError> {
-        let Some(frame) = self.frames.told() else {
+        let Some(frame) = self.frames.told(relayed) else {
             return Ok(String::new(alloc));
         };
         let capture = self.capture_of(u32::from(frame.file));
@@ -98,6 +98,10 @@ impl Teller<'_> {
             Line::Datagram(sight) => self.datagram_line(alloc, *sight),
             Line::Lease(row) => self.lease_line(alloc, row, moment),
             Line::Ended(ended) => self.ended_line(alloc, ended),
+            Line::WithAct { words, act } => {
+                let frames = self.act(alloc, act)?;
+                format!(in alloc; "{words}{frames}\n")
+            }
             Line::UpTo {
                 words,
                 sight,

@@ -8,6 +8,7 @@ ghost use Rattle.audit_sightings.specs.Intake.{taken};
 ghost use Rattle.explain_story.specs.EveryOrder.{Says, SaysOne};
 
 use crate::case::{Case, Lanes, lanes_of};
+use crate::deletion::tell_deletion;
 use crate::expected::{expected_of_act, expected_of_rule};
 use crate::got::tell_got;
 use crate::held_twice::tell_clash;
@@ -24,9 +25,10 @@ use audit_model::{Breach, Rule, SightId, Sighting};
 use explain_state::{LaneAt, lane_before};
 use std::alloc::{AllocError, Global};
 
-/// The user that a lane named last of those who are known.
+/// The user that a lane named last before an event of those who are known; of a lane that named none before, the last one of all.
 fn account_of(alloc: Global, lane: &LaneAt<'_>) -> Result<Option<Account>, AllocError> {
-    let Some((user, realm)) = lane.user() else {
+    let last = lane.input().users().last();
+    let Some((user, realm)) = lane.user().or(last.map(|row| (row.user, row.realm))) else {
         return Ok(None);
     };
     Ok(Some(Account {
@@ -64,6 +66,9 @@ fn tell_act(
         tell_leases(scene, rule, story)?;
         tell_margin(scene, rule, story)?;
     }
+    if rule == Rule::NoAllocation {
+        tell_deletion(scene, story)?;
+    }
     let input = scene.lane.input();
     match rule {
         Rule::ActedTwice => tell_twice(input, place, scene.arrives, scene.leaves, story),
@@ -75,7 +80,6 @@ fn tell_act(
 /// Tells a departure that may not leave.
 fn tell_out(
     case: Case<'_>,
-    lanes: &Lanes<'_>,
     input: &LaneInput<'_>,
     sighting: &Sighting,
     breach: &Breach,
@@ -90,7 +94,7 @@ fn tell_out(
                 "  it stands in this lane for want of another, and need not be of this client",
             )?;
             tell_whose(case, sighting, story)?;
-            tell_nearest(case, Some(lanes), sighting, story)
+            tell_nearest(case, sighting, story)
         }
         Rule::HeldTooLong => tell_held_out(case, input, sighting.id, breach.at.key.moment, story),
         _ => Ok(()),
@@ -109,7 +113,6 @@ fn departure_of(event: &LaneEvent<'_>) -> Option<SightId> {
 /// Tells the event of a lane that breaks a rule.
 fn tell_event(
     case: Case<'_>,
-    lanes: &Lanes<'_>,
     lane: &LaneAt<'_>,
     event: &LaneEvent<'_>,
     breach: &Breach,
@@ -131,9 +134,7 @@ fn tell_event(
             };
             tell_act(&scene, breach.at.place, breach.rule, story)
         }
-        LaneEvent::Out { sighting, .. } => {
-            tell_out(case, lanes, lane.input(), sighting, breach, story)
-        }
+        LaneEvent::Out { sighting, .. } => { tell_out(case, lane.input(), sighting, breach, story) }
     }
 }
 
@@ -156,7 +157,7 @@ fn tell_lane(
     let Some(event) = input.events().get(breach.at.place as usize) else {
         return Ok(None);
     };
-    tell_event(case, lanes, &lane, event, breach, story)?;
+    tell_event(case, &lane, event, breach, story)?;
     if breach.phase == 3 {
         tell_clash(lanes, breach, story)?;
     }
@@ -215,6 +216,7 @@ pub fn story_of(
         None => tell_place(case, breach, &mut story)?,
     };
     story.add(Line::Rule(breach.rule))?;
+    story.departure = departure;
     Ok((story, in_every_order(&shown, departure)))
 }
 

@@ -11,7 +11,7 @@ mod stun_words;
 
 pub use address::Ip;
 pub use moment::{Exactly, Seconds, Since, SinceShort, Utc};
-pub use payload::{Datagram, FirstBytes};
+pub use payload::{BytesAround, Datagram, FirstBytes};
 pub use quoted::{Escaped, Quoted};
 pub use reasons::refusal_reason;
 pub use rule::{anchor, cause, code, expected, meaning};

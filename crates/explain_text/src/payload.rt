@@ -88,3 +88,37 @@ impl fmt::Display for FirstBytes<'_> {
         Ok(())
     }
 }
+
+/// Eight bytes of data in hex around a place, as far as they are there; `nothing` if none is.
+#[derive(Clone, Copy, Debug)]
+pub struct BytesAround<'a> {
+    pub bytes: &'a [u8],
+    pub at: usize,
+}
+
+/// How many are printed, and how many of them before the place.
+const AROUND: usize = 8;
+
+const BEFORE: usize = 3;
+
+impl BytesAround<'_> {
+    /// The place of the first of them.
+    pub fn begin(at: usize) -> usize {
+        at.saturating_sub(BEFORE)
+    }
+}
+
+impl fmt::Display for BytesAround<'_> {
+    fn fmt<W: fmt::Write>(&self, f: &mut fmt::Formatter<W>) -> fmt::Result {
+        let rest = self.bytes.get(BytesAround::begin(self.at)..).unwrap_or(&[]);
+        let around = rest.get(..AROUND).unwrap_or(rest);
+        if around.is_empty() {
+            return f.write_str("nothing");
+        }
+        for byte in around {
+            let byte = *byte;
+            write!(f, "{byte:02x}")?;
+        }
+        Ok(())
+    }
+}
