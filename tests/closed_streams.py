@@ -3,8 +3,7 @@
 
     tests/closed_streams.py TURNAUDIT TURNPREP TURNEXPLAIN
 
-A report that can't be written ends with status 4, and nothing of it is in a file that the call makes; turnprep leaves none. An empty name is a usage
-error.
+A report that can't be written ends with status 4, and no file is left that the call makes. An empty name is a usage error.
 """
 
 import pathlib
@@ -42,8 +41,8 @@ def check_status(name, done, expected):
     return False
 
 
-def makes_a_file(name, words, made, room, left):
-    """Whether a call makes the same file, `made`, and ends with status 4 if its report can't be written; then it leaves the files `left`."""
+def makes_a_file(name, words, made, room):
+    """Whether a call makes the same file, `made`, and makes none and ends with status 4 if its report can't be written."""
     results, whole = [], None
     for number, (stream, closed) in enumerate(CLOSED.items()):
         folder = pathlib.Path(room) / f"{name.replace(' ', '-')}-{number}"
@@ -52,7 +51,7 @@ def makes_a_file(name, words, made, room, left):
         results.append(check_status(f"{name}, closed: {stream}", done, 4 if stream in LACKS_OUTPUT else OK[name]))
         content = {file.name: file.read_bytes() for file in folder.iterdir()}
         whole = content if whole is None else whole
-        is_right = content == ({name: whole[name] for name in left} if stream in LACKS_OUTPUT else whole) and list(whole) == [made]
+        is_right = content == ({} if stream in LACKS_OUTPUT else whole) and list(whole) == [made]
         if not is_right:
             print(f"FAILED {name}, closed: {stream}: other files: {sorted(content)}")
         results.append(is_right)
@@ -87,8 +86,8 @@ def main(words):
     with tempfile.TemporaryDirectory() as room:
         OK["turnexplain evidence"] = OK["turnaudit audit"] = run([audit, "audit", *example]).returncode
         results = [
-            *makes_a_file("turnprep join", [prepare, "join", "-o", "joined", *RINGS], "joined", room, []),
-            *makes_a_file("turnexplain evidence", [explain, "evidence", *example, "-o", "page"], "page", room, ["page"]),
+            *makes_a_file("turnprep join", [prepare, "join", "-o", "joined", *RINGS], "joined", room),
+            *makes_a_file("turnexplain evidence", [explain, "evidence", *example, "-o", "page"], "page", room),
             *reports("turnaudit audit", [audit, "audit", *example]),
         ]
     for program in (audit, prepare, explain):

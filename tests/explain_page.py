@@ -20,8 +20,6 @@ import struct
 import subprocess
 import sys
 import tempfile
-import threading
-import time
 
 import explain_captures
 
@@ -165,42 +163,23 @@ def check_cut(program, folder):
     return [f"cut: {fault}" for fault in faults] + [f"cut: {fault}" for fault in looked_at(page)]
 
 
-def feed(fifo, content, ended):
-    """Writes this to whoever opens the FIFO, again and again."""
-    while not ended.is_set():
-        try:
-            with open(fifo, "wb") as opened:
-                opened.write(content)
-        except BrokenPipeError:
-            pass
-        time.sleep(0.3)
-
-
 def check_changing(program, folder):
-    """A capture that is replaced after it was judged and before it is read again: an error with its name, and nothing is filed.
-
-    The second capture is a FIFO, which holds up the first reading until the first capture is another one.
-    """
-    example = TOP / "examples" / "coturn-channels-two-files"
+    """A capture that is replaced after it was judged and before it is read again: an error with its name, and nothing is filed."""
+    if shutil.which("gcc") is None:
+        print("no gcc is there: no capture changes while it is read")
+        return []
+    example, library = TOP / "examples" / "coturn-channels-two-files", pathlib.Path(folder) / "swapping_open.so"
+    subprocess.run(["gcc", "-shared", "-fPIC", "-O1", "-o", library, TOP / "tests" / "swapping_open.c", "-ldl"], check=True)
     faults = []
     for command in (["verdict"], ["verdict", "--json"], ["lanes"], ["client", "--lane", "0"], ["evidence", "-o", folder + "/changed.html"]):
-        capture, fifo = pathlib.Path(folder) / "changing.pcapng", pathlib.Path(folder) / "fifo"
+        capture, other = pathlib.Path(folder) / "changing.pcapng", pathlib.Path(folder) / "other.pcapng"
         shutil.copyfile(example / "client.pcapng", capture)
-        os.mkfifo(fifo)
-        words = [program, *command, "--policy", example / "policy", "--creds", example / "creds", capture, fifo]
-        running = subprocess.Popen(words, stdout=subprocess.PIPE, stderr=subprocess.PIPE, text=True)
-        ended = threading.Event()
-        with open(fifo, "wb") as opened:  # opened once the first capture was read
-            shutil.copyfile(TOP / "examples" / "coturn-permission-outlived" / "cap.pcapng", capture)
-            opened.write((example / "peer.pcapng").read_bytes())
-        time.sleep(0.3)
-        feeder = threading.Thread(target=feed, args=(fifo, (example / "peer.pcapng").read_bytes(), ended), daemon=True)
-        feeder.start()
-        out, err = running.communicate(timeout=60)
-        ended.set()
-        fifo.unlink()
-        if running.returncode != 4 or out or not err.endswith("changing.pcapng changed while it was read\n"):
-            faults.append(f"{command[0]} of a capture that changes: status {running.returncode}, {out!r}, {err!r}")
+        shutil.copyfile(TOP / "examples" / "coturn-permission-outlived" / "cap.pcapng", other)
+        words = [program, *command, "--policy", example / "policy", "--creds", example / "creds", capture, example / "peer.pcapng"]
+        environment = {**os.environ, "LD_PRELOAD": str(library), "SWAPPED": str(capture), "SWAPPED_FOR": str(other)}
+        done = subprocess.run(words, capture_output=True, text=True, timeout=60, env=environment)
+        if done.returncode != 4 or done.stdout or not done.stderr.endswith("changing.pcapng changed while it was read\n") or other.exists():
+            faults.append(f"{command[0]} of a capture that changes: status {done.returncode}, {done.stdout!r}, {done.stderr!r}")
     if (pathlib.Path(folder) / "changed.html").exists():
         faults.append("a page is filed of a capture that changes")
     return faults

@@ -26,7 +26,7 @@ import crates
 READING = {
     "turnaudit": ["check", "--policy", "FILE", "--cert", "FILE", "FILE"],
     "turnprep": ["policy", "--turnserver-conf", "FILE"],
-    "turnexplain": ["faults", "--policy", "FILE", "FILE"],
+    "turnexplain": ["faults", "--policy", "FILE", "/dev/null"],
 }
 # The crates whose line of the release says what they are proved with.
 PAGES = ("audit_program", "prep_program", "explain_program")

@@ -1,8 +1,6 @@
 -- What a request comes to, from the bytes of its files to what is written and the status.
 use Rattle.std.specs.Prelude.{◌≡◌, ◌⊎◌, ℕ, List, [], Option, Some, None, Ok, Err, Result, IfNone, IfOk, IfSome, OnOk, string_bytes}
 use Rattle.std.specs.List.{AllZip}
-use Rattle.audit_files.specs.declared.stop.Stop.{Stop}
-use Rattle.audit_files.specs.Stops.{status_of_stop}
 use Rattle.audit_model.specs.declared.certificate.Certificate.{Certificate}
 use Rattle.audit_model.specs.Sink.{followed_by}
 use Rattle.clap.specs.Words.{Text, fault_of, subcommand_of}
@@ -10,6 +8,8 @@ use Rattle.explain_faults.specs.Told.{AreToldOf}
 use Rattle.explain_program.specs.declared.command_line.Inputs.{Inputs}
 use Rattle.explain_program.specs.declared.command_line.Request.{Request}
 use Rattle.explain_program.specs.declared.command_line.Request.TheVariants.{Explain, AsJson, Faults, Evidence, Help, Release, Usage}
+use Rattle.explain_program.specs.declared.run_error.RunError.{RunError}
+use Rattle.explain_program.specs.Errors.{status_of_error}
 use Rattle.explain_program.specs.Explained.{IsExplained, IsToldAsJson, expected_by}
 use Rattle.explain_program.specs.Pages.{page_text, release_text}
 use Rattle.explain_program.specs.Words.{Asks, turnexplain}
@@ -36,7 +36,7 @@ module _ (holds : List ℕ → Option (List ℕ)) (streams : Streams) where
   -- An answer begins with the verdict by a certificate, or is JSON that has it; `faults` prints what the captures show; `evidence` prints the
   -- verdict of its page. A page of help, or the line of the release, goes to standard output alone, and what is no request to standard error
   -- alone, with status 5.
-  abbrev pub Answers : Request → Result ℕ Stop → Type 0
+  abbrev pub Answers : Request → Result ℕ RunError → Type 0
   Answers (Explain inputs asked) done =
       IsSilent streams × ((policy users : List ℕ) (captures : List (List ℕ)) → HaveTexts holds inputs policy users captures →
       IfOk done (λ status. (by : Certificate) × IsExplained (expected_by asked) policy users captures by streams.before streams.after status))
@@ -54,14 +54,14 @@ module _ (holds : List ℕ → Option (List ℕ)) (streams : Streams) where
   Answers (Usage text) done = (streams.after ≡ streams.before) × IfOk done (λ status. (status ≡ 5) × (streams.said_after ≡ followed_by streams.said_before (string_bytes text)))
 
 -- the exit status of an answer, or of what stopped it
-abbrev pub status_given : Result ℕ Stop → ℕ
+abbrev pub status_given : Result ℕ RunError → ℕ
 status_given (Ok status) = status
-status_given (Err stop) = status_of_stop stop
+status_given (Err error) = status_of_error error
 
 -- The request is what the arguments are, and was answered; a line about what stopped it may follow on standard error. Or there was no
 -- memory for the words.
 abbrev pub IsRun : List Text → (List ℕ → Option (List ℕ)) → Streams → ℕ → Type 0
 IsRun words holds streams status =
-    ((request : Request) × Asks (subcommand_of turnexplain words) (fault_of turnexplain words) request × (done : Result ℕ Stop) × (said : Option (List ℕ)) × Answers holds (record streams { said_after = said }) request done
+    ((request : Request) × Asks (subcommand_of turnexplain words) (fault_of turnexplain words) request × (done : Result ℕ RunError) × (said : Option (List ℕ)) × Answers holds (record streams { said_after = said }) request done
     × (status ≡ status_given done) × OnOk done (streams.said_after ≡ said))
     ⊎ ((streams.after ≡ streams.before) × (status ≡ 3))

@@ -1,4 +1,5 @@
 pub mod Explained
 pub mod Pages
 pub mod Words
+pub mod Errors
 pub mod Answered

@@ -8,10 +8,12 @@ ghost use Rattle.explain_program.specs.Explained.{IsJsonBehind, IsToldAsJson, ex
 use crate::command_line::Asked;
 use crate::digesting::{Digesting, unread};
 use crate::explaining::{case_of, expected_by, expected_status};
+use crate::host::{Explaining, check_captures};
 use crate::inputs::add_inputs;
 use crate::json::tell_asked;
 use crate::judged::judge_files;
-use audit_files::{Source, Stop, Workers};
+use crate::run_error::RunError;
+use audit_files::{Stop, Workers};
 use audit_finding::CertificateFinder;
 use audit_model::{Sink, Verdict, WriteFault, put_all};
 use explain_json::{Object, answer_text};
@@ -30,7 +32,7 @@ fn put_json<O: Sink>(verdict: &Verdict, answer: Object, out: &mut O) -> Result<(
 }
 
 /// As `explain`, but that the answer is JSON: one object on one line.
-pub fn explain_as_json<R: Threads + Wait + Sync, F: CertificateFinder, S: Source, O: Sink>(
+pub fn explain_as_json<R: Threads + Wait + Sync, F: CertificateFinder, S: Explaining, O: Sink>(
     rt: &R,
     alloc: Global,
     finder: &F,
@@ -42,13 +44,14 @@ pub fn explain_as_json<R: Threads + Wait + Sync, F: CertificateFinder, S: Source
     workers: Workers,
     asked: Asked,
     out: &mut O,
-) -> Result<u8, Stop>
+) -> Result<u8, RunError>
     ensures { (policy_text users_text : List ℕ) (texts : List (List ℕ)) →
         S.holds source.old.inner policy.now ≡ Some policy_text →
         IfSome users.entry (λ name. S.holds source.old.inner name.now ≡ Some users_text) → IfNone users.entry (users_text ≡ []) →
         AllZip (λ name text. S.holds source.old.inner name.now ≡ Some text) captures.now texts →
         IfOk result (λ status. (by : Found) × IsToldAsJson (expected_by asked) policy_text users_text texts by (O.taken out.old) (O.taken out.new) status) }
 {
+    check_captures(alloc, source, captures)?;
     source.watch(unread(alloc, policy, users, certificate, captures)?);
     let judged = judge_files(
         rt,
@@ -81,7 +84,7 @@ pub fn explain_as_json<R: Threads + Wait + Sync, F: CertificateFinder, S: Source
         &mut answer,
     )?;
     if source.changed().is_some() {
-        return Err(Stop::Read);
+        return Err(RunError::Stopped(Stop::Read));
     }
     put_json(verdict, answer, out)?;
     let expected = expected_by(asked);

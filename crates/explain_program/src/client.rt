@@ -1,6 +1,7 @@
 //! The command `client`.
 
 use crate::last_lines::behind_head;
+use crate::run_error::RunError;
 use audit_files::{Source, Stop};
 use audit_lane::{Finding, Outcome};
 use explain_frames::Frames;
@@ -72,7 +73,7 @@ pub fn rest_of_client<S: Source>(
     lane: u32,
     around: u32,
     length: usize,
-) -> Result<String, Stop> {
+) -> Result<String, RunError> {
     let Some(lanes) = lanes_of(alloc, case)? else {
         return Ok(String::from_str(
             alloc,
@@ -80,12 +81,10 @@ pub fn rest_of_client<S: Source>(
         )?);
     };
     match lanes.findings.get(lane as usize) {
-        Some(finding) => ladder_of(alloc, source, case, finding, around, length),
-        None => {
-            let count = lanes.findings.len();
-            Ok(format!(in alloc;
-                "\nThere is no lane {lane}: there are {count}, from 0 (turnexplain lanes).\n"
-            )?)
-        }
+        Some(finding) => Ok(ladder_of(alloc, source, case, finding, around, length)?),
+        None => Err(RunError::NoLane {
+            lane,
+            lanes: lanes.findings.len(),
+        }),
     }
 }

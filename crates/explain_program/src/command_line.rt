@@ -1,4 +1,4 @@
-//! The command line, as clap reads it. No file but this one and `commands` knows clap.
+//! The command line, as clap reads it. No file but this one, `commands` and `usage` knows clap.
 
 ghost use Rattle.std.specs.Prelude.{◌≡◌, ℕ, true, false, IfNone, IfOk, IfSome, List, Option, Some, codes, map, option_map};
 ghost use Rattle.clap.specs.Words.{HasKind, Kinds, Row, Text, fault_of, found_of, rows_of, subcommand_of, subcommand_rows_of};
@@ -8,6 +8,7 @@ ghost use Rattle.explain_program.specs.Words.{AreNamed, Asks, HasFlag, HasNumber
 
 use crate::commands::command;
 use crate::pages::{Page, page_of};
+use crate::usage::usage_text;
 use audit_files::Workers;
 use clap::error::ErrorKind;
 use clap::{ArgMatches, Error};
@@ -70,7 +71,11 @@ pub struct Inputs<'a> {
 }
 
 /// The request that an error of clap stands for, which is no command's.
-fn refused<'a>(alloc: Global, error: Error) -> Result<Request<'a>, AllocError>
+fn refused<'a, N: AsStr>(
+    alloc: Global,
+    error: Error,
+    words: &[N],
+) -> Result<Request<'a>, AllocError>
     ensures { (named : Option (Text × List Row)) (kinds : Kinds) → HasKind kinds error → IfOk result (Asks named kinds) }
 {
     let text = format!(in alloc; "{error}")?;
@@ -83,7 +88,7 @@ fn refused<'a>(alloc: Global, error: Error) -> Result<Request<'a>, AllocError>
     if error.kind() == ErrorKind::DisplayVersion {
         return Ok(Request::Release);
     }
-    Ok(Request::Usage(text))
+    Ok(Request::Usage(usage_text(alloc, words)?))
 }
 
 /// The number that the words of a command give an option.
@@ -285,7 +290,7 @@ pub fn read<'a, N: AsStr>(alloc: Global, words: &'a [N]) -> Result<Request<'a>, 
 {
     let matches = match command(alloc)?.try_get_matches_from(words) {
         Ok(matches) => matches,
-        Err(error) => return refused(alloc, error),
+        Err(error) => return refused(alloc, error, words),
     };
     match request_of(alloc, &matches)? {
         Some(request) => Ok(request),

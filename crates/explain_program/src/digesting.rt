@@ -113,4 +113,8 @@ impl<S: Explaining> Explaining for Digesting<S> {
     fn trouble(&mut self, name: &str) -> Option<Trouble> {
         self.inner.trouble(name)
     }
+
+    fn is_repeatable(&self, name: &str) -> bool {
+        self.inner.is_repeatable(name)
+    }
 }

@@ -10,7 +10,7 @@ use crate::digesting::{Digesting, unread};
 use crate::explaining::{case_of, status};
 use crate::filed_texts::{excluded_of, users_of};
 use crate::head::{head, put_answer};
-use crate::host::PageFile;
+use crate::host::{Explaining, PageFile, check_inputs};
 use crate::judged::{Judged, judge_files};
 use crate::lanes::breach_of;
 use crate::named::{NamedFile, NamedUser, facts_of_captures, named_files, plain_lines};
@@ -20,6 +20,7 @@ use crate::page_rows::{
 use crate::pages::version;
 use crate::picture::{Drawing, drawing_of};
 use crate::reading::{CaptureFacts, digests_of, text_of};
+use crate::run_error::RunError;
 use crate::verdict::{story_in, verdict_lines};
 use audit_files::{Source, Stop};
 use audit_finding::CertificateFinder;
@@ -223,7 +224,13 @@ fn page<S: Source>(
 
 /// Judges captures, writes the page to a new file, and prints the verdict. It returns 0 if they conform, and 1 if that isn't shown. The
 /// digests of the page are of the bytes that were judged: a capture that changes while it is read is an error.
-pub fn evidence<R: Threads + Wait + Sync, F: CertificateFinder, S: Source, O: Sink, P: PageFile>(
+pub fn evidence<
+    R: Threads + Wait + Sync,
+    F: CertificateFinder,
+    S: Explaining,
+    O: Sink,
+    P: PageFile,
+>(
     rt: &R,
     alloc: Global,
     finder: &F,
@@ -233,13 +240,14 @@ pub fn evidence<R: Threads + Wait + Sync, F: CertificateFinder, S: Source, O: Si
     excluded: Option<&str>,
     pages: &mut P,
     out: &mut O,
-) -> Result<u8, Stop>
+) -> Result<u8, RunError>
     ensures { (policy_text users_text : List ℕ) (texts : List (List ℕ)) →
         S.holds source.old.inner inputs.now.policy.now ≡ Some policy_text →
         IfSome inputs.now.credentials (λ name. S.holds source.old.inner name.now ≡ Some users_text) → IfNone inputs.now.credentials (users_text ≡ []) →
         AllZip (λ name text. S.holds source.old.inner name.now ≡ Some text) inputs.now.captures.items texts →
         IfOk result (λ status. (by : Found) × IsExplained None policy_text users_text texts by (O.taken out.old) (O.taken out.new) status) }
 {
+    check_inputs(alloc, source, inputs)?;
     source.watch(unread(
         alloc,
         inputs.policy,
@@ -261,13 +269,12 @@ pub fn evidence<R: Threads + Wait + Sync, F: CertificateFinder, S: Source, O: Si
     let case = case_of(&judged, &inputs.captures);
     let gathered = gather(alloc, source, inputs, excluded, &judged, case)?;
     if source.changed().is_some() {
-        return Err(Stop::Read);
+        return Err(RunError::Stopped(Stop::Read));
     }
     let page = page(alloc, source, &judged, &gathered)?;
-    if pages.make(file).is_err() {
-        return Err(Stop::Write);
-    }
+    pages.make(file)?;
     put_all(pages, page.as_bytes())?;
     put_answer(alloc, &judged.verdict, "\n", out)?;
+    pages.publish()?;
     Ok(status(&judged.verdict))
 }

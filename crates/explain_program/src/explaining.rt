@@ -10,8 +10,10 @@ use crate::client::rest_of_client;
 use crate::command_line::Asked;
 use crate::digesting::{Digesting, unread};
 use crate::head::{head, put_answer};
+use crate::host::{Explaining, check_captures};
 use crate::judged::{Judged, judge_files};
 use crate::lanes::rest_of_lanes;
+use crate::run_error::RunError;
 use crate::verdict::rest_of_verdict;
 use audit_files::{Source, Stop, Workers};
 use audit_finding::CertificateFinder;
@@ -40,11 +42,11 @@ fn rest_of<S: Source>(
     case: Case<'_>,
     verdict: &Verdict,
     asked: Asked,
-) -> Result<String, Stop> {
+) -> Result<String, RunError> {
     let length = head(alloc, verdict)?.len();
     match asked {
-        Asked::Verdict { .. } => rest_of_verdict(alloc, source, case, verdict, length),
-        Asked::Lanes { broken } => rest_of_lanes(alloc, source, case, verdict, broken, length),
+        Asked::Verdict { .. } => Ok(rest_of_verdict(alloc, source, case, verdict, length)?),
+        Asked::Lanes { broken } => Ok(rest_of_lanes(alloc, source, case, verdict, broken, length)?),
         Asked::Client { lane, around } => {
             rest_of_client(alloc, source, case, lane, around, length)
         }
@@ -93,7 +95,7 @@ pub fn expected_status(
 
 /// Judges captures, and reports what is requested of the verdict: the answer begins with the verdict. It returns 0 if they conform, and 1 if
 /// that isn't shown. A capture that changes while it is read is an error.
-pub fn explain<R: Threads + Wait + Sync, F: CertificateFinder, S: Source, O: Sink>(
+pub fn explain<R: Threads + Wait + Sync, F: CertificateFinder, S: Explaining, O: Sink>(
     rt: &R,
     alloc: Global,
     finder: &F,
@@ -105,13 +107,14 @@ pub fn explain<R: Threads + Wait + Sync, F: CertificateFinder, S: Source, O: Sin
     workers: Workers,
     asked: Asked,
     out: &mut O,
-) -> Result<u8, Stop>
+) -> Result<u8, RunError>
     ensures { (policy_text users_text : List ℕ) (texts : List (List ℕ)) →
         S.holds source.old.inner policy.now ≡ Some policy_text →
         IfSome users.entry (λ name. S.holds source.old.inner name.now ≡ Some users_text) → IfNone users.entry (users_text ≡ []) →
         AllZip (λ name text. S.holds source.old.inner name.now ≡ Some text) captures.now texts →
         IfOk result (λ status. (by : Found) × IsExplained (expected_by asked) policy_text users_text texts by (O.taken out.old) (O.taken out.new) status) }
 {
+    check_captures(alloc, source, captures)?;
     source.watch(unread(alloc, policy, users, certificate, captures)?);
     let judged = judge_files(
         rt,
@@ -127,7 +130,7 @@ pub fn explain<R: Threads + Wait + Sync, F: CertificateFinder, S: Source, O: Sin
     let case = case_of(&judged, captures);
     let rest = rest_of(alloc, source, case, &judged.verdict, asked)?;
     if source.changed().is_some() {
-        return Err(Stop::Read);
+        return Err(RunError::Stopped(Stop::Read));
     }
     put_answer(alloc, &judged.verdict, rest.as_str(), out)?;
     let expected = expected_by(asked);

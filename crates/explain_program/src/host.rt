@@ -1,7 +1,11 @@
 //! What the program asks of its host beside the bytes of files.
 
+use crate::command_line::Inputs;
+use crate::run_error::RunError;
 use audit_files::Source;
-use audit_model::{Sink, SinkFailed};
+use audit_model::Sink;
+use host_files::{Failure, NewFault};
+use std::alloc::Global;
 
 /// Why a file can't be read.
 #[derive(Clone, Copy)]
@@ -13,12 +17,57 @@ pub enum Trouble {
 
 /// Gives the bytes of files, and tells why it can't.
 pub trait Explaining: Source {
-    /// Why a file can't be read; none where its first byte, or its end, can be.
+    /// Why a file can't be read; none where its first byte, or its end, can be, and of a file that can't be read twice.
     fn trouble(&mut self, name: &str) -> Option<Trouble>;
+
+    /// Whether a file can be read more than once, as a pipe can't.
+    fn is_repeatable(&self, name: &str) -> bool;
+}
+
+/// Refuses a file that can't be read twice.
+fn check_repeatable<S: Explaining>(alloc: Global, source: &S, name: &str) -> Result<(), RunError> {
+    if source.is_repeatable(name) {
+        return Ok(());
+    }
+    Err(RunError::ReadOnce(String::from_str(alloc, name)?))
+}
+
+/// Refuses captures of which one can't be read twice, before any is read.
+pub fn check_captures<S: Explaining>(
+    alloc: Global,
+    source: &S,
+    captures: &[&str],
+) -> Result<(), RunError> {
+    for name in captures {
+        check_repeatable(alloc, source, name)?;
+    }
+    Ok(())
+}
+
+/// Refuses the inputs of `evidence` of which one can't be read twice, before any is read.
+pub fn check_inputs<S: Explaining>(
+    alloc: Global,
+    source: &S,
+    inputs: &Inputs<'_>,
+) -> Result<(), RunError> {
+    check_repeatable(alloc, source, inputs.policy)?;
+    if let Some(name) = inputs.credentials {
+        check_repeatable(alloc, source, name)?;
+    }
+    check_captures(alloc, source, &inputs.captures)
 }
 
 /// Where the page is written: a new file.
 pub trait PageFile: Sink {
     /// Makes an empty file, into which is put what follows. A file that is there is never written over.
-    fn make(&mut self, name: &str) -> Result<(), SinkFailed>;
+    fn make(&mut self, name: &str) -> Result<(), NewFault>;
+
+    /// Gives the file its name: before, no other program finds a page under it.
+    fn publish(&mut self) -> Result<(), NewFault>;
+
+    /// Removes the file, if it has no name yet.
+    fn discard(&mut self);
+
+    /// The file that couldn't be made, written or named, and why; none where none was noted.
+    fn failure(&self) -> Option<&Failure>;
 }

@@ -3,6 +3,7 @@
 use crate::command_line::Asked;
 use crate::lanes::breach_of;
 use crate::last_lines::{fault_name, interfaces};
+use crate::run_error::RunError;
 use crate::verdict::story_in;
 use audit_faults::Fault;
 use audit_files::{Source, Stop};
@@ -150,15 +151,24 @@ fn breach_in(finding: &Finding<'_>) -> Option<Breach> {
     }
 }
 
-/// The lane of that number, where lanes are judged.
-fn finding_in<'j, 'a>(judged: &'j Option<Lanes<'a>>, lane: u32) -> Option<&'j Finding<'a>> {
-    match judged {
-        Some(lanes) => lanes.findings.get(lane as usize),
-        None => None,
+/// The lane of that number; none where placement breaks a rule, so that no lane is judged.
+fn finding_in<'j, 'a>(
+    judged: &'j Option<Lanes<'a>>,
+    lane: u32,
+) -> Result<Option<&'j Finding<'a>>, RunError> {
+    let Some(lanes) = judged else {
+        return Ok(None);
+    };
+    match lanes.findings.get(lane as usize) {
+        Some(finding) => Ok(Some(finding)),
+        None => Err(RunError::NoLane {
+            lane,
+            lanes: lanes.findings.len(),
+        }),
     }
 }
 
-/// The events of a lane, whose frames are asked for; none where there is no such lane.
+/// The events of a lane, whose frames are asked for; none where no lane is judged.
 fn rungs_in(
     alloc: Global,
     case: Case<'_>,
@@ -189,9 +199,9 @@ fn tell_client<S: Source>(
     lane: u32,
     around: u32,
     answer: &mut Object,
-) -> Result<(), Stop> {
+) -> Result<(), RunError> {
     let judged = lanes_of(alloc, case)?;
-    let finding = finding_in(&judged, lane);
+    let finding = finding_in(&judged, lane)?;
     let mut frames = Frames::new(alloc);
     let rungs = rungs_in(alloc, case, finding, around, &mut frames)?;
     look_up_all(alloc, source, case, verdict, &mut frames)?;
@@ -213,15 +223,15 @@ pub fn tell_asked<S: Source>(
     verdict: &Verdict,
     asked: Asked,
     answer: &mut Object,
-) -> Result<(), Stop> {
+) -> Result<(), RunError> {
     match asked {
         Asked::Verdict { .. } => {
             answer.text("command", "verdict")?;
-            tell_verdict(alloc, source, case, verdict, answer)
+            Ok(tell_verdict(alloc, source, case, verdict, answer)?)
         }
         Asked::Lanes { broken } => {
             answer.text("command", "lanes")?;
-            tell_all_lanes(alloc, source, case, verdict, broken, answer)
+            Ok(tell_all_lanes(alloc, source, case, verdict, broken, answer)?)
         }
         Asked::Client { lane, around } => {
             answer.text("command", "client")?;

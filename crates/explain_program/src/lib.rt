@@ -27,8 +27,10 @@ mod pages;
 mod picture;
 mod reading;
 mod refusal;
+mod run_error;
 mod running;
 mod shape;
+mod usage;
 mod verdict;
 
 pub use as_json::explain_as_json;
@@ -36,4 +38,5 @@ pub use command_line::Asked;
 pub use digesting::Digesting;
 pub use explaining::explain;
 pub use host::{Explaining, PageFile, Trouble};
+pub use run_error::RunError;
 pub use running::run;

@@ -2,13 +2,22 @@
 
 use crate::command_line::Inputs;
 use crate::digesting::Digesting;
-use crate::host::{Explaining, Trouble};
+use crate::host::{Explaining, PageFile, Trouble};
 use crate::line_of_text::{LineOfText, line_of_text};
 use crate::mistakes::{Kind, mistake};
+use crate::run_error::RunError;
 use crate::shape::Shape;
-use audit_files::{Place, Stop};
+use audit_files::{Place, Source, Stop};
 use explain_text::{Quoted, refusal_reason};
 use std::alloc::{AllocError, Global};
+
+/// The files that a request names.
+#[derive(Clone, Copy)]
+pub struct Named<'r, 'a> {
+    pub inputs: &'r Inputs<'a>,
+    /// The list of what `turnprep cut` excluded.
+    pub excluded: Option<&'a str>,
+}
 
 /// A line of a file, and what it was to be.
 #[derive(Clone, Copy)]
@@ -67,13 +76,27 @@ fn shown_line(alloc: Global, kind: Kind, found: &LineOfText) -> Result<String, A
     format!(in alloc; "{line}")
 }
 
-/// What is told of a refused text or capture.
-fn told_of_refused(
+/// Why an input is refused that can't be read again.
+fn refused_once(alloc: Global, code: &'static str, spot: Spot<'_>) -> Result<String, AllocError> {
+    let name = Quoted {
+        bytes: spot.name.as_bytes(),
+    };
+    let reason = refusal_reason(code);
+    if spot.kind == Kind::Capture {
+        return format!(in alloc; "{name}: {reason}, {code}");
+    }
+    let line = spot.line;
+    format!(in alloc; "{name} line {line}: {reason}, {code}")
+}
+
+/// What is told of a refused text or capture. It is read once more.
+fn told_of_refused<S: Source>(
     alloc: Global,
+    source: &mut S,
     code: &'static str,
     spot: Spot<'_>,
-    found: &LineOfText,
 ) -> Result<String, AllocError> {
+    let found = &line_of_text(alloc, source, spot.name, spot.line)?;
     let name = Quoted {
         bytes: spot.name.as_bytes(),
     };
@@ -114,7 +137,11 @@ fn troubled_capture<'a, S: Explaining>(
 }
 
 /// The first of the inputs that can't be read.
-fn troubled<'a, S: Explaining>(source: &mut S, inputs: &Inputs<'a>) -> Option<(&'a str, Trouble)> {
+fn troubled<'a, S: Explaining>(
+    source: &mut S,
+    named: &Named<'_, 'a>,
+) -> Option<(&'a str, Trouble)> {
+    let inputs = named.inputs;
     if let Some(trouble) = source.trouble(inputs.policy) {
         return Some((inputs.policy, trouble));
     }
@@ -128,14 +155,21 @@ fn troubled<'a, S: Explaining>(source: &mut S, inputs: &Inputs<'a>) -> Option<(&
             return Some((name, trouble));
         }
     }
-    troubled_capture(source, inputs)
+    if let Some((name, trouble)) = troubled_capture(source, inputs) {
+        return Some((name, trouble));
+    }
+    let name = named.excluded?;
+    match source.trouble(name) {
+        Some(trouble) => Some((name, trouble)),
+        None => None,
+    }
 }
 
 /// Why reading failed.
 fn read_failure<S: Explaining>(
     alloc: Global,
     source: &mut Digesting<S>,
-    inputs: &Inputs<'_>,
+    named: &Named<'_, '_>,
 ) -> Result<String, AllocError> {
     if let Some(name) = source.changed() {
         let name = Quoted {
@@ -143,27 +177,63 @@ fn read_failure<S: Explaining>(
         };
         return format!(in alloc; "{name} changed while it was read");
     }
-    match troubled(source, inputs) {
+    match troubled(source, named) {
         Some((name, trouble)) => told_of_trouble(alloc, name, trouble),
         None => String::from_str(alloc, "a file can't be read"),
     }
 }
 
-/// Why a run ended before its answer, in words. What is refused is read once more.
-pub fn refusal<S: Explaining>(
+/// Why writing failed.
+fn write_failure<P: PageFile>(alloc: Global, pages: &P) -> Result<String, AllocError> {
+    let Some(failure) = pages.failure() else {
+        return String::from_str(alloc, "the answer can't be written");
+    };
+    let name = Quoted {
+        bytes: failure.name.as_bytes(),
+    };
+    format!(in alloc; "can't write {name}: {failure}")
+}
+
+/// Why a run was stopped, in words. What is refused is read once more, if it can be.
+fn stopped<S: Explaining, P: PageFile>(
     alloc: Global,
     source: &mut Digesting<S>,
-    inputs: &Inputs<'_>,
+    pages: &P,
+    named: &Named<'_, '_>,
     stop: &Stop,
 ) -> Result<String, AllocError> {
     match stop {
         Stop::Refused { code, place } => {
-            let spot = spot_of(inputs, place);
-            let found = line_of_text(alloc, source, spot.name, spot.line)?;
-            told_of_refused(alloc, code, spot, &found)
+            let spot = spot_of(named.inputs, place);
+            if source.is_repeatable(spot.name) {
+                return told_of_refused(alloc, source, code, spot);
+            }
+            refused_once(alloc, code, spot)
         }
-        Stop::Read => read_failure(alloc, source, inputs),
+        Stop::Read => read_failure(alloc, source, named),
         Stop::Memory => String::from_str(alloc, "out of memory"),
-        Stop::Write => String::from_str(alloc, "the answer can't be written"),
+        Stop::Write => write_failure(alloc, pages),
+    }
+}
+
+/// Why a run ended before its answer, in words.
+pub fn refusal<S: Explaining, P: PageFile>(
+    alloc: Global,
+    source: &mut Digesting<S>,
+    pages: &P,
+    named: &Named<'_, '_>,
+    error: &RunError,
+) -> Result<String, AllocError> {
+    match error {
+        RunError::Stopped(stop) => stopped(alloc, source, pages, named, stop),
+        RunError::NoLane { lane, lanes } => format!(in alloc;
+            "there is no lane {lane}: there are {lanes}, from 0 (turnexplain lanes)"
+        ),
+        RunError::ReadOnce(name) => {
+            let name = Quoted {
+                bytes: name.as_bytes(),
+            };
+            format!(in alloc; "{name}: it has to be a file that can be read twice")
+        }
     }
 }

@@ -1,7 +1,9 @@
 //! The whole program as a function.
 
-ghost use Rattle.std.specs.Prelude.{◌≡◌, OnOk, map};
+ghost use Rattle.std.specs.Prelude.{◌≡◌, [], ℕ, IfNone, IfOk, IfSome, List, OnOk, Some, map};
+ghost use Rattle.std.specs.List.{AllZip};
 ghost use Rattle.audit_model.specs.Sink.{followed_by};
+ghost use Rattle.explain_faults.specs.Told.{AreToldOf};
 ghost use Rattle.explain_program.specs.Answered.{Answers, IsRun};
 
 use crate::as_json::explain_as_json;
@@ -9,10 +11,11 @@ use crate::command_line::{Inputs, Request, read as read_words};
 use crate::digesting::Digesting;
 use crate::evidence::evidence;
 use crate::explaining::explain;
-use crate::host::{Explaining, PageFile};
+use crate::host::{Explaining, PageFile, check_captures};
 use crate::pages::release;
-use crate::refusal::refusal;
-use audit_files::Stop;
+use crate::refusal::{Named, refusal};
+use crate::run_error::RunError;
+use audit_files::{Stop, Workers};
 use audit_finding::CertificateFinder;
 use audit_model::{Sink, put_all};
 use explain_faults::faults_of_files;
@@ -22,11 +25,33 @@ use std::sync::Wait;
 use std::thread::Threads;
 
 /// Puts a text.
-fn put_text<W: Sink>(sink: &mut W, text: &str) -> Result<(), Stop>
+fn put_text<W: Sink>(sink: &mut W, text: &str) -> Result<(), RunError>
     ensures { OnOk result (W.taken sink.new ≡ followed_by (W.taken sink.old) text.now) }
 {
     put_all(sink, text.as_bytes())?;
     Ok(())
+}
+
+/// Prints what no order of the captures explains.
+fn faults<R: Threads + Sync, S: Explaining, O: Sink>(
+    rt: &R,
+    alloc: Global,
+    source: &mut S,
+    policy: &str,
+    users: Option<&str>,
+    captures: &[&str],
+    workers: Workers,
+    out: &mut O,
+) -> Result<u8, RunError>
+    ensures { (policy_text users_text : List ℕ) (texts : List (List ℕ)) →
+        S.holds source.old policy.now ≡ Some policy_text →
+        IfSome users.entry (λ name. S.holds source.old name.now ≡ Some users_text) → IfNone users.entry (users_text ≡ []) →
+        AllZip (λ name text. S.holds source.old name.now ≡ Some text) captures.now texts →
+        IfOk result (AreToldOf policy_text users_text texts (O.taken out.old) (O.taken out.new)) }
+{
+    check_captures(alloc, source, captures)?;
+    let status = faults_of_files(rt, alloc, source, policy, users, captures, workers, out)?;
+    Ok(status)
 }
 
 /// Does what is requested, and returns the exit status.
@@ -46,7 +71,7 @@ fn run_request<
     pages: &mut P,
     out: &mut O,
     err: &mut E,
-) -> Result<u8, Stop>
+) -> Result<u8, RunError>
     ensures { Answers (S.holds source.old.inner)
         (record { before = O.taken out.old; after = O.taken out.new; said_before = E.taken err.old; said_after = E.taken err.new }) request.now result }
 {
@@ -77,7 +102,7 @@ fn run_request<
             *asked,
             out,
         ),
-        Request::Faults { inputs } => faults_of_files(
+        Request::Faults { inputs } => faults(
             rt,
             alloc,
             source,
@@ -110,12 +135,22 @@ fn run_request<
 }
 
 /// The files that a request names.
-fn inputs_of<'r, 'a>(request: &'r Request<'a>) -> Option<&'r Inputs<'a>> {
+fn named_by<'r, 'a>(request: &'r Request<'a>) -> Option<Named<'r, 'a>> {
     match request {
         Request::Explain { inputs, .. }
         | Request::AsJson { inputs, .. }
-        | Request::Faults { inputs }
-        | Request::Evidence { inputs, .. } => Some(inputs),
+        | Request::Faults { inputs } => Some(Named {
+            inputs,
+            excluded: None,
+        }),
+        Request::Evidence {
+            inputs,
+            excluded,
+            ..
+        } => Some(Named {
+            inputs,
+            excluded: *excluded,
+        }),
         Request::Help(_) | Request::Release | Request::Usage(_) => None,
     }
 }
@@ -133,18 +168,19 @@ fn put_line<W: Sink>(alloc: Global, sink: &mut W, words: &str) {
 }
 
 /// Puts the line that says why the run ended.
-fn put_refusal<S: Explaining, W: Sink>(
+fn put_refusal<S: Explaining, P: PageFile, W: Sink>(
     alloc: Global,
     source: &mut Digesting<S>,
+    pages: &P,
     request: &Request<'_>,
-    stop: &Stop,
+    error: &RunError,
     err: &mut W,
 ) {
-    let Some(inputs) = inputs_of(request) else {
+    let Some(named) = named_by(request) else {
         put_line(alloc, err, "the answer can't be written");
         return;
     };
-    match refusal(alloc, source, inputs, stop) {
+    match refusal(alloc, source, pages, &named, error) {
         Ok(words) => put_line(alloc, err, words.as_str()),
         Err(_) => put_line(alloc, err, "out of memory"),
     }
@@ -184,9 +220,10 @@ pub fn run<
     let mut source = Digesting::new(alloc, source);
     match run_request(rt, alloc, finder, &request, &mut source, pages, out, err) {
         Ok(status) => status,
-        Err(stop) => {
-            put_refusal(alloc, &mut source, &request, &stop, err);
-            stop.status()
+        Err(error) => {
+            pages.discard();
+            put_refusal(alloc, &mut source, pages, &request, &error, err);
+            error.status()
         }
     }
 }

@@ -5,6 +5,7 @@ ghost use Rattle.std.specs.Prelude.{◌≡◌, None};
 use audit_files::{ReadFailed, Source};
 use audit_model::{Sink, SinkFailed};
 use explain_program::{Explaining, PageFile, Trouble};
+use host_files::{Failure, NewFault, NewFiles, is_repeatable};
 use std::alloc::Global;
 use std::fs::File;
 use std::io::{Read, Write};
@@ -64,6 +65,9 @@ fn trouble_of(error: &io::Error) -> Trouble {
 
 impl<R: Files<File = File> + Sync> Explaining for HostFiles<'_, R> {
     fn trouble(&mut self, name: &str) -> Option<Trouble> {
+        if !self.is_repeatable(name) {
+            return None;
+        }
         let mut file = match fs::open(self.rt, name) {
             Ok(file) => file,
             Err(error) => return Some(trouble_of(&error)),
@@ -73,6 +77,10 @@ impl<R: Files<File = File> + Sync> Explaining for HostFiles<'_, R> {
             Ok(_) => None,
             Err(error) => Some(trouble_of(&error)),
         }
+    }
+
+    fn is_repeatable(&self, name: &str) -> bool {
+        is_repeatable(self.rt, name)
     }
 }
 
@@ -118,16 +126,15 @@ impl<W: Write> Sink for HostStream<W> {
 /// A new file of the machine. It claims nothing of what reaches it.
 #[derive(Drop)]
 pub struct HostPage<'r, R: Files<File = File>> {
-    rt: &'r R,
-    made: Option<File>,
+    files: NewFiles<'r, R>,
 }
 
 impl<'r, R: Files<File = File>> HostPage<'r, R> {
     /// No file is made.
-    pub fn new(rt: &'r R) -> Self
-        ensures { result.made ≡ None }
-    {
-        HostPage { rt, made: None }
+    pub fn new(rt: &'r R, alloc: Global) -> Self {
+        HostPage {
+            files: NewFiles::new(rt, alloc),
+        }
     }
 }
 
@@ -139,10 +146,7 @@ impl<R: Files<File = File>> Sink for HostPage<'_, R> {
     ghost failures = { λ _. None };
 
     fn put(&mut self, piece: &[u8]) -> Result<usize, SinkFailed> {
-        let Some(file) = &mut self.made else {
-            return Err(SinkFailed);
-        };
-        match file.write(piece) {
+        match self.files.write(piece) {
             Ok(taken) => Ok(taken),
             Err(_) => Err(SinkFailed),
         }
@@ -150,13 +154,19 @@ impl<R: Files<File = File>> Sink for HostPage<'_, R> {
 }
 
 impl<R: Files<File = File>> PageFile for HostPage<'_, R> {
-    fn make(&mut self, name: &str) -> Result<(), SinkFailed> {
-        match File::create_new(self.rt, name) {
-            Ok(file) => {
-                self.made = Some(file);
-                Ok(())
-            }
-            Err(_) => Err(SinkFailed),
-        }
+    fn make(&mut self, name: &str) -> Result<(), NewFault> {
+        self.files.make(name)
+    }
+
+    fn publish(&mut self) -> Result<(), NewFault> {
+        self.files.publish()
+    }
+
+    fn discard(&mut self) {
+        self.files.discard();
+    }
+
+    fn failure(&self) -> Option<&Failure> {
+        self.files.failure()
     }
 }

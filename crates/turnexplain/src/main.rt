@@ -45,7 +45,7 @@ fn main(rt: HostRuntime) -> ExitCode {
     let status = match words_of(&rt) {
         Ok(words) => match RandomState::new(&rt) {
             Ok(seed) => {
-                let mut pages = HostPage::new(&rt);
+                let mut pages = HostPage::new(&rt, alloc);
                 run(
                     &rt,
                     alloc,

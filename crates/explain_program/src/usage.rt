@@ -1,0 +1,44 @@
+//! What is printed of arguments that clap refuses.
+
+use crate::commands::command;
+use clap::Error;
+use clap::error::ErrorKind;
+use explain_text::Escaped;
+use std::alloc::{AllocError, Global};
+use std::convert::AsStr;
+
+/// The arguments, with each byte escaped that a terminal acts on.
+fn escaped_words<N: AsStr>(alloc: Global, words: &[N]) -> Result<Vec<String>, AllocError> {
+    let mut escaped = Vec::new(alloc);
+    for word in words {
+        let word = Escaped {
+            bytes: word.as_str().as_bytes(),
+        };
+        escaped.push(format!(in alloc; "{word}")?)?;
+    }
+    Ok(escaped)
+}
+
+/// The text of an error of clap.
+fn error_text(alloc: Global, error: Error) -> Result<String, AllocError> {
+    let text = format!(in alloc; "{error}")?;
+    if error.kind() == ErrorKind::OutOfMemory {
+        return Err(AllocError);
+    }
+    Ok(text)
+}
+
+/// What clap says of these arguments, or how the program is used if it takes them.
+fn refusal_text(alloc: Global, words: &[String]) -> Result<String, AllocError> {
+    let _matches = match command(alloc)?.try_get_matches_from(words) {
+        Ok(matches) => matches,
+        Err(error) => return error_text(alloc, error),
+    };
+    command(alloc)?.render_usage()
+}
+
+/// What clap says of arguments that it refuses, with no byte of them that a terminal acts on: it is what clap says of them escaped.
+pub fn usage_text<N: AsStr>(alloc: Global, words: &[N]) -> Result<String, AllocError> {
+    let escaped = escaped_words(alloc, words)?;
+    refusal_text(alloc, &escaped)
+}
