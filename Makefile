@@ -94,7 +94,7 @@ test:
 	python3 tests/beside_plain.py $(PROGRAM) examples/*
 	python3 tests/second_opinion.py $(PROGRAM)
 	python3 tests/hostile.py $(PROGRAM)
-	python3 tests/hostile_beside.py $(PREPARES)
+	python3 tests/hostile_beside.py $(PREPARES) $(EXPLAINS)
 	python3 tests/handed_on.py $(PROGRAM)
 	python3 tests/sha256.py $(PROGRAM)
 	python3 tests/skews.py $(PROGRAM)
@@ -108,7 +108,7 @@ test:
 	tests/fleet.sh $(PROGRAM)
 	python3 tests/fleet_steps.py $(PROGRAM)
 	python3 tests/fuzz.py $(PROGRAM) --seconds 20 --seed 1 examples/*
-	python3 tests/fuzz_beside.py $(PREPARES) --seconds 20 --seed 1 examples/*
+	python3 tests/fuzz_beside.py $(PREPARES) $(EXPLAINS) --seconds 20 --seed 1 examples/*
 	python3 tests/random_captures.py $(PROGRAM) --count 500 --most 0
 	python3 tests/call_captures.py $(PROGRAM) --count 200 --most 0
 	python3 tests/edge_captures.py $(PROGRAM) --count 2000 --most 13
@@ -116,8 +116,8 @@ test:
 	python3 tests/machine_captures.py $(MACHINE) $(PROGRAM)
 	python3 tests/prepare.py $(PREPARES)
 	python3 tests/prepared.py $(PREPARES) $(PROGRAM)
-	python3 tests/failing_calls.py $(PREPARES) --every 10
-	python3 tests/wrong_files.py $(PREPARES)
+	python3 tests/failing_calls.py $(PREPARES) $(EXPLAINS) --every 10
+	python3 tests/wrong_files.py $(PREPARES) $(EXPLAINS)
 	python3 tests/ready.py $(PREPARES) $(PROGRAM)
 	python3 tests/looking.py $(PREPARES)
 	python3 tests/progress.py $(PREPARES)
@@ -128,7 +128,7 @@ test:
 	python3 tests/explain_page.py $(EXPLAINS)
 	tests/kit.sh $(PROGRAM) $(EXPLAINS)
 
-# Gives both programs damaged captures, policies, credentials, configurations and certificates, and looks at how they answer.
-fuzz: $(PROGRAM) turnprep
+# Gives the programs damaged captures, policies, credentials, configurations and certificates, and looks at how they answer.
+fuzz: $(PROGRAM) turnprep turnexplain
 	python3 tests/fuzz.py $(PROGRAM) --seconds $(SECONDS) examples/*
-	python3 tests/fuzz_beside.py $(PREPARES) --seconds $(SECONDS) examples/*
+	python3 tests/fuzz_beside.py $(PREPARES) $(EXPLAINS) --seconds $(SECONDS) examples/*

@@ -1,7 +1,7 @@
 #!/usr/bin/env python3
-"""Refuses turnprep each allocation, each opening, read, write, sync and link in turn.
+"""Refuses turnprep and turnexplain each allocation, each opening, read, write, sync and link in turn.
 
-    tests/failing_calls.py TURNPREP [--every N]
+    tests/failing_calls.py TURNPREP TURNEXPLAIN [--every N]
 
 If an allocation is refused, the status is 3, else 4, each with one line; what is on standard output is the beginning of the answer, and no
 file is left. Reads and writes of a byte at a time change nothing. With `--every 10` each tenth call of a command fails, the first 300 of
@@ -16,7 +16,10 @@ import sys
 import tempfile
 
 HERE = pathlib.Path(__file__).resolve().parent
-# The commands, each on a small input. OUT is a folder.
+ANSWERED = "--policy ../../examples/coturn-channels-two-files/policy --creds ../../examples/coturn-channels-two-files/creds"
+CAPTURES = "../../examples/coturn-channels-two-files/client.pcapng ../../examples/coturn-channels-two-files/peer.pcapng"
+BROKEN = "--policy ../two-lanes-broken/policy ../two-lanes-broken/cap.pcapng"
+# The commands of each program, each on a small input. OUT is a folder.
 PREPARING = {
     "join": "join -o OUT/ring.pcapng inputs/ring1.pcapng inputs/ring2.pcapng",
     "policy": "policy --turnserver-conf inputs/two.conf",
@@ -29,6 +32,17 @@ PREPARING = {
     "cut": "cut --policy inputs/policy -o OUT inputs/relay2relay-coturn.pcapng",
     "ready": "ready --policy inputs/policy --creds inputs/creds -o OUT/made inputs/relay2relay-coturn.pcapng",
     "ready of a configuration": "ready --turnserver-conf inputs/plain.conf -o OUT/made inputs/ring1.pcapng inputs/ring2.pcapng",
+}
+EXPLAINING = {
+    "verdict": f"verdict {ANSWERED} {CAPTURES}",
+    "verdict of a breach": f"verdict {BROKEN}",
+    "verdict as JSON": f"verdict {BROKEN} --json",
+    "verdict by a certificate": f"verdict --cert ../two-lanes-broken/certificate {BROKEN}",
+    "lanes": f"lanes {BROKEN}",
+    "client": f"client --lane 0 {BROKEN}",
+    "client as JSON": f"client --lane 0 {BROKEN} --json",
+    "faults": f"faults {BROKEN}",
+    "evidence": f"evidence {BROKEN} -o OUT/page",
 }
 # Standard error where nothing failed: how many calls there were.
 COUNTED = ("allocations: ", "calls: ")
@@ -84,22 +98,23 @@ def fail_each(program, name, words, room, library, status, every, most=200_000):
 
 
 def main():
-    words = argparse.ArgumentParser(description="Refuses turnprep each allocation and each call on a file.")
+    words = argparse.ArgumentParser(description="Refuses turnprep and turnexplain each allocation and each call on a file.")
     words.add_argument("prepare", type=pathlib.Path)
+    words.add_argument("explain", type=pathlib.Path)
     words.add_argument("--every", type=int, default=1)
     asked = words.parse_args()
     faults = []
     with tempfile.TemporaryDirectory(dir=HERE) as room:
         memory, files = built(room, "failing_malloc"), built(room, "failing_io")
-        program = asked.prepare.resolve()
-        for name, words in PREPARING.items():
-            found, allocations = fail_each(program, name, words, room, memory, 3, asked.every)
-            more, calls = fail_each(program, name, words, room, files, 4, 1)
-            whole, short = (run(program, words, room), run(program, words, room, LD_PRELOAD=files, SHORT=1))
-            faults += found + more
-            if (whole[0].stdout, whole[0].returncode, sorted(whole[1])) != (short[0].stdout, short[0].returncode, sorted(short[1])):
-                faults.append(f"{name}: answers otherwise by a byte at a time")
-            print(f"{name}: {allocations} allocations and {calls} calls failed in turn", flush=True)
+        for program, commands in ((asked.prepare.resolve(), PREPARING), (asked.explain.resolve(), EXPLAINING)):
+            for name, words in commands.items():
+                found, allocations = fail_each(program, name, words, room, memory, 3, asked.every)
+                more, calls = fail_each(program, name, words, room, files, 4, 1)
+                whole, short = (run(program, words, room), run(program, words, room, LD_PRELOAD=files, SHORT=1))
+                faults += found + more
+                if (whole[0].stdout, whole[0].returncode, sorted(whole[1])) != (short[0].stdout, short[0].returncode, sorted(short[1])):
+                    faults.append(f"{name}: answers otherwise by a byte at a time")
+                print(f"{name}: {allocations} allocations and {calls} calls failed in turn", flush=True)
     for fault in faults[:40]:
         print(fault)
     print(f"failing calls: {len(faults)} failed")

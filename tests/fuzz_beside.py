@@ -1,15 +1,15 @@
 #!/usr/bin/env python3
-"""Gives turnprep damaged captures, policies and configurations, and looks at how it answers.
+"""Gives turnprep and turnexplain damaged captures, policies, users and configurations, and looks at how they answer.
 
-    python3 tests/fuzz_beside.py TURNPREP [--seconds 60] [--seed N] [--jobs N] [--keep FOLDER] FOLDER..
+    python3 tests/fuzz_beside.py TURNPREP TURNEXPLAIN [--seconds 60] [--seed N] [--jobs N] [--keep FOLDER] FOLDER..
 
 A folder is a stored case: policy, captures, perhaps creds. Captures are cut to their first blocks. Each try damages one or more files
-(tests/fuzz.py), runs three of the commands on them, and stops where
+(tests/fuzz.py), runs three of the commands of each program on them, and stops where
 
 - a status isn't one of the command's, a signal ended the program, or a run took over 10 seconds;
 - what is written doesn't belong to the status: a refusal is one line on standard error, and nothing else;
-- something that is printed has a control byte;
-- a file is left after a status that isn't 0 or 6, or one under its temporary name.
+- something that is printed has a control byte, an answer in JSON is none, or a page has a script;
+- a file is left after a status that isn't 0, 1 or 6, or one under its temporary name.
 
 The input that showed it is kept in FOLDER, with the arguments in `words`. The seed decides all tries; it is printed.
 """
@@ -17,6 +17,7 @@ The input that showed it is kept in FOLDER, with the arguments in `words`. The s
 import argparse
 import collections
 import concurrent.futures
+import json
 import os
 import pathlib
 import random
@@ -32,8 +33,8 @@ from fuzz import LONGEST, Stored, damaged, front_of
 from plain.reading import read_policy
 
 CONF = (pathlib.Path(__file__).parent / "prepare" / "inputs" / "secret.conf").read_bytes()
-ENDS = {0, 2, 3, 4}
-"""The statuses of every command; `cut` has 6, too."""
+ENDS = {"turnprep": {0, 2, 3, 4}, "turnexplain": {0, 1, 2, 3, 4}}
+"""The statuses of every command; `cut` has 6, too, and `client` 5 where there is no such lane."""
 
 
 class Case:
@@ -50,9 +51,11 @@ class Case:
             self.files["creds"] = (folder / "creds").read_bytes()
 
     def commands(self, chance):
-        """Three commands on the files."""
+        """Commands of both programs on the files: three of each."""
         lines = self.files["policy"].decode().splitlines()
         address = lines[1].split(" ")[1].partition(":")[0]
+        creds = ["--creds", "creds"] if "creds" in self.files else []
+        judged = ["--policy", "policy", *creds, *self.captures]
         prepares = [
             ["look", *self.captures],
             ["look", "--policy", "policy", *self.captures],
@@ -66,7 +69,17 @@ class Case:
             ["users", "--turnserver-conf", "conf", *self.captures],
             ["users", "--secret", "north", *self.captures],
         ]
-        return chance.sample(prepares, 3)
+        explains = [
+            ["verdict", *judged],
+            ["verdict", "--json", *judged],
+            ["lanes", *judged],
+            ["lanes", "--broken", "--json", *judged],
+            ["client", "--lane", "0", *judged],
+            ["client", "--lane", "1", "--json", *judged],
+            ["faults", *judged],
+            ["evidence", "-o", "out/page", *judged],
+        ]
+        return [("turnprep", words) for words in chance.sample(prepares, 3)] + [("turnexplain", words) for words in chance.sample(explains, 3)]
 
 
 def has_control(data):
@@ -74,26 +87,33 @@ def has_control(data):
     return any(byte < 32 and byte not in b"\n\t" or byte == 127 for byte in data)
 
 
-def fault_of(words, done, seconds, left):
+def fault_of(name, words, done, seconds, left):
     """What is wrong with what a command did, or None."""
-    also = {"cut": {6}}.get(words[0], set())
+    also = {"cut": {6}, "client": {5}}.get(words[0], set())
     if seconds > LONGEST:
         return f"took over {LONGEST} seconds"
-    if done.returncode not in ENDS | also:
+    if done.returncode not in ENDS[name] | also:
         return f"status {done.returncode}, {done.stderr[:300]!r}"
     if has_control(done.stdout) or has_control(done.stderr):
         return "a control byte"
-    is_done = done.returncode in (0, 6)
-    if not is_done and (done.stdout or done.stderr.count(b"\n") != 1 or not done.stderr.startswith(b"turnprep: ")):
+    is_done = done.returncode in (0, 1, 6)
+    if not is_done and (done.stdout or done.stderr.count(b"\n") != 1 or not done.stderr.startswith(f"{name}: ".encode())):
         return f"status {done.returncode} with {done.stdout[:200]!r} and {done.stderr[:300]!r}"
     if not is_done and left or any(file.endswith(".part") for file in left):
         return f"status {done.returncode} leaves {left}"
     if is_done and "-o" in words and not left:
         return "writes nothing"
+    if is_done and "--json" in words:
+        try:
+            answer = json.loads(done.stdout)
+        except ValueError:
+            return f"no JSON: {done.stdout[:200]!r}"
+        if (answer["verdict"] == "conforming") != (done.returncode == 0):
+            return f"status {done.returncode} and {answer['verdict']}"
     return None
 
 
-def tried(program, cases, seed, number, keep):
+def tried(programs, cases, seed, number, keep):
     """What is wrong with the answers to a try, or None; and how often each status came."""
     statuses = collections.Counter()
     chance = random.Random(f"{seed} {number}")
@@ -102,16 +122,18 @@ def tried(program, cases, seed, number, keep):
     for _ in range(chance.choice((1, 1, 1, 2, 5))):
         name = chance.choice([*case.captures, *case.captures, *sorted(files)])
         files[name] = damaged(chance, case.policy, name, files[name], files[name] is case.files[name])
-    for words in case.commands(chance):
+    for name, words in case.commands(chance):
         with tempfile.TemporaryDirectory() as place:
             place = pathlib.Path(place)
             (place / "out").mkdir()
             Stored.write(place, files)
             began = time.monotonic()
             try:
-                done = subprocess.run([program, *words], cwd=place, capture_output=True, timeout=4 * LONGEST)
+                done = subprocess.run([programs[name], *words], cwd=place, capture_output=True, timeout=4 * LONGEST)
                 left = sorted(file.name for file in (place / "out").iterdir())
-                what = fault_of(words, done, time.monotonic() - began, left)
+                what = fault_of(name, words, done, time.monotonic() - began, left)
+                if not what and left == ["page"] and b"<script" in (place / "out" / "page").read_bytes():
+                    what = "a page with a script"
                 statuses[f"{words[0]} {done.returncode}"] += 1
             except subprocess.TimeoutExpired:
                 what = f"took over {4 * LONGEST} seconds"
@@ -119,28 +141,29 @@ def tried(program, cases, seed, number, keep):
             keep = keep / f"{seed}-{number}"
             keep.mkdir(parents=True, exist_ok=True)
             Stored.write(keep, files)
-            (keep / "words").write_text(" ".join(words) + "\n")
-            return f"try {number}: {' '.join(words)}: {what}\n    kept in {keep}", statuses
+            (keep / "words").write_text(" ".join((name, *words)) + "\n")
+            return f"try {number}: {name} {' '.join(words)}: {what}\n    kept in {keep}", statuses
     return None, statuses
 
 
 def main():
-    words = argparse.ArgumentParser(description="Gives turnprep damaged input.")
+    words = argparse.ArgumentParser(description="Gives turnprep and turnexplain damaged input.")
     words.add_argument("prepare", type=pathlib.Path)
+    words.add_argument("explain", type=pathlib.Path)
     words.add_argument("folders", type=pathlib.Path, nargs="+")
     words.add_argument("--seconds", type=float, default=60)
     words.add_argument("--seed", type=int, default=int(time.time()))
     words.add_argument("--jobs", type=int, default=os.cpu_count() or 1)
     words.add_argument("--keep", type=pathlib.Path, default=pathlib.Path("fuzz-kept"))
     asked = words.parse_args()
-    program = asked.prepare.resolve()
+    programs = {"turnprep": asked.prepare.resolve(), "turnexplain": asked.explain.resolve()}
     cases = [Case(folder) for folder in asked.folders if (folder / "policy").exists() and captures_in(folder)]
     print(f"seed {asked.seed}, {len(cases)} stored cases")
     end, number, wrong, statuses = time.monotonic() + asked.seconds, 0, [], collections.Counter()
     with concurrent.futures.ThreadPoolExecutor(asked.jobs) as pool:
         while time.monotonic() < end and not wrong:
             batch = range(number, number + 8 * asked.jobs)
-            for what, counted in pool.map(lambda n: tried(program, cases, asked.seed, n, asked.keep), batch):
+            for what, counted in pool.map(lambda n: tried(programs, cases, asked.seed, n, asked.keep), batch):
                 statuses.update(counted)
                 if what:
                     wrong.append(what)

@@ -1,14 +1,16 @@
 #!/usr/bin/env python3
-"""Input made to break the readers of turnprep, each at the edge of what is refused, and disks that are full.
+"""Input made to break the readers of turnprep and turnexplain, each at the edge of what is refused, and disks that are full.
 
-    python3 tests/hostile_beside.py TURNPREP
+    python3 tests/hostile_beside.py TURNPREP TURNEXPLAIN
 
-The captures, policies and certificates of tests/hostile.py: the commands of turnprep refuse what is refused there, and nothing else. Then every front of the capture is read by each of them,
+The captures, policies and certificates of tests/hostile.py: `turnexplain verdict` has the status, the rule or the refusal that they have
+there, and the commands of turnprep refuse what is refused there, and nothing else. Then every front of the capture is read by each of them,
 and files and standard output take fewer and fewer bytes: the status is 4, standard output has the beginning of the answer, and no file is
 left.
 """
 
 import pathlib
+import re
 import resource
 import shutil
 import subprocess
@@ -42,15 +44,30 @@ PREPARES = {
 }
 READS_NO_POLICY = ("join", "reassemble")
 
+def head_of(report):
+    """How an answer of turnexplain begins, for a report of turnaudit."""
+    lines = report.splitlines()
+    conforming = re.fullmatch(r"conforming (\d+) datagrams (\d+) lanes", lines[1])
+    if conforming:
+        return f"conforming  {conforming[1]} datagrams, {conforming[2]} lanes"
+    return f"not shown  {lines[2].removeprefix('rule ')}"
+
+
 def is_refused(ran, line):
     """Whether a call ended by this refusal, which words may follow."""
     said = ran.stderr.decode()
     return (ran.returncode, ran.stdout) == (2, b"") and said.count("\n") == 1 and (said == f"{line}\n" or said.startswith(f"{line}: "))
 
 
-def edges(prepare):
+def edges(prepare, explain):
     for name, capture, certificate, policy, (status, said) in EDGES:
+        explain.write(capture, certificate, policy)
+        ran = explain.run(["verdict", "--policy", "policy", "--cert", "cert", "capture"])
+        told = (ran.stdout if status < 2 else ran.stderr).decode()
         code = None if status < 2 else said.split(" ")[2]
+        expected = head_of(said) if code is None else f", {code}"
+        right = ran.returncode == status and (told.startswith(expected) if code is None else expected in told and not ran.stdout and told.count("\n") == 1)
+        explain.tell(f"verdict, {name}", right, ran)
         prepare.write(capture, certificate, policy)
         for command, (words, makes) in PREPARES.items():
             ran = prepare.prepare(words)
@@ -62,10 +79,17 @@ def edges(prepare):
             prepare.tell(f"{command}, {name}", right, ran)
 
 
-def fronts(prepare):
+def fronts(prepare, explain):
     """A front that ends with a block is whole, one that ends in a block is refused, and so is none at all."""
     for length in range(len(CAPTURE) + 1):
+        explain.write(CAPTURE[:length], CERTIFICATE, POLICY)
         code = "C5" if length == 0 else "C1"
+        ran = explain.run(["verdict", "--policy", "policy", "capture"])
+        if length in WHOLE:
+            right = ran.returncode == 0 and ran.stdout.startswith(f"conforming  {WHOLE[length]} datagrams, ".encode())
+        else:
+            right = ran.returncode == 2 and not ran.stdout and f", {code}".encode() in ran.stderr
+        explain.tell(f"verdict of the first {length} bytes", right, ran)
         prepare.write(CAPTURE[:length], CERTIFICATE, POLICY)
         for command, (words, makes) in PREPARES.items():
             ran = prepare.prepare(words)
@@ -76,10 +100,14 @@ def fronts(prepare):
             prepare.tell(f"{command} of the first {length} bytes", right, ran)
 
 
-def little_room(prepare):
+def little_room(prepare, explain):
     """Standard output, and each file that is made, takes so many bytes and no more."""
-    tries, name = prepare, "turnprep"
-    for words, _ in PREPARES.values():
+    for tries, name, words in [
+        *((prepare, "turnprep", words) for words, _ in PREPARES.values()),
+        (explain, "turnexplain", ["verdict", "--policy", "policy", "capture"]),
+        (explain, "turnexplain", ["lanes", "--json", "--policy", "policy", "capture"]),
+        (explain, "turnexplain", ["evidence", "-o", "out/page", "--policy", "policy", "capture"]),
+    ]:
         tries.write(BROKEN, CERTIFICATE, POLICY)
         whole = tries.prepare(words)
         made = [(tries.place / "out" / file).stat().st_size for file in tries.left()]
@@ -99,14 +127,18 @@ def little_room(prepare):
 
 
 def main():
-    if len(sys.argv) != 2:
+    if len(sys.argv) != 3:
         sys.exit(__doc__.strip())
     with tempfile.TemporaryDirectory() as place:
-        prepare = Preparing(pathlib.Path(sys.argv[1]).resolve(), pathlib.Path(place))
+        folders = [pathlib.Path(place) / name for name in ("prepare", "explain")]
+        for folder in folders:
+            folder.mkdir()
+        prepare, explain = (Preparing(pathlib.Path(word).resolve(), folder) for word, folder in zip(sys.argv[1:], folders))
         for part in (edges, fronts, little_room):
-            part(prepare)
-    print(f"hostile beside: {prepare.right} passed, {prepare.wrong} failed")
-    sys.exit(1 if prepare.wrong else 0)
+            part(prepare, explain)
+    wrong = prepare.wrong + explain.wrong
+    print(f"hostile beside: {prepare.right + explain.right} passed, {wrong} failed")
+    sys.exit(1 if wrong else 0)
 
 
 if __name__ == "__main__":

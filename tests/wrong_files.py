@@ -1,12 +1,13 @@
 #!/usr/bin/env python3
-"""Gives turnprep files that aren't what a command needs, and has the system refuse what they write.
+"""Gives turnprep and turnexplain files that aren't what a command needs, and has the system refuse what they write.
 
-    tests/wrong_files.py TURNPREP
+    tests/wrong_files.py TURNPREP TURNEXPLAIN
 
 - A capture that is read twice and can't be, as a pipe, is refused by its name, before anything is opened.
 - A wrong file as policy or configuration is refused at its first fault: /dev/zero ends, and 300 MB of zeros take little memory.
 - What can't be read or written is named, with the system's reason, and no control byte of a name or an argument is printed.
 - After a refusal or an error no file is left; an existing file is never replaced; what fsync, link or rename say is reported (gcc).
+- A lane that there isn't is a usage error.
 """
 
 import os
@@ -22,6 +23,7 @@ HERE = pathlib.Path(__file__).resolve().parent
 INPUTS = HERE / "prepare" / "inputs"
 POLICY, CAPTURE, RINGS = INPUTS / "policy", INPUTS / "midcall-early.pcapng", [INPUTS / "ring1.pcapng", INPUTS / "ring2.pcapng"]
 OUTER = ["--policy", INPUTS / "policy-outer", "--external-ip", "198.18.0.1/192.0.2.1"]
+EXAMPLE = HERE.parent / "examples" / "coturn-channels-two-files"
 TWICE = "it has to be a file that can be read twice"
 MISSING = "No such file or directory (os error 2)"
 EXISTS = "File exists (os error 17)"
@@ -34,8 +36,8 @@ LONGEST = 120
 
 
 class Tries:
-    def __init__(self, prepare):
-        self.prepare = prepare
+    def __init__(self, prepare, explain):
+        self.prepare, self.explain = prepare, explain
         self.right = self.wrong = 0
 
     def tell(self, name, is_right, what=""):
@@ -57,9 +59,13 @@ class Tries:
         return self.tell(name, is_right, f"status {done.returncode}, {told!r}, {done.stdout[:80]!r}, {left}, {time.monotonic() - began:.1f} s")
 
 
+def explained(program, command, *captures, policy=EXAMPLE / "policy", more=()):
+    return [program, command, "--policy", policy, "--creds", EXAMPLE / "creds", *more, *captures]
+
+
 def reads_twice(tries, room):
     """A pipe without a writer, one with a capture in it, and standard input."""
-    out = room / "out"
+    out, page = room / "out", room / "page"
     out.mkdir()
     pipe = room / "pipe"
     os.mkfifo(pipe)
@@ -68,9 +74,15 @@ def reads_twice(tries, room):
         "look without a policy": lambda name: [tries.prepare, "look", name],
         "cut": lambda name: [tries.prepare, "cut", "--policy", POLICY, "-o", out, name],
         "cut of two": lambda name: [tries.prepare, "cut", "--policy", POLICY, "-o", out, CAPTURE, name],
+        "verdict": lambda name: explained(tries.explain, "verdict", name),
+        "lanes": lambda name: explained(tries.explain, "lanes", EXAMPLE / "client.pcapng", name),
+        "client": lambda name: explained(tries.explain, "client", name, more=["--lane", "0", "--json"]),
+        "faults": lambda name: explained(tries.explain, "faults", EXAMPLE / "client.pcapng", name),
+        "evidence": lambda name: explained(tries.explain, "evidence", name, more=["-o", page]),
+        "evidence by a policy": lambda name: explained(tries.explain, "evidence", EXAMPLE / "client.pcapng", policy=name, more=["-o", page]),
     }
     for command, words in commands.items():
-        refusal = f"turnprep: refused {{}}: {TWICE}\n"
+        refusal = f"turnprep: refused {{}}: {TWICE}\n" if words("x")[0] == tries.prepare else f"turnexplain: {{}}: {TWICE}\n"
         tries.ends(f"{command} of a pipe without a writer", words(pipe), 2, refusal.format(pipe), (out, []))
         with subprocess.Popen(["cat", CAPTURE], stdout=subprocess.PIPE) as cat:
             name = f"/dev/fd/{cat.stdout.fileno()}"
@@ -79,6 +91,7 @@ def reads_twice(tries, room):
         with subprocess.Popen(["cat", CAPTURE], stdout=subprocess.PIPE) as cat:
             tries.ends(f"{command} of piped standard input", words("/dev/stdin"), 2, refusal.format("/dev/stdin"), (out, []), stdin=cat.stdout)
             cat.stdout.close()
+    tries.tell("no page of a pipe", not page.exists() and not pathlib.Path(f"{page}.part").exists())
     # A file is one, whatever its name.
     with CAPTURE.open("rb") as capture:
         tries.ends("look at standard input that is a file", [tries.prepare, "look", "--policy", POLICY, "/dev/stdin"], 0, "", stdin=capture)
@@ -99,6 +112,10 @@ def reads_once(tries, room):
             writer.kill()
             writer.wait()
 
+    captures = [EXAMPLE / "client.pcapng", EXAMPLE / "peer.pcapng"]
+    writing((EXAMPLE / "policy").read_bytes(), "a policy by a pipe", explained(tries.explain, "verdict", *captures, policy=pipe), 0, "")
+    writing(b"turnaudit-policy 1\nlisten x\n", "a refused policy by a pipe", explained(tries.explain, "verdict", *captures, policy=pipe), 2,
+            f"turnexplain: {pipe} line 2: a line of another form, or a line too few, P1\n")
     writing(RINGS[0].read_bytes(), "join of a pipe", [tries.prepare, "join", "-o", room / "joined", pipe], 0, "")
     tries.tell("what is joined of a pipe", (room / "joined").read_bytes() == RINGS[0].read_bytes())
 
@@ -152,7 +169,8 @@ def named(tries, room):
     (out / "there").write_text("kept")
     (out / "half.part").write_text("kept")
     has = ["half.part", "there"]
-    prepare = tries.prepare
+    prepare, explain = tries.prepare, tries.explain
+    captures = [EXAMPLE / "client.pcapng", EXAMPLE / "peer.pcapng"]
     for name, words, line in [
         ("join of a missing file", [prepare, "join", "-o", out / "new", absent], f"can't read {absent}: {MISSING}"),
         ("cut of a missing file", [prepare, "cut", "--policy", POLICY, "-o", out, absent], f"can't read {absent}: {MISSING}"),
@@ -165,12 +183,18 @@ def named(tries, room):
         ("join to an existing file", [prepare, "join", "-o", out / "there", *RINGS], f"can't write {out}/there: {EXISTS}"),
         ("join beside a file of its own", [prepare, "join", "-o", out / "half", *RINGS], f"can't write {out}/half.part: {EXISTS}"),
         ("control bytes in a name", [prepare, "look", room / "a\x1b[31mb"], f"can't read {room}/a\\x1B[31mb: {MISSING}"),
+        ("evidence to a missing folder", explained(explain, "evidence", *captures, more=["-o", folder / "x"]), f"can't write {folder}/x: {MISSING}"),
+        ("evidence to an existing file", explained(explain, "evidence", *captures, more=["-o", out / "there"]), f"can't write {out}/there: {EXISTS}"),
+        ("a missing list", explained(explain, "evidence", *captures, more=["-o", out / "new", "--excluded", absent]), f"can't read {absent}: no such file"),
     ]:
         tries.ends(name, words, 4, f"{pathlib.Path(words[0]).name.partition('-')[0]}: {line}\n", (out, has))
     tries.tell("existing files are kept", [(out / name).read_text() for name in has] == ["kept"] * 2)
+    for number, more in enumerate(([], ["--json"])):
+        tries.ends(f"a lane that there isn't, {number}", explained(explain, "client", *captures, more=["--lane", "9", *more]), 5,
+                   "turnexplain: there is no lane 9: there are 1, from 0 (turnexplain lanes)\n")
     tries.ends("no source of users", [prepare, "users"], 5, "turnprep: users takes --turnserver-conf or --secret\n")
     tries.ends("two sources of users", [prepare, "users", "--turnserver-conf", "x", "--secret", "y"], 5, "turnprep: users takes --turnserver-conf or --secret, and not both\n")
-    for program in (prepare,):
+    for program in (prepare, explain):
         for words in (["a\x1b[31mb"], ["look", "--a\x1b[31mb"], ["verdict", "--a\x1b[31mb"], ["help", "a\x1b[31mb\u202e"]):
             done = subprocess.run([program, *words], capture_output=True, check=False)
             is_plain = b"\x1b" not in done.stderr and "\u202e".encode() not in done.stderr
@@ -203,11 +227,13 @@ def failing_system(tries, room):
     library = room / "failing_io.so"
     subprocess.run(["gcc", "-shared", "-fPIC", "-O1", "-o", library, HERE / "failing_io.c", "-ldl"], check=True)
     whole = INPUTS / "external-ip.pcapng"
+    captures = [EXAMPLE / "client.pcapng", EXAMPLE / "peer.pcapng"]
     calls = {
         "join": (lambda out: [tries.prepare, "join", "-o", out / "new", *RINGS], ["new"]),
         "reassemble": (lambda out: [tries.prepare, "reassemble", "-o", out, whole, CAPTURE], [whole.name, CAPTURE.name]),
         "translate": (lambda out: [tries.prepare, "translate", *OUTER, "-o", out, whole], [whole.name, "translated"]),
         "cut": (lambda out: [tries.prepare, "cut", "--policy", POLICY, "-o", out, CAPTURE], [CAPTURE.name, "set-aside"]),
+        "evidence": (lambda out: explained(tries.explain, "evidence", *captures, more=["-o", out / "new"]), ["new"]),
     }
     for name, (words, makes) in calls.items():
         first = makes[0]
@@ -218,15 +244,16 @@ def failing_system(tries, room):
             out = room / f"{name}-{'-'.join(sorted(variables))}"
             out.mkdir()
             environment = {**os.environ, "LD_PRELOAD": str(library), **dict.fromkeys(variables, "1")}
-            expected = (0, "", makes) if is_made else (4, f"turnprep: can't write {out}/{first}: {FAILED}\n", [])
+            program = "turnexplain" if name == "evidence" else "turnprep"
+            expected = (0, "", makes) if is_made else (4, f"{program}: can't write {out}/{first}: {FAILED}\n", [])
             tries.ends(f"{name}, {sorted(variables)}", words(out), expected[0], expected[1], (out, expected[2]), env=environment)
             if is_made:
-                same = all((out / made).read_bytes() == (plain / made).read_bytes() for made in makes)
+                same = all((out / made).read_bytes() == (plain / made).read_bytes() for made in makes if name != "evidence")
                 tries.tell(f"{name} without links writes the same", same)
 
 
 def main(words):
-    if len(words) != 1:
+    if len(words) != 2:
         sys.exit(__doc__.strip())
     tries = Tries(*(str(pathlib.Path(word).resolve()) for word in words))
     for part in (reads_twice, reads_once, wrong_texts, named, leaves_nothing, failing_system):

@@ -19,7 +19,7 @@ returns-in-AsJson g c = rw (c.in-AsJson.is) (
 pub returns-in-Faults : goal.returns-in-Faults
 returns-in-Faults g c = rw (c.in-Faults.is) (
   refl,
-  λ policy users captures have. c.faults_of_files.ensures policy users captures have.policy' have.users' have.nobody
+  λ policy users captures have. c.faults.ensures policy users captures have.policy' have.users' have.nobody
       (subst (λ of. AllZip (λ name bytes. g.S.Source.holds c.args.source.now.inner name.now ≡ Some bytes) of captures) (sym c.deref-in-Faults.ensures.value) have.captures'),
 )
 
