@@ -120,7 +120,7 @@ test:
 	python3 tests/wrong_files.py $(PREPARES) $(EXPLAINS)
 	python3 tests/ready.py $(PREPARES) $(PROGRAM)
 	python3 tests/looking.py $(PREPARES)
-	python3 tests/progress.py $(PREPARES)
+	python3 tests/progress.py $(PREPARES) $(EXPLAINS)
 	python3 tests/fragments.py $(PREPARES) $(PROGRAM)
 	python3 tests/shown_faults.py $(EXPLAINS) $(PROGRAM)
 	python3 tests/repeated_data.py $(EXPLAINS)

@@ -1,7 +1,7 @@
 #!/usr/bin/env python3
-"""Reads what turnprep draws on a terminal while it reads captures.
+"""Reads what turnprep and turnexplain draw on a terminal while they read captures.
 
-    tests/progress.py TURNPREP
+    tests/progress.py TURNPREP TURNEXPLAIN
 
 Standard error is a pseudo-terminal, and each read takes 150 milliseconds longer. The line has the name, a share that grows and a rate, it
 is redrawn at most ten times a second and is gone at the end and before a refusal. Quick work draws none, nor does standard error that is
@@ -19,8 +19,9 @@ import tempfile
 import time
 
 HERE = pathlib.Path(__file__).resolve().parent
-CAPTURE = HERE.parent / "examples" / "coturn-24-clients" / "cap.pcapng"
-LINE = re.compile(rb"\rturnprep: ([^\r\x1b]*) (\d+)%, (\d+) MB/s\x1b\[K")
+EXAMPLE = HERE.parent / "examples" / "coturn-24-clients"
+CAPTURE = EXAMPLE / "cap.pcapng"
+LINE = re.compile(rb"\rturn(?:prep|explain): ([^\r\x1b]*) (\d+)%, (\d+) MB/s\x1b\[K")
 GONE = b"\r\x1b[K"
 
 
@@ -52,19 +53,19 @@ def grows(shares):
     return all(0 <= share <= 100 for share in shares) and sum(later < earlier for earlier, later in zip(shares, shares[1:])) <= 1
 
 
-def main():
-    program = pathlib.Path(sys.argv[1]).resolve()
+def faults_of(name, command):
+    """What is wrong with the lines of a command, which reads the capture that follows it twice."""
     faults = []
 
     def expect(holds, what):
         if not holds:
-            faults.append(what)
+            faults.append(f"{name}: {what}")
 
     with tempfile.TemporaryDirectory() as room:
         slow = pathlib.Path(room) / "slow_reads.so"
         subprocess.run(["gcc", "-shared", "-fPIC", "-O1", "-o", slow, HERE / "slow_reads.c", "-ldl"], check=True)
         preloaded = {"LD_PRELOAD": str(slow)}
-        look = [program, "look", CAPTURE]
+        look = [*command, CAPTURE]
         plain = subprocess.run(look, capture_output=True)
         expect(plain.stderr == b"" and plain.returncode == 0, f"without a terminal: {plain.stderr}")
 
@@ -84,18 +85,25 @@ def main():
         shutil.copyfile(CAPTURE, wrong)
         with open(wrong, "ab") as file:
             file.write(b"\0" * 12)
-        _, drawn, status, _ = on_terminal([program, "look", wrong], **preloaded)
+        _, drawn, status, _ = on_terminal([*command, wrong], **preloaded)
         lines = LINE.findall(drawn)
         rest = LINE.sub(b"", drawn)
         expect(status == 2 and len(lines) > 2 and all(len(name) <= 40 for name, _, _ in lines), f"refused: {drawn}")
-        expect(rest.startswith(GONE + b"turnprep: refused ") and rest.endswith(b"\r\n") and b"\x1b[2J" not in drawn, f"refused: {rest}")
+        expect(rest.startswith(GONE + f"{name}: ".encode()) and rest.endswith(b"\r\n") and b"\x1b[2J" not in drawn, f"refused: {rest}")
 
-        quick = HERE.parent / "examples" / "coturn-channels-two-files" / "client.pcapng"
-        said, drawn, status, _ = on_terminal([program, "look", quick])
-        expect((drawn, status) == (b"", 0), f"quick: {drawn}")
+        quick = EXAMPLE.parent / "coturn-channels-two-files" / "client.pcapng"
+        said, drawn, status, _ = on_terminal([*command, quick])
+        expect(drawn == b"" and status in (0, 1), f"quick: {drawn}")
+    return faults
+
+
+def main():
+    prepare, explain = (pathlib.Path(word).resolve() for word in sys.argv[1:])
+    faults = faults_of("turnprep", [prepare, "look"])
+    faults += faults_of("turnexplain", [explain, "verdict", "--policy", EXAMPLE / "policy", "--creds", EXAMPLE / "creds"])
     for fault in faults:
         print(fault)
-    print(f"a line on a terminal, in 5 runs, {len(faults)} faults")
+    print(f"a line on a terminal, in 10 runs, {len(faults)} faults")
     return 1 if faults else 0
 
 

@@ -3,13 +3,14 @@
 use crate::drawing::{Reading, is_due, line_of};
 use crate::terminal::open_terminal;
 use std::alloc::Global;
-use std::cell::Cell;
 use std::fs::File;
 use std::io::Write;
 use std::rt::Files;
+use std::sync::atomic::{AtomicU64, Ordering};
 use std::time::Clock;
 
 /// Draws a line on standard error while files are read, if that is a terminal and the work takes longer than a second. Else it does nothing.
+/// Threads may share it: the line is then of the file that was read last.
 #[derive(Drop)]
 pub struct Progress<'r, R: Files<File = File> + Clock> {
     rt: &'r R,
@@ -18,13 +19,25 @@ pub struct Progress<'r, R: Files<File = File> + Clock> {
     /// Standard error, if it is a terminal.
     terminal: Option<File>,
     /// When the first file was begun, and when this one, in milliseconds.
-    began: Cell<Option<u64>>,
-    file_began: Cell<u64>,
-    size: Cell<u64>,
-    read: Cell<u64>,
-    /// When the line was drawn that stands on the terminal.
-    drawn: Cell<Option<u64>>,
-    stands: Cell<bool>,
+    began: AtomicU64,
+    file_began: AtomicU64,
+    size: AtomicU64,
+    read: AtomicU64,
+    /// When the line was drawn last.
+    drawn: AtomicU64,
+    /// 1 while the line stands on the terminal.
+    stands: AtomicU64,
+}
+
+/// In place of a moment: it hasn't come.
+const NEVER: u64 = u64::MAX;
+
+/// The moment that was noted, if one was.
+fn moment_of(noted: &AtomicU64) -> Option<u64> {
+    match noted.load(Ordering::SeqCst) {
+        NEVER => None,
+        moment => Some(moment),
+    }
 }
 
 impl<'r, R: Files<File = File> + Clock> Progress<'r, R> {
@@ -35,12 +48,12 @@ impl<'r, R: Files<File = File> + Clock> Progress<'r, R> {
             alloc,
             program,
             terminal: open_terminal(rt),
-            began: Cell::new(None),
-            file_began: Cell::new(0),
-            size: Cell::new(0),
-            read: Cell::new(0),
-            drawn: Cell::new(None),
-            stands: Cell::new(false),
+            began: AtomicU64::new(NEVER),
+            file_began: AtomicU64::new(0),
+            size: AtomicU64::new(0),
+            read: AtomicU64::new(0),
+            drawn: AtomicU64::new(NEVER),
+            stands: AtomicU64::new(0),
         }
     }
 }
@@ -51,30 +64,31 @@ impl<R: Files<File = File> + Clock> Progress<'_, R> {
         let Some(now) = self.now() else {
             return;
         };
-        if self.began.get().is_none() {
-            self.began.set(Some(now));
+        if moment_of(&self.began).is_none() {
+            self.began.store(now, Ordering::SeqCst);
         }
-        self.file_began.set(now);
-        self.size.set(size);
-        self.read.set(0);
+        self.file_began.store(now, Ordering::SeqCst);
+        self.size.store(size, Ordering::SeqCst);
+        self.read.store(0, Ordering::SeqCst);
     }
 
     /// So many bytes more of the file of this name were read.
     pub fn advance(&self, name: &str, bytes: usize) {
-        self.read.set(self.read.get().saturating_add(bytes as u64));
-        let (Some(now), Some(began)) = (self.now(), self.began.get()) else {
+        let read = self.read.load(Ordering::SeqCst);
+        self.read
+            .store(read.saturating_add(bytes as u64), Ordering::SeqCst);
+        let (Some(now), Some(began)) = (self.now(), moment_of(&self.began)) else {
             return;
         };
-        if is_due(began, self.drawn.get(), now) {
+        if is_due(began, moment_of(&self.drawn), now) {
             self.draw(name, now);
         }
     }
 
     /// Removes the line, before something else is written to the terminal.
     pub fn clear(&self) {
-        if self.stands.get() {
+        if self.stands.swap(0, Ordering::SeqCst) == 1 {
             self.put(b"\r\x1b[K");
-            self.stands.set(false);
         }
     }
 
@@ -92,14 +106,14 @@ impl<R: Files<File = File> + Clock> Progress<'_, R> {
     /// Draws the line. Without memory for it, it isn't drawn.
     fn draw(&self, name: &str, now: u64) {
         let reading = Reading {
-            read: self.read.get(),
-            size: self.size.get(),
-            took_ms: now.saturating_sub(self.file_began.get()),
+            read: self.read.load(Ordering::SeqCst),
+            size: self.size.load(Ordering::SeqCst),
+            took_ms: now.saturating_sub(self.file_began.load(Ordering::SeqCst)),
         };
         if let Ok(line) = line_of(self.alloc, self.program, name, reading) {
             self.put(line.as_bytes());
-            self.stands.set(true);
-            self.drawn.set(Some(now));
+            self.stands.store(1, Ordering::SeqCst);
+            self.drawn.store(now, Ordering::SeqCst);
         }
     }
 

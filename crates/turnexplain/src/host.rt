@@ -6,29 +6,45 @@ use audit_files::{ReadFailed, Source};
 use audit_model::{Sink, SinkFailed};
 use explain_program::{Explaining, PageFile, Trouble};
 use host_files::{Failure, NewFault, NewFiles, is_repeatable};
+use host_progress::Progress;
 use std::alloc::Global;
 use std::fs::File;
 use std::io::{Read, Write};
 use std::rt::Files;
+use std::time::Clock;
 use std::{fs, io};
 
 /// The files of the machine, read one at a time from front to back.
 #[derive(Drop)]
-pub struct HostFiles<'r, R: Files<File = File>> {
+pub struct HostFiles<'r, R: Files<File = File> + Clock> {
     rt: &'r R,
+    /// The line on a terminal that says how far a file is read.
+    progress: &'r Progress<'r, R>,
     opened: Option<File>,
 }
 
-impl<'r, R: Files<File = File>> HostFiles<'r, R> {
+impl<'r, R: Files<File = File> + Clock> HostFiles<'r, R> {
     /// No file is open.
-    pub fn new(rt: &'r R) -> Self
+    pub fn new(rt: &'r R, progress: &'r Progress<'r, R>) -> Self
         ensures { result.opened ≡ None }
     {
-        HostFiles { rt, opened: None }
+        HostFiles {
+            rt,
+            progress,
+            opened: None,
+        }
     }
 }
 
-impl<R: Files<File = File> + Sync> Source for HostFiles<'_, R> {
+/// The bytes that a file has, 0 where the system doesn't say.
+fn size_of(file: &File) -> u64 {
+    match file.metadata() {
+        Ok(metadata) => metadata.len(),
+        Err(_) => 0,
+    }
+}
+
+impl<R: Files<File = File> + Clock + Sync> Source for HostFiles<'_, R> {
     ghost use Rattle.std.specs.Prelude.{None};
 
     ghost holds = { λ _ _. None };
@@ -36,7 +52,10 @@ impl<R: Files<File = File> + Sync> Source for HostFiles<'_, R> {
     fn piece(&mut self, name: &str, at: u64, into: &mut [u8]) -> Result<usize, ReadFailed> {
         if at == 0 {
             match fs::open(self.rt, name) {
-                Ok(file) => self.opened = Some(file),
+                Ok(file) => {
+                    self.progress.begin(size_of(&file));
+                    self.opened = Some(file);
+                }
                 Err(_) => return Err(ReadFailed),
             }
         }
@@ -44,13 +63,16 @@ impl<R: Files<File = File> + Sync> Source for HostFiles<'_, R> {
             return Err(ReadFailed);
         };
         match file.read(into) {
-            Ok(read) => Ok(read),
+            Ok(read) => {
+                self.progress.advance(name, read);
+                Ok(read)
+            }
             Err(_) => Err(ReadFailed),
         }
     }
 
     fn beside(&self, _alloc: Global) -> Self {
-        HostFiles::new(self.rt)
+        HostFiles::new(self.rt, self.progress)
     }
 }
 
@@ -63,7 +85,7 @@ fn trouble_of(error: &io::Error) -> Trouble {
     }
 }
 
-impl<R: Files<File = File> + Sync> Explaining for HostFiles<'_, R> {
+impl<R: Files<File = File> + Clock + Sync> Explaining for HostFiles<'_, R> {
     fn trouble(&mut self, name: &str) -> Option<Trouble> {
         if !self.is_repeatable(name) {
             return None;
@@ -92,20 +114,22 @@ pub fn hold_stream<R: Files<File = File>>(rt: &R) -> Option<File> {
 
 /// A stream of the machine. It claims nothing of what reaches it.
 #[derive(Drop)]
-pub struct HostStream<W: Write> {
+pub struct HostStream<'r, R: Files<File = File> + Clock, W: Write> {
     stream: W,
+    /// The line on a terminal, which goes before the stream is written to.
+    progress: &'r Progress<'r, R>,
 }
 
-impl<W: Write> HostStream<W> {
+impl<'r, R: Files<File = File> + Clock, W: Write> HostStream<'r, R, W> {
     /// The stream, of which nothing was written.
-    pub fn new(stream: W) -> Self
+    pub fn new(stream: W, progress: &'r Progress<'r, R>) -> Self
         ensures { result.stream ≡ stream }
     {
-        HostStream { stream }
+        HostStream { stream, progress }
     }
 }
 
-impl<W: Write> Sink for HostStream<W> {
+impl<R: Files<File = File> + Clock, W: Write> Sink for HostStream<'_, R, W> {
     ghost use Rattle.std.specs.Prelude.{None};
 
     ghost taken = { λ _. None };
@@ -113,6 +137,7 @@ impl<W: Write> Sink for HostStream<W> {
     ghost failures = { λ _. None };
 
     fn put(&mut self, piece: &[u8]) -> Result<usize, SinkFailed> {
+        self.progress.clear();
         let Ok(taken) = self.stream.write(piece) else {
             return Err(SinkFailed);
         };

@@ -7,6 +7,7 @@ use audit_finder::WalkAndPasses;
 use audit_model::{Sink, put_all};
 use explain_program::run;
 use host::{HostFiles, HostPage, HostStream, hold_stream};
+use host_progress::Progress;
 use std::hash::RandomState;
 use std::process::ExitCode;
 use std::rt::Env;
@@ -40,8 +41,9 @@ fn refuse_words<W: Sink>(err: &mut W, error: &io::Error) -> u8 {
 fn main(rt: HostRuntime) -> ExitCode {
     let _streams = (hold_stream(&rt), hold_stream(&rt), hold_stream(&rt));
     let alloc = rt.alloc();
-    let mut out = HostStream::new(rt.stdout());
-    let mut err = HostStream::new(rt.stderr());
+    let progress = Progress::new(&rt, alloc, "turnexplain");
+    let mut out = HostStream::new(rt.stdout(), &progress);
+    let mut err = HostStream::new(rt.stderr(), &progress);
     let status = match words_of(&rt) {
         Ok(words) => match RandomState::new(&rt) {
             Ok(seed) => {
@@ -51,7 +53,7 @@ fn main(rt: HostRuntime) -> ExitCode {
                     alloc,
                     &WalkAndPasses::new(seed),
                     &words,
-                    HostFiles::new(&rt),
+                    HostFiles::new(&rt, &progress),
                     &mut pages,
                     &mut out,
                     &mut err,
@@ -61,5 +63,6 @@ fn main(rt: HostRuntime) -> ExitCode {
         },
         Err(error) => refuse_words(&mut err, &error),
     };
+    progress.clear();
     ExitCode::from(status)
 }
