@@ -150,8 +150,9 @@ impl<'a> Owners<'a> {
         self.grants.first_of(relayed)
     }
 
-    /// The nearest arrival, within `hold` before a departure to a client, of the same data at a relayed address of another client; none if
-    /// an arrival at an address of the receiver has it, too. It takes log n in the sightings.
+    /// The nearest arrival, within `hold` before a departure to a client, of the same data at a
+    /// relayed address of another client; none if an arrival at an address of the receiver has it,
+    /// too. It takes log n in the sightings.
     pub fn misdelivery(&self, departure: &Sighting) -> Option<Misdelivery> {
         if departure.side != Side::Leaves || !self.intake.policy().listens(departure.from) {
             return None;
@@ -179,8 +180,9 @@ impl<'a> Owners<'a> {
         nearest
     }
 
-    /// The nearest datagram, within `hold` before a departure to a client, by which another client sends the same data: clients that relay to
-    /// each other through the server. It takes log n in the sightings.
+    /// The nearest datagram, within `hold` before a departure to a client, by which another client
+    /// sends the same data: clients that relay to each other through the server. It takes log n in
+    /// the sightings.
     pub fn sent_by_client(&self, departure: &Sighting) -> Option<SightId> {
         if departure.side != Side::Leaves || !self.intake.policy().listens(departure.from) {
             return None;

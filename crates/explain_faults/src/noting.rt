@@ -30,7 +30,7 @@ fn relayed_of(intake: &Intake, shown: &ShownFault) -> Option<Addr> {
 }
 
 /// Asks for the frames that grant the relayed addresses of faults and aren't judged.
-pub fn ask_frames(
+pub fn request_frames(
     intake: &Intake,
     owners: &Owners<'_>,
     faults: &[ShownFault],

@@ -6,7 +6,7 @@ ghost use Rattle.audit_keys.specs.KeyFor.{key_for};
 ghost use Rattle.audit_sightings.specs.Intake.{taken};
 ghost use Rattle.explain_faults.specs.Told.{AreTold, AreToldOf};
 
-use crate::noting::{Notes, ask_frames};
+use crate::noting::{Notes, request_frames};
 use crate::reported::with_notes;
 use crate::reporting::{report_faults, status};
 use audit_faults::{ShownFault, shown_faults};
@@ -34,7 +34,7 @@ fn notes_of<'a, S: Source>(
 ) -> Result<Notes<'a>, Stop> {
     let owners = Owners::of(alloc, intake)?;
     let mut frames = Frames::new(alloc);
-    ask_frames(intake, &owners, faults, &mut frames)?;
+    request_frames(intake, &owners, faults, &mut frames)?;
     if frames.asks_told() {
         look_up(alloc, source, intake.policy(), captures, &mut frames)?;
     }
@@ -59,7 +59,8 @@ fn first_note(intake: &Intake, faults: &[ShownFault]) -> &'static str {
     }
 }
 
-/// Writes all faults that the captures of an intake show, with notes, and returns 1 if there are some and 0 if there are none.
+/// Writes all faults that the captures of an intake show, with notes, and returns 1 if there are
+/// some and 0 if there are none.
 pub fn tell_faults<S: Source, O: Sink>(
     alloc: Global,
     source: &mut S,

@@ -23,8 +23,8 @@ pub fn title(fault: Fault) -> &'static str
 const NOT_CAPTURED: &str =
     "beginning not captured: the capture began too late for that relayed address; no captured Allocate success told it to a client that asked for it before it\n";
 
-/// Whether the captures have the beginning of the allocation of a client that asked for it, where that matters. Of data that was for another
-/// client it isn't the beginning that is missing.
+/// Whether the captures have the beginning of the allocation of a client that asked for it, where
+/// that matters. Of data that was for another client it isn't the beginning that is missing.
 pub fn beginning(fault: Fault, predates: bool, is_misdelivered: bool) -> &'static str
     ensures { result.now ≡ beginning_of fault predates is_misdelivered }
 {

@@ -20,8 +20,8 @@ use std::alloc::{AllocError, Global};
 /// How many sightings of an interface have a name.
 const INDICES: u64 = 4_294_967_296;
 
-/// Goes over a capture that comes in pieces, and notes the frames that are asked for. It keeps the one block that is not
-/// yet whole.
+/// Goes over a capture that comes in pieces, and notes the frames that are asked for. It keeps the
+/// one block that is not yet whole.
 #[derive(Drop)]
 pub struct FrameCounter<'p> {
     policy: &'p Policy,
@@ -49,8 +49,9 @@ impl<'p> FrameCounter<'p> {
         })
     }
 
-    /// Takes the next piece of the capture. Of each packet it takes log n in the sightings that are asked for. It fails as
-    /// `BlockReader::start` and `BlockReader::next` do, and for want of memory.
+    /// Takes the next piece of the capture. Of each packet it takes log n in the sightings that are
+    /// asked for. It fails as `BlockReader::start` and `BlockReader::next` do, and for want of
+    /// memory.
     pub fn feed(&mut self, piece: &[u8], frames: &mut Frames) -> Result<(), CaptureFault>
         ensures goes { (text : List ℕ) (wanted : AnySight → Bool) (packets_of : ℕ → List AnyPacket) → Goes self.old frames.old text wanted packets_of →
             OnOk result (Went self.new frames.new (text ++ piece.now) wanted packets_of) }

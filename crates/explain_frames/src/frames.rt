@@ -71,7 +71,8 @@ impl Frames {
         self.first
     }
 
-    /// Asks which frame grants this relayed address and isn't judged: one of TCP or IPv6, or of an endpoint that the policy lacks.
+    /// Asks which frame grants this relayed address and isn't judged: one of TCP or IPv6, or of an
+    /// endpoint that the policy lacks.
     pub fn ask_told(&mut self, relayed: Addr) -> Result<(), AllocError>
         ensures { self.new.found ≡ self.old.found }
     {

@@ -6,12 +6,12 @@ use crate::sighting::sighting_of;
 use audit_model::{Addr, Rule, SightId};
 use explain_frames::{ToldBy, ToldFrame};
 use explain_state::GrantAct;
-use explain_story::{Account, ClientOf, Line, Story, Teller};
+use explain_story::{Account, ClientOf, Line, Printer, Story};
 use explain_text::{anchor, cause, code, meaning};
 use std::alloc::{AllocError, Global};
 
 /// The user and the realm that a lane named last; null where it named none that is known.
-fn tell_user(object: &mut Object, account: &Option<Account>) -> Result<(), AllocError> {
+fn write_user(object: &mut Object, account: &Option<Account>) -> Result<(), AllocError> {
     match account {
         Some(account) => {
             object.bytes("user", &account.user)?;
@@ -32,7 +32,7 @@ fn client_of(alloc: Global, of: &ClientOf) -> Result<Object, AllocError> {
     object.number("lane", u64::from(of.lane))?;
     object.string("client", format!(in alloc; "{client}")?)?;
     object.string("listen", format!(in alloc; "{listen}")?)?;
-    tell_user(&mut object, &of.account)?;
+    write_user(&mut object, &of.account)?;
     Ok(object)
 }
 
@@ -55,8 +55,8 @@ fn words_of(alloc: Global, words: &str) -> Result<Object, AllocError> {
 }
 
 /// A datagram that is shown.
-fn shown(alloc: Global, teller: &Teller<'_>, sight: SightId) -> Result<Object, AllocError> {
-    let mut object = sighting_of(alloc, teller, sight)?;
+fn shown(alloc: Global, printer: &Printer<'_>, sight: SightId) -> Result<Object, AllocError> {
+    let mut object = sighting_of(alloc, printer, sight)?;
     object.text("line", "datagram")?;
     Ok(object)
 }
@@ -64,13 +64,13 @@ fn shown(alloc: Global, teller: &Teller<'_>, sight: SightId) -> Result<Object, A
 /// Words with a datagram among them.
 fn words_with(
     alloc: Global,
-    teller: &Teller<'_>,
+    printer: &Printer<'_>,
     words: &str,
     sight: SightId,
     behind: &str,
 ) -> Result<Object, AllocError> {
     let mut object = words_of(alloc, words)?;
-    object.object("datagram", sighting_of(alloc, teller, sight)?)?;
+    object.object("datagram", sighting_of(alloc, printer, sight)?)?;
     object.text("behind", behind)?;
     Ok(object)
 }
@@ -78,22 +78,22 @@ fn words_with(
 /// Words with an act among them, whose departure is the datagram.
 fn words_with_act(
     alloc: Global,
-    teller: &Teller<'_>,
+    printer: &Printer<'_>,
     words: &str,
     act: &GrantAct,
 ) -> Result<Object, AllocError> {
-    words_with(alloc, teller, words, act.leaves, "")
+    words_with(alloc, printer, words, act.leaves, "")
 }
 
 /// The frame that tells a relayed address and isn't judged.
-fn told_of(
+fn written_of(
     alloc: Global,
-    teller: &Teller<'_>,
+    printer: &Printer<'_>,
     relayed: Addr,
     frame: ToldFrame,
 ) -> Result<Object, AllocError> {
     let mut object = Object::new(alloc);
-    let capture = teller.capture_of(u32::from(frame.file));
+    let capture = printer.capture_of(u32::from(frame.file));
     object.text("line", "told elsewhere")?;
     object.string("relayed", format!(in alloc; "{relayed}")?)?;
     object.string("capture", format!(in alloc; "{capture}")?)?;
@@ -112,9 +112,9 @@ fn told_of(
 }
 
 /// Adds a line of the account, or a member of the answer.
-fn tell_line(
+fn write_line(
     alloc: Global,
-    teller: &Teller<'_>,
+    printer: &Printer<'_>,
     moment: u64,
     line: &Line,
     answer: &mut Object,
@@ -126,16 +126,16 @@ fn tell_line(
         Line::Client(of) => answer.object("client", client_of(alloc, of)?),
         Line::Expected(words) => answer.text("expected", words.as_str()),
         Line::Rule(rule) => answer.object("asks", rule_of(alloc, *rule)?),
-        Line::Datagram(sight) => account.object(shown(alloc, teller, *sight)?),
-        Line::Lease(row) => account.object(lease_of(alloc, teller, row, moment)?),
-        Line::Ended(ended) => account.object(ended_of(alloc, teller, ended)?),
-        Line::ToldElsewhere(relayed) => match teller.frames.told(*relayed) {
-            Some(frame) => account.object(told_of(alloc, teller, *relayed, frame)?),
+        Line::Datagram(sight) => account.object(shown(alloc, printer, *sight)?),
+        Line::Lease(row) => account.object(lease_of(alloc, printer, row, moment)?),
+        Line::Ended(ended) => account.object(ended_of(alloc, printer, ended)?),
+        Line::ToldElsewhere(relayed) => match printer.frames.told(*relayed) {
+            Some(frame) => account.object(written_of(alloc, printer, *relayed, frame)?),
             None => Ok(()),
         },
         Line::WithAct { words, act } => account.object(words_with_act(
             alloc,
-            teller,
+            printer,
             words.as_str(),
             act,
         )?),
@@ -143,14 +143,14 @@ fn tell_line(
             words,
             sight,
             behind,
-        } => account.object(words_with(alloc, teller, words.as_str(), *sight, behind.as_str())?),
+        } => account.object(words_with(alloc, printer, words.as_str(), *sight, behind.as_str())?),
     }
 }
 
 /// Adds what a story tells. `client`, `expected` and `asks` are null where it doesn't tell them.
-pub fn tell_account(
+pub fn write_account(
     alloc: Global,
-    teller: &Teller<'_>,
+    printer: &Printer<'_>,
     story: &Story,
     answer: &mut Object,
 ) -> Result<(), AllocError> {
@@ -159,7 +159,7 @@ pub fn tell_account(
     answer.nothing("asks")?;
     let mut account = List::new(alloc);
     for line in &story.lines {
-        tell_line(alloc, teller, story.moment, line, answer, &mut account)?;
+        write_line(alloc, printer, story.moment, line, answer, &mut account)?;
     }
     answer.list("account", account)
 }

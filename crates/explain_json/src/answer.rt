@@ -8,7 +8,7 @@ use crate::object::Object;
 use crate::sighting::sighting_of;
 use audit_model::{Breach, Verdict};
 use audit_report::rule_text;
-use explain_story::Teller;
+use explain_story::Printer;
 use explain_text::Utc;
 use std::alloc::{AllocError, Global};
 
@@ -22,21 +22,21 @@ pub struct Captured {
 }
 
 /// The least breach, as the report has it.
-fn breach_of(alloc: Global, teller: &Teller<'_>, breach: &Breach) -> Result<Object, AllocError> {
+fn breach_of(alloc: Global, printer: &Printer<'_>, breach: &Breach) -> Result<Object, AllocError> {
     let mut object = Object::new(alloc);
     object.number("phase", u64::from(breach.phase))?;
     object.number("lane", u64::from(breach.at.lane))?;
     object.number("event", u64::from(breach.at.place))?;
     object.nanoseconds("moment", breach.at.key.moment)?;
     object.number("tie", u64::from(breach.at.key.tie))?;
-    object.object("datagram", sighting_of(alloc, teller, breach.sight)?)?;
+    object.object("datagram", sighting_of(alloc, printer, breach.sight)?)?;
     Ok(object)
 }
 
 /// Adds what the verdict is about: the captures, and the counts or the breach.
-pub fn tell_captured(
+pub fn write_captured(
     alloc: Global,
-    teller: &Teller<'_>,
+    printer: &Printer<'_>,
     verdict: &Verdict,
     captured: Captured,
     answer: &mut Object,
@@ -62,13 +62,13 @@ pub fn tell_captured(
         Verdict::NotShown(breach) => {
             answer.nothing("datagrams")?;
             answer.nothing("clients")?;
-            answer.object("breach", breach_of(alloc, teller, breach)?)
+            answer.object("breach", breach_of(alloc, printer, breach)?)
         }
     }
 }
 
 /// Adds the rule that is broken.
-fn tell_rule(verdict: &Verdict, answer: &mut Object) -> Result<(), AllocError>
+fn write_rule(verdict: &Verdict, answer: &mut Object) -> Result<(), AllocError>
     ensures { OnOk result (members_of answer.new ≡ put (codes "rule") (rule_of verdict.now) (members_of answer.old)) }
 {
     match verdict {
@@ -87,13 +87,14 @@ fn word(verdict: &Verdict) -> &'static str
     }
 }
 
-/// The text of an answer, on one line, with its verdict: `rule` and `verdict` are those of the verdict, whatever was told before.
+/// The text of an answer, on one line, with its verdict: `rule` and `verdict` are those of the
+/// verdict, whatever was told before.
 pub fn answer_text(verdict: &Verdict, answer: Object) -> Result<String, AllocError>
     ensures { IfOk result (λ text. IsAnswer verdict.now (string_bytes text)) }
 {
     let mut answer = answer;
     answer.text("schema", "turnexplain/1")?;
-    tell_rule(verdict, &mut answer)?;
+    write_rule(verdict, &mut answer)?;
     answer.text("verdict", word(verdict))?;
     answer.to_line()
 }

@@ -3,19 +3,19 @@
 use crate::object::{List, Object};
 use crate::sighting::sighting_of;
 use audit_model::SightId;
-use explain_story::{Lasting, Rung, Step, Teller, Way};
+use explain_story::{Lasting, Printer, Rung, Step, Way};
 use std::alloc::{AllocError, Global};
 
 /// A datagram that comes or goes.
-fn tell_datagram(
+fn write_datagram(
     object: &mut Object,
-    teller: &Teller<'_>,
+    printer: &Printer<'_>,
     what: &str,
     sight: SightId,
 ) -> Result<(), AllocError> {
     let alloc = object.alloc();
     object.text("step", what)?;
-    object.object("datagram", sighting_of(alloc, teller, sight)?)
+    object.object("datagram", sighting_of(alloc, printer, sight)?)
 }
 
 /// Which leases last.
@@ -37,11 +37,11 @@ fn way_word(way: Way) -> &'static str {
 }
 
 /// What happens at an event.
-fn tell_step(object: &mut Object, teller: &Teller<'_>, step: Step) -> Result<(), AllocError> {
+fn write_step(object: &mut Object, printer: &Printer<'_>, step: Step) -> Result<(), AllocError> {
     let alloc = object.alloc();
     match step {
-        Step::Arrives(sight) => tell_datagram(object, teller, "arrives", sight),
-        Step::Leaves(sight) => tell_datagram(object, teller, "leaves", sight),
+        Step::Arrives(sight) => write_datagram(object, printer, "arrives", sight),
+        Step::Leaves(sight) => write_datagram(object, printer, "leaves", sight),
         Step::Act {
             arrives,
             leaves,
@@ -50,33 +50,33 @@ fn tell_step(object: &mut Object, teller: &Teller<'_>, step: Step) -> Result<(),
         } => {
             object.text("step", "act")?;
             object.text("way", way_word(way))?;
-            object.object("arrival", sighting_of(alloc, teller, arrives)?)?;
-            object.object("departure", sighting_of(alloc, teller, leaves)?)?;
+            object.object("arrival", sighting_of(alloc, printer, arrives)?)?;
+            object.object("departure", sighting_of(alloc, printer, leaves)?)?;
             object.object("lasts", lasting_of(alloc, lasting)?)
         }
     }
 }
 
 /// An event.
-fn event_of(alloc: Global, teller: &Teller<'_>, rung: &Rung) -> Result<Object, AllocError> {
+fn event_of(alloc: Global, printer: &Printer<'_>, rung: &Rung) -> Result<Object, AllocError> {
     let mut object = Object::new(alloc);
     object.number("event", u64::from(rung.place))?;
     object.nanoseconds("moment", rung.moment)?;
     object.flag("is_breach", rung.is_breach)?;
-    tell_step(&mut object, teller, rung.step)?;
+    write_step(&mut object, printer, rung.step)?;
     Ok(object)
 }
 
 /// Adds the events of a lane.
-pub fn tell_events(
+pub fn write_events(
     alloc: Global,
-    teller: &Teller<'_>,
+    printer: &Printer<'_>,
     rungs: &[Rung],
     answer: &mut Object,
 ) -> Result<(), AllocError> {
     let mut events = List::new(alloc);
     for rung in rungs {
-        events.object(event_of(alloc, teller, rung)?)?;
+        events.object(event_of(alloc, printer, rung)?)?;
     }
     answer.list("events", events)
 }

@@ -6,7 +6,7 @@ use audit_lane::Finding;
 use audit_model::Breach;
 use audit_report::rule_text;
 use explain_state::{LaneRow, Traffic, lane_row};
-use explain_story::{Lanes, Sums, Teller, allocations, is_broken};
+use explain_story::{Lanes, Printer, Sums, allocations, is_broken};
 use std::alloc::{AllocError, Global};
 
 /// Datagrams and bytes.
@@ -18,17 +18,17 @@ fn traffic_of(alloc: Global, traffic: Traffic) -> Result<Object, AllocError> {
 }
 
 /// The first breach of a lane.
-fn breach_of(alloc: Global, teller: &Teller<'_>, breach: Breach) -> Result<Object, AllocError> {
+fn breach_of(alloc: Global, printer: &Printer<'_>, breach: Breach) -> Result<Object, AllocError> {
     let mut object = Object::new(alloc);
     object.text("rule", rule_text(breach.rule))?;
     object.number("event", u64::from(breach.at.place))?;
     object.nanoseconds("moment", breach.at.key.moment)?;
-    object.object("datagram", sighting_of(alloc, teller, breach.sight)?)?;
+    object.object("datagram", sighting_of(alloc, printer, breach.sight)?)?;
     Ok(object)
 }
 
 /// Whose lane it is.
-fn tell_ends(object: &mut Object, row: &LaneRow<'_>) -> Result<(), AllocError> {
+fn write_ends(object: &mut Object, row: &LaneRow<'_>) -> Result<(), AllocError> {
     let alloc = object.alloc();
     let client = row.client;
     let listen = row.listen;
@@ -44,17 +44,17 @@ fn tell_ends(object: &mut Object, row: &LaneRow<'_>) -> Result<(), AllocError> {
 /// A lane.
 fn lane_of(
     alloc: Global,
-    teller: &Teller<'_>,
+    printer: &Printer<'_>,
     finding: &Finding<'_>,
 ) -> Result<Object, AllocError> {
     let row = lane_row(finding);
     let mut object = Object::new(alloc);
-    tell_ends(&mut object, &row)?;
+    write_ends(&mut object, &row)?;
     object.number("allocations", allocations(alloc, finding)? as u64)?;
     object.object("up", traffic_of(alloc, row.up)?)?;
     object.object("down", traffic_of(alloc, row.down)?)?;
     match row.breach {
-        Some(breach) => object.object("breach", breach_of(alloc, teller, breach)?)?,
+        Some(breach) => object.object("breach", breach_of(alloc, printer, breach)?)?,
         None => object.nothing("breach")?,
     }
     Ok(object)
@@ -74,9 +74,9 @@ fn sums_of(alloc: Global, sums: Sums) -> Result<Object, AllocError> {
 }
 
 /// Adds the lanes, all of them or those alone that break a rule, and their sums.
-pub fn tell_lanes(
+pub fn write_lanes(
     alloc: Global,
-    teller: &Teller<'_>,
+    printer: &Printer<'_>,
     lanes: &Lanes<'_>,
     only_broken: bool,
     sums: Sums,
@@ -85,7 +85,7 @@ pub fn tell_lanes(
     let mut list = List::new(alloc);
     for finding in &lanes.findings {
         if !only_broken || is_broken(finding) {
-            list.object(lane_of(alloc, teller, finding)?)?;
+            list.object(lane_of(alloc, printer, finding)?)?;
         }
     }
     answer.list("lanes", list)?;
@@ -93,20 +93,20 @@ pub fn tell_lanes(
 }
 
 /// Says that no lane is judged.
-pub fn tell_no_lanes(answer: &mut Object) -> Result<(), AllocError> {
+pub fn write_no_lanes(answer: &mut Object) -> Result<(), AllocError> {
     answer.nothing("lanes")?;
     answer.nothing("sums")
 }
 
 /// Adds a lane; null where there is none.
-pub fn tell_lane(
+pub fn write_lane(
     alloc: Global,
-    teller: &Teller<'_>,
+    printer: &Printer<'_>,
     finding: Option<&Finding<'_>>,
     answer: &mut Object,
 ) -> Result<(), AllocError> {
     match finding {
-        Some(finding) => answer.object("client", lane_of(alloc, teller, finding)?),
+        Some(finding) => answer.object("client", lane_of(alloc, printer, finding)?),
         None => answer.nothing("client"),
     }
 }

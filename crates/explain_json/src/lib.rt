@@ -9,8 +9,8 @@ mod lease;
 mod object;
 mod sighting;
 
-pub use account::tell_account;
-pub use answer::{Captured, answer_text, tell_captured};
-pub use events::tell_events;
-pub use lanes::{tell_lane, tell_lanes, tell_no_lanes};
+pub use account::write_account;
+pub use answer::{Captured, answer_text, write_captured};
+pub use events::write_events;
+pub use lanes::{write_lane, write_lanes, write_no_lanes};
 pub use object::{List, Object};

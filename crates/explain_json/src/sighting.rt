@@ -2,13 +2,13 @@
 
 use crate::object::Object;
 use audit_model::{SightId, Sighting};
-use explain_story::Teller;
+use explain_story::Printer;
 use std::alloc::{AllocError, Global};
 
 /// What the intake has of a datagram.
-fn tell_seen(
+fn write_seen(
     object: &mut Object,
-    teller: &Teller<'_>,
+    printer: &Printer<'_>,
     sighting: &Sighting,
 ) -> Result<(), AllocError> {
     let alloc = object.alloc();
@@ -17,12 +17,12 @@ fn tell_seen(
     object.string("from", format!(in alloc; "{from}")?)?;
     let to = sighting.to;
     object.string("to", format!(in alloc; "{to}")?)?;
-    object.string("what", teller.what(alloc, sighting)?)?;
+    object.string("what", printer.what(alloc, sighting)?)?;
     object.number("bytes", sighting.payload.len() as u64)
 }
 
 /// Nothing, where the captures have no datagram of the name.
-fn tell_unseen(object: &mut Object) -> Result<(), AllocError> {
+fn write_unseen(object: &mut Object) -> Result<(), AllocError> {
     object.nothing("stamp")?;
     object.nothing("from")?;
     object.nothing("to")?;
@@ -31,20 +31,24 @@ fn tell_unseen(object: &mut Object) -> Result<(), AllocError> {
 }
 
 /// The number of a datagram's frame; null where it isn't known.
-fn tell_frame(object: &mut Object, teller: &Teller<'_>, sight: SightId) -> Result<(), AllocError> {
-    match teller.frames.frame(sight) {
+fn write_frame(
+    object: &mut Object,
+    printer: &Printer<'_>,
+    sight: SightId,
+) -> Result<(), AllocError> {
+    match printer.frames.frame(sight) {
         Some(frame) => object.number("frame", frame.number),
         None => object.nothing("frame"),
     }
 }
 
 /// The name of a datagram's capture; null where there is none of its number.
-fn tell_capture(
+fn write_capture(
     object: &mut Object,
-    teller: &Teller<'_>,
+    printer: &Printer<'_>,
     sight: SightId,
 ) -> Result<(), AllocError> {
-    match teller.capture_name(sight) {
+    match printer.capture_name(sight) {
         Some(name) => object.bytes("capture", name.as_bytes()),
         None => object.nothing("capture"),
     }
@@ -53,17 +57,17 @@ fn tell_capture(
 /// A datagram, by its name in reports.
 pub fn sighting_of(
     alloc: Global,
-    teller: &Teller<'_>,
+    printer: &Printer<'_>,
     sight: SightId,
 ) -> Result<Object, AllocError> {
     let mut object = Object::new(alloc);
     object.number("interface", u64::from(sight.iface))?;
     object.number("index", u64::from(sight.index))?;
-    tell_capture(&mut object, teller, sight)?;
-    tell_frame(&mut object, teller, sight)?;
-    match teller.case.intake.sighting(sight) {
-        Some(sighting) => tell_seen(&mut object, teller, sighting)?,
-        None => tell_unseen(&mut object)?,
+    write_capture(&mut object, printer, sight)?;
+    write_frame(&mut object, printer, sight)?;
+    match printer.case.intake.sighting(sight) {
+        Some(sighting) => write_seen(&mut object, printer, sighting)?,
+        None => write_unseen(&mut object)?,
     }
     Ok(object)
 }

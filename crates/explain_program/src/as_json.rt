@@ -10,7 +10,7 @@ use crate::digesting::{Digesting, unread};
 use crate::explaining::{case_of, expected_by, expected_status};
 use crate::host::{Explaining, check_captures};
 use crate::inputs::add_inputs;
-use crate::json::tell_asked;
+use crate::json::write_answer;
 use crate::judged::judge_files;
 use crate::run_error::RunError;
 use audit_files::{Stop, Workers};
@@ -75,7 +75,7 @@ pub fn explain_as_json<R: Threads + Wait + Sync, F: CertificateFinder, S: Explai
         captures,
         &mut answer,
     )?;
-    tell_asked(
+    write_answer(
         alloc,
         source,
         case_of(&judged, captures),

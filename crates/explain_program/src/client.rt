@@ -6,7 +6,7 @@ use audit_files::{Source, Stop};
 use audit_lane::{Finding, Outcome};
 use explain_frames::Frames;
 use explain_lookup::look_up;
-use explain_story::{Case, Teller, ask_span, ladder_lines, lanes_of, rungs_of, span_of};
+use explain_story::{Case, Printer, ladder_lines, lanes_of, request_span, rungs_of, span_of};
 use std::alloc::{AllocError, Global};
 
 /// The place of a lane's first breach.
@@ -46,7 +46,7 @@ fn ladder_of<S: Source>(
     let breach = breach_of(finding);
     let span = span_of(input, breach, around);
     let mut frames = Frames::new(alloc);
-    ask_span(input, span, &mut frames)?;
+    request_span(input, span, &mut frames)?;
     look_up(
         alloc,
         source,
@@ -54,14 +54,14 @@ fn ladder_of<S: Source>(
         case.captures,
         &mut frames,
     )?;
-    let teller = Teller {
+    let printer = Printer {
         case,
         frames: &frames,
     };
-    let mut rest = behind_head(alloc, &teller, length)?;
+    let mut rest = behind_head(alloc, &printer, length)?;
     rest.push_str(title(alloc, finding, breach)?.as_str())?;
     let rungs = rungs_of(alloc, case, input, span, breach)?;
-    rest.push_str(ladder_lines(alloc, &teller, &rungs)?.as_str())?;
+    rest.push_str(ladder_lines(alloc, &printer, &rungs)?.as_str())?;
     Ok(rest)
 }
 

@@ -1,5 +1,6 @@
-//! The commands and their options, as clap has them. Their help is that of the pages. Each option is made where it is added: one that waits
-//! in a variable would be let go on each way out of the function, and each of these is proved.
+//! The commands and their options, as clap has them. Their help is that of the pages. Each option
+//! is made where it is added: one that waits in a variable would be let go on each way out of the
+//! function, and each of these is proved.
 
 ghost use Rattle.std.specs.Prelude.{◌≡◌, ◌≤◌, pos, false, IfOk};
 ghost use Rattle.clap.specs.Words.{app_of, rule_of};
@@ -104,7 +105,11 @@ fn judging_command<'a>(alloc: Global, name: &'a str, page: Page) -> Result<Comma
 }
 
 /// The command of that name whose answer may be JSON.
-fn telling_command<'a>(alloc: Global, name: &'a str, page: Page) -> Result<Command<'a>, AllocError>
+fn answering_command<'a>(
+    alloc: Global,
+    name: &'a str,
+    page: Page,
+) -> Result<Command<'a>, AllocError>
     ensures app { IfOk result (λ command. app_of command ≡ words.telling name.entry.now) }
     ensures local { IfOk result (λ command. (fields_of command).has_globals ≡ false) }
 {
@@ -128,7 +133,7 @@ fn verdict_command<'a>(alloc: Global) -> Result<Command<'a>, AllocError>
     ensures app { IfOk result (λ command. app_of command ≡ words.verdict) }
     ensures local { IfOk result (λ command. (fields_of command).has_globals ≡ false) }
 {
-    telling_command(alloc, "verdict", Page::Verdict)?.arg(expected_option(alloc))
+    answering_command(alloc, "verdict", Page::Verdict)?.arg(expected_option(alloc))
 }
 
 /// The command `lanes`, one option of which leaves out whom no rule is broken for.
@@ -136,7 +141,7 @@ fn lanes_command<'a>(alloc: Global) -> Result<Command<'a>, AllocError>
     ensures app { IfOk result (λ command. app_of command ≡ words.lanes) }
     ensures local { IfOk result (λ command. (fields_of command).has_globals ≡ false) }
 {
-    telling_command(alloc, "lanes", Page::Lanes)?.arg(flag(alloc, "broken"))
+    answering_command(alloc, "lanes", Page::Lanes)?.arg(flag(alloc, "broken"))
 }
 
 /// The option of `client` with the client's number.
@@ -170,7 +175,7 @@ fn client_command<'a>(alloc: Global) -> Result<Command<'a>, AllocError>
     ensures app { IfOk result (λ command. app_of command ≡ words.client) }
     ensures local { IfOk result (λ command. (fields_of command).has_globals ≡ false) }
 {
-    telling_command(alloc, "client", Page::Client)?
+    answering_command(alloc, "client", Page::Client)?
         .arg(lane_option(alloc))?
         .arg(around_option(alloc))
 }

@@ -1,7 +1,7 @@
 //! What is told of captures that conform.
 
 use explain_clients::count_answered;
-use explain_story::Teller;
+use explain_story::Printer;
 use std::alloc::{AllocError, Global};
 
 const MEANING: &str =
@@ -14,19 +14,19 @@ const NO_RESPONSE: &str =
     "No request has a response: a server that sends nothing conforms (docs/VERDICTS.md#what-was-judged).\n";
 
 /// What stands behind the head.
-pub fn conforming_lines(alloc: Global, teller: &Teller<'_>) -> Result<String, AllocError> {
-    let (_, sightings) = teller.case.intake.counts();
+pub fn conforming_lines(alloc: Global, printer: &Printer<'_>) -> Result<String, AllocError> {
+    let (_, sightings) = printer.case.intake.counts();
     if sightings == 0 {
         return String::from_str(alloc, NOTHING);
     }
     let mut lines = String::from_str(alloc, MEANING)?;
-    lines.push_str(lines_of_answered(alloc, teller)?.as_str())?;
+    lines.push_str(lines_of_answered(alloc, printer)?.as_str())?;
     Ok(lines)
 }
 
 /// How many requests have a response: a server that never responds conforms.
-fn lines_of_answered(alloc: Global, teller: &Teller<'_>) -> Result<String, AllocError> {
-    let all = count_answered(alloc, teller.case.intake)?;
+fn lines_of_answered(alloc: Global, printer: &Printer<'_>) -> Result<String, AllocError> {
+    let all = count_answered(alloc, printer.case.intake)?;
     let requests = all.requests;
     let answered = all.answered;
     let clients = all.clients;

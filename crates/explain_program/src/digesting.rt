@@ -1,5 +1,5 @@
-//! The digests of files as they are read, so that what is filed of a file is of the bytes that were judged, and whether a later reading gave
-//! other bytes.
+//! The digests of files as they are read, so that what is filed of a file is of the bytes that were
+//! judged, and whether a later reading gave other bytes.
 
 ghost use Rattle.std.specs.Prelude.{◌≡◌};
 

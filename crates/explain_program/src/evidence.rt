@@ -29,7 +29,7 @@ use explain_frames::Frames;
 use explain_lookup::look_up;
 use explain_page::{Facts, page_of};
 use explain_story::{
-    Case, Lanes, Teller, ask_breaches, is_broken, lane_line, lanes_of, sum_lines, sums_of,
+    Case, Lanes, Printer, is_broken, lane_line, lanes_of, request_breaches, sum_lines, sums_of,
 };
 use std::alloc::{AllocError, Global};
 use std::sync::Wait;
@@ -65,33 +65,33 @@ struct Gathered {
 /// The first clients' lines.
 fn lines_of(
     alloc: Global,
-    teller: &Teller<'_>,
+    printer: &Printer<'_>,
     lanes: &Lanes<'_>,
     verdict: &Verdict,
 ) -> Result<Clients, AllocError> {
     let mut lines = Vec::new(alloc);
     let mut broken = Vec::new(alloc);
     for finding in lanes.findings.iter().take(MOST_CLIENTS) {
-        lines.push(lane_line(alloc, teller, finding)?)?;
+        lines.push(lane_line(alloc, printer, finding)?)?;
         broken.push(is_broken(finding))?;
     }
     Ok(Clients {
         lines,
         broken,
         all: u32::try_from(lanes.findings.len()).unwrap_or(u32::MAX),
-        sums: sum_lines(alloc, sums_of(teller.case, lanes, breach_of(verdict)))?,
+        sums: sum_lines(alloc, sums_of(printer.case, lanes, breach_of(verdict)))?,
     })
 }
 
 /// The clients of a run; none where placement breaks a rule, so that no lane is judged.
 fn clients_of(
     alloc: Global,
-    teller: &Teller<'_>,
+    printer: &Printer<'_>,
     lanes: Option<&Lanes<'_>>,
     verdict: &Verdict,
 ) -> Result<Clients, AllocError> {
     match lanes {
-        Some(lanes) => lines_of(alloc, teller, lanes, verdict),
+        Some(lanes) => lines_of(alloc, printer, lanes, verdict),
         None => Ok(Clients {
             lines: Vec::new(alloc),
             broken: Vec::new(alloc),
@@ -104,7 +104,8 @@ fn clients_of(
     }
 }
 
-/// The account of a verdict, when the first frame was seen, and the clients: what is told by frames, which one pass over the captures looks up.
+/// The account of a verdict, when the first frame was seen, and the clients: what is told by
+/// frames, which one pass over the captures looks up.
 fn by_frames<S: Source>(
     alloc: Global,
     source: &mut S,
@@ -116,7 +117,7 @@ fn by_frames<S: Source>(
     let mut frames = Frames::new(alloc);
     story.ask(&mut frames)?;
     if let Some(lanes) = lanes {
-        ask_breaches(lanes, &mut frames)?;
+        request_breaches(lanes, &mut frames)?;
     }
     look_up(
         alloc,
@@ -125,17 +126,17 @@ fn by_frames<S: Source>(
         case.captures,
         &mut frames,
     )?;
-    let teller = Teller {
+    let printer = Printer {
         case,
         frames: &frames,
     };
     let mut account = head(alloc, verdict)?;
     let length = account.len();
-    account.push_str(verdict_lines(alloc, &teller, verdict, &story, shown, length)?.as_str())?;
+    account.push_str(verdict_lines(alloc, &printer, verdict, &story, shown, length)?.as_str())?;
     Ok((
         account,
-        teller.first(),
-        clients_of(alloc, &teller, lanes, verdict)?,
+        printer.first(),
+        clients_of(alloc, &printer, lanes, verdict)?,
     ))
 }
 
@@ -222,8 +223,9 @@ fn page<S: Source>(
     page_of(alloc, &facts)
 }
 
-/// Judges captures, writes the page to a new file, and prints the verdict. It returns 0 if they conform, and 1 if that isn't shown. The
-/// digests of the page are of the bytes that were judged: a capture that changes while it is read is an error.
+/// Judges captures, writes the page to a new file, and prints the verdict. It returns 0 if they
+/// conform, and 1 if that isn't shown. The digests of the page are of the bytes that were judged: a
+/// capture that changes while it is read is an error.
 pub fn evidence<
     R: Threads + Wait + Sync,
     F: CertificateFinder,

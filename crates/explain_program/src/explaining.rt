@@ -73,7 +73,8 @@ pub fn expected_by(asked: Asked) -> Option<u32>
     }
 }
 
-/// The exit status of a verdict: 6 if the captures conform and fewer of their requests than this percentage have a response.
+/// The exit status of a verdict: 6 if the captures conform and fewer of their requests than this
+/// percentage have a response.
 pub fn expected_status(
     alloc: Global,
     intake: &Intake,
@@ -93,8 +94,9 @@ pub fn expected_status(
     Ok(judged)
 }
 
-/// Judges captures, and reports what is requested of the verdict: the answer begins with the verdict. It returns 0 if they conform, and 1 if
-/// that isn't shown. A capture that changes while it is read is an error.
+/// Judges captures, and reports what is requested of the verdict: the answer begins with the
+/// verdict. It returns 0 if they conform, and 1 if that isn't shown. A capture that changes while
+/// it is read is an error.
 pub fn explain<R: Threads + Wait + Sync, F: CertificateFinder, S: Explaining, O: Sink>(
     rt: &R,
     alloc: Global,

@@ -11,13 +11,13 @@ use audit_lane::{Finding, Outcome};
 use audit_model::{Breach, Verdict};
 use explain_frames::Frames;
 use explain_json::{
-    Captured, Object, tell_account, tell_captured, tell_events, tell_lane, tell_lanes,
-    tell_no_lanes,
+    Captured, Object, write_account, write_captured, write_events, write_lane, write_lanes,
+    write_no_lanes,
 };
 use explain_lookup::look_up;
 use explain_story::{
-    Case, InEveryOrder, Lanes, Rung, Teller, ask_breaches, ask_span, lanes_of, rungs_of, span_of,
-    sums_of,
+    Case, InEveryOrder, Lanes, Printer, Rung, lanes_of, request_breaches, request_span, rungs_of,
+    span_of, sums_of,
 };
 use std::alloc::{AllocError, Global};
 
@@ -36,17 +36,17 @@ fn look_up_all<S: Source>(
 }
 
 /// Adds what every answer has.
-fn tell_head(
+fn write_head(
     alloc: Global,
-    teller: &Teller<'_>,
+    printer: &Printer<'_>,
     verdict: &Verdict,
     answer: &mut Object,
 ) -> Result<(), AllocError> {
     let captured = Captured {
-        interfaces: interfaces(teller),
-        first: teller.frames.first(),
+        interfaces: interfaces(printer),
+        first: printer.frames.first(),
     };
-    tell_captured(alloc, teller, verdict, captured, answer)
+    write_captured(alloc, printer, verdict, captured, answer)
 }
 
 /// The fault that the breach's departure shows.
@@ -64,7 +64,7 @@ fn object_of_fault(
 }
 
 /// Adds which fault the breach's departure shows in every order, and how many others show one where it shows none.
-fn tell_shown(
+fn write_shown(
     alloc: Global,
     shown: Option<InEveryOrder>,
     answer: &mut Object,
@@ -92,7 +92,7 @@ fn tell_shown(
 }
 
 /// The answer of the command `verdict`.
-fn tell_verdict<S: Source>(
+fn write_verdict<S: Source>(
     alloc: Global,
     source: &mut S,
     case: Case<'_>,
@@ -103,18 +103,18 @@ fn tell_verdict<S: Source>(
     let mut frames = Frames::new(alloc);
     story.ask(&mut frames)?;
     look_up_all(alloc, source, case, verdict, &mut frames)?;
-    let teller = Teller {
+    let printer = Printer {
         case,
         frames: &frames,
     };
-    tell_head(alloc, &teller, verdict, answer)?;
-    tell_account(alloc, &teller, &story, answer)?;
-    tell_shown(alloc, shown, answer)?;
+    write_head(alloc, &printer, verdict, answer)?;
+    write_account(alloc, &printer, &story, answer)?;
+    write_shown(alloc, shown, answer)?;
     Ok(())
 }
 
 /// The answer of the command `lanes`.
-fn tell_all_lanes<S: Source>(
+fn write_all_lanes<S: Source>(
     alloc: Global,
     source: &mut S,
     case: Case<'_>,
@@ -125,19 +125,19 @@ fn tell_all_lanes<S: Source>(
     let judged = lanes_of(alloc, case)?;
     let mut frames = Frames::new(alloc);
     if let Some(lanes) = &judged {
-        ask_breaches(lanes, &mut frames)?;
+        request_breaches(lanes, &mut frames)?;
     }
     look_up_all(alloc, source, case, verdict, &mut frames)?;
-    let teller = Teller {
+    let printer = Printer {
         case,
         frames: &frames,
     };
-    tell_head(alloc, &teller, verdict, answer)?;
+    write_head(alloc, &printer, verdict, answer)?;
     match &judged {
-        None => tell_no_lanes(answer)?,
+        None => write_no_lanes(answer)?,
         Some(lanes) => {
             let sums = sums_of(case, lanes, breach_of(verdict));
-            tell_lanes(alloc, &teller, lanes, only_broken, sums, answer)?;
+            write_lanes(alloc, &printer, lanes, only_broken, sums, answer)?;
         }
     }
     Ok(())
@@ -186,12 +186,12 @@ fn rungs_in(
     }
     let place = breach.map(|breach| breach.at.place);
     let span = span_of(input, place, around);
-    ask_span(input, span, frames)?;
+    request_span(input, span, frames)?;
     rungs_of(alloc, case, input, span, place)
 }
 
 /// The answer of the command `client`.
-fn tell_client<S: Source>(
+fn write_client<S: Source>(
     alloc: Global,
     source: &mut S,
     case: Case<'_>,
@@ -205,18 +205,18 @@ fn tell_client<S: Source>(
     let mut frames = Frames::new(alloc);
     let rungs = rungs_in(alloc, case, finding, around, &mut frames)?;
     look_up_all(alloc, source, case, verdict, &mut frames)?;
-    let teller = Teller {
+    let printer = Printer {
         case,
         frames: &frames,
     };
-    tell_head(alloc, &teller, verdict, answer)?;
-    tell_lane(alloc, &teller, finding, answer)?;
-    tell_events(alloc, &teller, &rungs, answer)?;
+    write_head(alloc, &printer, verdict, answer)?;
+    write_lane(alloc, &printer, finding, answer)?;
+    write_events(alloc, &printer, &rungs, answer)?;
     Ok(())
 }
 
 /// Adds what is asked of a verdict.
-pub fn tell_asked<S: Source>(
+pub fn write_answer<S: Source>(
     alloc: Global,
     source: &mut S,
     case: Case<'_>,
@@ -227,15 +227,15 @@ pub fn tell_asked<S: Source>(
     match asked {
         Asked::Verdict { .. } => {
             answer.text("command", "verdict")?;
-            Ok(tell_verdict(alloc, source, case, verdict, answer)?)
+            Ok(write_verdict(alloc, source, case, verdict, answer)?)
         }
         Asked::Lanes { broken } => {
             answer.text("command", "lanes")?;
-            Ok(tell_all_lanes(alloc, source, case, verdict, broken, answer)?)
+            Ok(write_all_lanes(alloc, source, case, verdict, broken, answer)?)
         }
         Asked::Client { lane, around } => {
             answer.text("command", "client")?;
-            tell_client(alloc, source, case, verdict, lane, around, answer)
+            write_client(alloc, source, case, verdict, lane, around, answer)
         }
     }
 }

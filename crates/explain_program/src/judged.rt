@@ -87,9 +87,10 @@ fn judged_by_finding<R: Threads + Wait + Sync, F: CertificateFinder, S: Source>(
     })
 }
 
-/// The verdict on the files that are named: by the certificate of a file where one is named, else by one that is found. Files are read in
-/// this order: policy, users, certificate, captures; each is judged before the next is read. One thread reads them, so that the source
-/// sees all bytes that are judged.
+/// The verdict on the files that are named: by the certificate of a file where one is named, else
+/// by one that is found. Files are read in this order: policy, users, certificate, captures; each
+/// is judged before the next is read. One thread reads them, so that the source sees all bytes that
+/// are judged.
 pub fn judge_files<R: Threads + Wait + Sync, F: CertificateFinder, S: Source>(
     rt: &R,
     alloc: Global,

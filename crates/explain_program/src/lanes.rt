@@ -6,7 +6,7 @@ use audit_model::{Breach, Verdict};
 use explain_frames::Frames;
 use explain_lookup::look_up;
 use explain_story::{
-    Case, Lanes, Teller, ask_breaches, is_broken, lane_line, lanes_of, sum_lines, sums_of,
+    Case, Lanes, Printer, is_broken, lane_line, lanes_of, request_breaches, sum_lines, sums_of,
 };
 use std::alloc::{AllocError, Global};
 
@@ -24,14 +24,14 @@ pub fn breach_of(verdict: &Verdict) -> Option<Breach> {
 /// The lines of the lanes, of all or of those alone that break a rule.
 fn lines(
     alloc: Global,
-    teller: &Teller<'_>,
+    printer: &Printer<'_>,
     lanes: &Lanes<'_>,
     only_broken: bool,
 ) -> Result<String, AllocError> {
     let mut text = String::new(alloc);
     for finding in &lanes.findings {
         if !only_broken || is_broken(finding) {
-            text.push_str(lane_line(alloc, teller, finding)?.as_str())?;
+            text.push_str(lane_line(alloc, printer, finding)?.as_str())?;
         }
     }
     Ok(text)
@@ -49,7 +49,7 @@ pub fn rest_of_lanes<S: Source>(
     let judged = lanes_of(alloc, case)?;
     let mut frames = Frames::new(alloc);
     if let Some(lanes) = &judged {
-        ask_breaches(lanes, &mut frames)?;
+        request_breaches(lanes, &mut frames)?;
     }
     look_up(
         alloc,
@@ -58,15 +58,15 @@ pub fn rest_of_lanes<S: Source>(
         case.captures,
         &mut frames,
     )?;
-    let teller = Teller {
+    let printer = Printer {
         case,
         frames: &frames,
     };
-    let mut rest = behind_head(alloc, &teller, length)?;
+    let mut rest = behind_head(alloc, &printer, length)?;
     match &judged {
         None => rest.push_str(NO_LANES)?,
         Some(lanes) => {
-            rest.push_str(lines(alloc, &teller, lanes, only_broken)?.as_str())?;
+            rest.push_str(lines(alloc, &printer, lanes, only_broken)?.as_str())?;
             rest.push_str(sum_lines(alloc, sums_of(case, lanes, breach_of(verdict)))?.as_str())?;
         }
     }

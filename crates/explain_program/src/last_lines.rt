@@ -4,7 +4,7 @@ use audit_faults::Fault;
 use audit_model::SightId;
 use audit_sightings::Intake;
 use explain_clients::{has_relayed, is_response};
-use explain_story::{InEveryOrder, Story, Teller};
+use explain_story::{InEveryOrder, Printer, Story};
 use explain_text::{Quoted, Utc};
 use std::alloc::{AllocError, Global};
 
@@ -18,10 +18,10 @@ const INTERFACES: u32 = 64;
 const MOST_FRAMES: usize = 24;
 
 /// How many interfaces have a datagram of the service.
-pub fn interfaces(teller: &Teller<'_>) -> u32 {
+pub fn interfaces(printer: &Printer<'_>) -> u32 {
     let mut count = 0u32;
-    for iface in 0..teller.case.intake.interfaces() {
-        if !teller.case.intake.interface(iface).is_empty() {
+    for iface in 0..printer.case.intake.interfaces() {
+        if !printer.case.intake.interface(iface).is_empty() {
             count = count.saturating_add(1);
         }
     }
@@ -31,16 +31,16 @@ pub fn interfaces(teller: &Teller<'_>) -> u32 {
 /// What stands behind a head of so many bytes on its line: how many interfaces there are, and when the captures begin.
 pub fn behind_head(
     alloc: Global,
-    teller: &Teller<'_>,
+    printer: &Printer<'_>,
     length: usize,
 ) -> Result<String, AllocError> {
     let mut text = String::from_str(alloc, " ")?;
     for _ in length..COLUMN {
         text.push_str(" ")?;
     }
-    let interfaces = interfaces(teller);
+    let interfaces = interfaces(printer);
     let first = Utc {
-        moment: teller.first(),
+        moment: printer.first(),
     };
     let noun = if interfaces == 1 {
         "interface"
@@ -88,14 +88,14 @@ fn joined(alloc: Global, numbers: &[u64]) -> Result<String, AllocError> {
 /// The numbers of the frames in a capture that show datagrams, in rising order.
 fn numbers_in(
     alloc: Global,
-    teller: &Teller<'_>,
+    printer: &Printer<'_>,
     sights: &[SightId],
     file: u32,
 ) -> Result<Vec<u64>, AllocError> {
     let mut numbers = Vec::new(alloc);
     for sight in sights {
         if sight.iface / INTERFACES == file {
-            if let Some(frame) = teller.frames.frame(*sight) {
+            if let Some(frame) = printer.frames.frame(*sight) {
                 numbers.push(frame.number)?;
             }
         }
@@ -107,12 +107,12 @@ fn numbers_in(
 /// How to look at the frames of a capture; nothing where none of its frames is told.
 fn look_line(
     alloc: Global,
-    teller: &Teller<'_>,
+    printer: &Printer<'_>,
     sights: &[SightId],
     file: u32,
     name: &str,
 ) -> Result<String, AllocError> {
-    let numbers = numbers_in(alloc, teller, sights, file)?;
+    let numbers = numbers_in(alloc, printer, sights, file)?;
     if numbers.is_empty() {
         return Ok(String::new(alloc));
     }
@@ -122,12 +122,16 @@ fn look_line(
 }
 
 /// How to look at the frames of a story, capture by capture.
-pub fn look_lines(alloc: Global, teller: &Teller<'_>, story: &Story) -> Result<String, AllocError> {
+pub fn look_lines(
+    alloc: Global,
+    printer: &Printer<'_>,
+    story: &Story,
+) -> Result<String, AllocError> {
     let sights = story.sights()?;
     let mut text = String::new(alloc);
     let mut file = 0u32;
-    for name in teller.case.captures {
-        text.push_str(look_line(alloc, teller, &sights, file, name)?.as_str())?;
+    for name in printer.case.captures {
+        text.push_str(look_line(alloc, printer, &sights, file, name)?.as_str())?;
         file = file.saturating_add(1);
     }
     Ok(text)

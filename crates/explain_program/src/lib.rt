@@ -1,5 +1,5 @@
-//! The program turnexplain as a function: words in, files by a host, the answer and what is said of a refusal by two sinks, and the exit
-//! status.
+//! The program turnexplain as a function: words in, files by a host, the answer and what is said of
+//! a refusal by two sinks, and the exit status.
 #![tactic(auto)]
 
 mod as_json;

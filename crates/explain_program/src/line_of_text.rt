@@ -77,7 +77,8 @@ impl LineOfText {
     }
 }
 
-/// The line of that number of a file, from 1; what there is of it if the file can't be read so far, or the line is too long.
+/// The line of that number of a file, from 1; what there is of it if the file can't be read so far,
+/// or the line is too long.
 pub fn line_of_text<S: Source>(
     alloc: Global,
     source: &mut S,

@@ -90,7 +90,7 @@ fn refused_once(alloc: Global, code: &'static str, spot: Spot<'_>) -> Result<Str
 }
 
 /// What is told of a refused text or capture. It is read once more.
-fn told_of_refused<S: Source>(
+fn words_of_refused<S: Source>(
     alloc: Global,
     source: &mut S,
     code: &'static str,
@@ -111,7 +111,7 @@ fn told_of_refused<S: Source>(
 }
 
 /// What is told of a file that can't be read.
-fn told_of_trouble(alloc: Global, name: &str, trouble: Trouble) -> Result<String, AllocError> {
+fn words_of_trouble(alloc: Global, name: &str, trouble: Trouble) -> Result<String, AllocError> {
     let name = Quoted {
         bytes: name.as_bytes(),
     };
@@ -178,7 +178,7 @@ fn read_failure<S: Explaining>(
         return format!(in alloc; "{name} changed while it was read");
     }
     match troubled(source, named) {
-        Some((name, trouble)) => told_of_trouble(alloc, name, trouble),
+        Some((name, trouble)) => words_of_trouble(alloc, name, trouble),
         None => String::from_str(alloc, "a file can't be read"),
     }
 }
@@ -206,7 +206,7 @@ fn stopped<S: Explaining, P: PageFile>(
         Stop::Refused { code, place } => {
             let spot = spot_of(named.inputs, place);
             if source.is_repeatable(spot.name) {
-                return told_of_refused(alloc, source, code, spot);
+                return words_of_refused(alloc, source, code, spot);
             }
             refused_once(alloc, code, spot)
         }

@@ -186,9 +186,11 @@ fn put_refusal<S: Explaining, P: PageFile, W: Sink>(
     }
 }
 
-/// Runs the program on its arguments, the first of which is its name, and returns its exit status: 0 conforming, no fault is shown, help or the
-/// release; 1 not shown, or faults are; 2 an input is refused; 3 out of memory; 4 a file can't be read or changes while it is read, or the
-/// answer can't be written; 5 a usage error; 6 conforming, but fewer responses than expected. What ended it before its answer is one line on `err`.
+/// Runs the program on its arguments, the first of which is its name, and returns its exit status:
+/// 0 conforming, no fault is shown, help or the release; 1 not shown, or faults are; 2 an input is
+/// refused; 3 out of memory; 4 a file can't be read or changes while it is read, or the answer
+/// can't be written; 5 a usage error; 6 conforming, but fewer responses than expected. What ended
+/// it before its answer is one line on `err`.
 pub fn run<
     R: Threads + Wait + Sync,
     F: CertificateFinder,

@@ -7,7 +7,7 @@ use audit_model::{SightId, Verdict};
 use explain_clients::Owners;
 use explain_frames::Frames;
 use explain_lookup::look_up;
-use explain_story::{Case, InEveryOrder, Story, Teller, story_of};
+use explain_story::{Case, InEveryOrder, Printer, Story, story_of};
 use std::alloc::{AllocError, Global};
 
 /// What a departure shows, but that captures didn't begin too late for data that was for another client.
@@ -61,21 +61,21 @@ pub fn story_in(
 /// What is told behind a head of so many bytes, by the frames that were looked up.
 pub fn verdict_lines(
     alloc: Global,
-    teller: &Teller<'_>,
+    printer: &Printer<'_>,
     verdict: &Verdict,
     story: &Story,
     shown: Option<InEveryOrder>,
     length: usize,
 ) -> Result<String, AllocError> {
-    let mut rest = behind_head(alloc, teller, length)?;
+    let mut rest = behind_head(alloc, printer, length)?;
     match verdict {
         Verdict::Conforming { .. } => {
-            rest.push_str(conforming_lines(alloc, teller)?.as_str())?;
+            rest.push_str(conforming_lines(alloc, printer)?.as_str())?;
         }
         Verdict::NotShown(_) => {
-            rest.push_str(teller.lines(alloc, story)?.as_str())?;
-            rest.push_str(look_lines(alloc, teller, story)?.as_str())?;
-            let last = last_line(alloc, teller.case.intake, story.departure, shown)?;
+            rest.push_str(printer.lines(alloc, story)?.as_str())?;
+            rest.push_str(look_lines(alloc, printer, story)?.as_str())?;
+            let last = last_line(alloc, printer.case.intake, story.departure, shown)?;
             rest.push_str(last.as_str())?;
         }
     }
@@ -100,9 +100,9 @@ pub fn rest_of_verdict<S: Source>(
         case.captures,
         &mut frames,
     )?;
-    let teller = Teller {
+    let printer = Printer {
         case,
         frames: &frames,
     };
-    Ok(verdict_lines(alloc, &teller, verdict, &story, shown, length)?)
+    Ok(verdict_lines(alloc, &printer, verdict, &story, shown, length)?)
 }

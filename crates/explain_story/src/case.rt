@@ -44,7 +44,8 @@ fn judge_each<'a>(alloc: Global, job: &Job<'a>) -> Result<Vec<Finding<'a>>, Allo
     Ok(findings)
 }
 
-/// The lanes of a certificate, each judged alone; none where the certificate's placement has a breach. It takes n log n in the events.
+/// The lanes of a certificate, each judged alone; none where the certificate's placement has a
+/// breach. It takes n log n in the events.
 pub fn lanes_of<'a>(alloc: Global, case: Case<'a>) -> Result<Option<Lanes<'a>>, AllocError>
     ensures { IfOk result (λ found. IfSome found (AreLanesOf (taken case.entry.intake.now) (key_for case.entry.users.now) case.entry.certificate.now)) }
 {

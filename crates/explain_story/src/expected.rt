@@ -39,7 +39,7 @@ fn by_channel(alloc: Global, scene: &Scene<'_>, what: &str) -> Result<String, Al
 
 /// Where another user's request was granted.
 fn by_user(alloc: Global, scene: &Scene<'_>) -> Result<String, AllocError> {
-    let name = match scene.asked() {
+    let name = match scene.message_in() {
         Some(asked) => asked.first(USERNAME).unwrap_or(&[]),
         None => &[],
     };
@@ -59,7 +59,7 @@ fn by_user(alloc: Global, scene: &Scene<'_>) -> Result<String, AllocError> {
 
 /// Where an error says what isn't so.
 fn by_error(alloc: Global, scene: &Scene<'_>) -> Result<String, AllocError> {
-    let Some(told) = scene.told() else {
+    let Some(told) = scene.message_out() else {
         return String::from_str(alloc, "a success, or another error.");
     };
     let value = told.first(ERROR_CODE).unwrap_or(&[]);

@@ -15,7 +15,7 @@ fn born_at(tenancies: &[Tenancy], breach: &Breach) -> Option<Tenancy> {
 }
 
 /// Tells both clients of an address.
-pub fn tell_clash(lanes: &Lanes<'_>, breach: &Breach, story: &mut Story) -> Result<(), AllocError> {
+pub fn add_clash(lanes: &Lanes<'_>, breach: &Breach, story: &mut Story) -> Result<(), AllocError> {
     let alloc = story.alloc();
     let tenancies = all_tenancies(alloc, lanes.findings.as_slice())?;
     let Some(new) = born_at(tenancies.as_slice(), breach) else {

@@ -29,7 +29,7 @@ pub fn span_of(input: &LaneInput<'_>, breach: Option<u32>, around: u32) -> Span 
 }
 
 /// The sightings of an event.
-fn ask_event(frames: &mut Frames, event: &LaneEvent<'_>) -> Result<(), AllocError> {
+fn request_event(frames: &mut Frames, event: &LaneEvent<'_>) -> Result<(), AllocError> {
     match event {
         LaneEvent::In { sighting, .. } => frames.ask(sighting.id),
         LaneEvent::Out { sighting, .. } => frames.ask(sighting.id),
@@ -45,13 +45,17 @@ fn ask_event(frames: &mut Frames, event: &LaneEvent<'_>) -> Result<(), AllocErro
 }
 
 /// Asks for the frames of events.
-pub fn ask_span(input: &LaneInput<'_>, span: Span, frames: &mut Frames) -> Result<(), AllocError> {
+pub fn request_span(
+    input: &LaneInput<'_>,
+    span: Span,
+    frames: &mut Frames,
+) -> Result<(), AllocError> {
     let events = input
         .events()
         .get(span.from as usize..span.to as usize)
         .unwrap_or(&[]);
     for event in events {
-        ask_event(frames, event)?;
+        request_event(frames, event)?;
     }
     Ok(())
 }
@@ -110,7 +114,8 @@ fn what_lasts(scene: &Scene<'_>) -> Lasting {
     }
 }
 
-/// When an event happens: its moment in the certificate, and the stamp of its datagram, of an act that of the departure.
+/// When an event happens: its moment in the certificate, and the stamp of its datagram, of an act
+/// that of the departure.
 fn moments_of(event: &LaneEvent<'_>) -> (u64, u64) {
     match event {
         LaneEvent::In { sighting, key, .. } => (key.moment, sighting.stamp),
@@ -158,8 +163,8 @@ fn pass(lane: &mut LaneAt<'_>, place: u32) -> Result<bool, AllocError> {
     }
 }
 
-/// The events of a lane. Leases are those before each event, up to the lane's first breach; behind it they aren't known, and
-/// those of there are told.
+/// The events of a lane. Leases are those before each event, up to the lane's first breach; behind
+/// it they aren't known, and those of there are told.
 pub fn rungs_of(
     alloc: Global,
     case: Case<'_>,

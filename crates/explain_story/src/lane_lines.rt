@@ -1,7 +1,7 @@
 //! A line for each client.
 
 use crate::case::{Case, Lanes};
-use crate::place::Teller;
+use crate::place::Printer;
 use audit_lane::{Finding, Outcome};
 use audit_model::{Breach, Rule};
 use audit_report::rule_text;
@@ -11,7 +11,7 @@ use explain_text::Quoted;
 use std::alloc::{AllocError, Global};
 
 /// Asks for the frame of each lane's first breach.
-pub fn ask_breaches(lanes: &Lanes<'_>, frames: &mut Frames) -> Result<(), AllocError> {
+pub fn request_breaches(lanes: &Lanes<'_>, frames: &mut Frames) -> Result<(), AllocError> {
     for finding in &lanes.findings {
         if let Outcome::Broken(breach) = finding.outcome() {
             frames.ask(breach.sight)?;
@@ -37,7 +37,7 @@ pub fn allocations(alloc: Global, finding: &Finding<'_>) -> Result<usize, AllocE
 /// What a lane comes to.
 fn outcome(
     alloc: Global,
-    teller: &Teller<'_>,
+    printer: &Printer<'_>,
     breach: Option<Breach>,
 ) -> Result<String, AllocError> {
     let Some(breach) = breach else {
@@ -45,7 +45,7 @@ fn outcome(
     };
     let rule = rule_text(breach.rule);
     let event = breach.at.place;
-    let place = teller.place(alloc, breach.sight)?;
+    let place = printer.place(alloc, breach.sight)?;
     format!(in alloc; "{rule}, event {event}, {place}")
 }
 
@@ -77,7 +77,7 @@ fn traffic(alloc: Global, way: &str, traffic: Traffic) -> Result<String, AllocEr
 /// The line of a lane.
 pub fn lane_line(
     alloc: Global,
-    teller: &Teller<'_>,
+    printer: &Printer<'_>,
     finding: &Finding<'_>,
 ) -> Result<String, AllocError> {
     let row = lane_row(finding);
@@ -87,7 +87,7 @@ pub fn lane_line(
     let count = allocations(alloc, finding)?;
     let up = traffic(alloc, "up", row.up)?;
     let down = traffic(alloc, "down", row.down)?;
-    let outcome = outcome(alloc, teller, row.breach)?;
+    let outcome = outcome(alloc, printer, row.breach)?;
     format!(in alloc;
         "lane {number:<5} {ends:<46} {user:<12} allocations {count:<3} {up:<34} {down:<34} {outcome}\n"
     )

@@ -22,7 +22,7 @@ const CHANNEL: u64 = 600_000_000_000;
 const SECOND: u64 = 1_000_000_000;
 
 /// Whether the leases of the client matter to a rule.
-pub fn asks_leases(rule: Rule) -> bool {
+pub fn needs_leases(rule: Rule) -> bool {
     matches!(
         rule,
         Rule::OtherUser
@@ -51,7 +51,7 @@ pub fn channel_of(scene: &Scene<'_>) -> Option<LeaseRow> {
 }
 
 /// Tells the allocations that are there no more.
-fn tell_ended(scene: &Scene<'_>, story: &mut Story) -> Result<(), AllocError> {
+fn add_ended(scene: &Scene<'_>, story: &mut Story) -> Result<(), AllocError> {
     let ended = scene.lane.ended();
     let passed_over = ended.len().saturating_sub(MOST_ENDED);
     if passed_over > 0 {
@@ -65,7 +65,7 @@ fn tell_ended(scene: &Scene<'_>, story: &mut Story) -> Result<(), AllocError> {
 }
 
 /// Tells the channel of the peer that an act is about, where that has another number.
-fn tell_peers_channel(scene: &Scene<'_>, story: &mut Story) -> Result<(), AllocError> {
+fn add_peers_channel(scene: &Scene<'_>, story: &mut Story) -> Result<(), AllocError> {
     let Some(peer) = scene.peer() else {
         return Ok(());
     };
@@ -81,10 +81,10 @@ fn tell_peers_channel(scene: &Scene<'_>, story: &mut Story) -> Result<(), AllocE
 }
 
 /// Tells what the client had before an act.
-pub fn tell_leases(scene: &Scene<'_>, rule: Rule, story: &mut Story) -> Result<(), AllocError> {
+pub fn add_leases(scene: &Scene<'_>, rule: Rule, story: &mut Story) -> Result<(), AllocError> {
     let allocation = scene.lane.allocation();
     if allocation.is_none() || matches!(rule, Rule::ErrorCondition | Rule::AllocationPresent) {
-        tell_ended(scene, story)?;
+        add_ended(scene, story)?;
     }
     let is_asked = rule != Rule::RelayedAddress;
     if is_asked && allocation.is_none() && scene.lane.ended().is_empty() {
@@ -93,7 +93,7 @@ pub fn tell_leases(scene: &Scene<'_>, rule: Rule, story: &mut Story) -> Result<(
     story.lease(allocation)?;
     story.lease(channel_of(scene))?;
     if rule == Rule::ChannelConflict {
-        tell_peers_channel(scene, story)?;
+        add_peers_channel(scene, story)?;
     }
     story.lease(permission_of(scene))
 }
@@ -103,12 +103,12 @@ fn length_of(scene: &Scene<'_>, row: &LeaseRow) -> Option<u64> {
     match row.kind {
         LeaseKind::Permission { .. } => Some(PERMISSION),
         LeaseKind::Channel { .. } => Some(CHANNEL),
-        LeaseKind::Allocation { .. } => lifetime_told(scene, &row.last),
+        LeaseKind::Allocation { .. } => lifetime_in(scene, &row.last),
     }
 }
 
 /// The lifetime that an act told, in nanoseconds.
-fn lifetime_told(scene: &Scene<'_>, act: &GrantAct) -> Option<u64> {
+fn lifetime_in(scene: &Scene<'_>, act: &GrantAct) -> Option<u64> {
     let success = scene.case.intake.sighting(act.leaves)?;
     let told = message(success.payload.as_slice())?;
     let [a, b, c, d] = told.first(LIFETIME)? else {
@@ -118,7 +118,8 @@ fn lifetime_told(scene: &Scene<'_>, act: &GrantAct) -> Option<u64> {
     Some(seconds.saturating_mul(SECOND))
 }
 
-/// By how much a lease is over at least, as its last act and the arrival are stamped: the act came no later than its success may have left.
+/// By how much a lease is over at least, as its last act and the arrival are stamped: the act came
+/// no later than its success may have left.
 fn over_by_at_least(scene: &Scene<'_>, row: &LeaseRow) -> Option<u64> {
     let success = scene.case.intake.sighting(row.last.leaves)?;
     let length = length_of(scene, row)?;
@@ -141,7 +142,7 @@ fn over_by(scene: &Scene<'_>, rule: Rule) -> Option<LeaseRow> {
 }
 
 /// Tells whether other moments could make up for a lease that is over.
-pub fn tell_margin(scene: &Scene<'_>, rule: Rule, story: &mut Story) -> Result<(), AllocError> {
+pub fn add_margin(scene: &Scene<'_>, rule: Rule, story: &mut Story) -> Result<(), AllocError> {
     let Some(row) = over_by(scene, rule) else {
         return Ok(());
     };

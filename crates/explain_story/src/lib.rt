@@ -2,9 +2,9 @@
 #![tactic(auto)]
 
 mod case;
+mod content;
 mod deletion;
 mod expected;
-mod got;
 mod held_twice;
 mod ladder;
 mod lane_lines;
@@ -15,17 +15,19 @@ mod order;
 mod others;
 mod place;
 mod placement;
+mod printer;
 mod rungs;
 mod scene;
 mod signed;
-mod telling;
 mod verdict;
 
 pub use case::{Case, Lanes, lanes_of};
-pub use ladder::{Lasting, Rung, Span, Step, ask_span, rungs_of, span_of};
-pub use lane_lines::{Sums, allocations, ask_breaches, is_broken, lane_line, sum_lines, sums_of};
+pub use ladder::{Lasting, Rung, Span, Step, request_span, rungs_of, span_of};
+pub use lane_lines::{
+    Sums, allocations, is_broken, lane_line, request_breaches, sum_lines, sums_of,
+};
 pub use line::{Account, ClientOf, Line, Story};
-pub use place::{FrameNumber, Teller};
+pub use place::{FrameNumber, Printer};
 pub use rungs::ladder_lines;
 pub use scene::Way;
 pub use verdict::{InEveryOrder, story_of};

@@ -185,9 +185,9 @@ fn add_other_client(sight: SightId, story: &mut Story) -> Result<(), AllocError>
     })
 }
 
-/// Adds for whom the data of a departure was, if it was for another client, and the nearest arrivals that could have caused the departure, with
-/// the reason why each didn't.
-pub fn tell_nearest(
+/// Adds for whom the data of a departure was, if it was for another client, and the nearest
+/// arrivals that could have caused the departure, with the reason why each didn't.
+pub fn add_nearest(
     case: Case<'_>,
     departure: &Sighting,
     story: &mut Story,

@@ -42,7 +42,7 @@ fn earlier_act<'a>(
 }
 
 /// Tells what was answered twice (S10).
-pub fn tell_twice(
+pub fn add_twice(
     input: &LaneInput<'_>,
     place: u32,
     arrives: &Sighting,
@@ -96,7 +96,7 @@ fn arrival_of(input: &LaneInput<'_>, leaves: SightId) -> Option<SightId> {
 }
 
 /// Tells how long an arrival was held (S12).
-pub fn tell_held(
+pub fn add_held(
     case: Case<'_>,
     input: &LaneInput<'_>,
     arrives: SightId,
@@ -115,7 +115,7 @@ pub fn tell_held(
 }
 
 /// Tells how long the arrival of a departure was held (S12).
-pub fn tell_held_out(
+pub fn add_held_out(
     case: Case<'_>,
     input: &LaneInput<'_>,
     leaves: SightId,
@@ -126,11 +126,11 @@ pub fn tell_held_out(
         return Ok(());
     };
     story.show(arrives)?;
-    tell_held(case, input, arrives, moment, story)
+    add_held(case, input, arrives, moment, story)
 }
 
 /// The Allocate success of an interface that told the address from which a departure left.
-fn telling_on(case: Case<'_>, iface: u32, departure: &Sighting) -> Option<SightId> {
+fn grant_on(case: Case<'_>, iface: u32, departure: &Sighting) -> Option<SightId> {
     for sighting in case.intake.interface(iface) {
         if granted_address(sighting.payload.as_slice()) == Some(departure.from) {
             return Some(sighting.id);
@@ -140,9 +140,9 @@ fn telling_on(case: Case<'_>, iface: u32, departure: &Sighting) -> Option<SightI
 }
 
 /// An Allocate success that told the address from which a departure left.
-fn telling(case: Case<'_>, departure: &Sighting) -> Option<SightId> {
+fn grant_of(case: Case<'_>, departure: &Sighting) -> Option<SightId> {
     for iface in 0..case.intake.interfaces() {
-        if let Some(sight) = telling_on(case, iface, departure) {
+        if let Some(sight) = grant_on(case, iface, departure) {
             return Some(sight);
         }
     }
@@ -150,7 +150,7 @@ fn telling(case: Case<'_>, departure: &Sighting) -> Option<SightId> {
 }
 
 /// Tells whom the address of a departure that nothing asked for was told to (S1, S11).
-pub fn tell_whose(
+pub fn add_owner(
     case: Case<'_>,
     departure: &Sighting,
     story: &mut Story,
@@ -160,7 +160,7 @@ pub fn tell_whose(
     if case.intake.policy().listens(from) {
         return Ok(());
     }
-    match telling(case, departure) {
+    match grant_of(case, departure) {
         Some(sight) => story.add(Line::UpTo {
             words: format!(in alloc; "  {from} was told to a client in ")?,
             sight,

@@ -130,7 +130,7 @@ fn others(alloc: Global, lanes: &Lanes<'_>, lane: u32) -> Result<String, AllocEr
 }
 
 /// Tells how many more departures of the lane show the same fault, and what the other clients come to.
-pub fn tell_rest(
+pub fn add_rest(
     lanes: &Lanes<'_>,
     input: &LaneInput<'_>,
     place: u32,

@@ -12,7 +12,7 @@ const INTERFACES: u32 = 64;
 
 /// What lines are told by: the captures, and the frames that were looked up in them.
 #[derive(Clone, Copy)]
-pub struct Teller<'a> {
+pub struct Printer<'a> {
     pub case: Case<'a>,
     pub frames: &'a Frames,
 }
@@ -35,7 +35,7 @@ impl fmt::Display for FrameNumber {
     }
 }
 
-impl<'a> Teller<'a> {
+impl<'a> Printer<'a> {
     /// When the first frame of all captures was seen, in nanoseconds since 1970.
     pub fn first(&self) -> u64 {
         self.frames.first().unwrap_or(0)

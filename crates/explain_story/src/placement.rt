@@ -2,8 +2,8 @@
 
 use crate::case::Case;
 use crate::line::Story;
-use crate::nearest::tell_nearest;
-use crate::order::tell_whose;
+use crate::nearest::add_nearest;
+use crate::order::add_owner;
 use audit_model::{Breach, Rule, Side, SightId, Sighting};
 use explain_text::Seconds;
 use std::alloc::AllocError;
@@ -12,7 +12,7 @@ use std::alloc::AllocError;
 const MICROSECOND: u64 = 1_000;
 
 /// Tells by how much a moment is off its stamp (S4).
-fn tell_window(
+fn add_window(
     case: Case<'_>,
     breach: &Breach,
     sighting: &Sighting,
@@ -44,11 +44,7 @@ fn before(sight: SightId) -> Option<SightId> {
 }
 
 /// Tells the stamps of a datagram and of the one before it on its interface.
-fn tell_neighbour(
-    case: Case<'_>,
-    sighting: &Sighting,
-    story: &mut Story,
-) -> Result<(), AllocError> {
+fn add_neighbour(case: Case<'_>, sighting: &Sighting, story: &mut Story) -> Result<(), AllocError> {
     let alloc = story.alloc();
     let Some(neighbour) = before(sighting.id) else {
         return Ok(());
@@ -70,7 +66,7 @@ fn tell_neighbour(
 }
 
 /// Tells of a datagram that has no place (S1).
-fn tell_unplaced(case: Case<'_>, sighting: &Sighting, story: &mut Story) -> Result<(), AllocError> {
+fn add_unplaced(case: Case<'_>, sighting: &Sighting, story: &mut Story) -> Result<(), AllocError> {
     match sighting.side {
         Side::Arrives => story.put(
             "  it arrives at the server, and the certificate neither places nor drops it",
@@ -81,28 +77,24 @@ fn tell_unplaced(case: Case<'_>, sighting: &Sighting, story: &mut Story) -> Resu
                     "  it is the first datagram of its interface: the capture may have begun late",
                 )?;
             }
-            tell_whose(case, sighting, story)?;
-            tell_nearest(case, sighting, story)
+            add_owner(case, sighting, story)?;
+            add_nearest(case, sighting, story)
         }
     }
 }
 
 /// Tells a breach of placement.
-pub fn tell_placement(
-    case: Case<'_>,
-    breach: &Breach,
-    story: &mut Story,
-) -> Result<(), AllocError> {
+pub fn add_placement(case: Case<'_>, breach: &Breach, story: &mut Story) -> Result<(), AllocError> {
     let Some(sighting) = case.intake.sighting(breach.sight) else {
         return story.put("  the captures have no such datagram");
     };
     match breach.rule {
-        Rule::Unplaced => tell_unplaced(case, sighting, story),
+        Rule::Unplaced => add_unplaced(case, sighting, story),
         Rule::OutOfWindow => {
-            tell_window(case, breach, sighting, story)?;
-            tell_neighbour(case, sighting, story)
+            add_window(case, breach, sighting, story)?;
+            add_neighbour(case, sighting, story)
         }
-        Rule::InterfaceOrder => tell_neighbour(case, sighting, story),
+        Rule::InterfaceOrder => add_neighbour(case, sighting, story),
         _ => {
             let alloc = story.alloc();
             let lane = breach.at.lane;

@@ -1,7 +1,7 @@
 //! A client's events as lines: its ladder.
 
 use crate::ladder::{Lasting, Rung, Step};
-use crate::place::Teller;
+use crate::place::Printer;
 use crate::scene::Way;
 use audit_model::{Side, SightId};
 use std::alloc::{AllocError, Global};
@@ -31,9 +31,9 @@ fn mark(lasts: bool, letter: char) -> char {
 }
 
 /// What a datagram is.
-fn what(alloc: Global, teller: &Teller<'_>, sight: SightId) -> Result<String, AllocError> {
-    match teller.case.intake.sighting(sight) {
-        Some(sighting) => teller.what(alloc, sighting),
+fn what(alloc: Global, printer: &Printer<'_>, sight: SightId) -> Result<String, AllocError> {
+    match printer.case.intake.sighting(sight) {
+        Some(sighting) => printer.what(alloc, sighting),
         None => String::from_str(alloc, "?"),
     }
 }
@@ -41,24 +41,24 @@ fn what(alloc: Global, teller: &Teller<'_>, sight: SightId) -> Result<String, Al
 /// What a datagram that comes or goes is, with its frame.
 fn datagram(
     alloc: Global,
-    teller: &Teller<'_>,
+    printer: &Printer<'_>,
     sight: SightId,
     side: Side,
 ) -> Result<String, AllocError> {
-    let is_clients = match teller.case.intake.sighting(sight) {
-        Some(sighting) => teller.is_clients(sighting),
+    let is_clients = match printer.case.intake.sighting(sight) {
+        Some(sighting) => printer.is_clients(sighting),
         None => false,
     };
     let arrow = arrow(is_clients, side);
-    let what = what(alloc, teller, sight)?;
-    let place = teller.place(alloc, sight)?;
+    let what = what(alloc, printer, sight)?;
+    let place = printer.place(alloc, sight)?;
     format!(in alloc; "...  {arrow}  {what:<40}  {place}")
 }
 
 /// What an act is, with its frames.
 fn act(
     alloc: Global,
-    teller: &Teller<'_>,
+    printer: &Printer<'_>,
     arrives: SightId,
     leaves: SightId,
     way: Way,
@@ -68,40 +68,40 @@ fn act(
     let p = mark(lasting.permission, 'P');
     let c = mark(lasting.channel, 'C');
     let arrow = arrow_of_act(way);
-    let came = what(alloc, teller, arrives)?;
-    let went = what(alloc, teller, leaves)?;
-    let arrives = teller.number(arrives);
-    let leaves = teller.number(leaves);
+    let came = what(alloc, printer, arrives)?;
+    let went = what(alloc, printer, leaves)?;
+    let arrives = printer.number(arrives);
+    let leaves = printer.number(leaves);
     format!(in alloc; "{a}{p}{c}  {arrow}  {came} => {went}, frames {arrives} > {leaves}")
 }
 
 /// The line of an event.
-fn rung_line(alloc: Global, teller: &Teller<'_>, rung: &Rung) -> Result<String, AllocError> {
+fn rung_line(alloc: Global, printer: &Printer<'_>, rung: &Rung) -> Result<String, AllocError> {
     let told = match rung.step {
-        Step::Arrives(sight) => datagram(alloc, teller, sight, Side::Arrives)?,
-        Step::Leaves(sight) => datagram(alloc, teller, sight, Side::Leaves)?,
+        Step::Arrives(sight) => datagram(alloc, printer, sight, Side::Arrives)?,
+        Step::Leaves(sight) => datagram(alloc, printer, sight, Side::Leaves)?,
         Step::Act {
             arrives,
             leaves,
             way,
             lasting,
-        } => act(alloc, teller, arrives, leaves, way, lasting)?,
+        } => act(alloc, printer, arrives, leaves, way, lasting)?,
     };
     let mark = if rung.is_breach { "=>" } else { "  " };
     let place = rung.place;
-    let time = teller.since(rung.stamp);
+    let time = printer.since(rung.stamp);
     format!(in alloc; "{mark}{place:>7}  {time}  {told}\n")
 }
 
 /// The ladder of a lane's events.
 pub fn ladder_lines(
     alloc: Global,
-    teller: &Teller<'_>,
+    printer: &Printer<'_>,
     rungs: &[Rung],
 ) -> Result<String, AllocError> {
     let mut text = String::new(alloc);
     for rung in rungs {
-        text.push_str(rung_line(alloc, teller, rung)?.as_str())?;
+        text.push_str(rung_line(alloc, printer, rung)?.as_str())?;
         if rung.is_breach {
             text.push_str(
                 "           first breach of this lane; the leases below are those of here\n",

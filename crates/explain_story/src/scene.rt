@@ -57,37 +57,38 @@ impl<'s> Scene<'s> {
     }
 
     /// The message that arrived.
-    pub fn asked(&self) -> Option<Message<'s>> {
+    pub fn message_in(&self) -> Option<Message<'s>> {
         message(self.arrives.payload.as_slice())
     }
 
     /// The message that left.
-    pub fn told(&self) -> Option<Message<'s>> {
+    pub fn message_out(&self) -> Option<Message<'s>> {
         message(self.leaves.payload.as_slice())
     }
 
     /// Whether what arrived is a request.
     pub fn is_request(&self) -> bool {
-        match self.asked() {
+        match self.message_in() {
             Some(asked) => asked.class() == Class::Request,
             None => false,
         }
     }
 
-    /// The peer that it is about: the other end of the datagram at the relayed address, or the one that a request names.
+    /// The peer that it is about: the other end of the datagram at the relayed address, or the one
+    /// that a request names.
     pub fn peer(&self) -> Option<Addr> {
         match self.way() {
             Way::Up => Some(self.leaves.to),
             Way::Down => Some(self.arrives.from),
-            Way::Response => named_peer(&self.asked()?),
+            Way::Response => named_peer(&self.message_in()?),
         }
     }
 
     /// The peer that the message on the client's side names.
     pub fn named_peer(&self) -> Option<Addr> {
         match self.way() {
-            Way::Up | Way::Response => named_peer(&self.asked()?),
-            Way::Down => named_peer(&self.told()?),
+            Way::Up | Way::Response => named_peer(&self.message_in()?),
+            Way::Down => named_peer(&self.message_out()?),
         }
     }
 
@@ -102,7 +103,7 @@ impl<'s> Scene<'s> {
                 let (number, _, _) = channel_data(self.leaves.payload.as_slice())?;
                 Some(number)
             }
-            Way::Response => named_channel(&self.asked()?),
+            Way::Response => named_channel(&self.message_in()?),
         }
     }
 

@@ -51,8 +51,8 @@ fn count_on(case: Case<'_>, iface: u32, user: &[u8], realm: &[u8], before: Reque
 }
 
 /// Tells how many requests name the user of a request, and how many of them are signed.
-pub fn tell_signed(scene: &Scene<'_>, story: &mut Story) -> Result<(), AllocError> {
-    let Some(asked) = scene.asked() else {
+pub fn add_signed(scene: &Scene<'_>, story: &mut Story) -> Result<(), AllocError> {
+    let Some(asked) = scene.message_in() else {
         return Ok(());
     };
     let (Some(user), Some(realm)) = (asked.first(USERNAME), asked.first(REALM)) else {

@@ -8,16 +8,16 @@ ghost use Rattle.audit_sightings.specs.Intake.{taken};
 ghost use Rattle.explain_story.specs.EveryOrder.{Says, SaysOne};
 
 use crate::case::{Case, Lanes, lanes_of};
-use crate::deletion::tell_deletion;
+use crate::content::add_content;
+use crate::deletion::add_deletion;
 use crate::expected::{expected_of_act, expected_of_rule};
-use crate::got::tell_got;
-use crate::held_twice::tell_clash;
-use crate::leases::{asks_leases, tell_leases, tell_margin};
+use crate::held_twice::add_clash;
+use crate::leases::{add_leases, add_margin, needs_leases};
 use crate::line::{Account, ClientOf, Line, Story};
-use crate::nearest::tell_nearest;
-use crate::order::{tell_held, tell_held_out, tell_twice, tell_whose};
-use crate::others::{Shown, tell_rest};
-use crate::placement::tell_placement;
+use crate::nearest::add_nearest;
+use crate::order::{add_held, add_held_out, add_owner, add_twice};
+use crate::others::{Shown, add_rest};
+use crate::placement::add_placement;
 use crate::scene::Scene;
 use audit_faults::Fault;
 use audit_lane::{LaneEvent, LaneInput};
@@ -25,7 +25,8 @@ use audit_model::{Breach, Rule, SightId, Sighting};
 use explain_state::{LaneAt, lane_before};
 use std::alloc::{AllocError, Global};
 
-/// The user that a lane named last before an event of those who are known; of a lane that named none before, the last one of all.
+/// The user that a lane named last before an event of those who are known; of a lane that named
+/// none before, the last one of all.
 fn account_of(alloc: Global, lane: &LaneAt<'_>) -> Result<Option<Account>, AllocError> {
     let last = lane.input().users().last();
     let Some((user, realm)) = lane.user().or(last.map(|row| (row.user, row.realm))) else {
@@ -38,7 +39,7 @@ fn account_of(alloc: Global, lane: &LaneAt<'_>) -> Result<Option<Account>, Alloc
 }
 
 /// Tells the client of a lane.
-fn tell_client(lane: &LaneAt<'_>, story: &mut Story) -> Result<(), AllocError> {
+fn add_client(lane: &LaneAt<'_>, story: &mut Story) -> Result<(), AllocError> {
     let input = lane.input();
     let client = ClientOf {
         lane: input.number(),
@@ -51,7 +52,7 @@ fn tell_client(lane: &LaneAt<'_>, story: &mut Story) -> Result<(), AllocError> {
 }
 
 /// Tells an act that breaks a rule.
-fn tell_act(
+fn explain_act(
     scene: &Scene<'_>,
     place: u32,
     rule: Rule,
@@ -61,24 +62,24 @@ fn tell_act(
     story.show(scene.leaves.id)?;
     story.put("")?;
     story.due(expected_of_act(story.alloc(), scene, rule)?)?;
-    tell_got(scene, rule, story)?;
-    if asks_leases(rule) {
-        tell_leases(scene, rule, story)?;
-        tell_margin(scene, rule, story)?;
+    add_content(scene, rule, story)?;
+    if needs_leases(rule) {
+        add_leases(scene, rule, story)?;
+        add_margin(scene, rule, story)?;
     }
     if rule == Rule::NoAllocation {
-        tell_deletion(scene, story)?;
+        add_deletion(scene, story)?;
     }
     let input = scene.lane.input();
     match rule {
-        Rule::ActedTwice => tell_twice(input, place, scene.arrives, scene.leaves, story),
-        Rule::HeldTooLong => tell_held(scene.case, input, scene.arrives.id, scene.moment, story),
+        Rule::ActedTwice => add_twice(input, place, scene.arrives, scene.leaves, story),
+        Rule::HeldTooLong => add_held(scene.case, input, scene.arrives.id, scene.moment, story),
         _ => Ok(()),
     }
 }
 
 /// Tells a departure that may not leave.
-fn tell_out(
+fn explain_departure(
     case: Case<'_>,
     input: &LaneInput<'_>,
     sighting: &Sighting,
@@ -93,10 +94,10 @@ fn tell_out(
             story.put(
                 "  it stands in this lane for want of another, and need not be of this client",
             )?;
-            tell_whose(case, sighting, story)?;
-            tell_nearest(case, sighting, story)
+            add_owner(case, sighting, story)?;
+            add_nearest(case, sighting, story)
         }
-        Rule::HeldTooLong => tell_held_out(case, input, sighting.id, breach.at.key.moment, story),
+        Rule::HeldTooLong => add_held_out(case, input, sighting.id, breach.at.key.moment, story),
         _ => Ok(()),
     }
 }
@@ -111,7 +112,7 @@ fn departure_of(event: &LaneEvent<'_>) -> Option<SightId> {
 }
 
 /// Tells the event of a lane that breaks a rule.
-fn tell_event(
+fn explain_event(
     case: Case<'_>,
     lane: &LaneAt<'_>,
     event: &LaneEvent<'_>,
@@ -132,14 +133,16 @@ fn tell_event(
                 leaves,
                 moment: key.moment,
             };
-            tell_act(&scene, breach.at.place, breach.rule, story)
+            explain_act(&scene, breach.at.place, breach.rule, story)
         }
-        LaneEvent::Out { sighting, .. } => { tell_out(case, lane.input(), sighting, breach, story) }
+        LaneEvent::Out { sighting, .. } => {
+            explain_departure(case, lane.input(), sighting, breach, story)
+        }
     }
 }
 
 /// Tells a breach of a lane, and gives the departure that shows it.
-fn tell_lane(
+fn explain_lane(
     case: Case<'_>,
     lanes: &Lanes<'_>,
     breach: &Breach,
@@ -153,24 +156,24 @@ fn tell_lane(
     let Some(lane) = lane_before(story.alloc(), input, breach.at.place)? else {
         return Ok(None);
     };
-    tell_client(&lane, story)?;
+    add_client(&lane, story)?;
     let Some(event) = input.events().get(breach.at.place as usize) else {
         return Ok(None);
     };
-    tell_event(case, &lane, event, breach, story)?;
+    explain_event(case, &lane, event, breach, story)?;
     if breach.phase == 3 {
-        tell_clash(lanes, breach, story)?;
+        add_clash(lanes, breach, story)?;
     }
     story.put("")?;
     let departure = departure_of(event);
     if let Some(sight) = departure {
-        tell_rest(lanes, input, breach.at.place, sight, shown, story)?;
+        add_rest(lanes, input, breach.at.place, sight, shown, story)?;
     }
     Ok(departure)
 }
 
 /// Tells a breach of placement, and gives the departure that shows it.
-fn tell_place(
+fn explain_place(
     case: Case<'_>,
     breach: &Breach,
     story: &mut Story,
@@ -179,7 +182,7 @@ fn tell_place(
     story.show(breach.sight)?;
     story.put("")?;
     story.due(expected_of_rule(story.alloc(), breach.rule)?)?;
-    tell_placement(case, breach, story)?;
+    add_placement(case, breach, story)?;
     story.put("")?;
     Ok(Some(breach.sight))
 }
@@ -212,8 +215,8 @@ pub fn story_of(
     let mut story = Story::new(alloc, breach.at.key.moment);
     let shown = Shown::of(alloc, case)?;
     let departure = match lanes_of(alloc, case)? {
-        Some(lanes) => tell_lane(case, &lanes, breach, &shown, &mut story)?,
-        None => tell_place(case, breach, &mut story)?,
+        Some(lanes) => explain_lane(case, &lanes, breach, &shown, &mut story)?,
+        None => explain_place(case, breach, &mut story)?,
     };
     story.add(Line::Rule(breach.rule))?;
     story.departure = departure;

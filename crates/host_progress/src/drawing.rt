@@ -37,8 +37,8 @@ fn is_stale(drawn: Option<u64>, now: u64) -> bool
     }
 }
 
-/// Whether the line is drawn: work that began at `began` takes longer than a second, and the line wasn't drawn for a tenth of a second. All
-/// are milliseconds of one clock.
+/// Whether the line is drawn: work that began at `began` takes longer than a second, and the line
+/// wasn't drawn for a tenth of a second. All are milliseconds of one clock.
 pub fn is_due(began: u64, drawn: Option<u64>, now: u64) -> bool
     ensures { result ≡ is_due began drawn now }
 {
@@ -58,7 +58,8 @@ fn share_of(read: u64, size: u64) -> u64
 /// So many characters of a file's name are drawn, so that the line is shorter than a terminal is wide.
 const MOST_OF_NAME: usize = 40;
 
-/// The line: the program, the end of the file's name, the share of it that is read, and how many megabytes are read in a second.
+/// The line: the program, the end of the file's name, the share of it that is read, and how many
+/// megabytes are read in a second.
 pub fn line_of(
     alloc: Global,
     program: &str,

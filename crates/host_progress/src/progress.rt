@@ -9,8 +9,9 @@ use std::rt::Files;
 use std::sync::atomic::{AtomicU64, Ordering};
 use std::time::Clock;
 
-/// Draws a line on standard error while files are read, if that is a terminal and the work takes longer than a second. Else it does nothing.
-/// Threads may share it: the line is then of the file that was read last.
+/// Draws a line on standard error while files are read, if that is a terminal and the work takes
+/// longer than a second. Else it does nothing. Threads may share it: the line is then of the file
+/// that was read last.
 #[derive(Drop)]
 pub struct Progress<'r, R: Files<File = File> + Clock> {
     rt: &'r R,

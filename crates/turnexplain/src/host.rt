@@ -106,8 +106,9 @@ impl<R: Files<File = File> + Clock + Sync> Explaining for HostFiles<'_, R> {
     }
 }
 
-/// Opens what can't be written to. Where a standard stream is closed, this takes its number, the lowest that is free, so that no file that is
-/// opened later does, and what goes to that stream isn't written.
+/// Opens what can't be written to. Where a standard stream is closed, this takes its number, the
+/// lowest that is free, so that no file that is opened later does, and what goes to that stream
+/// isn't written.
 pub fn hold_stream<R: Files<File = File>>(rt: &R) -> Option<File> {
     fs::open(rt, "/dev/null").ok()
 }

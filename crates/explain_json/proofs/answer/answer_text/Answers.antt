@@ -14,7 +14,7 @@ returns c =
     IfOk-weaker c.to_line.result _ _ (λ text order. record {
       value = data_of c.text-2.new.self;
       spelled = order;
-      verdict_is = ap (get_member (codes "verdict")) told ∙ get_member-put (codes "verdict") (string (word_of verdict)) (members_of c.tell_rule.new.answer);
-      rule_is = ap (get_member (codes "rule")) told ∙ get_member-put_other (codes "rule") (codes "verdict") (string (word_of verdict)) (members_of c.tell_rule.new.answer) apart
-          ∙ ap (get_member (codes "rule")) c.in_ok-tell_rule.ensures ∙ get_member-put (codes "rule") (rule_of verdict) (members_of c.text.new.self);
+      verdict_is = ap (get_member (codes "verdict")) told ∙ get_member-put (codes "verdict") (string (word_of verdict)) (members_of c.write_rule.new.answer);
+      rule_is = ap (get_member (codes "rule")) told ∙ get_member-put_other (codes "rule") (codes "verdict") (string (word_of verdict)) (members_of c.write_rule.new.answer) apart
+          ∙ ap (get_member (codes "rule")) c.in_ok-write_rule.ensures ∙ get_member-put (codes "rule") (rule_of verdict) (members_of c.text.new.self);
     }) c.to_line.ensures

@@ -1,8 +1,8 @@
-//! What was got beside what was due, of acts whose datagrams say something wrong.
+//! The content of datagrams beside what was due, of acts whose datagrams say something wrong.
 
 use crate::line::Story;
 use crate::scene::{Scene, Way};
-use crate::signed::tell_signed;
+use crate::signed::add_signed;
 use audit_model::{Addr, Rule};
 use audit_rules::CredRow;
 use audit_stun::numbers::attribute::{
@@ -16,7 +16,7 @@ use std::alloc::{AllocError, Global};
 
 /// What is told of a request that no user signed.
 fn of_credentials(alloc: Global, scene: &Scene<'_>) -> Result<String, AllocError> {
-    let Some(asked) = scene.asked() else {
+    let Some(asked) = scene.message_in() else {
         return String::from_str(alloc, "  it is no STUN message");
     };
     let (Some(user), Some(realm)) = (asked.first(USERNAME), asked.first(REALM)) else {
@@ -40,7 +40,7 @@ fn of_credentials(alloc: Global, scene: &Scene<'_>) -> Result<String, AllocError
 
 /// What is told of an answer that is none.
 fn of_answer(alloc: Global, scene: &Scene<'_>) -> Result<String, AllocError> {
-    let (Some(asked), Some(told)) = (scene.asked(), scene.told()) else {
+    let (Some(asked), Some(told)) = (scene.message_in(), scene.message_out()) else {
         return String::from_str(alloc, "  not both of them are STUN messages");
     };
     let method = MethodWord {
@@ -139,7 +139,7 @@ fn of_data(alloc: Global, scene: &Scene<'_>) -> Result<String, AllocError> {
 }
 
 /// What is told of the relayed address of a success to an Allocate.
-fn of_told_address(
+fn of_granted_address(
     alloc: Global,
     scene: &Scene<'_>,
     told: &Message<'_>,
@@ -153,7 +153,7 @@ fn of_told_address(
     if !scene.case.intake.policy().relays(relayed) {
         return format!(in alloc; "  told {relayed}, which is in no relay range of the policy");
     }
-    let asks_even = match scene.asked() {
+    let asks_even = match scene.message_in() {
         Some(asked) => asked.first(EVEN_PORT).is_some(),
         None => false,
     };
@@ -174,8 +174,8 @@ fn of_relayed(alloc: Global, scene: &Scene<'_>) -> Result<String, AllocError> {
             let to = scene.arrives.to;
             format!(in alloc; "  the datagram came to {to}")
         }
-        Way::Response => match scene.told() {
-            Some(told) => of_told_address(alloc, scene, &told),
+        Way::Response => match scene.message_out() {
+            Some(told) => of_granted_address(alloc, scene, &told),
             None => String::from_str(alloc, "  what left is no STUN message"),
         },
     }
@@ -183,7 +183,7 @@ fn of_relayed(alloc: Global, scene: &Scene<'_>) -> Result<String, AllocError> {
 
 /// What is told of an attribute of the request and the same of the answer.
 fn of_both(alloc: Global, scene: &Scene<'_>, name: &str, kind: u16) -> Result<String, AllocError> {
-    let (Some(asked), Some(told)) = (scene.asked(), scene.told()) else {
+    let (Some(asked), Some(told)) = (scene.message_in(), scene.message_out()) else {
         return String::from_str(alloc, "  not both of them are STUN messages");
     };
     let asked = AttributeBytes {
@@ -197,7 +197,7 @@ fn of_both(alloc: Global, scene: &Scene<'_>, name: &str, kind: u16) -> Result<St
 
 /// What is told of the transport that is asked for.
 fn of_transport(alloc: Global, scene: &Scene<'_>) -> Result<String, AllocError> {
-    let Some(asked) = scene.asked() else {
+    let Some(asked) = scene.message_in() else {
         return String::from_str(alloc, "  it is no STUN message");
     };
     let transport = AttributeBytes {
@@ -214,7 +214,7 @@ fn of_transport(alloc: Global, scene: &Scene<'_>) -> Result<String, AllocError> 
 /// What is told of a mapped address.
 fn of_mapped(alloc: Global, scene: &Scene<'_>) -> Result<String, AllocError> {
     let client = scene.lane.input().client();
-    let told = match scene.told() {
+    let told = match scene.message_out() {
         Some(told) => told.first(XOR_MAPPED_ADDRESS),
         None => None,
     };
@@ -229,7 +229,7 @@ fn of_mapped(alloc: Global, scene: &Scene<'_>) -> Result<String, AllocError> {
 
 /// What is told of a success's integrity.
 fn of_integrity(alloc: Global, scene: &Scene<'_>) -> Result<String, AllocError> {
-    let Some(told) = scene.told() else {
+    let Some(told) = scene.message_out() else {
         return String::from_str(alloc, "  it is no STUN message");
     };
     let sha1 = AttributeBytes {
@@ -257,8 +257,8 @@ fn of_bytes(alloc: Global, scene: &Scene<'_>) -> Result<String, AllocError> {
     format!(in alloc; "  left {left}")
 }
 
-/// Tells what was got, where a datagram says something wrong.
-pub fn tell_got(scene: &Scene<'_>, rule: Rule, story: &mut Story) -> Result<(), AllocError> {
+/// Adds the content, where a datagram says something wrong.
+pub fn add_content(scene: &Scene<'_>, rule: Rule, story: &mut Story) -> Result<(), AllocError> {
     let alloc = story.alloc();
     let words = match rule {
         Rule::NotAnAnswer => of_answer(alloc, scene)?,
@@ -279,7 +279,7 @@ pub fn tell_got(scene: &Scene<'_>, rule: Rule, story: &mut Story) -> Result<(), 
         story.say(of_difference(alloc, scene)?)?;
     }
     if rule == Rule::NotAuthentic {
-        tell_signed(scene, story)?;
+        add_signed(scene, story)?;
     }
     Ok(())
 }

@@ -1,14 +1,14 @@
-//! Telling lines.
+//! Lines as text.
 
 use crate::line::{ClientOf, Line, Story};
-use crate::place::Teller;
+use crate::place::Printer;
 use audit_model::{Addr, Rule};
 use explain_frames::ToldBy;
 use explain_state::{Ended, GrantAct, LeaseKind, LeaseRow};
 use explain_text::{Ip, MethodWord, Quoted, Seconds, anchor, cause, meaning};
 use std::alloc::{AllocError, Global};
 
-impl Teller<'_> {
+impl Printer<'_> {
     /// The frames of an act, as `frames 17 > 18`.
     fn act(&self, alloc: Global, act: &GrantAct) -> Result<String, AllocError> {
         let arrives = self.number(act.arrives);
@@ -71,7 +71,7 @@ impl Teller<'_> {
     }
 
     /// The frame that tells a relayed address and isn't judged.
-    fn told_line(&self, alloc: Global, relayed: Addr) -> Result<String, AllocError> {
+    fn line_of_owner(&self, alloc: Global, relayed: Addr) -> Result<String, AllocError> {
         let Some(frame) = self.frames.told(relayed) else {
             return Ok(String::new(alloc));
         };
@@ -94,7 +94,7 @@ impl Teller<'_> {
             Line::Client(client) => client_line(alloc, client),
             Line::Expected(words) => format!(in alloc; "expected: {words}\n"),
             Line::Rule(rule) => rule_lines(alloc, *rule),
-            Line::ToldElsewhere(relayed) => self.told_line(alloc, *relayed),
+            Line::ToldElsewhere(relayed) => self.line_of_owner(alloc, *relayed),
             Line::Datagram(sight) => self.datagram_line(alloc, *sight),
             Line::Lease(row) => self.lease_line(alloc, row, moment),
             Line::Ended(ended) => self.ended_line(alloc, ended),
