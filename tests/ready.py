@@ -3,8 +3,9 @@
 
     tests/ready.py TURNPREP TURNAUDIT
 
-Of each case the verdict is the one of the captures' case in tests/prepare/judged, where they are prepared by single commands. What the
-listed commands make has to be what `ready` made, byte for byte. Calls that fail may leave nothing behind.
+Of each case the verdict is the one of the captures' case in tests/prepare/judged, where they are prepared by single commands. Kinds that
+have no stored capture are built (tests/relay_kinds.py): judged is what is judged of a quiet relay without any preparation, and so many
+datagrams and clients more. What the listed commands make has to be what `ready` made, byte for byte. Calls that fail may leave nothing behind.
 """
 
 import os
@@ -14,6 +15,8 @@ import shutil
 import subprocess
 import sys
 import tempfile
+
+import relay_kinds
 
 TOP = pathlib.Path(__file__).resolve().parent.parent
 INPUTS = TOP / "tests" / "prepare" / "inputs"
@@ -114,6 +117,18 @@ def check(room, name, words, said, verdict):
     return faults
 
 
+def kinds(room):
+    """The cases of the kinds that are built."""
+    captures = relay_kinds.quiet(room.folder / "quiet")
+    done = room.run(shlex.join(["turnaudit", "audit", "--policy", "quiet/policy", "--creds", "quiet/creds", *map(str, captures)]))
+    count = int(verdict_of(done).removeprefix("conforming ").split()[0])
+    for number, (name, does, options, more, clients, is_rewritten) in enumerate(relay_kinds.KINDS):
+        folder = f"kind{number}"
+        captures = relay_kinds.build(room.folder / folder, does, options, is_rewritten)
+        words = f"--policy {folder}/policy --creds {folder}/creds {options} " + shlex.join(str(path) for path in captures)
+        yield name, words, None, f"conforming {count + more} datagrams {1 + clients} lanes"
+
+
 def check_refused(room, name, words, status, said):
     """What is wrong with a call that fails."""
     before = sorted(file.name for file in room.folder.iterdir())
@@ -149,14 +164,15 @@ def main():
     faults = []
     with tempfile.TemporaryDirectory() as folder:
         room = Room(folder, preparer, auditor)
-        for case in CASES:
+        cases = [*CASES, *kinds(room)]
+        for case in cases:
             faults += check(room, *case)
         for case in REFUSED:
             faults += check_refused(room, *case)
         faults += check_there(room)
     for fault in faults:
         print(fault)
-    print(f"{len(CASES)} folders and {len(REFUSED) + 2} refusals of turnprep ready, {len(faults)} faults")
+    print(f"{len(cases)} folders and {len(REFUSED) + 2} refusals of turnprep ready, {len(faults)} faults")
     return 1 if faults else 0
 
 
