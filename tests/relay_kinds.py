@@ -72,7 +72,7 @@ def translated(frame):
 
 def fragments(frame):
     """The two fragments of a long datagram, or the frame."""
-    if len(frame) < 500 or frame[12:14] != b"\x08\x00":
+    if len(frame) < 500 or frame[12:14] != b"\x08\x00" or frame[23] != 17:
         return [frame]
     data = frame[34:]
     cut = len(data) // 2 & ~7
