@@ -37,6 +37,17 @@ def responds_late(scene):
     scene.sides[0].put(THEN + 2_500_000, SERVER, scene.before.endpoint, response)
 
 
+def responds_twice(scene):
+    response = request_permission(scene, THEN)
+    for moment in (THEN + 20, THEN + 40):
+        scene.sides[0].put(moment, SERVER, scene.before.endpoint, response)
+
+
+def responds_to_nobody(scene):
+    """A success response leaves for a client from before that requested nothing of the kind."""
+    scene.sides[0].put(THEN, SERVER, scene.before.endpoint, message(BINDING_TYPES["permission"] | SUCCESS, bytes(12), [], scene.before.key))
+
+
 def names_judged_address(scene):
     """What a client from before sends to an address of the service is delivered to it as of the judged client's relayed address."""
     sent = message(BINDING_TYPES["send"], scene.before.transaction(), [(PEER, address(INNER)), (DATA, LEAKED)])
@@ -134,6 +145,8 @@ def dtls_to_judged_client(scene):
 BREACHES = (
     (responds_in_time, False, ((),)),
     (responds_late, True, ((),)),
+    (responds_twice, True, ((),)),
+    (responds_to_nobody, True, ((),)),
     (names_judged_address, True, ((),)),
     (data_at_begin, False, ((), ("--no-tcp",))),
     (data_after_begin, True, ((), ("--no-tcp",))),

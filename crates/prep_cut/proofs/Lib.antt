@@ -1,3 +1,4 @@
+pub mod Pairing
 pub mod Marked
 mod Going
 mod Staying

@@ -8,49 +8,53 @@ use Rattle.std.proofs.lemmas.Grind.{fold-append}
 use Rattle.prep_blocks.specs.declared.block.Block.{Block}
 use Rattle.prep_blocks.specs.Read.{bytes_of}
 use Rattle.prep_cut.specs.declared.plan.Plan.{Plan}
+use Rattle.prep_cut.specs.declared.plan.Proposal.{Proposal}
 use Rattle.prep_cut.specs.declared.marker.Marker.{Marker}
 use Rattle.prep_cut.specs.declared.tally.Tally.{Tally}
 use Rattle.prep_cut.specs.declared.tally.Tallies.{Tallies}
 use Rattle.prep_cut.specs.declared.tally.Totals.{Totals}
 use Rattle.prep_cut.specs.Datagrams.{datagram_of_block}
-use Rattle.prep_cut.specs.Marks.{Marked, marked, marked_by, behind, proposals_behind, proposed_for, line_of, is_written, written_of, is_of_line}
+use Rattle.prep_cut.specs.Marks.{Marked, marked, marked_by, behind, proposals_behind, proposed_for, proposed_line, line_of, is_written, written_of, is_of_line}
+use Rattle.prep_cut.specs.Pairs.{Notes}
+use Rattle.prep_cut.proofs.Pairing.{causes-one}
 use Rattle.prep_cut.specs.Marking.{AreTallies, IsAt, tally_at, tally_more, totals_of, totals_more, tallied_with}
 use Rattle.prep_cut.specs.Tallied.{no_tally, no_totals}
 
-pub marked-one : (plan : Plan) (proposals : List (Option ℕ)) (current : List Block) (b : Block)
+pub marked-one : (plan : Plan) (proposals : List (Option Proposal)) (current : List Block) (b : Block)
     → marked plan proposals (current ++ b ∷ []) ≡ marked plan proposals current ++ marked_by plan (proposals_behind proposals current) b ∷ []
 marked-one plan proposals [] b = refl
 marked-one plan proposals (first ∷ others) b = ap (λ (t : List Marked). marked_by plan proposals first ∷ t) (marked-one plan (behind first.packet proposals) others b)
 
-pub behind-one : (proposals : List (Option ℕ)) (current : List Block) (b : Block) → proposals_behind proposals (current ++ b ∷ []) ≡ behind b.packet (proposals_behind proposals current)
+pub behind-one : (proposals : List (Option Proposal)) (current : List Block) (b : Block) → proposals_behind proposals (current ++ b ∷ []) ≡ behind b.packet (proposals_behind proposals current)
 behind-one proposals [] b = refl
 behind-one proposals (first ∷ others) b = behind-one (behind first.packet proposals) others b
 
-pub behind-append : (proposals : List (Option ℕ)) (a b : List Block) → proposals_behind proposals (a ++ b) ≡ proposals_behind (proposals_behind proposals a) b
+pub behind-append : (proposals : List (Option Proposal)) (a b : List Block) → proposals_behind proposals (a ++ b) ≡ proposals_behind (proposals_behind proposals a) b
 behind-append proposals [] b = refl
 behind-append proposals (first ∷ others) b = behind-append (behind first.packet proposals) others b
 
-one_at : (plan : Plan) (line n : ℕ) (block : Block) (tally : Tally) (test : Bool) → (line == n) ≡ test
-    → fold (tally_more plan) tally (filter (is_of_line line) (record { block = block; line = Some n } ∷ [])) ≡ tallied_with (Some n) block.packet (datagram_of_block plan.policy block) line tally
-one_at plan line n block tally true e = rw e refl
-one_at plan line n block tally false e = rw e refl
+one_at : (plan : Plan) (line n : ℕ) (block : Block) (cause : Option ℕ) (tally : Tally) (test : Bool) → (line == n) ≡ test
+    → fold (tally_more plan) tally (filter (is_of_line line) (record { block = block; line = Some n; cause = cause } ∷ [])) ≡ tallied_with (Some n) block.packet (datagram_of_block plan.policy block) line tally
+one_at plan line n block cause tally true e = rw e refl
+one_at plan line n block cause tally false e = rw e refl
 
-last_at : (plan : Plan) (line : ℕ) (block : Block) (tally : Tally) (l : Option ℕ)
-    → fold (tally_more plan) tally (filter (is_of_line line) (record { block = block; line = l } ∷ [])) ≡ tallied_with l block.packet (datagram_of_block plan.policy block) line tally
-last_at plan line block tally None = refl
-last_at plan line block tally (Some n) = one_at plan line n block tally (line == n) refl
+last_at : (plan : Plan) (line : ℕ) (block : Block) (cause : Option ℕ) (tally : Tally) (l : Option ℕ)
+    → fold (tally_more plan) tally (filter (is_of_line line) (record { block = block; line = l; cause = cause } ∷ [])) ≡ tallied_with l block.packet (datagram_of_block plan.policy block) line tally
+last_at plan line block cause tally None = refl
+last_at plan line block cause tally (Some n) = one_at plan line n block cause tally (line == n) refl
 
 tally-one : (plan : Plan) (line : ℕ) (blocks : List Marked) (one : Marked)
     → tally_at plan line (blocks ++ one ∷ []) ≡ tallied_with one.line one.block.packet (datagram_of_block plan.policy one.block) line (tally_at plan line blocks)
 tally-one plan line blocks one =
     ap (fold (tally_more plan) no_tally) (filter-append (is_of_line line) blocks (one ∷ []))
     ∙ fold-append (tally_more plan) no_tally (filter (is_of_line line) blocks) (filter (is_of_line line) (one ∷ []))
-    ∙ last_at plan line one.block (tally_at plan line blocks) one.line
+    ∙ last_at plan line one.block one.cause (tally_at plan line blocks) one.line
 
 tallies-one : (plan : Plan) (blocks : List Marked) (one : Marked) (old new : Tallies) → AreTallies plan blocks old → length new.lines.items ≡ length old.lines.items
     → ((other : ℕ) → other < length old.lines.items → get_or new.lines.items other no_tally ≡ tallied_with one.line one.block.packet (datagram_of_block plan.policy one.block) other (get_or old.lines.items other no_tally))
-    → AreTallies plan (blocks ++ one ∷ []) new
-tallies-one plan blocks one old new are len added = record {
+    → Notes plan one old.causes new.causes → AreTallies plan (blocks ++ one ∷ []) new
+tallies-one plan blocks one old new are len added notes = record {
+  causes = causes-one plan blocks one old.causes new.causes are.causes notes;
   len = len ∙ are.len;
   lines = λ line within.
       added line (rw are.len within)
@@ -62,14 +66,14 @@ totals-one : (plan : Plan) (blocks : List Marked) (one : Marked) → totals_of p
 totals-one plan blocks one = fold-append (totals_more plan) no_totals blocks (one ∷ [])
 
 -- a marker's relation, one block later
-pub is_at-one : (old new : Marker) (plan : Plan) (proposals : List (Option ℕ)) (earlier : List Marked) (current : List Block) (b : Block) → IsAt old plan proposals earlier current
+pub is_at-one : (old new : Marker) (plan : Plan) (proposals : List (Option Proposal)) (earlier : List Marked) (current : List Block) (b : Block) → IsAt old plan proposals earlier current
     → new.plan.now ≡ old.plan.now → new.proposals.now ≡ behind b.packet old.proposals.now
     → new.totals ≡ totals_more old.plan.now old.totals (marked_by old.plan.now old.proposals.now b)
     → length new.tallies.lines.items ≡ length old.tallies.lines.items
     → ((other : ℕ) → other < length old.tallies.lines.items → get_or new.tallies.lines.items other no_tally
-    ≡ tallied_with (line_of old.plan.now (proposed_for b.packet old.proposals.now) b) b.packet (datagram_of_block old.plan.now.policy b) other (get_or old.tallies.lines.items other no_tally))
-    → IsAt new plan proposals earlier (current ++ b ∷ [])
-is_at-one old new plan proposals earlier current b at e-plan e-rest e-totals e-len e-lines =
+    ≡ tallied_with (line_of old.plan.now (proposed_line (proposed_for b.packet old.proposals.now)) b) b.packet (datagram_of_block old.plan.now.policy b) other (get_or old.tallies.lines.items other no_tally))
+    → Notes old.plan.now (marked_by old.plan.now old.proposals.now b) old.tallies.causes new.tallies.causes → IsAt new plan proposals earlier (current ++ b ∷ [])
+is_at-one old new plan proposals earlier current b at e-plan e-rest e-totals e-len e-lines notes =
     let one = marked_by plan (proposals_behind proposals current) b in
     let same : marked_by old.plan.now old.proposals.now b ≡ one = rw (at.plan_is, at.rest) refl in
     let longer = marked-one plan proposals current b in
@@ -82,7 +86,9 @@ is_at-one old new plan proposals earlier current b at e-plan e-rest e-totals e-l
           ∙ ap (λ (t : Totals). totals_more plan t one) at.totals ∙ sym (totals-one plan (marked plan proposals current) one) ∙ ap (totals_of plan) (sym longer);
       tallies = subst (λ (t : List Marked). AreTallies plan t new.tallies) all
           (tallies-one plan (earlier ++ marked plan proposals current) one old.tallies new.tallies at.tallies e-len
-          (λ other within. e-lines other within ∙ rw (at.plan_is, at.rest) refl));
+          (λ other within. e-lines other within ∙ rw (at.plan_is, at.rest) refl)
+          (subst (λ (m : Marked). Notes plan m old.tallies.causes new.tallies.causes) same
+          (subst (λ (p : Plan). Notes p (marked_by old.plan.now old.proposals.now b) old.tallies.causes new.tallies.causes) at.plan_is notes)));
     }
 
 filter_yes : (xs : List Marked) (one : Marked) → is_written one ≡ true → filter is_written (xs ++ one ∷ []) ≡ filter is_written xs ++ one ∷ []
@@ -107,7 +113,7 @@ written_yes xs one e = ap bytes_in (filter_yes xs one e) ∙ bytes_in-one (filte
 pub written_no : (xs : List Marked) (one : Marked) → is_written one ≡ false → written_of (xs ++ one ∷ []) ≡ written_of xs
 written_no xs one e = ap bytes_in (filter_no xs one e)
 
-marked-append : (plan : Plan) (proposals : List (Option ℕ)) (a b : List Block) → marked plan proposals (a ++ b) ≡ marked plan proposals a ++ marked plan (proposals_behind proposals a) b
+marked-append : (plan : Plan) (proposals : List (Option Proposal)) (a b : List Block) → marked plan proposals (a ++ b) ≡ marked plan proposals a ++ marked plan (proposals_behind proposals a) b
 marked-append plan proposals [] b = refl
 marked-append plan proposals (first ∷ others) b = ap (λ (t : List Marked). marked_by plan proposals first ∷ t) (marked-append plan (behind first.packet proposals) others b)
 
@@ -118,7 +124,7 @@ bytes_in-append xs ys =
     ap bytes_of (map-append block xs ys) ∙ ap concat (map-append bytes (map block xs) (map block ys)) ∙ concat-append (map bytes (map block xs)) (map bytes (map block ys))
 
 -- what is written of blocks and of those behind them
-pub written_of-append : (plan : Plan) (proposals : List (Option ℕ)) (a b : List Block)
+pub written_of-append : (plan : Plan) (proposals : List (Option Proposal)) (a b : List Block)
     → written_of (marked plan proposals (a ++ b)) ≡ written_of (marked plan proposals a) ++ written_of (marked plan (proposals_behind proposals a) b)
 written_of-append plan proposals a b =
     let first = marked plan proposals a in

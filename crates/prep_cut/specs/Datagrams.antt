@@ -78,6 +78,20 @@ abbrev pub of_packet : Policy → Block → Option PacketHead → Option Datagra
 of_packet policy block None = None
 of_packet policy block (Some head) = of_seen policy head.stamp (datagram_of (frame_of block head) (nat_lt head.captured head.original))
 
+abbrev pub payload_of : Held → List ℕ
+payload_of (frame.Udp from to payload) = payload
+payload_of frame.Other = []
+payload_of (frame.Fragment from to) = []
+payload_of (frame.Cut ips) = []
+
+abbrev pub payload_in : Block → Option PacketHead → List ℕ
+payload_in block None = []
+payload_in block (Some head) = payload_of (datagram_of (frame_of block head) (nat_lt head.captured head.original))
+
+-- the payload of the UDP datagram that the block's packet holds
+abbrev pub payload_of_block : Block → List ℕ
+payload_of_block block = payload_in block block.packet
+
 -- the datagram that the block's packet holds, where it is one of the service
 abbrev pub datagram_of_block : Policy → Block → Option Datagram
 datagram_of_block policy block = of_packet policy block block.packet

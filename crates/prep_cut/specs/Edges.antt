@@ -1,5 +1,5 @@
 -- Where captures begin.
-use Rattle.std.specs.Prelude.{ℕ, ◌+◌, ◌*◌, ◌≤◌, ⊤, min, max, Bool, true, fold, nat_le, List, [], ◌∷◌, Option, Some, None, unwrap_or}
+use Rattle.std.specs.Prelude.{ℕ, ◌+◌, ◌*◌, ◌≤◌, ⊤, min, max, fold, List, [], ◌∷◌, Option, Some, None, unwrap_or}
 use Rattle.audit_model.specs.declared.policy.InterfaceSkew.{InterfaceSkew}
 use Rattle.audit_model.specs.declared.policy.Policy.{Policy}
 use Rattle.prep_blocks.specs.declared.block.Block.{Block}

@@ -1,5 +1,6 @@
 pub mod Identifying
 pub mod Datagrams
+pub mod Caused
 pub mod Releasing
 pub mod Sending
 pub mod Leases
@@ -9,7 +10,9 @@ pub mod Allocating
 pub mod Lasting
 pub mod Edges
 pub mod Guard
+pub mod Needing
 pub mod Marks
+pub mod Pairs
 pub mod Kept
 pub mod Bounded
 pub mod Heard

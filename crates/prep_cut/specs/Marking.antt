@@ -10,11 +10,13 @@ use Rattle.prep_cut.specs.declared.fault.CutFault.{CutFault}
 use Rattle.prep_cut.specs.declared.fault.CutFault.TheVariants as faults
 use Rattle.prep_cut.specs.declared.marker.Marker.{Marker}
 use Rattle.prep_cut.specs.declared.plan.Plan.{Plan}
+use Rattle.prep_cut.specs.declared.plan.Proposal.{Proposal}
 use Rattle.prep_cut.specs.declared.tally.Tally.{Tally}
 use Rattle.prep_cut.specs.declared.tally.Tallies.{Tallies}
 use Rattle.prep_cut.specs.declared.tally.Totals.{Totals}
 use Rattle.prep_cut.specs.Datagrams.{datagram_of_block}
 use Rattle.prep_cut.specs.Marks.{Marked, marked, proposals_behind, is_written, is_of_line}
+use Rattle.prep_cut.specs.Pairs.{AreCauses}
 use Rattle.prep_cut.specs.Tallied.{no_tally, no_totals, tallied_at, tallied_block, totals_with}
 
 abbrev pub tally_more : Plan → Tally → Marked → Tally
@@ -24,10 +26,11 @@ tally_more plan tally one = tallied_block tally one.block.packet (datagram_of_bl
 abbrev pub tally_at : Plan → ℕ → List Marked → Tally
 tally_at plan line blocks = fold (tally_more plan) no_tally (filter (is_of_line line) blocks)
 
--- each line's tally is that of the packets that are left out by it
+-- each line's tally is that of the packets that are left out by it, and what was found under each number is of them
 pub record AreTallies (plan : Plan) (blocks : List Marked) (tallies : Tallies) : Type 0 where
   pub len : length tallies.lines.items ≡ length plan.lines
   pub lines : (line : ℕ) → line < length plan.lines → get_or tallies.lines.items line no_tally ≡ tally_at plan line blocks
+  pub causes : AreCauses plan blocks tallies.causes
 
 abbrev pub totals_more : Plan → Totals → Marked → Totals
 totals_more plan totals one = totals_with totals (is_written one) one.block.packet (datagram_of_block plan.policy one.block)
@@ -42,7 +45,7 @@ tallied_with None packet datagram other tally = tally
 tallied_with (Some line) packet datagram other tally = tallied_at line packet datagram other tally
 
 -- behind these blocks of a capture, and the blocks of the captures before
-pub record IsAt (marker : Marker) (plan : Plan) (proposals : List (Option ℕ)) (earlier : List Marked) (current : List Block) : Type 0 where
+pub record IsAt (marker : Marker) (plan : Plan) (proposals : List (Option Proposal)) (earlier : List Marked) (current : List Block) : Type 0 where
   pub plan_is : marker.plan.now ≡ plan
   pub rest : marker.proposals.now ≡ proposals_behind proposals current
   pub totals : marker.totals ≡ totals_of plan (marked plan proposals current)

@@ -1,5 +1,5 @@
 -- What a line of the list says of the packets that it sets aside.
-use Rattle.std.specs.Prelude.{◌≡◌, nat_lt, ◌||◌, ℕ, ◌+◌, min, max, ◌==◌, if◌then◌else◌, List, length, get_or, fold, Bool, true, false, Option, Some, None}
+use Rattle.std.specs.Prelude.{◌≡◌, nat_lt, ◌||◌, ℕ, ◌+◌, min, max, ◌==◌, if◌then◌else◌, List, length, get_or, Bool, true, false, Option, Some, None}
 use Rattle.audit_model.specs.declared.sighting.Side.{Side}
 use Rattle.audit_model.specs.declared.sighting.Side.TheVariants.{Arrives, Leaves}
 use Rattle.prep_blocks.specs.declared.block.PacketHead.{PacketHead}

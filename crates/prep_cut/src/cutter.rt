@@ -3,13 +3,14 @@
 ghost use Rattle.std.specs.Prelude.{◌≡◌, ◌∷◌, ◌++◌, [], ℕ, List, Option, OnOk, IfOk, IfErr};
 ghost use Rattle.prep_blocks.specs.declared.block.Block.{Block};
 ghost use Rattle.prep_cut.specs.declared.plan.Plan.{Plan};
+ghost use Rattle.prep_cut.specs.declared.plan.Proposal.{Proposal};
 ghost use Rattle.prep_cut.specs.Marks.{Marked};
 ghost use Rattle.prep_cut.specs.Marking.{AreTallies};
 ghost use Rattle.prep_cut.specs.Cutting.{IsCutting, GoesOn, IsRefused, IsCut, IsUndone};
 
 use crate::fault::CutFault;
 use crate::marker::Marker;
-use crate::plan::{LineNumber, Plan};
+use crate::plan::{Plan, Proposal};
 use crate::tally::{Tallies, Totals};
 use prep_blocks::BlockSplitter;
 use std::alloc::Global;
@@ -34,7 +35,7 @@ impl<'p> Cutter<'p> {
     pub fn new(
         alloc: Global,
         plan: &'p Plan,
-        proposals: &'p [Option<LineNumber>],
+        proposals: &'p [Option<Proposal>],
         tallies: Tallies,
     ) -> Self
         ensures { (earlier : List Marked) → AreTallies plan.now earlier tallies →
@@ -49,10 +50,10 @@ impl<'p> Cutter<'p> {
     /// Takes the next piece of the capture, and adds the blocks that are whole now and are not left out. C1 to C13 refuse it, and a
     /// section that states its length.
     pub fn feed(&mut self, piece: &[u8], out: &mut Vec<u8>) -> Result<(), CutFault>
-        ensures ok { (plan : Plan) (proposals : List (Option ℕ)) (earlier : List Marked) (text : List ℕ) (current : List Block) →
+        ensures ok { (plan : Plan) (proposals : List (Option Proposal)) (earlier : List Marked) (text : List ℕ) (current : List Block) →
             IsCutting self.old plan proposals earlier text current →
             OnOk result (GoesOn self.new plan proposals earlier text current piece.now [] out.old.items out.new.items) }
-        ensures err { (plan : Plan) (proposals : List (Option ℕ)) (earlier : List Marked) (text : List ℕ) (current : List Block) →
+        ensures err { (plan : Plan) (proposals : List (Option Proposal)) (earlier : List Marked) (text : List ℕ) (current : List Block) →
             IsCutting self.old plan proposals earlier text current → IfErr result (λ fault. IsRefused fault (text ++ piece.now) current) }
     {
         let mut rest = piece;
@@ -70,9 +71,9 @@ impl<'p> Cutter<'p> {
 
     /// Ends the capture.
     pub fn finish(self) -> Result<WasCut, CutFault>
-        ensures ok { (plan : Plan) (proposals : List (Option ℕ)) (earlier : List Marked) (text : List ℕ) (current : List Block) →
+        ensures ok { (plan : Plan) (proposals : List (Option Proposal)) (earlier : List Marked) (text : List ℕ) (current : List Block) →
             IsCutting self.entry plan proposals earlier text current → IfOk result (λ cut. IsCut cut plan proposals earlier text current) }
-        ensures err { (plan : Plan) (proposals : List (Option ℕ)) (earlier : List Marked) (text : List ℕ) (current : List Block) →
+        ensures err { (plan : Plan) (proposals : List (Option Proposal)) (earlier : List Marked) (text : List ℕ) (current : List Block) →
             IsCutting self.entry plan proposals earlier text current → IfErr result (λ fault. IsUndone fault text current) }
     {
         self.splitter.finish()?;

@@ -1,8 +1,9 @@
 //! The datagram of the service in a packet's block.
 
-ghost use Rattle.std.specs.Prelude.{◌≡◌};
+ghost use Rattle.std.specs.Prelude.{◌≡◌, nat_lt};
+ghost use Rattle.audit_packets.specs.Reading.{datagram_of};
 ghost use Rattle.audit_packets.specs.View.{view};
-ghost use Rattle.prep_cut.specs.Datagrams.{frame_of, datagram_of_block, of_seen, of_ends, is_secured, carries};
+ghost use Rattle.prep_cut.specs.Datagrams.{frame_of, datagram_of_block, of_seen, of_ends, is_secured, carries, payload_of, payload_of_block};
 
 use crate::transaction::{Transaction, id_in};
 use audit_model::{Addr, Policy, Side};
@@ -57,19 +58,44 @@ pub fn frame_in<'a>(block: &'a Block, head: PacketHead) -> &'a [u8]
     frame
 }
 
-/// The datagram of the service that the block's packet holds.
-pub fn datagram_in(policy: &Policy, block: &Block) -> Option<Datagram>
-    ensures { result ≡ datagram_of_block policy.now block.now }
+/// What a block's packet is.
+fn seen_in(block: &Block, head: PacketHead) -> Seen<'_>
+    ensures { view result ≡ datagram_of (frame_of block.now head) (nat_lt head.captured head.original) }
 {
-    let head = block.packet?;
-    let frame = PacketSlice {
+    slice_datagram(PacketSlice {
         stamp: head.stamp,
         bytes: frame_in(block, head),
         iface: head.iface,
         captured: head.captured,
         original: head.original,
+    })
+}
+
+/// The datagram of the service that the block's packet holds.
+pub fn datagram_in(policy: &Policy, block: &Block) -> Option<Datagram>
+    ensures { result ≡ datagram_of_block policy.now block.now }
+{
+    let head = block.packet?;
+    in_seen(policy, head.stamp, seen_in(block, head))
+}
+
+/// The payload of the UDP datagram that the block's packet holds; no bytes if it holds none.
+pub(crate) fn payload_in(block: &Block) -> &[u8]
+    ensures { result.now ≡ payload_of_block block.now }
+{
+    let Some(head) = block.packet else {
+        return &[];
     };
-    in_seen(policy, head.stamp, slice_datagram(frame))
+    payload_of(seen_in(block, head))
+}
+
+fn payload_of(seen: Seen<'_>) -> &[u8]
+    ensures { result.now ≡ payload_of (view seen.entry) }
+{
+    match seen {
+        Seen::Udp { payload, .. } => payload,
+        Seen::Other | Seen::Fragment { .. } | Seen::Cut { .. } => &[],
+    }
 }
 
 fn in_seen(policy: &Policy, stamp: u64, seen: Seen<'_>) -> Option<Datagram>

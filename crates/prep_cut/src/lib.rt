@@ -7,6 +7,7 @@ mod datagram;
 mod edge;
 mod events;
 mod fault;
+mod half;
 mod lasting;
 mod laws;
 mod lease;
@@ -27,7 +28,8 @@ pub use fault::{CutFault, CutRefused};
 pub use laws::{
     edge_is_early, leases_stay, released_is_bounded, shown_allocates_stay, strangers_stay,
 };
-pub use plan::{LineNumber, Plan};
+pub use plan::{LineNumber, Plan, Proposal};
+pub use prep_causes::CauseNumber;
 pub use reason::{FarEnd, Reason, ReasonKind};
 pub use release::Release;
 pub use stated::Stated;

@@ -3,16 +3,22 @@
 ghost use Rattle.std.specs.Prelude.{◌≡◌, ◌<◌, ◌∷◌, ◌++◌, [], ℕ, List, Option, is_none, get_or, length, true, OnOk, IfOk, IfErr};
 ghost use Rattle.prep_blocks.specs.declared.block.Block.{Block};
 ghost use Rattle.prep_cut.specs.declared.plan.Plan.{Plan};
-ghost use Rattle.prep_cut.specs.Marks.{Marked, marked_by, is_written, line_of, proposed_for, behind};
+ghost use Rattle.prep_cut.specs.declared.plan.Proposal.{Proposal};
+ghost use Rattle.prep_cut.specs.Datagrams.{datagram_of_block};
+ghost use Rattle.prep_cut.specs.Marks.{Marked, marked_by, is_written, proposed_for, behind};
+ghost use Rattle.prep_cut.specs.Pairs.{Notes};
 ghost use Rattle.prep_cut.specs.Tallied.{no_tally, totals_with};
 ghost use Rattle.prep_cut.specs.Marking.{AreTallies, IsAt, IsUnbounded, RefusesBlock, tallied_with};
 
 use crate::datagram::{Datagram, datagram_in};
 use crate::fault::CutFault;
-use crate::plan::{LineNumber, Plan};
+use crate::half::half_in;
+use crate::plan::{LineNumber, Plan, Proposal, cause_in, line_in};
 use crate::tally::{Tallies, Totals};
+use audit_model::Side;
 use audit_pcapng::{BlockKind, ByteOrder};
 use prep_blocks::{Block, PacketHead};
+use prep_causes::CauseNumber;
 
 /// Where a section block states the section's length.
 const SECTION_LENGTH: usize = 16;
@@ -25,14 +31,14 @@ const SECTION_LENGTH_END: usize = 24;
 pub struct Marker<'p> {
     plan: &'p Plan,
     /// What is proposed for the packets that are still to come.
-    proposals: &'p [Option<LineNumber>],
+    proposals: &'p [Option<Proposal>],
     totals: Totals,
     tallies: Tallies,
 }
 
 impl<'p> Marker<'p> {
     /// Before the first block.
-    pub fn new(plan: &'p Plan, proposals: &'p [Option<LineNumber>], tallies: Tallies) -> Self
+    pub fn new(plan: &'p Plan, proposals: &'p [Option<Proposal>], tallies: Tallies) -> Self
         ensures { (earlier : List Marked) → AreTallies plan.now earlier tallies →
             IsAt result plan.now proposals.now earlier [] }
     {
@@ -46,7 +52,7 @@ impl<'p> Marker<'p> {
 
     /// Takes the next block, and tells whether it is written.
     pub fn take(&mut self, block: &Block) -> Result<bool, CutFault>
-        ensures ok { (plan : Plan) (proposals : List (Option ℕ)) (earlier : List Marked) (current : List Block) →
+        ensures ok { (plan : Plan) (proposals : List (Option Proposal)) (earlier : List Marked) (current : List Block) →
             IsAt self.old plan proposals earlier current → OnOk result (IsAt self.new plan proposals earlier (current ++ block.now ∷ [])) }
         ensures written { IfOk result (λ written. written ≡ is_written (marked_by self.old.plan.now self.old.proposals.now block.now)) }
         ensures err { IfErr result (λ fault. RefusesBlock fault block.now) }
@@ -54,27 +60,51 @@ impl<'p> Marker<'p> {
         if block.kind == BlockKind::Section && !is_unbounded(block) {
             return Err(CutFault::SectionLength);
         }
-        let line = self.next_line(block);
+        let proposal = self.next_proposal(block.packet);
+        let line = self.plan.line_of(line_in(proposal), block);
         let datagram = datagram_in(&self.plan.policy, block);
+        self.note_cause(line, cause_in(proposal), block, datagram);
         Ok(self.count(line, block.packet, datagram))
     }
 
-    /// The line by which the block is left out, with the next proposal where it has a packet.
-    fn next_line(&mut self, block: &Block) -> Option<LineNumber>
-        ensures line { result ≡ line_of self.old.plan.now (proposed_for block.now.packet self.old.proposals.now) block.now }
-        ensures rest { self.new.proposals.now ≡ behind block.now.packet self.old.proposals.now }
+    /// The next proposal, if the block has a packet.
+    fn next_proposal(&mut self, packet: Option<PacketHead>) -> Option<Proposal>
+        ensures proposal { result ≡ proposed_for packet self.old.proposals.now }
+        ensures rest { self.new.proposals.now ≡ behind packet self.old.proposals.now }
         ensures plan { self.new.plan ≡ self.old.plan }
         ensures totals { self.new.totals ≡ self.old.totals }
         ensures tallies { self.new.tallies ≡ self.old.tallies }
     {
-        if block.packet.is_none() {
-            return None;
-        }
-        let Some((first, rest)) = self.proposals.split_first() else {
-            return None;
-        };
+        packet?;
+        let (first, rest) = self.proposals.split_first()?;
         self.proposals = rest;
-        self.plan.line_of(*first, block)
+        *first
+    }
+
+    /// Notes an arrival that is excluded, or a departure by a line that needs its arrival.
+    fn note_cause(
+        &mut self,
+        line: Option<LineNumber>,
+        cause: Option<CauseNumber>,
+        block: &Block,
+        datagram: Option<Datagram>,
+    )
+        ensures rest { self.new.proposals ≡ self.old.proposals }
+        ensures plan { self.new.plan ≡ self.old.plan }
+        ensures totals { self.new.totals ≡ self.old.totals }
+        ensures lines { self.new.tallies.lines ≡ self.old.tallies.lines }
+        ensures causes { datagram ≡ datagram_of_block self.old.plan.now.policy block.now →
+            Notes self.old.plan.now (record { block = block.now; line = line; cause = cause }) self.old.tallies.causes self.new.tallies.causes }
+    {
+        let (Some(line), Some(number), Some(datagram)) = (line, cause, datagram) else {
+            return;
+        };
+        if datagram.side == Side::Leaves && !self.plan.needs_cause(line) {
+            return;
+        }
+        if let Some(half) = half_in(&self.plan.policy, block, &datagram) {
+            self.tallies.note(number, half);
+        }
     }
 
     /// Counts a block, and tells whether it is written.
@@ -88,6 +118,7 @@ impl<'p> Marker<'p> {
         ensures rest { self.new.proposals ≡ self.old.proposals }
         ensures plan { self.new.plan ≡ self.old.plan }
         ensures totals { self.new.totals ≡ totals_with self.old.totals (is_none line) packet datagram }
+        ensures causes { self.new.tallies.causes ≡ self.old.tallies.causes }
         ensures len { length self.new.tallies.lines.items ≡ length self.old.tallies.lines.items }
         ensures tallies { (other : ℕ) → other < length self.old.tallies.lines.items →
             get_or self.new.tallies.lines.items other no_tally ≡ tallied_with line packet datagram other (get_or self.old.tallies.lines.items other no_tally) }

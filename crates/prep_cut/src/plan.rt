@@ -1,18 +1,43 @@
 //! What is to be set aside.
 
 ghost use Rattle.std.specs.Prelude.{◌≡◌};
-ghost use Rattle.prep_cut.specs.Marks.{is_at_edge, line_of, may_leave_at};
+ghost use Rattle.prep_cut.specs.Marks.{is_at_edge, line_of, may_leave_at, proposed_line, proposed_cause};
+ghost use Rattle.prep_cut.specs.Needing.{needs_cause_at, reach_of};
 
 use crate::allocations::Allocations;
 use crate::datagram::datagram_in;
-use crate::edge::last_at_edge;
+use crate::edge::{last_at_edge, slack_of};
 use crate::reason::Reason;
 use crate::stated::Stated;
 use audit_model::{Listed, Policy};
 use prep_blocks::Block;
+use prep_causes::{CauseNumber, Reach};
 
 /// The number of a line of the list, from 0.
 pub type LineNumber = u32;
+
+/// What is proposed for a packet.
+#[derive(Clone, Copy, Debug, PartialEq, Eq)]
+pub struct Proposal {
+    /// The line that excludes it.
+    pub line: LineNumber,
+    /// The number that a departure has in common with its arrival.
+    pub cause: Option<CauseNumber>,
+}
+
+/// The line that is proposed.
+pub(crate) fn line_in(proposal: Option<Proposal>) -> Option<LineNumber>
+    ensures { result ≡ proposed_line proposal }
+{
+    Some(proposal?.line)
+}
+
+/// The number that is proposed.
+pub(crate) fn cause_in(proposal: Option<Proposal>) -> Option<CauseNumber>
+    ensures { result ≡ proposed_cause proposal }
+{
+    proposal?.cause
+}
 
 /// The lines of the list, and what they go by. Which packets are proposed for them is told capture by capture.
 #[derive(Debug, Drop)]
@@ -56,6 +81,26 @@ impl Plan {
             && self
                 .stated
                 .may_leave(&self.allocations, reason, head.stamp, datagram)
+    }
+
+    /// Whether what leaves by a line is to have its arrival excluded as well.
+    pub(crate) fn needs_cause(&self, line: LineNumber) -> bool
+        ensures { result ≡ needs_cause_at self.now line }
+    {
+        match self.lines.as_slice().get(line as usize) {
+            Some(reason) => reason.needs_cause(),
+            None => false,
+        }
+    }
+
+    /// How far a departure may be from its arrival.
+    pub(crate) fn reach(&self) -> Reach
+        ensures { result ≡ reach_of self.now.policy }
+    {
+        Reach {
+            hold: self.policy.hold,
+            slack: slack_of(&self.policy),
+        }
     }
 
     /// Whether a moment is one at which `edge` may exclude something, if that is the reason.

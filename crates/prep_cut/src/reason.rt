@@ -2,6 +2,7 @@
 
 ghost use Rattle.std.specs.Prelude.{◌≡◌};
 ghost use Rattle.prep_cut.specs.ReasonText.{kind_of};
+ghost use Rattle.prep_cut.specs.Caused.{needs_cause};
 
 use audit_model::{Addr, Pair};
 use std::fmt;
@@ -82,6 +83,27 @@ pub enum ReasonKind {
 }
 
 impl Reason {
+    /// Whether what leaves by such a line is to have its arrival excluded as well. The other lines are of moments, of what
+    /// may be from before the captures, of clients whose datagrams can't be read, and of datagrams that the service sends to itself.
+    pub fn needs_cause(&self) -> bool
+        ensures { result ≡ needs_cause self.now }
+    {
+        match self {
+            Reason::Client(_)
+            | Reason::AddressOf { .. }
+            | Reason::Released { .. }
+            | Reason::Inner { .. } => true,
+            Reason::BeforeSince
+            | Reason::Answer(_)
+            | Reason::AddressTold { .. }
+            | Reason::Address { .. }
+            | Reason::Dtls(_)
+            | Reason::Inside { .. }
+            | Reason::Edge
+            | Reason::AfterUntil => false,
+        }
+    }
+
     /// What it says, whomever it names.
     pub fn kind(&self) -> ReasonKind
         ensures { result ≡ kind_of self.now }

@@ -208,7 +208,7 @@ fn is_free(allocations: &Allocations, datagram: &Datagram) -> bool
 
 impl Datagram {
     /// The end of the service.
-    fn own_end(&self) -> Addr
+    pub(crate) fn own_end(&self) -> Addr
         ensures { result ≡ own_end self.now }
     {
         match self.side {
@@ -218,7 +218,7 @@ impl Datagram {
     }
 
     /// The other end.
-    fn far_end(&self) -> Addr
+    pub(crate) fn far_end(&self) -> Addr
         ensures { result ≡ far_end self.now }
     {
         match self.side {

@@ -1,11 +1,19 @@
 //! How many packets are set aside, and how much the datagrams among them carried.
 
-ghost use Rattle.std.specs.Prelude.{◌≡◌, ◌<◌, ℕ, length, get_or, IfOk};
-ghost use Rattle.prep_cut.specs.Tallied.{no_count, no_tally, no_totals, counted, counted_both, tallied, tallied_at, tallied_block, tallied_other, totals_with, is_counted, AreNone};
+ghost use Rattle.std.specs.Prelude.{◌≡◌, ◌<◌, [], ℕ, List, length, get_or, IfOk};
+ghost use Rattle.prep_causes.specs.Adding.{IsAdded};
+ghost use Rattle.prep_causes.specs.Slots.{pairs_in};
+ghost use Rattle.prep_cut.specs.declared.plan.Plan.{Plan};
+ghost use Rattle.prep_cut.specs.Marking.{AreTallies};
+ghost use Rattle.prep_cut.specs.Marks.{Marked};
+ghost use Rattle.prep_cut.specs.Pairs.{ArePaired};
+ghost use Rattle.prep_cut.specs.Tallied.{no_count, no_tally, no_totals, counted, counted_both, tallied, tallied_at, tallied_block, tallied_other, totals_with, is_counted};
 
 use crate::datagram::Datagram;
+use crate::plan::Plan;
 use audit_model::Side;
 use prep_blocks::PacketHead;
+use prep_causes::{CauseNumber, Causes, Half};
 use std::alloc::{AllocError, Global};
 
 /// Datagrams, and the bytes of their payloads. No number goes over 64 bits.
@@ -185,20 +193,38 @@ impl Totals {
     }
 }
 
-/// The tallies of the lines of a list.
+/// The tallies of the lines of a list, and the departures that are excluded together with their arrivals.
 #[derive(Debug, Drop)]
 pub struct Tallies {
     lines: Vec<Tally>,
+    causes: Causes,
 }
 
 impl Tallies {
-    /// Of so many lines without a packet.
-    pub fn new(alloc: Global, lines: usize) -> Result<Self, AllocError>
-        ensures { IfOk result (λ tallies. AreNone tallies.lines.items lines) }
+    /// Of a plan's lines, without a packet, and of so many numbers of departures and arrivals.
+    pub fn new(alloc: Global, plan: &Plan, causes: usize) -> Result<Self, AllocError>
+        ensures { IfOk result (λ tallies. AreTallies plan.now [] tallies) }
     {
         Ok(Tallies {
-            lines: vec![in alloc; Tally::none(); lines]?,
+            lines: vec![in alloc; Tally::none(); plan.lines.len()]?,
+            causes: Causes::new(alloc, plan.reach(), causes)?,
         })
+    }
+
+    /// How many departures are excluded together with their arrivals, by lines that need these. It takes as long as there are numbers.
+    pub fn pairs(&self) -> usize
+        ensures value { result ≡ pairs_in self.now.causes.slots.items }
+        ensures paired { (plan : Plan) (blocks : List Marked) → AreTallies plan blocks self.now → ArePaired plan blocks result }
+    {
+        self.causes.pairs()
+    }
+
+    /// Notes an arrival or a departure that is excluded.
+    pub(crate) fn note(&mut self, number: CauseNumber, half: Half)
+        ensures lines { self.new.lines ≡ self.old.lines }
+        ensures causes { IsAdded self.old.causes number half self.new.causes }
+    {
+        self.causes.add(number, half);
     }
 
     /// Each line's tally, in their order.
@@ -210,6 +236,7 @@ impl Tallies {
 
     /// Counts a block to a line; to no line where there is none of that number.
     pub fn add(&mut self, line: usize, packet: Option<PacketHead>, datagram: Option<Datagram>)
+        ensures causes { self.new.causes ≡ self.old.causes }
         ensures len { length self.new.lines.items ≡ length self.old.lines.items }
         ensures lines { (other : ℕ) → other < length self.old.lines.items →
             get_or self.new.lines.items other no_tally ≡ tallied_at line packet datagram other (get_or self.old.lines.items other no_tally) }

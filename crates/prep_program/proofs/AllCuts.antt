@@ -12,7 +12,6 @@ use Rattle.prep_cut.specs.declared.tally.Tallies.{Tallies}
 use Rattle.prep_cut.specs.declared.tally.Totals.{Totals}
 use Rattle.prep_cut.specs.Marks.{Marked, marked, written_of}
 use Rattle.prep_cut.specs.Marking.{AreTallies, totals_of}
-use Rattle.prep_cut.specs.Tallied.{AreNone}
 use Rattle.prep_program.specs.declared.cutting.ToCut.{ToCut}
 use Rattle.prep_program.specs.AllCuts.{marks_of, all_marks, files_cut}
 use Rattle.prep_program.specs.Cuts.{Cuts}
@@ -32,14 +31,14 @@ no_files : (before : Option (List FileMade)) → before ≡ with_files before []
 no_files None = refl
 no_files (Some files) = ap Some (sym (append-nil files))
 
-pub none_cut : (tallies : Tallies) (plan : Plan) (before : Option (List FileMade)) → AreNone tallies.lines.items (length plan.lines) → AreCut [] tallies plan [] [] before before
+pub none_cut : (tallies : Tallies) (plan : Plan) (before : Option (List FileMade)) → AreTallies plan [] tallies → AreCut [] tallies plan [] [] before before
 none_cut tallies plan before none = record {
   done = [];
   len = refl;
   spelled = refl;
   wholes = tt;
   totals_are = refl;
-  tallies_are = record { len = none.len; lines = λ line within. none.none line };
+  tallies_are = none;
   files = no_files before;
 }
 

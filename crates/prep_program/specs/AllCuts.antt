@@ -6,7 +6,9 @@ use Rattle.prep_blocks.specs.Read.{bytes_of}
 use Rattle.prep_blocks.specs.Splitting.{IsWhole}
 use Rattle.prep_cut.specs.declared.plan.Plan.{Plan}
 use Rattle.prep_cut.specs.Marks.{Marked, marked, written_of}
+use Rattle.prep_causes.specs.Slots.{pairs_in}
 use Rattle.prep_cut.specs.Marking.{AreTallies, totals_of}
+use Rattle.prep_cut.specs.Pairs.{ArePaired}
 use Rattle.prep_program.specs.declared.cutting.AllCut.{AllCut}
 use Rattle.prep_program.specs.declared.cutting.ToCut.{ToCut}
 use Rattle.prep_program.specs.Making.{FileMade, with_files}
@@ -28,11 +30,13 @@ files_cut [] marks = []
 files_cut (one ∷ others) [] = []
 files_cut (one ∷ others) (blocks ∷ marks) = record { name = string_bytes one.file; bytes = written_of blocks } ∷ files_cut others marks
 
--- the texts are whole captures, each of which was cut to its file. The tallies are those of all of them.
+-- the texts are whole captures, each of which was cut to its file. The tallies are those of all of them, and so many departures have
+-- an arrival of their own.
 pub record CutsAll (all : AllCut) (plan : Plan) (asked : List ToCut) (texts : List (List ℕ)) (before after : Option (List FileMade)) : Type 0 where
   pub captures : List (List Block)
   pub spelled : map bytes_of captures ≡ texts
   pub wholes : AllByRecursion (λ blocks. IsWhole (bytes_of blocks) blocks) captures
   pub totals : all.totals.items ≡ map (totals_of plan) (marks_of plan asked captures)
   pub tallies : AreTallies plan (all_marks (marks_of plan asked captures)) all.tallies
+  pub paired : ArePaired plan (all_marks (marks_of plan asked captures)) (pairs_in all.tallies.causes.slots.items)
   pub files : after ≡ with_files before (files_cut asked (marks_of plan asked captures))

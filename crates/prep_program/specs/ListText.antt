@@ -7,9 +7,12 @@ use Rattle.prep_cut.specs.declared.stated.Stated.{Stated}
 use Rattle.prep_cut.specs.declared.tally.Count.{Count}
 use Rattle.prep_cut.specs.declared.tally.Tally.{Tally}
 use Rattle.prep_cut.specs.declared.tally.Totals.{Totals}
+use Rattle.prep_causes.specs.Slots.{pairs_in}
+use Rattle.prep_cut.specs.Caused.{needs_cause}
 use Rattle.prep_cut.specs.ReasonText.{reason_text}
 use Rattle.prep_cut.specs.Tallied.{capped, counted_both, is_counted, no_count}
 use Rattle.prep_program.specs.declared.cutting.AllCut.{AllCut}
+use Rattle.prep_program.specs.declared.list_totals.Departures.{Departures}
 use Rattle.prep_program.specs.declared.list_totals.Sums.{Sums}
 use Rattle.prep_program.specs.declared.list_totals.Told.{Told}
 
@@ -87,20 +90,16 @@ abbrev pub captures_text : ℕ → List Totals → List ℕ
 captures_text number [] = []
 captures_text number (first ∷ others) = capture_text number first ++ captures_text (capped (number + 1)) others
 
--- the departures of a line beyond its arrivals
-abbrev pub unpaired_of : Tally → ℕ
-unpaired_of tally = tally.left.datagrams - tally.arrived.datagrams
-
 -- with these tallies
 abbrev pub sums_with : Sums → List Tally → Sums
 sums_with sums [] = sums
 sums_with sums (first ∷ others) =
     sums_with
-    (record { arrived = counted_both sums.arrived first.arrived; left = counted_both sums.left first.left; others = capped (sums.others + first.others); unpaired = capped (sums.unpaired + unpaired_of first) })
+    (record { arrived = counted_both sums.arrived first.arrived; left = counted_both sums.left first.left; others = capped (sums.others + first.others) })
     others
 
 abbrev pub sums_of : List Tally → Sums
-sums_of tallies = sums_with (record { arrived = no_count; left = no_count; others = 0; unpaired = 0 }) tallies
+sums_of tallies = sums_with (record { arrived = no_count; left = no_count; others = 0 }) tallies
 
 -- of all that is set aside
 abbrev pub sums_text : Sums → List ℕ
@@ -134,6 +133,29 @@ clients_with clients [] tallies = clients
 clients_with clients (reason ∷ lines) [] = clients
 clients_with clients (reason ∷ lines) (tally ∷ tallies) = clients_with (if is_client reason tally then capped (clients + 1) else clients) lines tallies
 
+-- how many departures lines set aside that need their arrivals, with these
+abbrev pub caused_with : ℕ → List Reason → List Tally → ℕ
+caused_with caused [] tallies = caused
+caused_with caused (reason ∷ lines) [] = caused
+caused_with caused (reason ∷ lines) (tally ∷ tallies) = caused_with (if needs_cause reason then capped (caused + tally.left.datagrams) else caused) lines tallies
+
+-- of clients by TCP, TLS, DTLS or IPv6, or of such as may be
+abbrev pub is_unread : Reason → Bool
+is_unread (reasons.AddressTold relayed tenure client) = true
+is_unread (reasons.Address relayed tenure) = true
+is_unread (reasons.Dtls pair) = true
+is_unread other = false
+
+-- how many departures such lines set aside, with these
+abbrev pub unread_with : ℕ → List Reason → List Tally → ℕ
+unread_with unread [] tallies = unread
+unread_with unread (reason ∷ lines) [] = unread
+unread_with unread (reason ∷ lines) (tally ∷ tallies) = unread_with (if is_unread reason then capped (unread + tally.left.datagrams) else unread) lines tallies
+
+-- of which so many have an arrival of their own that is set aside as well
+abbrev pub departures_of : List Reason → List Tally → ℕ → Departures
+departures_of lines tallies pairs = record { unpaired = caused_with 0 lines tallies - pairs; unread = unread_with 0 lines tallies; clients = clients_with 0 lines tallies }
+
 -- the datagrams that are set aside
 abbrev pub excluded_of : Sums → ℕ
 excluded_of sums = capped (sums.arrived.datagrams + sums.left.datagrams)
@@ -143,22 +165,22 @@ abbrev pub share_text : ℕ → ℕ → List ℕ
 share_text excluded all =
     codes "excluded " ++ (decimal excluded ++ (codes " of " ++ (decimal all ++ (codes " datagrams " ++ (decimal (share_of excluded all) ++ codes " percent")))))
 
--- ` departures N unpaired N clients N`
-abbrev pub departures_text : Sums → ℕ → List ℕ
-departures_text sums clients =
-    codes " departures " ++ (decimal sums.left.datagrams ++ (codes " unpaired " ++ (decimal sums.unpaired ++ (codes " clients " ++ (decimal clients ++ codes "\n")))))
+-- ` departures N unpaired N unread N clients N`
+abbrev pub departures_text : ℕ → Departures → List ℕ
+departures_text all departures =
+    codes " departures " ++ (decimal all ++ (codes " unpaired " ++ (decimal departures.unpaired ++ (codes " unread " ++ (decimal departures.unread ++ (codes " clients " ++ (decimal departures.clients ++ codes "\n")))))))
 
 -- both, as one line
-abbrev pub excluded_text : Sums → ℕ → ℕ → List ℕ
-excluded_text sums all clients = share_text (excluded_of sums) all ++ departures_text sums clients
+abbrev pub excluded_text : Sums → ℕ → Departures → List ℕ
+excluded_text sums all departures = share_text (excluded_of sums) all ++ departures_text sums.left.datagrams departures
 
 -- the lines of all of them together
-abbrev pub totals_text : Told → Sums → ℕ → ℕ → List ℕ
-totals_text told sums kept clients = (sums_text sums ++ excluded_text sums (capped (excluded_of sums + kept)) clients) ++ kept_text told kept
+abbrev pub totals_text : Told → Sums → ℕ → Departures → List ℕ
+totals_text told sums kept departures = (sums_text sums ++ excluded_text sums (capped (excluded_of sums + kept)) departures) ++ kept_text told kept
 
 -- the whole list of a plan, whose captures were cut
 abbrev pub list_text : Plan → Told → AllCut → List ℕ
 list_text plan told all =
     ((head_text plan.stated told.begin ++ lines_text plan.lines all.tallies.lines.items)
     ++ captures_text 0 all.totals.items)
-    ++ totals_text told (sums_of all.tallies.lines.items) (kept_of all.totals.items) (clients_with 0 plan.lines all.tallies.lines.items)
+    ++ totals_text told (sums_of all.tallies.lines.items) (kept_of all.totals.items) (departures_of plan.lines all.tallies.lines.items (pairs_in all.tallies.causes.slots.items))

@@ -6,6 +6,7 @@ ghost use Rattle.prep_blocks.specs.declared.block.Block.{Block};
 ghost use Rattle.prep_cut.specs.Cutting.{IsCut, IsCutting};
 ghost use Rattle.prep_cut.specs.Marks.{Marked};
 ghost use Rattle.prep_cut.specs.declared.plan.Plan.{Plan};
+ghost use Rattle.prep_cut.specs.declared.plan.Proposal.{Proposal};
 ghost use Rattle.prep_program.specs.AllCuts.{CutsAll};
 ghost use Rattle.prep_program.specs.Cuts.{Cuts};
 ghost use Rattle.prep_program.specs.Making.{files_of};
@@ -13,7 +14,7 @@ ghost use Rattle.prep_program.specs.Making.{files_of};
 use crate::maker::{Maker, append_all};
 use crate::source::{PIECE, Source};
 use crate::stop::Stop;
-use prep_cut::{Cutter, LineNumber, Plan, Tallies, Totals, WasCut};
+use prep_cut::{CauseNumber, Cutter, Plan, Proposal, Tallies, Totals, WasCut};
 use std::alloc::Global;
 
 /// Writes a capture without what is set aside, from its first byte to its last, to the file that was made last.
@@ -27,7 +28,7 @@ pub fn cut_capture<S: Source, M: Maker>(
 ) -> Result<WasCut, Stop>
     ensures kept { S.holds source.new ≡ S.holds source.old }
     ensures others { M.making made.new ≡ M.making made.old }
-    ensures cuts { (text : List ℕ) (plan : Plan) (proposals : List (Option ℕ)) (earlier : List Marked) → S.holds source.old name.now ≡ Some text →
+    ensures cuts { (text : List ℕ) (plan : Plan) (proposals : List (Option Proposal)) (earlier : List Marked) → S.holds source.old name.now ≡ Some text →
         IsCutting cutter.entry plan proposals earlier [] [] →
         IfOk result (λ cut. Cuts cut plan proposals earlier text (M.taken made.old) (M.taken made.new)) }
 {
@@ -55,7 +56,7 @@ pub fn cut_capture<S: Source, M: Maker>(
 
 /// Ends a capture.
 fn end_capture(cutter: Cutter<'_>, capture: u32) -> Result<WasCut, Stop>
-    ensures { (plan : Plan) (proposals : List (Option ℕ)) (earlier : List Marked) (text : List ℕ) (current : List Block) →
+    ensures { (plan : Plan) (proposals : List (Option Proposal)) (earlier : List Marked) (text : List ℕ) (current : List Block) →
         IsCutting cutter.entry plan proposals earlier text current → IfOk result (λ cut. IsCut cut plan proposals earlier text current) }
 {
     match cutter.finish() {
@@ -71,7 +72,7 @@ pub struct ToCut<'a> {
     /// The file that is made of it.
     pub file: String,
     /// What is proposed for each of its packets.
-    pub proposals: Vec<Option<LineNumber>>,
+    pub proposals: Vec<Option<Proposal>>,
 }
 
 /// Captures that were cut.
@@ -81,18 +82,20 @@ pub struct AllCut {
     pub tallies: Tallies,
 }
 
-/// Cuts captures one after another, each to a file of its own. The tallies are those of all of them.
+/// Cuts captures one after another, each to a file of its own. The tallies are those of all of them, whose departures and arrivals have so many
+/// numbers in common.
 pub fn cut_captures<S: Source, M: Maker>(
     alloc: Global,
     source: &mut S,
     captures: &[ToCut<'_>],
     plan: &Plan,
+    causes: CauseNumber,
     made: &mut M,
 ) -> Result<AllCut, Stop>
     ensures { (texts : List (List ℕ)) → AllZip (λ one text. S.holds source.old one.name.now ≡ Some text) captures.now texts →
         IfOk result (λ all. CutsAll all plan.now captures.now texts (files_of (M.making made.old) (M.taken made.old)) (files_of (M.making made.new) (M.taken made.new))) }
 {
-    let mut tallies = Tallies::new(alloc, plan.lines.len())?;
+    let mut tallies = Tallies::new(alloc, plan, causes as usize)?;
     let mut totals = Vec::new(alloc);
     let mut number = 0u32;
     for one in captures {

@@ -8,7 +8,7 @@ ghost use Rattle.prep_program.specs.ListText.{longest_text, line_text, counted_l
 use crate::cutting::AllCut;
 use crate::list_head::head_of;
 use crate::list_totals::{
-    Told, add_up, clients_in, kept_in, lines_of_totals, text_of_counts, text_of_others,
+    Told, add_up, departures_in, kept_in, lines_of_totals, text_of_counts, text_of_others,
 };
 use prep_cut::{Plan, Reason, Tally, Totals};
 use std::alloc::{AllocError, Global};
@@ -104,10 +104,10 @@ pub fn list_of(alloc: Global, plan: &Plan, told: &Told, all: &AllCut) -> Result<
     let tallies = all.tallies.as_slice();
     let sums = add_up(tallies);
     let kept = kept_in(&all.totals);
-    let clients = clients_in(lines, tallies);
+    let departures = departures_in(lines, tallies, all.tallies.pairs());
     let mut list = head_of(alloc, &plan.stated, told.begin)?;
     list.push_str(lines_of(alloc, lines, tallies)?.as_str())?;
     list.push_str(lines_of_captures(alloc, &all.totals)?.as_str())?;
-    list.push_str(lines_of_totals(alloc, told, &sums, kept, clients)?.as_str())?;
+    list.push_str(lines_of_totals(alloc, told, &sums, kept, &departures)?.as_str())?;
     Ok(list)
 }

@@ -1,7 +1,7 @@
 //! The end of the list of what is set aside: what its lines and captures add up to.
 
 ghost use Rattle.std.specs.Prelude.{◌≡◌, IfOk, string_bytes};
-ghost use Rattle.prep_program.specs.ListText.{counts_text, others_text, sums_of, sums_text, unpaired_of, kept_of, kept_text, share_of, is_client, clients_with, excluded_of, share_text, departures_text, excluded_text, totals_text};
+ghost use Rattle.prep_program.specs.ListText.{counts_text, others_text, sums_of, sums_text, kept_of, kept_text, share_of, is_client, is_unread, clients_with, caused_with, unread_with, departures_of, excluded_of, share_text, departures_text, excluded_text, totals_text};
 
 use prep_cut::{Count, Reason, Tally, Totals};
 use std::alloc::{AllocError, Global};
@@ -21,8 +21,17 @@ pub struct Sums {
     pub left: Count,
     /// Packets that are no datagrams of the service.
     pub others: u64,
-    /// Of each line the departures beyond its arrivals.
+}
+
+/// The departures that are set aside.
+#[derive(Clone, Copy)]
+pub struct Departures {
+    /// Those without an arrival of their own that is set aside as well, by lines that need one.
     pub unpaired: u64,
+    /// Those by lines of clients whose arrivals can't be read.
+    pub unread: u64,
+    /// How many clients from before there are.
+    pub clients: u64,
 }
 
 /// What a line counts, as ` in 3 4 out 5 6`.
@@ -47,13 +56,6 @@ pub fn text_of_others(alloc: Global, is_told: bool, others: u64) -> Result<Strin
     }
 }
 
-/// The departures of a line beyond its arrivals.
-fn unpaired_in(tally: &Tally) -> u64
-    ensures { result ≡ unpaired_of tally.now }
-{
-    tally.left.datagrams.saturating_sub(tally.arrived.datagrams)
-}
-
 /// All that is set aside.
 pub fn add_up(tallies: &[Tally]) -> Sums
     ensures { result ≡ sums_of tallies.now }
@@ -62,14 +64,12 @@ pub fn add_up(tallies: &[Tally]) -> Sums
         arrived: Count::none(),
         left: Count::none(),
         others: 0,
-        unpaired: 0,
     };
     for tally in tallies {
         sums = Sums {
             arrived: sums.arrived.plus(tally.arrived),
             left: sums.left.plus(tally.left),
             others: sums.others.saturating_add(tally.others),
-            unpaired: sums.unpaired.saturating_add(unpaired_in(tally)),
         };
     }
     sums
@@ -127,7 +127,7 @@ fn names_client(reason: &Reason, tally: &Tally) -> bool
 }
 
 /// How many clients from before the lines name.
-pub fn clients_in(lines: &[Reason], tallies: &[Tally]) -> u64
+fn clients_in(lines: &[Reason], tallies: &[Tally]) -> u64
     ensures { result ≡ clients_with 0 lines.now tallies.now }
 {
     let mut clients = 0u64;
@@ -144,6 +144,63 @@ pub fn clients_in(lines: &[Reason], tallies: &[Tally]) -> u64
     clients
 }
 
+/// How many departures lines set aside that need their arrivals.
+fn caused_in(lines: &[Reason], tallies: &[Tally]) -> u64
+    ensures { result ≡ caused_with 0 lines.now tallies.now }
+{
+    let mut caused = 0u64;
+    let mut rest = tallies;
+    for reason in lines {
+        let Some((tally, behind)) = rest.split_first() else {
+            return caused;
+        };
+        if reason.needs_cause() {
+            caused = caused.saturating_add(tally.left.datagrams);
+        }
+        rest = behind;
+    }
+    caused
+}
+
+/// Whether a line is of clients by TCP, TLS, DTLS or IPv6, or of such as may be.
+fn is_unread(reason: &Reason) -> bool
+    ensures { result ≡ is_unread reason.now }
+{
+    matches!(
+        reason,
+        Reason::AddressTold { .. } | Reason::Address { .. } | Reason::Dtls(_)
+    )
+}
+
+/// How many departures lines set aside whose arrivals can't be read.
+fn unread_in(lines: &[Reason], tallies: &[Tally]) -> u64
+    ensures { result ≡ unread_with 0 lines.now tallies.now }
+{
+    let mut unread = 0u64;
+    let mut rest = tallies;
+    for reason in lines {
+        let Some((tally, behind)) = rest.split_first() else {
+            return unread;
+        };
+        if is_unread(reason) {
+            unread = unread.saturating_add(tally.left.datagrams);
+        }
+        rest = behind;
+    }
+    unread
+}
+
+/// The departures that are set aside, of which so many have their arrivals.
+pub fn departures_in(lines: &[Reason], tallies: &[Tally], pairs: usize) -> Departures
+    ensures { result ≡ departures_of lines.now tallies.now pairs }
+{
+    Departures {
+        unpaired: caused_in(lines, tallies).saturating_sub(pairs as u64),
+        unread: unread_in(lines, tallies),
+        clients: clients_in(lines, tallies),
+    }
+}
+
 /// How many datagrams are excluded, of how many, with their share.
 fn text_of_share(alloc: Global, excluded: u64, all: u64) -> Result<String, AllocError>
     ensures { IfOk result (λ text. string_bytes text ≡ share_text excluded all) }
@@ -152,13 +209,18 @@ fn text_of_share(alloc: Global, excluded: u64, all: u64) -> Result<String, Alloc
     format!(in alloc; "excluded {excluded} of {all} datagrams {share} percent")
 }
 
-/// The departures among them, those beyond the arrivals of their lines, and the clients from before.
-fn text_of_departures(alloc: Global, sums: &Sums, clients: u64) -> Result<String, AllocError>
-    ensures { IfOk result (λ text. string_bytes text ≡ departures_text sums.now clients) }
+/// The departures among them, and the clients from before.
+fn text_of_departures(
+    alloc: Global,
+    all: u64,
+    departures: &Departures,
+) -> Result<String, AllocError>
+    ensures { IfOk result (λ text. string_bytes text ≡ departures_text all departures.now) }
 {
-    let departures = sums.left.datagrams;
-    let unpaired = sums.unpaired;
-    format!(in alloc; " departures {departures} unpaired {unpaired} clients {clients}\n")
+    let unpaired = departures.unpaired;
+    let unread = departures.unread;
+    let clients = departures.clients;
+    format!(in alloc; " departures {all} unpaired {unpaired} unread {unread} clients {clients}\n")
 }
 
 /// The line of the datagrams that are set aside, with their share.
@@ -166,12 +228,12 @@ fn line_of_excluded(
     alloc: Global,
     sums: &Sums,
     all: u64,
-    clients: u64,
+    departures: &Departures,
 ) -> Result<String, AllocError>
-    ensures { IfOk result (λ line. string_bytes line ≡ excluded_text sums.now all clients) }
+    ensures { IfOk result (λ line. string_bytes line ≡ excluded_text sums.now all departures.now) }
 {
     let mut line = text_of_share(alloc, excluded_in(sums), all)?;
-    line.push_str(text_of_departures(alloc, sums, clients)?.as_str())?;
+    line.push_str(text_of_departures(alloc, sums.left.datagrams, departures)?.as_str())?;
     Ok(line)
 }
 
@@ -188,13 +250,13 @@ pub fn lines_of_totals(
     told: &Told,
     sums: &Sums,
     kept: u64,
-    clients: u64,
+    departures: &Departures,
 ) -> Result<String, AllocError>
-    ensures { IfOk result (λ lines. string_bytes lines ≡ totals_text told.now sums.now kept clients) }
+    ensures { IfOk result (λ lines. string_bytes lines ≡ totals_text told.now sums.now kept departures.now) }
 {
     let all = excluded_in(sums).saturating_add(kept);
     let mut lines = line_of_sums(alloc, sums)?;
-    lines.push_str(line_of_excluded(alloc, sums, all, clients)?.as_str())?;
+    lines.push_str(line_of_excluded(alloc, sums, all, departures)?.as_str())?;
     lines.push_str(lines_of_kept(alloc, told, kept)?.as_str())?;
     Ok(lines)
 }

@@ -18,7 +18,7 @@ use crate::source::Source;
 use crate::stop::Stop;
 use crate::text::read_policy_text;
 use audit_model::{Listed, Sink, put_all, read_policy};
-use prep_cut::{Allocations, LineNumber, Plan, Stated};
+use prep_cut::{Allocations, CauseNumber, Plan, Proposal, Stated};
 use prep_reasons::{Proposed, decide};
 use std::alloc::Global;
 use std::mem;
@@ -45,7 +45,9 @@ struct Planned {
     plan: Plan,
     told: Told,
     /// What is proposed for the packets of each capture.
-    proposals: Vec<Vec<Option<LineNumber>>>,
+    proposals: Vec<Vec<Option<Proposal>>>,
+    /// How many numbers these have.
+    causes: CauseNumber,
 }
 
 /// Writes the captures without what is set aside into a folder, and the list of that, which is printed, too. Where no datagram is kept, it
@@ -69,9 +71,10 @@ pub fn run_cut<S: Source, M: Maker, O: Sink, E: Sink>(
         plan,
         told,
         proposals,
+        causes,
     } = plan_of(alloc, request, source)?;
     let captures = captures_of(alloc, request, proposals)?;
-    let all = cut_captures(alloc, source, &captures, &plan, maker)?;
+    let all = cut_captures(alloc, source, &captures, &plan, causes, maker)?;
     let list = list_of(alloc, &plan, &told, &all)?;
     write_list(alloc, request.folder, list.as_str(), maker, out)?;
     let kept = kept_in(&all.totals);
@@ -110,6 +113,7 @@ fn plan_of<S: Source>(
         begin,
         lines,
         captures: proposals,
+        causes,
         beyond,
         lanes,
     } = decide(alloc, &policy, stated, records)?;
@@ -126,6 +130,7 @@ fn plan_of<S: Source>(
             lanes,
         },
         proposals,
+        causes,
     })
 }
 
@@ -152,7 +157,7 @@ fn write_list<M: Maker, O: Sink>(
 fn captures_of<'a>(
     alloc: Global,
     request: &CutRequest<'a>,
-    proposals: Vec<Vec<Option<LineNumber>>>,
+    proposals: Vec<Vec<Option<Proposal>>>,
 ) -> Result<Vec<ToCut<'a>>, Stop>
     ensures { IfOk result (λ all. map (λ one. one.name.now) all.items ≡ map (λ name. name.now) request.now.captures.items) }
 {

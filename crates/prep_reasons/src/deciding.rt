@@ -8,8 +8,9 @@ use crate::hang_ups::{HangUps, leave_hang_ups};
 use crate::inner::{leave_inner, pool_of_arrivals};
 use crate::late::leave_late_data;
 use crate::members::Members;
+use crate::pairing::{Pairing, keep_unpaired};
 use crate::proposals::{Proposed, propose};
-use crate::responses::read_responses;
+use crate::responses::{Shown, read_responses};
 use crate::sheet::Sheet;
 use crate::unread::Unread;
 use audit_model::Policy;
@@ -28,8 +29,17 @@ pub fn decide(
 ) -> Result<Proposed, AllocError> {
     let mut records = records;
     let packets = mem::replace(&mut records.captures, Vec::new(alloc));
-    let mut sheet = sort_out(alloc, policy, stated, records)?;
-    propose(&mut sheet, &packets)
+    let Sorted { mut sheet, shown } = sort_all(alloc, policy, stated, records)?;
+    let pairing = Pairing::new(&sheet, &shown.channels)?;
+    keep_unpaired(&mut sheet, &pairing)?;
+    propose(&mut sheet, &packets, &pairing)
+}
+
+/// What is sorted out, with what responses show.
+#[derive(Drop)]
+struct Sorted<'a> {
+    sheet: Sheet<'a>,
+    shown: Shown,
 }
 
 /// The records of captures in the order of their moments, with what is set aside and what answers what. The cost is their number times
@@ -40,6 +50,16 @@ pub fn sort_out<'a>(
     stated: Stated,
     records: Records,
 ) -> Result<Sheet<'a>, AllocError> {
+    let Sorted { sheet, shown: _ } = sort_all(alloc, policy, stated, records)?;
+    Ok(sheet)
+}
+
+fn sort_all<'a>(
+    alloc: Global,
+    policy: &'a Policy,
+    stated: Stated,
+    records: Records,
+) -> Result<Sorted<'a>, AllocError> {
     let mut sheet = Sheet::new(alloc, policy, stated, records)?;
     let shown = read_responses(&mut sheet)?;
     let mut times: Vec<TimeBefore> = Vec::new(alloc);
@@ -60,5 +80,5 @@ pub fn sort_out<'a>(
     leave_clients(&mut sheet, &times, &shown)?;
     leave_late_data(&mut sheet, &shown.tenures, &hang_ups, &owners)?;
     leave_dtls(&mut sheet, &shown.tenures, &mut unread)?;
-    Ok(sheet)
+    Ok(Sorted { sheet, shown })
 }

@@ -17,6 +17,7 @@ mod lines;
 mod members;
 mod numbering;
 mod origin;
+mod pairing;
 mod peer_data;
 mod pool;
 mod proposals;

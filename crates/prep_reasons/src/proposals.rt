@@ -1,8 +1,9 @@
 //! The lines in the order of the list, and what is proposed for each packet.
 
+use crate::pairing::Pairing;
 use crate::sheet::Sheet;
 use audit_model::Side;
-use prep_cut::{LineNumber, Reason};
+use prep_cut::{CauseNumber, LineNumber, Proposal, Reason};
 use prep_records::CapturePackets;
 use std::alloc::{AllocError, Global};
 
@@ -14,7 +15,9 @@ pub struct Proposed {
     /// The reasons of the list's lines, in order. A line may be one by which no packet is left out.
     pub lines: Vec<Reason>,
     /// Of each capture what is proposed for each of its packets.
-    pub captures: Vec<Vec<Option<LineNumber>>>,
+    pub captures: Vec<Vec<Option<Proposal>>>,
+    /// How many numbers of departures with their arrivals there are.
+    pub causes: CauseNumber,
     /// Departures of clients from before that no state from before allows, and that stay in.
     pub beyond: u64,
     /// Clients with their listen addresses from which something that stays in arrived.
@@ -58,10 +61,21 @@ fn order_lines(sheet: &Sheet<'_>) -> Result<Ordered, AllocError> {
     Ok(Ordered { reasons, numbers })
 }
 
+/// A line by its number in the list, with the number that a departure and its arrival have.
+fn proposal_of(
+    ordered: &Ordered,
+    line: LineNumber,
+    cause: Option<CauseNumber>,
+) -> Option<Proposal> {
+    let line = *ordered.numbers.get(line as usize)?;
+    Some(Proposal { line, cause })
+}
+
 /// What is proposed, behind all decisions.
 pub(crate) fn propose(
     sheet: &mut Sheet<'_>,
     packets: &[CapturePackets],
+    pairing: &Pairing,
 ) -> Result<Proposed, AllocError> {
     let early = sheet.lines.number_of(Reason::BeforeSince)?;
     let late = sheet.lines.number_of(Reason::AfterUntil)?;
@@ -69,12 +83,12 @@ pub(crate) fn propose(
     sheet.forget_marks();
     let mut captures = Vec::new(sheet.alloc);
     for capture in packets {
-        let mut proposals: Vec<Option<LineNumber>> =
+        let mut proposals: Vec<Option<Proposal>> =
             vec![in sheet.alloc; None; capture.count as usize]?;
         for outside in &capture.outside {
             let line = if outside.is_early { early } else { late };
             if let Some(mark) = proposals.get_mut(outside.packet as usize) {
-                *mark = ordered.numbers.get(line as usize).copied();
+                *mark = proposal_of(&ordered, line, None);
             }
         }
         captures.push(proposals)?;
@@ -83,10 +97,10 @@ pub(crate) fn propose(
         let (Some(record), Some(line)) = (sheet.record(at), sheet.line_of(at)) else {
             continue;
         };
-        let number = ordered.numbers.get(line as usize).copied();
+        let proposal = proposal_of(&ordered, line, pairing.number(at));
         if let Some(proposals) = captures.get_mut(record.capture() as usize) {
             if let Some(mark) = proposals.get_mut(record.packet as usize) {
-                *mark = number;
+                *mark = proposal;
             }
         }
     }
@@ -99,6 +113,7 @@ pub(crate) fn propose(
         begin: sheet.begin,
         lines: reasons,
         captures,
+        causes: pairing.count(),
         beyond: sheet.beyond,
         lanes,
     })

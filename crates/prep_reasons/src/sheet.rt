@@ -235,6 +235,13 @@ impl<'a> Sheet<'a> {
         self.move_to(at, reason)
     }
 
+    /// Keeps a record in.
+    pub(crate) fn keep(&mut self, at: usize) {
+        if let Some(mark) = self.why.get_mut(at) {
+            *mark = MaybeNumber::none();
+        }
+    }
+
     /// Excludes a record by this line, and by no other one.
     pub(crate) fn move_to(&mut self, at: usize, reason: Reason) -> Result<(), AllocError> {
         let line = self.lines.number_of(reason)?;

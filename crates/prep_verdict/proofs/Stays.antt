@@ -16,7 +16,8 @@ use Rattle.prep_blocks.specs.declared.block.PacketHead.{PacketHead}
 use Rattle.prep_blocks.specs.Read.{IsRead, AreRead, bytes_of, head_of}
 use Rattle.prep_blocks.specs.Splitting.{IsWhole}
 use Rattle.prep_cut.specs.declared.plan.Plan.{Plan}
-use Rattle.prep_cut.specs.Marks.{Marked, marked, behind, line_of, proposed_for}
+use Rattle.prep_cut.specs.declared.plan.Proposal.{Proposal}
+use Rattle.prep_cut.specs.Marks.{Marked, marked, behind, line_of, proposed_for, proposed_line}
 use Rattle.prep_verdict.specs.Rest.{packet_by, packet_in, packets_in, rest_of, Capture, stays, written}
 use Rattle.prep_verdict.proofs.Gives.{block_has}
 
@@ -78,14 +79,14 @@ AreRead-rest (one ∷ others) scope after kept read = rest_by scope after one ot
 
 -- ---- a plan leaves out packets alone
 
-no_line : (plan : Plan) (proposals : List (Option ℕ)) (b : Block) → b.packet ≡ None → line_of plan (proposed_for b.packet proposals) b ≡ None
+no_line : (plan : Plan) (proposals : List (Option Proposal)) (b : Block) → b.packet ≡ None → line_of plan (proposed_line (proposed_for b.packet proposals)) b ≡ None
 no_line plan proposals b none = rw none refl
 
-all_kept : (plan : Plan) (proposals : List (Option ℕ)) (blocks : List Block) → AllByRecursion IsKept (marked plan proposals blocks)
+all_kept : (plan : Plan) (proposals : List (Option Proposal)) (blocks : List Block) → AllByRecursion IsKept (marked plan proposals blocks)
 all_kept plan proposals [] = tt
 all_kept plan proposals (b ∷ others) = (no_line plan proposals b, all_kept plan (behind b.packet proposals) others)
 
-blocks_of : (plan : Plan) (proposals : List (Option ℕ)) (blocks : List Block) → map (λ (one : Marked). one.block) (marked plan proposals blocks) ≡ blocks
+blocks_of : (plan : Plan) (proposals : List (Option Proposal)) (blocks : List Block) → map (λ (one : Marked). one.block) (marked plan proposals blocks) ≡ blocks
 blocks_of plan proposals [] = refl
 blocks_of plan proposals (b ∷ others) = ap (λ (rest : List Block). b ∷ rest) (blocks_of plan (behind b.packet proposals) others)
 

@@ -5,6 +5,7 @@ use Rattle.audit_pcapng.specs.declared.packet.Packet.{Packet}
 use Rattle.prep_blocks.specs.declared.block.Block.{Block}
 use Rattle.prep_blocks.specs.declared.block.PacketHead.{PacketHead}
 use Rattle.prep_cut.specs.declared.plan.Plan.{Plan}
+use Rattle.prep_cut.specs.declared.plan.Proposal.{Proposal}
 use Rattle.prep_cut.specs.Datagrams.{frame_of}
 use Rattle.prep_cut.specs.Marks.{Marked, marked, is_written, written_of}
 
@@ -28,7 +29,7 @@ rest_of blocks = map (λ (one : Marked). one.block) (filter is_written blocks)
 pub record Capture : Type 0 where
   pub text : List ℕ
   pub blocks : List Block
-  pub proposals : List (Option ℕ)
+  pub proposals : List (Option Proposal)
 
 -- the blocks of it that stay by a plan
 abbrev pub stays : Plan → Capture → List Block

@@ -1,5 +1,6 @@
 use Rattle.std.proofs.Common.{◌≡◌, ◌<◌, ℕ, List, [], Some, Option, take}
 use Rattle.prep_cut.specs.declared.plan.Plan.{Plan}
+use Rattle.prep_cut.specs.declared.plan.Proposal.{Proposal}
 use Rattle.prep_cut.specs.Marks.{Marked}
 use Rattle.prep_cut.specs.Cutting.{IsCutting}
 use Rattle.prep_program.specs.Cuts.{CutSoFar}
@@ -12,6 +13,6 @@ invariant-pieces g l = record {
   same : g.S.Source.holds l.source ≡ g.S.Source.holds l.fn.source;
   others : g.M.Maker.making l.made ≡ g.M.Maker.making l.fn.made;
   empty : l.out.items ≡ [];
-  fed : (text : List ℕ) (plan : Plan) (proposals : List (Option ℕ)) (earlier : List Marked) → g.S.Source.holds l.fn.source l.fn.name ≡ Some text → IsCutting l.fn.cutter plan proposals earlier [] []
+  fed : (text : List ℕ) (plan : Plan) (proposals : List (Option Proposal)) (earlier : List Marked) → g.S.Source.holds l.fn.source l.fn.name ≡ Some text → IsCutting l.fn.cutter plan proposals earlier [] []
       → CutSoFar l.cutter plan proposals earlier (take l.at text) (g.M.Sink.taken l.fn.made) (g.M.Sink.taken l.made);
 }

@@ -1,10 +1,11 @@
 use Rattle.std.proofs.Common.{◌≡◌, ◌≤◌, ◌<◌, ◌∙◌, ◌++◌, ◌+◌, ◌∷◌, [], ℕ, List, Option, Some, length, refl, get_or, take, ap, sym, subst, arith, Bor, string_bytes}
+use Rattle.prep_cut.specs.declared.plan.Proposal.{Proposal}
 use Rattle.std.proofs.lemmas.List.{take_all}
 use Rattle.std.proofs.lemmas.Grind.{take_at_read}
 use Rattle.audit_model.specs.Sink.{followed_by}
 use Rattle.prep_cut.specs.declared.tally.Totals.{Totals}
 use Rattle.prep_cut.specs.Cutting.{IsCutting}
-use Rattle.prep_cut.specs.Tallied.{AreNone}
+use Rattle.prep_cut.proofs.Pairing.{are_paired}
 use Rattle.prep_program.specs.declared.cutting.ToCut.{ToCut}
 use Rattle.prep_program.specs.AllCuts.{marks_of, all_marks}
 use Rattle.prep_program.specs.Making.{FileMade, emptied, files_of, opened_by, with_files}
@@ -17,8 +18,7 @@ loop-one-init g c = record {
   same = refl;
   fed = λ texts all.
       let before = files_of (g.M.Maker.making c.args.made.now) (g.M.Sink.taken c.args.made.now) in
-      let none : AreNone c.in_ok-tallies.tallies.lines.items (length c.args.plan.now.lines) = subst (λ (n : ℕ). AreNone c.in_ok-tallies.tallies.lines.items n) c.len.ensures c.in_ok-tallies.ensures in
-      subst (λ (t : List Totals). AreCut t c.in_ok-tallies.tallies c.args.plan.now [] [] before before) (sym c.new-totals.ensures.items) (none_cut c.in_ok-tallies.tallies c.args.plan.now before none);
+      subst (λ (t : List Totals). AreCut t c.in_ok-tallies.tallies c.args.plan.now [] [] before before) (sym c.new-totals.ensures.items) (none_cut c.in_ok-tallies.tallies c.args.plan.now before c.in_ok-tallies.ensures);
 }
 
 pub loop-one-preserved : goal.loop-one-preserved
@@ -43,7 +43,7 @@ loop-one-preserved g c = record {
       let holds : g.S.Source.holds c.loop-one.source one.name.now ≡ Some text =
       ap (λ (h : List ℕ → Option (List ℕ)). h one.name.now) c.loop-one.invariant.same ∙ subst (λ (each : ToCut). g.S.Source.holds c.args.source.now each.name.now ≡ Some text) e at.1 in
       let earlier = all_marks (marks_of plan (take index asked) before.done) in
-      let cutting = subst (λ (ps : List (Option ℕ)). IsCutting c.new-cutter.result plan ps earlier [] []) c.deref.ensures.value (c.new-cutter.ensures earlier before.tallies_are) in
+      let cutting = subst (λ (ps : List (Option Proposal)). IsCutting c.new-cutter.result plan ps earlier [] []) c.deref.ensures.value (c.new-cutter.ensures earlier before.tallies_are) in
       let cuts = c.in_ok-cut.ensures.cuts text plan one.proposals.items earlier holds cutting in
       let opened : m1 ≡ opened_by (string_bytes one.file) (files_of m0 t0) = c.in_ok-make.ensures.opened ∙ ap (λ (n : List ℕ). opened_by n (files_of m0 t0)) c.as_str.ensures.value in
       let more = one_cut c.loop-one.totals.items c.loop-one.tallies plan (take index asked) (take index texts) first (files_of m0 t0) (files_of m2 t2) one text c.in_ok-cut.cut t1 t2 before cuts
@@ -63,4 +63,4 @@ returns g c = λ texts all.
     let e : AreCut c.loop-one.totals.items c.loop-one.tallies c.args.plan.now c.args.captures.now texts _ _ =
     subst (λ (t : List (List ℕ)). AreCut c.loop-one.totals.items c.loop-one.tallies c.args.plan.now c.args.captures.now t (files_of (g.M.Maker.making c.args.made.now) (g.M.Sink.taken c.args.made.now)) (files_of (g.M.Maker.making c.loop-one.made) (g.M.Sink.taken c.loop-one.made))) (take_all index texts past)
     (subst (λ (a : List ToCut). AreCut c.loop-one.totals.items c.loop-one.tallies c.args.plan.now a (take index texts) (files_of (g.M.Maker.making c.args.made.now) (g.M.Sink.taken c.args.made.now)) (files_of (g.M.Maker.making c.loop-one.made) (g.M.Sink.taken c.loop-one.made))) whole d) in
-    record { captures = e.done; spelled = e.spelled; wholes = e.wholes; totals = e.totals_are; tallies = e.tallies_are; files = e.files }
+    record { captures = e.done; spelled = e.spelled; wholes = e.wholes; totals = e.totals_are; tallies = e.tallies_are; paired = are_paired c.args.plan.now (all_marks (marks_of c.args.plan.now c.args.captures.now e.done)) c.loop-one.tallies.causes e.tallies_are.causes; files = e.files }

@@ -1,0 +1,4 @@
+pub mod Causing
+pub mod Slots
+pub mod Carrying
+pub mod Adding

@@ -1,0 +1,252 @@
+//! Which departure and which arrival are proposed as a pair, if both are excluded.
+
+use crate::channels::Channels;
+use crate::sheet::Sheet;
+use audit_model::{Addr, Side};
+use audit_stun::Class;
+use prep_cut::{CauseNumber, Reason};
+use prep_records::{Content, MaybeNumber, Record};
+use std::alloc::AllocError;
+
+/// The numbers of the pairs, from 0.
+#[derive(Drop)]
+pub(crate) struct Pairing {
+    /// Of each record the number of its pair.
+    numbers: Vec<MaybeNumber>,
+    count: CauseNumber,
+}
+
+/// What a departure has in common with its arrival.
+#[derive(Clone, Copy, PartialEq, Eq, PartialOrd, Ord)]
+enum Key {
+    Data {
+        digest: u64,
+        peer: Option<Addr>,
+    },
+    /// Data under a channel whose peer isn't known, and data of or for any peer.
+    Channel {
+        digest: u64,
+        is_for_client: bool,
+    },
+    Exchange {
+        client: u32,
+        method: u16,
+        tid: [u8; 12],
+    },
+}
+
+/// By what data is compared.
+#[derive(Clone, Copy, PartialEq, Eq)]
+enum By {
+    /// Its peer, which a channel's number may stand for.
+    Peer,
+    /// The data alone, which one of the two has under a channel.
+    Channel,
+}
+
+/// Stands for each address of the service, since two clients that relay to each other name each other's.
+const OF_SERVICE: Addr = Addr { ip: 0, port: 0 };
+
+impl Pairing {
+    /// Pairs what is excluded: each departure with the first arrival that can have caused it and that no departure before has. The cost is the
+    /// number of records times its logarithm.
+    pub(crate) fn new(sheet: &Sheet<'_>, channels: &Channels) -> Result<Self, AllocError> {
+        let mut pairing = Pairing {
+            numbers: vec![in sheet.alloc; MaybeNumber::none(); sheet.records.len()]?,
+            count: 0,
+        };
+        pairing.add(sheet, channels, By::Peer)?;
+        pairing.add(sheet, channels, By::Channel)?;
+        Ok(pairing)
+    }
+
+    /// The number of a record's pair.
+    pub(crate) fn number(&self, at: usize) -> Option<CauseNumber> {
+        self.numbers.get(at)?.get()
+    }
+
+    /// How many numbers there are.
+    pub(crate) fn count(&self) -> CauseNumber {
+        self.count
+    }
+
+    /// Pairs what isn't yet, by these keys.
+    fn add(&mut self, sheet: &Sheet<'_>, channels: &Channels, by: By) -> Result<(), AllocError> {
+        let arrivals = self.rest(sheet, channels, by, Side::Arrives)?;
+        let departures = self.rest(sheet, channels, by, Side::Leaves)?;
+        let mut next = 0usize;
+        for departure in departures {
+            next = self.pair_with(sheet, channels, by, (departure, next), &arrivals);
+        }
+        Ok(())
+    }
+
+    /// Pairs a departure with an arrival from this place on, and returns the place from which the next departure's is.
+    fn pair_with(
+        &mut self,
+        sheet: &Sheet<'_>,
+        channels: &Channels,
+        by: By,
+        one: (u32, usize),
+        arrivals: &[u32],
+    ) -> usize {
+        let (departure, from) = one;
+        let Some((key, stamp)) = place_of(sheet, channels, by, departure) else {
+            return from;
+        };
+        let reach = sheet.policy.hold.saturating_add(sheet.slack);
+        let least = Some((key, stamp.saturating_sub(reach)));
+        let rest = arrivals.get(from..).unwrap_or(&[]);
+        let passed = rest.partition_point(|at| place_of(sheet, channels, by, *at) < least);
+        let place = from.saturating_add(passed);
+        let Some(arrival) = arrivals.get(place).copied() else {
+            return place;
+        };
+        let Some((its, came)) = place_of(sheet, channels, by, arrival) else {
+            return place;
+        };
+        if its != key || came > stamp.saturating_add(sheet.slack) {
+            return place;
+        }
+        self.mark(departure);
+        self.mark(arrival);
+        self.count = self.count.saturating_add(1);
+        place.saturating_add(1)
+    }
+
+    fn mark(&mut self, at: u32) {
+        let count = self.count;
+        if let Some(mark) = self.numbers.get_mut(at as usize) {
+            *mark = MaybeNumber::some(count);
+        }
+    }
+
+    /// What is excluded on a side, has a key and no number, by key and moment.
+    fn rest(
+        &self,
+        sheet: &Sheet<'_>,
+        channels: &Channels,
+        by: By,
+        side: Side,
+    ) -> Result<Vec<u32>, AllocError> {
+        let mut rest = Vec::new(sheet.alloc);
+        for at in 0..sheet.records.len() {
+            let number = u32::try_from(at).unwrap_or(u32::MAX);
+            let is_its = match sheet.record(at) {
+                Some(record) => record.side == side,
+                None => false,
+            };
+            let has_key = place_of(sheet, channels, by, number).is_some();
+            if is_its && has_key && self.number(at).is_none() && is_proposed(sheet, at, side) {
+                rest.push(number)?;
+            }
+        }
+        rest.sort_unstable_by_key(|at| place_of(sheet, channels, by, *at));
+        Ok(rest)
+    }
+}
+
+/// Keeps each departure in that a line excludes without the arrival that it needs, except `inner` data, which a packet that isn't read may have
+/// carried. If the arrival may be from before the captures, `edge` excludes the departure.
+pub(crate) fn keep_unpaired(sheet: &mut Sheet<'_>, pairing: &Pairing) -> Result<(), AllocError> {
+    for at in 0..sheet.records.len() {
+        let Some(record) = sheet.record(at) else {
+            continue;
+        };
+        let needs = record.side == Side::Leaves && is_proposed(sheet, at, Side::Leaves);
+        if !needs || pairing.number(at).is_some() || is_inner(sheet, at) {
+            continue;
+        }
+        if sheet.is_early(record.stamp) {
+            sheet.move_to(at, Reason::Edge)?;
+        } else {
+            sheet.keep(at);
+            sheet.beyond = sheet.beyond.saturating_add(1);
+        }
+    }
+    Ok(())
+}
+
+/// Whether `inner` excludes a record.
+fn is_inner(sheet: &Sheet<'_>, at: usize) -> bool {
+    match sheet.line_of(at) {
+        Some(line) => matches!(
+            sheet.lines.reasons.get(line as usize),
+            Some(Reason::Inner { .. })
+        ),
+        None => false,
+    }
+}
+
+/// Whether a record is excluded, and a departure by a line that needs its arrival.
+fn is_proposed(sheet: &Sheet<'_>, at: usize, side: Side) -> bool {
+    let Some(line) = sheet.line_of(at) else {
+        return false;
+    };
+    match sheet.lines.reasons.get(line as usize) {
+        Some(reason) => side == Side::Arrives || reason.needs_cause(),
+        None => false,
+    }
+}
+
+/// The key of a record, with its moment.
+fn place_of(sheet: &Sheet<'_>, channels: &Channels, by: By, at: u32) -> Option<(Key, u64)> {
+    let record = sheet.record(at as usize)?;
+    let key = match record.content {
+        Content::Relayed => match by {
+            By::Peer => data_of(sheet, &record, Some(far_end(&record))),
+            By::Channel => channel_of(&record, record.side == Side::Arrives),
+        },
+        Content::Data { peer } => match by {
+            By::Peer => data_of(sheet, &record, peer),
+            By::Channel => return None,
+        },
+        Content::Channel { number } => match by {
+            By::Peer => {
+                let client = sheet.pair_number(at as usize)?;
+                let moment = record.stamp.saturating_add(sheet.slack);
+                data_of(sheet, &record, channels.peer(client, number, moment))
+            }
+            By::Channel => channel_of(&record, record.side == Side::Leaves),
+        },
+        Content::Stun { place } => {
+            let stun = sheet.stun.get(place as usize)?;
+            let is_request = matches!(stun.class, Class::Request);
+            if is_request != (record.side == Side::Arrives) || by == By::Channel {
+                return None;
+            }
+            Key::Exchange {
+                client: sheet.pair_number(at as usize)?,
+                method: stun.method,
+                tid: stun.tid,
+            }
+        }
+        Content::Inside | Content::Dtls | Content::Other => return None,
+    };
+    Some((key, record.stamp))
+}
+
+fn data_of(sheet: &Sheet<'_>, record: &Record, peer: Option<Addr>) -> Key {
+    let peer = match peer {
+        Some(peer) if sheet.policy.relays(peer) => Some(OF_SERVICE),
+        peer => peer,
+    };
+    Key::Data {
+        digest: record.digest,
+        peer,
+    }
+}
+
+fn channel_of(record: &Record, is_for_client: bool) -> Key {
+    Key::Channel {
+        digest: record.digest,
+        is_for_client,
+    }
+}
+
+fn far_end(record: &Record) -> Addr {
+    match record.side {
+        Side::Arrives => record.from,
+        Side::Leaves => record.to,
+    }
+}
