@@ -221,13 +221,13 @@ def main(program, write=False):
             words = ["verdict", "--policy", "policy", "--creds", "users", f"{name}.pcapng"]
             frames += compare(program, name, room, words, write)
             cases += 1
+            if name in explain_captures.FAULTS:
+                compare(program, f"{name}-faults", room, ["faults", *words[1:]], write)
+                cases += 1
         for percent, status in ((0, 0), (1, 6), (100, 6)):
             answered = run(program, room, ["verdict", "--expect-answers", str(percent), "--policy", "policy", "--creds", "users", "nobody-responds.pcapng"])
             if answered[2] != status:
                 sys.exit(f"nobody-responds: with {percent} percent status {answered[2]}")
-            if name in explain_captures.FAULTS:
-                compare(program, f"{name}-faults", room, ["faults", *words[1:]], write)
-                cases += 1
         for name, (data, certificate) in explain_captures.CERTIFIED.items():
             (room / f"{name}.pcapng").write_bytes(data)
             (room / f"{name}.cert").write_text(certificate)

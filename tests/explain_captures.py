@@ -166,15 +166,26 @@ CASES |= {
     # The first of the bytes that differ is the thirteenth.
     "r13-later-byte": capture(*BEGUN, *exchange(2_000, *bound()), (4_000, CLIENT, SERVER, channel(0x4000, LONG)), (4_400, RELAYED, PEER, LONG[:12] + b"X" + LONG[13:])),
     "s1-to-a-silent-client": capture(*BEGUN, *exchange(2_000, *permitted()), (4_000, *FROM_PEER), (4_400, SERVER, OTHER, DELIVERED)),
+    # The same data came to an address that nobody was granted in the capture, too: its client may be the receiver.
+    "s1-to-a-client-from-before": capture(*BEGUN, *exchange(2_000, *permitted()), (4_000, PEER, RELAYED2, b"hello"), (4_050, *FROM_PEER), (4_400, SERVER, OTHER, DELIVERED)),
     "s11-to-another-client": capture(*TWO, (4_000, *FROM_PEER), (4_400, SERVER, OTHER, DELIVERED)),
     "s11-of-another-client": capture(*TWO, (4_000, CLIENT, SERVER, message(0x016, b"send", address(0x12, RELAYED2), attribute(0x13, b"hello"))), (4_400, SERVER, OTHER, message(0x017, b"data", address(0x12, RELAYED), attribute(0x13, b"hello")))),
     "s11-nearest-of-a-peer": capture(*BEGUN, *exchange(2_000, *permitted()), (4_000, RELAYED, PEER, b"hello"), (4_040, *FROM_PEER)),
+    # Usual causes that the output refutes are left out.
+    "r2-no-user": capture(*exchange(1_000, message(0x003, b"a", attribute(0x19, b"\x11\0\0\0")), allocated(b"a"))),
+    "r2-no-nonce": capture(*exchange(1_000, message(0x003, b"a", attribute(0x19, b"\x11\0\0\0"), *SIGNER[:2], key=KEY), allocated(b"a"))),
+    "r4-never-allocated": capture(*exchange(2_000, *permitted())),
+    "r14-odd-port": capture(*exchange(1_000, request(0x003, b"a", attribute(0x19, b"\x11\0\0\0"), attribute(0x18, b"\0")), allocated(b"a", RELAYED2))),
+    "r14-another-address": capture(*BEGUN, *exchange(2_000, *bound()), (4_000, CLIENT, SERVER, channel(0x4000, b"hello")), (4_400, RELAYED2, PEER, b"hello")),
+    "r19-437-to-a-client-with-an-allocation": capture(*BEGUN, *exchange(2_000, permitted()[0], error(0x008, b"perm", 437, b"Mismatch"))),
+    # A DTLS record of a call is data: it isn't of a client by DTLS.
+    "s11-dtls-for-a-peer": capture(*BEGUN, (4_000, RELAYED, PEER, b"\x16\xfe\xfd" + bytes(20))),
     "s11-dtls": capture(*BEGUN, (4_000, SERVER, CLIENT, b"\x16\xfe\xfd" + bytes(20))),
     "s11-not-translated": capture(*BEGUN, (4_000, PEER, ("10.0.0.1", 50000), b"hello"), (4_400, SERVER, CLIENT, DELIVERED)),
     "nobody-responds": capture((1_000, CLIENT, SERVER, allocate(b"a")), (2_000, OTHER, SERVER, allocate(b"b"))),
 }
 # Those of which `faults` is printed, too.
-FAULTS = ("s1-to-a-silent-client", "s11-to-another-client", "s11-of-another-client", "s11-dtls", "s11-not-translated", "s11-told-over-tcp", "s11-policy-lacks-listen", "s11-left-without-act")
+FAULTS = ("s1-to-a-silent-client", "s1-to-a-client-from-before", "s11-to-another-client", "s11-of-another-client", "s11-dtls", "s11-not-translated", "s11-told-over-tcp", "s11-policy-lacks-listen", "s11-left-without-act")
 
 
 def certificate(*lines):

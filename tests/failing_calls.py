@@ -4,8 +4,8 @@
     tests/failing_calls.py TURNPREP TURNEXPLAIN [--every N]
 
 If an allocation is refused, the status is 3, else 4, each with one line; what is on standard output is the beginning of the answer, and no
-file is left. But if turnexplain can't read a capture again, only its frames are unknown. Reads and writes of a byte at a time change
-nothing. With `--every 10` each tenth call of a command fails, the first 300 of them all. It needs gcc.
+file is left. Reads and writes of a byte at a time change nothing. With `--every 10` each tenth call of a command fails, the first 300 of
+them all. It needs gcc.
 """
 
 import argparse
@@ -47,8 +47,6 @@ EXPLAINING = {
 # Standard error where nothing failed: how many calls there were.
 COUNTED = ("allocations: ", "calls: ")
 FIRST = 300
-# What is printed of a frame if the capture can't be read again.
-UNKNOWN = (b"frame ?", b'"first_frame":null', b"first frame 1970-01-01T00:00:00Z")
 
 
 def built(room, name):
@@ -81,11 +79,6 @@ def said(done):
     return [line for line in lines if not line.startswith(COUNTED)]
 
 
-def lacks_frames(done, whole):
-    """Whether an answer is the whole one but for the frames of a capture."""
-    return done.returncode == whole.returncode and not said(done) and any(word in done.stdout for word in UNKNOWN)
-
-
 def fail_each(program, name, words, room, library, status, every, most=200_000):
     """Fails calls in turn, until none is left: the faults, and how many there were."""
     whole, _ = run(program, words, room)
@@ -95,8 +88,6 @@ def fail_each(program, name, words, room, library, status, every, most=200_000):
         done, written = run(program, words, room, LD_PRELOAD=library, FAIL_AT=number)
         if done.returncode == whole.returncode and done.stdout == whole.stdout and said(done) == said(whole):
             return faults, number - 1
-        if program.name.startswith("turnexplain") and status == 4 and lacks_frames(done, whole):
-            continue
         # notes about a configuration come before
         why = [line for line in said(done) if line not in said(whole)]
         if done.returncode != status or len(why) != 1 or not whole.stdout.startswith(done.stdout):

@@ -151,31 +151,35 @@ impl<'a> Owners<'a> {
     }
 
     /// The nearest arrival, within `hold` before a departure to a client, of the same data at a
-    /// relayed address of another client; none if an arrival at an address of the receiver has it,
-    /// too. It takes log n in the sightings.
+    /// relayed address of another client; none if an arrival has it, too, at an address of the
+    /// receiver, or at one that no capture grants, and if more arrivals may be in reach than are
+    /// compared. It takes log n in the sightings.
     pub fn misdelivery(&self, departure: &Sighting) -> Option<Misdelivery> {
         if departure.side != Side::Leaves || !self.intake.policy().listens(departure.from) {
             return None;
         }
         let data = data_in(departure.payload.as_slice())?;
+        let equal = equal_before(&self.arrivals, data, departure);
+        if equal.len() == MOST_COMPARED && self.caused(*equal.first()?, departure).is_some() {
+            return None;
+        }
         let mut nearest = None;
-        for arrival in equal_before(&self.arrivals, data, departure) {
+        for arrival in equal {
             let Some(sighting) = self.caused(*arrival, departure) else {
                 continue;
             };
             if sighting.payload.as_slice() != data {
                 continue;
             }
-            if let Some(grant) = self.grants.last_before(sighting.to, sighting.hi) {
-                if grant.client == departure.to {
-                    return None;
-                }
-                nearest = Some(Misdelivery {
-                    arrival: arrival.sight,
-                    grant,
-                    has_sent: self.senders.contains(&departure.to),
-                });
+            let grant = self.grants.last_before(sighting.to, sighting.hi)?;
+            if grant.client == departure.to {
+                return None;
             }
+            nearest = Some(Misdelivery {
+                arrival: arrival.sight,
+                grant,
+                has_sent: self.senders.contains(&departure.to),
+            });
         }
         nearest
     }

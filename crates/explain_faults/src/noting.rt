@@ -17,7 +17,13 @@ pub struct Notes<'a> {
     pub frames: Frames,
     /// The names of the captures.
     pub captures: &'a [&'a str],
+    /// The departure of the last fault, after whose note the report says what isn't checked.
+    pub last: Option<SightId>,
 }
+
+/// The rules that no kind of fault is about, for the end of the report.
+pub const NOT_CHECKED: &str =
+    "not checked: a second departure for one arrival (S10), the user of an allocation (R3), its deletion or expiry (R4, R5), channels, allocations and relayed addresses in use (R11, R20, R22), a new allocation's relayed address, lifetime, transport and attributes (R14, R15, R16, R21), the integrity of responses (R18), when 437 or 441 is right (R19): turnexplain verdict judges by all rules\n";
 
 /// The relayed address from which a departure leaves that nothing caused.
 fn relayed_of(intake: &Intake, shown: &ShownFault) -> Option<Addr> {
@@ -46,8 +52,22 @@ pub fn request_frames(
     Ok(())
 }
 
-/// Whether a fault's data was for another client, and the lines of its note.
+/// Whether a fault's data was for another client, and the lines of its note; after the last fault's
+/// what isn't checked.
 pub fn note_of(
+    alloc: Global,
+    notes: &Notes<'_>,
+    shown: ShownFault,
+) -> Result<(bool, String), AllocError> {
+    let (is_misdelivered, mut text) = own_note(alloc, notes, shown)?;
+    if notes.last == Some(shown.sight) {
+        text.push_str(NOT_CHECKED)?;
+    }
+    Ok((is_misdelivered, text))
+}
+
+/// Whether a fault's data was for another client, and the lines about that fault alone.
+fn own_note(
     alloc: Global,
     notes: &Notes<'_>,
     shown: ShownFault,

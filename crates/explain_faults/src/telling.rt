@@ -6,7 +6,7 @@ ghost use Rattle.audit_keys.specs.KeyFor.{key_for};
 ghost use Rattle.audit_sightings.specs.Intake.{taken};
 ghost use Rattle.explain_faults.specs.Told.{AreTold, AreToldOf};
 
-use crate::noting::{Notes, request_frames};
+use crate::noting::{NOT_CHECKED, Notes, request_frames};
 use crate::reported::with_notes;
 use crate::reporting::{report_faults, status};
 use audit_faults::{ShownFault, shown_faults};
@@ -43,11 +43,15 @@ fn notes_of<'a, S: Source>(
         owners,
         frames,
         captures,
+        last: faults.last().map(|shown| shown.sight),
     })
 }
 
-/// What is said first of faults.
+/// What is said first of faults; if there are none, what isn't checked.
 fn first_note(intake: &Intake, faults: &[ShownFault]) -> &'static str {
+    if faults.is_empty() {
+        return NOT_CHECKED;
+    }
     let is_of_data = faults.iter().any(|shown| match intake.sighting(shown.sight) {
         Some(sighting) => !is_response(sighting.payload.as_slice()),
         None => false,

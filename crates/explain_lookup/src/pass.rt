@@ -22,7 +22,7 @@ fn count_piece(
     }
 }
 
-/// Reads a capture once more, to its end. If it can't be read again, as a pipe, the frames stay unknown.
+/// Reads a capture once more, to its end. If it can't be read again, that is an error: the frames would stay unknown.
 fn look_in<S: Source>(
     alloc: Global,
     source: &mut S,
@@ -35,7 +35,7 @@ fn look_in<S: Source>(
     let mut at = 0u64;
     'pieces: for _ in 0..u64::MAX {
         let Ok(read) = source.piece(name, at, &mut piece) else {
-            return Ok(());
+            return Err(Stop::Read);
         };
         if read == 0 {
             return Ok(());

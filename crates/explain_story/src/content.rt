@@ -2,11 +2,10 @@
 
 use crate::line::Story;
 use crate::scene::{Scene, Way};
-use crate::signed::add_signed;
+use crate::signed::{Unsigned, add_signed, why_unsigned};
 use audit_model::{Addr, Rule};
-use audit_rules::CredRow;
 use audit_stun::numbers::attribute::{
-    EVEN_PORT, LIFETIME, MESSAGE_INTEGRITY, MESSAGE_INTEGRITY_SHA256, NONCE, REALM,
+    EVEN_PORT, LIFETIME, MESSAGE_INTEGRITY, MESSAGE_INTEGRITY_SHA256, REALM,
     REQUESTED_ADDRESS_FAMILY, REQUESTED_TRANSPORT, USERNAME, XOR_MAPPED_ADDRESS,
     XOR_RELAYED_ADDRESS,
 };
@@ -27,13 +26,11 @@ fn of_credentials(alloc: Global, scene: &Scene<'_>) -> Result<String, AllocError
     };
     let user = Quoted { bytes: user };
     let realm = Quoted { bytes: realm };
-    let known = CredRow::of(scene.case.users, scene.arrives.payload.as_slice()).is_some();
-    let why = if !known {
-        "who isn't among the users that were given"
-    } else if asked.first(NONCE).is_none() {
-        "and has no NONCE"
-    } else {
-        "who is among the users that were given, but the integrity isn't that of the password there"
+    let why = match why_unsigned(scene) {
+        Unsigned::UnknownUser => "who isn't among the users that were given",
+        Unsigned::NoNonce => "and has no NONCE",
+        _ =>
+            "who is among the users that were given, but the integrity isn't that of the password there",
     };
     format!(in alloc; "  the request names user \"{user}\" of realm \"{realm}\", {why}")
 }
@@ -54,11 +51,11 @@ fn of_answer(alloc: Global, scene: &Scene<'_>) -> Result<String, AllocError> {
     } else {
         "two transaction ids"
     };
-    format!(in alloc; "  asked {method}, told {other}, with {ids}")
+    format!(in alloc; "  {method} arrived, {other} left, with {ids}")
 }
 
 /// The peer that is due: the one that the client's channel is bound to, or that the message on the client's side names.
-fn due_peer(scene: &Scene<'_>) -> Option<Addr> {
+pub fn due_peer(scene: &Scene<'_>) -> Option<Addr> {
     if scene.way() != Way::Response {
         if let Some(number) = scene.channel() {
             let channels = &scene.lane.table().allocation()?.channels;
@@ -80,7 +77,9 @@ fn of_peer(alloc: Global, scene: &Scene<'_>) -> Result<String, AllocError> {
         }
         Way::Down => {
             let from = scene.arrives.from;
-            format!(in alloc; "  the datagram came from {from}, the client was told of {named}")
+            format!(in alloc;
+                "  the datagram came from {from}, the message to the client names {named}"
+            )
         }
         Way::Response => format!(in alloc; "  the request names {named}"),
     }
@@ -145,22 +144,22 @@ fn of_granted_address(
     told: &Message<'_>,
 ) -> Result<String, AllocError> {
     let Some(relayed) = told.first(XOR_RELAYED_ADDRESS) else {
-        return String::from_str(alloc, "  no XOR-RELAYED-ADDRESS is told");
+        return String::from_str(alloc, "  the response has no XOR-RELAYED-ADDRESS");
     };
     let Some(relayed) = address(relayed) else {
         return String::from_str(alloc, "  the XOR-RELAYED-ADDRESS isn't IPv4");
     };
     if !scene.case.intake.policy().relays(relayed) {
-        return format!(in alloc; "  told {relayed}, which is in no relay range of the policy");
+        return format!(in alloc; "  granted {relayed}, which is in no relay range of the policy");
     }
     let asks_even = match scene.message_in() {
         Some(asked) => asked.first(EVEN_PORT).is_some(),
         None => false,
     };
     if asks_even && relayed.port % 2 == 1 {
-        return format!(in alloc; "  told {relayed}, where EVEN-PORT asked for an even port");
+        return format!(in alloc; "  granted {relayed}, and EVEN-PORT requests an even port");
     }
-    format!(in alloc; "  told {relayed}")
+    format!(in alloc; "  granted {relayed}")
 }
 
 /// What is told of a relayed address.
@@ -192,7 +191,7 @@ fn of_both(alloc: Global, scene: &Scene<'_>, name: &str, kind: u16) -> Result<St
     let told = AttributeBytes {
         value: told.first(kind),
     };
-    format!(in alloc; "  asked {name} {asked}, told {told}")
+    format!(in alloc; "  the request has {name} {asked}, the response {told}")
 }
 
 /// What is told of the transport that is asked for.
@@ -207,7 +206,7 @@ fn of_transport(alloc: Global, scene: &Scene<'_>) -> Result<String, AllocError> 
         value: asked.first(REQUESTED_ADDRESS_FAMILY),
     };
     format!(in alloc;
-        "  asked REQUESTED-TRANSPORT {transport} (UDP is 0x11000000), REQUESTED-ADDRESS-FAMILY {family} (IPv4 is 0x01000000)"
+        "  the request has REQUESTED-TRANSPORT {transport} (UDP is 0x11000000), REQUESTED-ADDRESS-FAMILY {family} (IPv4 is 0x01000000)"
     )
 }
 
@@ -219,11 +218,13 @@ fn of_mapped(alloc: Global, scene: &Scene<'_>) -> Result<String, AllocError> {
         None => None,
     };
     let Some(mapped) = told else {
-        return String::from_str(alloc, "  no XOR-MAPPED-ADDRESS is told");
+        return String::from_str(alloc, "  the response has no XOR-MAPPED-ADDRESS");
     };
     match address(mapped) {
-        Some(mapped) => format!(in alloc; "  told {mapped}, the client is {client}"),
-        None => format!(in alloc; "  told an address that isn't IPv4, the client is {client}"),
+        Some(mapped) => format!(in alloc;
+            "  XOR-MAPPED-ADDRESS is {mapped}, the client is {client}"
+        ),
+        None => format!(in alloc; "  XOR-MAPPED-ADDRESS isn't IPv4, the client is {client}"),
     }
 }
 
@@ -244,7 +245,7 @@ fn of_integrity(alloc: Global, scene: &Scene<'_>) -> Result<String, AllocError> 
 /// What is told of a channel's number.
 fn of_number(alloc: Global, scene: &Scene<'_>) -> Result<String, AllocError> {
     match scene.channel() {
-        Some(number) => format!(in alloc; "  asked for channel 0x{number:04X}"),
+        Some(number) => format!(in alloc; "  the request has channel 0x{number:04X}"),
         None => String::from_str(alloc, "  no channel is named that can be read"),
     }
 }

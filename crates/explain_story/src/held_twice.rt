@@ -22,7 +22,7 @@ pub fn add_clash(lanes: &Lanes<'_>, breach: &Breach, story: &mut Story) -> Resul
         return Ok(());
     };
     let relayed = new.relayed;
-    story.say(format!(in alloc; "  {relayed} was given out before:")?)?;
+    story.say(format!(in alloc; "  {relayed} was granted before:")?)?;
     for held in &tenancies {
         if held.relayed == relayed
             && held.born.lane != new.born.lane

@@ -2,6 +2,7 @@
 #![tactic(auto)]
 
 mod case;
+mod causes;
 mod content;
 mod deletion;
 mod expected;

@@ -189,17 +189,18 @@ fn add_other_client(sight: SightId, story: &mut Story) -> Result<(), AllocError>
 /// arrivals that could have caused the departure, with the reason why each didn't.
 pub fn add_nearest(
     case: Case<'_>,
+    owners: &Owners<'_>,
     departure: &Sighting,
     story: &mut Story,
 ) -> Result<(), AllocError> {
-    let owners = Owners::of(story.alloc(), case.intake)?;
     let misdelivery = owners.misdelivery(departure);
     match (&misdelivery, owners.sent_by_client(departure)) {
         (Some(found), _) => add_misdelivery(departure, found, story)?,
         (None, Some(sight)) => add_other_client(sight, story)?,
         (None, None) => {}
     }
-    if is_dtls(departure.payload.as_slice()) {
+    let is_clients = case.intake.policy().listens(departure.from);
+    if is_clients && is_dtls(departure.payload.as_slice()) {
         story.put("  it is a DTLS record: clients by DTLS aren't judged")?;
     }
     let nearest = nearest_to(story.alloc(), case, departure)?;

@@ -2,11 +2,13 @@
 
 use crate::case::Case;
 use crate::line::{Line, Story};
+use crate::place::INTERFACES;
+use crate::scene::Scene;
 use audit_lane::{LaneEvent, LaneInput};
 use audit_model::{SightId, Sighting};
 use explain_frames::granted_address;
-use explain_text::Seconds;
-use std::alloc::AllocError;
+use explain_text::{Quoted, Seconds};
+use std::alloc::{AllocError, Global};
 
 /// How many nanoseconds a millisecond has.
 const MILLISECOND: u64 = 1_000_000;
@@ -41,14 +43,32 @@ fn earlier_act<'a>(
     None
 }
 
-/// Tells what was answered twice (S10).
-pub fn add_twice(
+/// Whether a departure is the one of an earlier act on the same arrival, seen on another interface;
+/// none if there is no such act.
+pub fn is_seen_twice(
     input: &LaneInput<'_>,
     place: u32,
     arrives: &Sighting,
     leaves: &Sighting,
-    story: &mut Story,
-) -> Result<(), AllocError> {
+) -> Option<bool> {
+    let (_, went) = earlier_act(input, place, arrives.id, leaves.id)?;
+    Some(is_double(went, leaves))
+}
+
+/// An interface, by its number in its capture and the capture's name.
+fn interface_of(alloc: Global, case: Case<'_>, iface: u32) -> Result<String, AllocError> {
+    let number = iface % INTERFACES;
+    let name = case.captures.get((iface / INTERFACES) as usize).copied();
+    let capture = Quoted {
+        bytes: name.unwrap_or("?").as_bytes(),
+    };
+    format!(in alloc; "interface {number} of {capture}")
+}
+
+/// Tells what was answered twice (S10).
+pub fn add_twice(scene: &Scene<'_>, place: u32, story: &mut Story) -> Result<(), AllocError> {
+    let (arrives, leaves) = (scene.arrives, scene.leaves);
+    let input = scene.lane.input();
     let Some((came, went)) = earlier_act(input, place, arrives.id, leaves.id) else {
         return Ok(());
     };
@@ -57,10 +77,10 @@ pub fn add_twice(
     story.show(went.id)?;
     if is_double(went, leaves) {
         let alloc = story.alloc();
-        let one = went.id.iface;
-        let other = leaves.id.iface;
+        let one = interface_of(alloc, scene.case, went.id.iface)?;
+        let other = interface_of(alloc, scene.case, leaves.id.iface)?;
         story.say(format!(in alloc;
-            "both departures are one datagram, seen on interfaces {one} and {other}: one interface is captured twice"
+            "both departures are one datagram, seen on {one} and on {other}: one interface is captured twice"
         )?)?;
     }
     Ok(())
@@ -129,7 +149,7 @@ pub fn add_held_out(
     add_held(case, input, arrives, moment, story)
 }
 
-/// The Allocate success of an interface that told the address from which a departure left.
+/// The Allocate success of an interface that granted the address from which a departure left.
 fn grant_on(case: Case<'_>, iface: u32, departure: &Sighting) -> Option<SightId> {
     for sighting in case.intake.interface(iface) {
         if granted_address(sighting.payload.as_slice()) == Some(departure.from) {
@@ -139,7 +159,7 @@ fn grant_on(case: Case<'_>, iface: u32, departure: &Sighting) -> Option<SightId>
     None
 }
 
-/// An Allocate success that told the address from which a departure left.
+/// An Allocate success that granted the address from which a departure left.
 fn grant_of(case: Case<'_>, departure: &Sighting) -> Option<SightId> {
     for iface in 0..case.intake.interfaces() {
         if let Some(sight) = grant_on(case, iface, departure) {
@@ -149,7 +169,7 @@ fn grant_of(case: Case<'_>, departure: &Sighting) -> Option<SightId> {
     None
 }
 
-/// Tells whom the address of a departure that nothing asked for was told to (S1, S11).
+/// Adds to whom the address of a departure that nothing asked for was granted (S1, S11).
 pub fn add_owner(
     case: Case<'_>,
     departure: &Sighting,
@@ -162,13 +182,13 @@ pub fn add_owner(
     }
     match grant_of(case, departure) {
         Some(sight) => story.add(Line::UpTo {
-            words: format!(in alloc; "  {from} was told to a client in ")?,
+            words: format!(in alloc; "  {from} was granted to a client in ")?,
             sight,
             behind: String::new(alloc),
         }),
         None => {
             story.say(format!(in alloc;
-                "  no client was told {from} over UDP in these captures"
+                "  no client was granted {from} over UDP in these captures"
             )?)?;
             story.add(Line::ToldElsewhere(from))
         }

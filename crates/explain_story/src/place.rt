@@ -8,7 +8,7 @@ use std::alloc::{AllocError, Global};
 use std::fmt;
 
 /// How many interface numbers each capture has.
-const INTERFACES: u32 = 64;
+pub const INTERFACES: u32 = 64;
 
 /// What lines are told by: the captures, and the frames that were looked up in them.
 #[derive(Clone, Copy)]

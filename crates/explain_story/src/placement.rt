@@ -1,11 +1,13 @@
 //! What is told where a datagram has no right place in the order: S1 to S8.
 
 use crate::case::Case;
+use crate::causes::cause_of_departure;
 use crate::line::Story;
 use crate::nearest::add_nearest;
 use crate::order::add_owner;
 use audit_model::{Breach, Rule, Side, SightId, Sighting};
-use explain_text::Seconds;
+use explain_clients::Owners;
+use explain_text::{Seconds, cause};
 use std::alloc::AllocError;
 
 /// Nanoseconds of a microsecond.
@@ -65,43 +67,51 @@ fn add_neighbour(case: Case<'_>, sighting: &Sighting, story: &mut Story) -> Resu
     Ok(())
 }
 
-/// Tells of a datagram that has no place (S1).
-fn add_unplaced(case: Case<'_>, sighting: &Sighting, story: &mut Story) -> Result<(), AllocError> {
-    match sighting.side {
-        Side::Arrives => story.put(
-            "  it arrives at the server, and the certificate neither places nor drops it",
-        ),
-        Side::Leaves => {
-            if sighting.id.index == 0 {
-                story.put(
-                    "  it is the first datagram of its interface: the capture may have begun late",
-                )?;
-            }
-            add_owner(case, sighting, story)?;
-            add_nearest(case, sighting, story)
-        }
+/// Tells of a datagram that has no place (S1), and returns its usual causes.
+fn add_unplaced(
+    case: Case<'_>,
+    sighting: &Sighting,
+    story: &mut Story,
+) -> Result<&'static str, AllocError> {
+    if sighting.side == Side::Arrives {
+        story.put("  it arrives at the server, and the certificate neither places nor drops it")?;
+        return Ok(cause(Rule::Unplaced));
     }
+    if sighting.id.index == 0 {
+        story.put("  it is the first datagram of its interface: the capture may have begun late")?;
+    }
+    let owners = Owners::of(story.alloc(), case.intake)?;
+    add_owner(case, sighting, story)?;
+    add_nearest(case, &owners, sighting, story)?;
+    Ok(cause_of_departure(case, &owners, sighting, Rule::Unplaced))
 }
 
-/// Tells a breach of placement.
-pub fn add_placement(case: Case<'_>, breach: &Breach, story: &mut Story) -> Result<(), AllocError> {
+/// Tells where the certificate has a breach.
+fn add_place(breach: &Breach, story: &mut Story) -> Result<(), AllocError> {
+    let alloc = story.alloc();
+    let lane = breach.at.lane;
+    let place = breach.at.place;
+    story.say(format!(in alloc; "  in the certificate: lane {lane}, event {place}, both from 0")?)
+}
+
+/// Tells a breach of placement, and returns its usual causes.
+pub fn add_placement(
+    case: Case<'_>,
+    breach: &Breach,
+    story: &mut Story,
+) -> Result<&'static str, AllocError> {
     let Some(sighting) = case.intake.sighting(breach.sight) else {
-        return story.put("  the captures have no such datagram");
+        story.put("  the captures have no such datagram")?;
+        return Ok(cause(breach.rule));
     };
     match breach.rule {
-        Rule::Unplaced => add_unplaced(case, sighting, story),
+        Rule::Unplaced => return add_unplaced(case, sighting, story),
         Rule::OutOfWindow => {
             add_window(case, breach, sighting, story)?;
-            add_neighbour(case, sighting, story)
+            add_neighbour(case, sighting, story)?;
         }
-        Rule::InterfaceOrder => add_neighbour(case, sighting, story),
-        _ => {
-            let alloc = story.alloc();
-            let lane = breach.at.lane;
-            let place = breach.at.place;
-            story.say(format!(in alloc;
-                "  in the certificate: lane {lane}, event {place}, both from 0"
-            )?)
-        }
+        Rule::InterfaceOrder => add_neighbour(case, sighting, story)?,
+        _ => add_place(breach, story)?,
     }
+    Ok(cause(breach.rule))
 }

@@ -1,11 +1,12 @@
 //! Lines as text.
 
+use crate::causes::{cause_by_frame, cause_line};
 use crate::line::{ClientOf, Line, Story};
 use crate::place::Printer;
 use audit_model::{Addr, Rule};
 use explain_frames::ToldBy;
 use explain_state::{Ended, GrantAct, LeaseKind, LeaseRow};
-use explain_text::{Ip, MethodWord, Quoted, Seconds, anchor, cause, meaning};
+use explain_text::{Ip, MethodWord, Quoted, Seconds, meaning};
 use std::alloc::{AllocError, Global};
 
 impl Printer<'_> {
@@ -70,7 +71,7 @@ impl Printer<'_> {
         format!(in alloc; "  allocation {relayed}  {made}, ended by {method}, {ending}\n")
     }
 
-    /// The frame that tells a relayed address and isn't judged.
+    /// The frame that grants a relayed address and isn't judged.
     fn line_of_owner(&self, alloc: Global, relayed: Addr) -> Result<String, AllocError> {
         let Some(frame) = self.frames.told(relayed) else {
             return Ok(String::new(alloc));
@@ -79,10 +80,10 @@ impl Printer<'_> {
         let number = frame.number;
         match frame.told {
             ToldBy::Elsewhere(client) => format!(in alloc;
-                "  {capture} frame {number} tells {relayed} in an Allocate success to {client}, a client that isn't judged\n"
+                "  {capture} frame {number} grants {relayed} in an Allocate success to {client}, a client that isn't judged\n"
             ),
             ToldBy::Unlisted { server, client } => format!(in alloc;
-                "  {capture} frame {number} tells {relayed} in an Allocate success of {server} to {client}: the policy lacks {server}\n"
+                "  {capture} frame {number} grants {relayed} in an Allocate success of {server} to {client}: the policy lacks {server}\n"
             ),
         }
     }
@@ -93,7 +94,7 @@ impl Printer<'_> {
             Line::Words(words) => format!(in alloc; "{words}\n"),
             Line::Client(client) => client_line(alloc, client),
             Line::Expected(words) => format!(in alloc; "expected: {words}\n"),
-            Line::Rule(rule) => rule_lines(alloc, *rule),
+            Line::Rule(rule) => rule_line(alloc, *rule),
             Line::ToldElsewhere(relayed) => self.line_of_owner(alloc, *relayed),
             Line::Datagram(sight) => self.datagram_line(alloc, *sight),
             Line::Lease(row) => self.lease_line(alloc, row, moment),
@@ -113,14 +114,44 @@ impl Printer<'_> {
         }
     }
 
-    /// All lines of a story.
+    /// The usual causes of a departure whose relayed address no client was granted over UDP, by the
+    /// frame that grants it.
+    fn cause_by_owner(
+        &self,
+        alloc: Global,
+        story: &Story,
+        rule: Rule,
+    ) -> Result<String, AllocError> {
+        let frame = match ungranted(story) {
+            Some(relayed) => self.frames.told(relayed),
+            None => None,
+        };
+        let mut line = cause_line(alloc, rule, cause_by_frame(frame, rule))?;
+        line.push_str("\n")?;
+        Ok(line)
+    }
+
+    /// All lines of a story. A story that ends with its rule has no causes in words.
     pub fn lines(&self, alloc: Global, story: &Story) -> Result<String, AllocError> {
         let mut text = String::new(alloc);
         for line in &story.lines {
             text.push_str(self.line(alloc, line, story.moment)?.as_str())?;
         }
+        if let Some(Line::Rule(rule)) = story.lines.as_slice().last() {
+            text.push_str(self.cause_by_owner(alloc, story, *rule)?.as_str())?;
+        }
         Ok(text)
     }
+}
+
+/// The relayed address of a story that no client was granted over UDP.
+fn ungranted(story: &Story) -> Option<Addr> {
+    for line in &story.lines {
+        if let Line::ToldElsewhere(relayed) = line {
+            return Some(*relayed);
+        }
+    }
+    None
 }
 
 /// The line of a client.
@@ -141,12 +172,10 @@ fn client_line(alloc: Global, of: &ClientOf) -> Result<String, AllocError> {
     format!(in alloc; "{ends:<50} lane {lane}, user \"{user}\", realm \"{realm}\"\n")
 }
 
-/// What a rule asks, and what its breaches usually come from.
-fn rule_lines(alloc: Global, rule: Rule) -> Result<String, AllocError> {
+/// What a rule asks.
+fn rule_line(alloc: Global, rule: Rule) -> Result<String, AllocError> {
     let meaning = meaning(rule);
-    let cause = cause(rule);
-    let anchor = anchor(rule);
-    format!(in alloc; "rule: {meaning}\nusual cause: {cause}; {anchor}\n")
+    format!(in alloc; "rule: {meaning}\n")
 }
 
 /// What a lease is of.

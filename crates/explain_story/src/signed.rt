@@ -6,9 +6,41 @@ use crate::scene::Scene;
 use audit_keys::signed;
 use audit_model::Sighting;
 use audit_rules::CredRow;
-use audit_stun::numbers::attribute::{REALM, USERNAME};
+use audit_stun::numbers::attribute::{NONCE, REALM, USERNAME};
 use audit_stun::{Class, message};
 use std::alloc::AllocError;
+
+/// Why a request isn't signed by a user.
+#[derive(Clone, Copy, Debug, PartialEq, Eq)]
+pub enum Unsigned {
+    /// It is no STUN message.
+    NoMessage,
+    /// It names no user and realm.
+    NoUser,
+    /// The credentials lack the user.
+    UnknownUser,
+    NoNonce,
+    /// Its integrity isn't that of the user's password.
+    OtherIntegrity,
+}
+
+/// Why a request isn't signed by a user.
+pub fn why_unsigned(scene: &Scene<'_>) -> Unsigned {
+    let Some(request) = scene.message_in() else {
+        return Unsigned::NoMessage;
+    };
+    if request.first(USERNAME).is_none() || request.first(REALM).is_none() {
+        return Unsigned::NoUser;
+    }
+    if CredRow::of(scene.case.users, scene.arrives.payload.as_slice()).is_none() {
+        return Unsigned::UnknownUser;
+    }
+    if request.first(NONCE).is_none() {
+        Unsigned::NoNonce
+    } else {
+        Unsigned::OtherIntegrity
+    }
+}
 
 /// Requests that name one user and realm.
 #[derive(Clone, Copy)]
@@ -50,19 +82,31 @@ fn count_on(case: Case<'_>, iface: u32, user: &[u8], realm: &[u8], before: Reque
     count
 }
 
-/// Tells how many requests name the user of a request, and how many of them are signed.
-pub fn add_signed(scene: &Scene<'_>, story: &mut Story) -> Result<(), AllocError> {
-    let Some(asked) = scene.message_in() else {
-        return Ok(());
-    };
-    let (Some(user), Some(realm)) = (asked.first(USERNAME), asked.first(REALM)) else {
-        return Ok(());
-    };
+/// The requests of all interfaces that name the user and the realm of a request.
+fn requests_like(scene: &Scene<'_>) -> Option<Requests> {
+    let request = scene.message_in()?;
+    let user = request.first(USERNAME)?;
+    let realm = request.first(REALM)?;
     let mut count = Requests { all: 0, signed: 0 };
     for iface in 0..scene.case.intake.interfaces() {
         count = count_on(scene.case, iface, user, realm, count);
     }
-    let Requests { all, signed } = count;
+    Some(count)
+}
+
+/// Whether another request that names the user of a request is signed by a password that was given.
+pub fn has_signed(scene: &Scene<'_>) -> bool {
+    match requests_like(scene) {
+        Some(count) => count.signed > 0,
+        None => false,
+    }
+}
+
+/// Tells how many requests name the user of a request, and how many of them are signed.
+pub fn add_signed(scene: &Scene<'_>, story: &mut Story) -> Result<(), AllocError> {
+    let Some(Requests { all, signed }) = requests_like(scene) else {
+        return Ok(());
+    };
     let alloc = story.alloc();
     story.say(format!(in alloc;
         "  requests in these captures that name this user and realm: {all}; signed by a password that was given: {signed}"

@@ -8,6 +8,7 @@ ghost use Rattle.audit_sightings.specs.Intake.{taken};
 ghost use Rattle.explain_story.specs.EveryOrder.{Says, SaysOne};
 
 use crate::case::{Case, Lanes, lanes_of};
+use crate::causes::{cause_line, cause_of_act, cause_of_departure};
 use crate::content::add_content;
 use crate::deletion::add_deletion;
 use crate::expected::{expected_of_act, expected_of_rule};
@@ -22,7 +23,9 @@ use crate::scene::Scene;
 use audit_faults::Fault;
 use audit_lane::{LaneEvent, LaneInput};
 use audit_model::{Breach, Rule, SightId, Sighting};
+use explain_clients::Owners;
 use explain_state::{LaneAt, lane_before};
+use explain_text::cause;
 use std::alloc::{AllocError, Global};
 
 /// The user that a lane named last before an event of those who are known; of a lane that named
@@ -72,20 +75,20 @@ fn explain_act(
     }
     let input = scene.lane.input();
     match rule {
-        Rule::ActedTwice => add_twice(input, place, scene.arrives, scene.leaves, story),
+        Rule::ActedTwice => add_twice(scene, place, story),
         Rule::HeldTooLong => add_held(scene.case, input, scene.arrives.id, scene.moment, story),
         _ => Ok(()),
     }
 }
 
-/// Tells a departure that may not leave.
+/// Tells a departure that may not leave, and returns the usual causes.
 fn explain_departure(
     case: Case<'_>,
     input: &LaneInput<'_>,
     sighting: &Sighting,
     breach: &Breach,
     story: &mut Story,
-) -> Result<(), AllocError> {
+) -> Result<&'static str, AllocError> {
     story.show(sighting.id)?;
     story.put("")?;
     story.due(expected_of_rule(story.alloc(), breach.rule)?)?;
@@ -94,12 +97,15 @@ fn explain_departure(
             story.put(
                 "  it stands in this lane for want of another, and need not be of this client",
             )?;
+            let owners = Owners::of(story.alloc(), case.intake)?;
             add_owner(case, sighting, story)?;
-            add_nearest(case, sighting, story)
+            add_nearest(case, &owners, sighting, story)?;
+            return Ok(cause_of_departure(case, &owners, sighting, breach.rule));
         }
-        Rule::HeldTooLong => add_held_out(case, input, sighting.id, breach.at.key.moment, story),
-        _ => Ok(()),
+        Rule::HeldTooLong => add_held_out(case, input, sighting.id, breach.at.key.moment, story)?,
+        _ => {}
     }
+    Ok(cause(breach.rule))
 }
 
 /// The departure of an event; of an arrival none.
@@ -111,16 +117,19 @@ fn departure_of(event: &LaneEvent<'_>) -> Option<SightId> {
     }
 }
 
-/// Tells the event of a lane that breaks a rule.
+/// Tells the event of a lane that breaks a rule, and returns the usual causes.
 fn explain_event(
     case: Case<'_>,
     lane: &LaneAt<'_>,
     event: &LaneEvent<'_>,
     breach: &Breach,
     story: &mut Story,
-) -> Result<(), AllocError> {
+) -> Result<&'static str, AllocError> {
     match event {
-        LaneEvent::In { sighting, .. } => story.show(sighting.id),
+        LaneEvent::In { sighting, .. } => {
+            story.show(sighting.id)?;
+            Ok(cause(breach.rule))
+        }
         LaneEvent::Act {
             arrives,
             leaves,
@@ -133,7 +142,8 @@ fn explain_event(
                 leaves,
                 moment: key.moment,
             };
-            explain_act(&scene, breach.at.place, breach.rule, story)
+            explain_act(&scene, breach.at.place, breach.rule, story)?;
+            Ok(cause_of_act(&scene, breach.at.place, breach.rule))
         }
         LaneEvent::Out { sighting, .. } => {
             explain_departure(case, lane.input(), sighting, breach, story)
@@ -141,50 +151,61 @@ fn explain_event(
     }
 }
 
-/// Tells a breach of a lane, and gives the departure that shows it.
+/// Tells a breach of a lane with the departure that shows it, and returns the usual causes.
 fn explain_lane(
     case: Case<'_>,
     lanes: &Lanes<'_>,
     breach: &Breach,
     shown: &Shown,
     story: &mut Story,
-) -> Result<Option<SightId>, AllocError> {
+) -> Result<&'static str, AllocError> {
     if breach.at.lane >= lanes.job.len() {
-        return Ok(None);
+        return Ok(cause(breach.rule));
     }
     let input = &**lanes.job.input(breach.at.lane);
     let Some(lane) = lane_before(story.alloc(), input, breach.at.place)? else {
-        return Ok(None);
+        return Ok(cause(breach.rule));
     };
     add_client(&lane, story)?;
     let Some(event) = input.events().get(breach.at.place as usize) else {
-        return Ok(None);
+        return Ok(cause(breach.rule));
     };
-    explain_event(case, &lane, event, breach, story)?;
+    let causes = explain_event(case, &lane, event, breach, story)?;
     if breach.phase == 3 {
         add_clash(lanes, breach, story)?;
     }
     story.put("")?;
-    let departure = departure_of(event);
-    if let Some(sight) = departure {
+    if let Some(sight) = departure_of(event) {
+        story.departure = Some(sight);
         add_rest(lanes, input, breach.at.place, sight, shown, story)?;
     }
-    Ok(departure)
+    Ok(causes)
 }
 
-/// Tells a breach of placement, and gives the departure that shows it.
+/// Tells a breach of placement with the departure that shows it, and returns the usual causes.
 fn explain_place(
     case: Case<'_>,
     breach: &Breach,
     story: &mut Story,
-) -> Result<Option<SightId>, AllocError> {
+) -> Result<&'static str, AllocError> {
+    story.departure = Some(breach.sight);
     story.put("")?;
     story.show(breach.sight)?;
     story.put("")?;
     story.due(expected_of_rule(story.alloc(), breach.rule)?)?;
-    add_placement(case, breach, story)?;
+    let causes = add_placement(case, breach, story)?;
     story.put("")?;
-    Ok(Some(breach.sight))
+    Ok(causes)
+}
+
+/// Adds the rule and its usual causes, if these are known before frames are looked up.
+fn add_rule(rule: Rule, causes: &str, story: &mut Story) -> Result<(), AllocError> {
+    story.add(Line::Rule(rule))?;
+    if causes.is_empty() {
+        return Ok(());
+    }
+    let line = cause_line(story.alloc(), rule, causes)?;
+    story.say(line)
 }
 
 /// What is shown in every order.
@@ -214,12 +235,12 @@ pub fn story_of(
 {
     let mut story = Story::new(alloc, breach.at.key.moment);
     let shown = Shown::of(alloc, case)?;
-    let departure = match lanes_of(alloc, case)? {
+    let causes = match lanes_of(alloc, case)? {
         Some(lanes) => explain_lane(case, &lanes, breach, &shown, &mut story)?,
         None => explain_place(case, breach, &mut story)?,
     };
-    story.add(Line::Rule(breach.rule))?;
-    story.departure = departure;
+    add_rule(breach.rule, causes, &mut story)?;
+    let departure = story.departure;
     Ok((story, in_every_order(&shown, departure)))
 }
 
