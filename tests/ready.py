@@ -31,20 +31,20 @@ def of_example(name):
 
 # A name, the arguments, the lines that are printed before the command, and the verdict.
 CASES = [
-    ("one client from before", f"{GIVEN} midcall-late.pcapng", ["excluded 162 of 164 datagrams 99 percent departures 81 unpaired 0 clients 1"], "conforming 2 datagrams 1 lanes"),
-    ("clients from before", f"{GIVEN} long-midcall.pcapng", ["excluded 1092 of 1940 datagrams 57 percent departures 548 unpaired 4 clients 4"], "conforming 848 datagrams 7 lanes"),
-    ("a client by TCP", f"{GIVEN} tcp-client.pcapng", ["excluded 20 of 30 datagrams 67 percent departures 10 unpaired 0 clients 0"], "conforming 10 datagrams 1 lanes"),
+    ("one client from before", f"{GIVEN} midcall-late.pcapng", ["excluded 162 of 164 datagrams 99 percent departures 81 unpaired 0 unread 0 clients 1"], "conforming 2 datagrams 1 lanes"),
+    ("clients from before", f"{GIVEN} long-midcall.pcapng", ["excluded 1092 of 1940 datagrams 57 percent departures 548 unpaired 0 unread 0 clients 4"], "conforming 848 datagrams 7 lanes"),
+    ("a client by TCP", f"{GIVEN} tcp-client.pcapng", ["excluded 20 of 30 datagrams 67 percent departures 10 unpaired 0 unread 10 clients 0"], "conforming 10 datagrams 1 lanes"),
     ("a translated address", "--policy policy-outer --creds creds external-ip.pcapng", ["translated 3 198.18.0.1/192.0.2.1"], "conforming 16 datagrams 1 lanes"),
-    ("clients that relay to each other", f"{GIVEN} relay2relay-coturn.pcapng", ["excluded 4 of 20 datagrams 20 percent departures 2 unpaired 0 clients 0"], "conforming 16 datagrams 2 lanes"),
-    ("before a restart", f"{GIVEN} --until 1795393570308432166 --from-start restart-coturn.pcapng", ["excluded 39 of 63 datagrams 62 percent departures 18 unpaired 0 clients 0"], "conforming 24 datagrams 3 lanes"),
-    ("after a restart", f"{GIVEN} --since 1795393570308432167 --from-start restart-coturn.pcapng", ["excluded 24 of 63 datagrams 39 percent departures 12 unpaired 0 clients 0"], "conforming 39 datagrams 3 lanes"),
+    ("clients that relay to each other", f"{GIVEN} relay2relay-coturn.pcapng", ["excluded 4 of 20 datagrams 20 percent departures 2 unpaired 0 unread 0 clients 0"], "conforming 16 datagrams 2 lanes"),
+    ("before a restart", f"{GIVEN} --until 1795393570308432166 --from-start restart-coturn.pcapng", ["excluded 39 of 63 datagrams 62 percent departures 18 unpaired 0 unread 0 clients 0"], "conforming 24 datagrams 3 lanes"),
+    ("after a restart", f"{GIVEN} --since 1795393570308432167 --from-start restart-coturn.pcapng", ["excluded 24 of 63 datagrams 39 percent departures 12 unpaired 0 unread 0 clients 0"], "conforming 39 datagrams 3 lanes"),
     ("passwords of a secret", "--turnserver-conf secret.conf rest-secret.pcapng", [], "conforming 30 datagrams 3 lanes"),
     ("files of a ring", f"{GIVEN} " + " ".join(shlex.quote(name) for _, name in reversed(RING)), None, "conforming 1260 datagrams 20 lanes"),
     ("fragments", of_example("refused-fragments"), ["reassembled 1 datagrams of 2 fragments"], "conforming 10 datagrams 1 lanes"),
     ("an interface that ends early", f"{GIVEN} midcall-early.pcapng", ["note an interface ends at 1795393607120161610, and datagrams without a cause left later: if it was captured no longer, add --until 1795393607120161610"], "not shown"),
-    ("up to its end", f"{GIVEN} --until 1795393607120161610 midcall-early.pcapng", ["excluded 6 of 112 datagrams 6 percent departures 3 unpaired 0 clients 0"], "conforming 106 datagrams 1 lanes"),
+    ("up to its end", f"{GIVEN} --until 1795393607120161610 midcall-early.pcapng", ["excluded 6 of 112 datagrams 6 percent departures 3 unpaired 0 unread 0 clients 0"], "conforming 106 datagrams 1 lanes"),
     ("nothing to do", of_example("coturn-send-data"), [], "conforming 46 datagrams 1 lanes"),
-    ("names that begin with a dash", "--policy=-policy --creds=-creds -- -one.pcapng", ["excluded 162 of 164 datagrams 99 percent departures 81 unpaired 0 clients 1"], "conforming 2 datagrams 1 lanes"),
+    ("names that begin with a dash", "--policy=-policy --creds=-creds -- -one.pcapng", ["excluded 162 of 164 datagrams 99 percent departures 81 unpaired 0 unread 0 clients 1"], "conforming 2 datagrams 1 lanes"),
 ]
 
 # A name, the arguments, the exit status, and what standard error has.

@@ -13,7 +13,7 @@ const PERMISSION: u64 = 300;
 /// The longest that it has a channel.
 const CHANNEL: u64 = 600;
 
-/// A line for each thing that turnaudit does not judge, or will tell.
+/// A line for each thing that turnaudit does not judge, or will report.
 pub fn notes_of(alloc: Global, rows: &[Row<'_>], conf: &Conf) -> Result<String, AllocError> {
     let mut notes = String::new(alloc);
     for row in rows {
@@ -23,12 +23,12 @@ pub fn notes_of(alloc: Global, rows: &[Row<'_>], conf: &Conf) -> Result<String, 
     }
     if !conf.no_tcp {
         notes.push_str(
-            "turnprep: note: without no-tcp clients may come by TCP: their relayed datagrams are nobody's (cut)\n",
+            "turnprep: note: without no-tcp clients may come by TCP: turnprep cut excludes what is relayed for them\n",
         )?;
     }
     if !conf.no_tls {
         notes.push_str(
-            "turnprep: note: without no-tls clients may come by TLS: their relayed datagrams are nobody's (cut)\n",
+            "turnprep: note: without no-tls clients may come by TLS: turnprep cut excludes what is relayed for them\n",
         )?;
     }
     Ok(notes)
@@ -53,11 +53,11 @@ fn note_row(notes: &mut String, row: &Row<'_>, setting: Setting) -> Result<(), A
         }
         Setting::PermissionLifetime if number(row.value, PERMISSION).is_err() => write!(
             notes,
-            "turnprep: note: line {line} {name}: RFC 8656 has {PERMISSION}, so that R7 will be told\n"
+            "turnprep: note: line {line} {name}: RFC 8656 has {PERMISSION}, so that R7 will be reported\n"
         ),
         Setting::ChannelLifetime if number(row.value, CHANNEL).is_err() => write!(
             notes,
-            "turnprep: note: line {line} {name}: RFC 8656 has {CHANNEL}, so that R9 will be told\n"
+            "turnprep: note: line {line} {name}: RFC 8656 has {CHANNEL}, so that R9 will be reported\n"
         ),
         Setting::Mobility if row.is_on() => write!(
             notes,

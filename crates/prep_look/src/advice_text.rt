@@ -1,6 +1,7 @@
 //! Lines of advice as text.
 
 use crate::advice::{Advice, Ended, Relaying};
+use crate::interface_name::InterfaceName;
 use crate::ip::Ip;
 use crate::losses::Losses;
 use crate::survey::Closed;
@@ -11,10 +12,7 @@ use std::fmt;
 impl fmt::Display for Advice {
     fn fmt<W: fmt::Write>(&self, f: &mut fmt::Formatter<W>) -> fmt::Result {
         match self {
-            Advice::NoStatistics { interface } => write!(
-                f,
-                "interface {interface} has no statistics: its drops are not told (a ring buffer, a dumpcap that was killed, mergecap or editcap)"
-            ),
+            Advice::NoStatistics { interface } => write_no_statistics(f, *interface),
             Advice::StepsBack { interface, most } => write_steps_back(f, *interface, *most),
             Advice::Fragments(count) => write!(
                 f,
@@ -49,6 +47,14 @@ impl fmt::Display for Advice {
     }
 }
 
+fn write_no_statistics<W: fmt::Write>(f: &mut fmt::Formatter<W>, interface: u32) -> fmt::Result {
+    let interface = InterfaceName(interface);
+    write!(
+        f,
+        "{interface} has no statistics: its drops aren't recorded (a ring buffer, a dumpcap that was killed, mergecap or editcap)"
+    )
+}
+
 fn write_steps_back<W: fmt::Write>(
     f: &mut fmt::Formatter<W>,
     interface: u32,
@@ -56,9 +62,10 @@ fn write_steps_back<W: fmt::Write>(
 ) -> fmt::Result {
     let microseconds = most / 1_000;
     let skew = most.saturating_add(1_999) / 2_000;
+    let interface = InterfaceName(interface);
     write!(
         f,
-        "the clock of interface {interface} steps back by {microseconds} us: skew-us {skew} or more, or S4 is told"
+        "the clock of {interface} steps back by {microseconds} us: skew-us {skew} or more, or S4 is reported"
     )
 }
 
@@ -68,7 +75,7 @@ fn write_translate<W: fmt::Write>(f: &mut fmt::Formatter<W>, alias: &Alias) -> f
     let private = Ip(alias.private);
     write!(
         f,
-        "{ports} told addresses of {public} are not on the wire, and {private} uses their ports: "
+        "{ports} granted addresses of {public} are not on the wire, and {private} uses their ports: "
     )?;
     write!(
         f,
@@ -90,9 +97,9 @@ fn what_is_excluded(kind: ReasonKind) -> &'static str {
         ReasonKind::Client => "clients have allocations from before the capture",
         ReasonKind::Answer => "clients were answered what they asked before the capture",
         ReasonKind::AddressOf => "relayed addresses are of clients from before the capture",
-        ReasonKind::AddressTold => "relayed addresses were given over TCP or IPv6",
+        ReasonKind::AddressTold => "relayed addresses were granted over TCP or IPv6",
         ReasonKind::Address => {
-            "relayed addresses were given to no UDP client: clients by TLS, or another program on the relay range"
+            "relayed addresses were granted to no UDP client: clients by TLS, or another program on the relay range"
         }
         ReasonKind::Released => "clients were relayed for after a Refresh with LIFETIME 0",
         ReasonKind::Dtls => "clients speak DTLS",
@@ -113,9 +120,13 @@ fn write_clocks<W: fmt::Write>(
     let (arrival, departure) = interfaces;
     let odd = arrival.max(departure);
     let microseconds = by / 1_000;
+    let (arrival, departure) = (
+        InterfaceName(u32::from(arrival)),
+        InterfaceName(u32::from(departure)),
+    );
     write!(
         f,
-        "interface {departure} leaves {microseconds} us before interface {arrival} arrives: skew-of {odd} {skew}"
+        "{departure} leaves {microseconds} us before {arrival} arrives: skew-of {odd} {skew}"
     )
 }
 
@@ -187,13 +198,13 @@ fn write_released<W: fmt::Write>(f: &mut fmt::Formatter<W>, relaying: &Relaying)
 }
 
 fn write_ended<W: fmt::Write>(f: &mut fmt::Formatter<W>, ended: &Ended) -> fmt::Result {
-    let interface = ended.interface;
+    let interface = InterfaceName(ended.interface);
     let end = ended.end;
     let departures = ended.departures;
     let gap = ended.gap / 1_000;
     write!(
         f,
-        "{departures} datagrams left after the last frame of interface {interface}, which is {gap} us before the captures' end, "
+        "{departures} datagrams left after the last frame of {interface}, which is {gap} us before the captures' end, "
     )?;
     write!(
         f,

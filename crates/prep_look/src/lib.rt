@@ -11,6 +11,7 @@ mod ends;
 mod granting;
 mod guess;
 mod interface;
+mod interface_name;
 mod ip;
 mod losses;
 mod needs;

@@ -1,0 +1,26 @@
+//! Names of interfaces.
+
+use std::fmt;
+
+/// How many interface numbers each capture has.
+const INTERFACES: u32 = 64;
+
+/// An interface, by the number that the policy and reports have; of a later capture than the first
+/// also by its number there.
+#[derive(Clone, Copy, Drop)]
+pub(crate) struct InterfaceName(pub(crate) u32);
+
+impl fmt::Display for InterfaceName {
+    fn fmt<W: fmt::Write>(&self, f: &mut fmt::Formatter<W>) -> fmt::Result {
+        let number = self.0;
+        let capture = number / INTERFACES;
+        if capture == 0 {
+            return write!(f, "interface {number}");
+        }
+        let there = number % INTERFACES;
+        write!(
+            f,
+            "interface {number} (interface {there} of capture {capture}, both from 0)"
+        )
+    }
+}
