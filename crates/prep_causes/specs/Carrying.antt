@@ -43,7 +43,8 @@ IsOfClass policy client parts carried class.Request = carried ≡ Exchange true 
 IsOfClass policy client parts carried class.Success = carried ≡ Exchange false client parts.method parts.tid
 IsOfClass policy client parts carried class.Error = carried ≡ Exchange false client parts.method parts.tid
 
--- the data of a Send or Data indication; of a request or a response the client, the method and the transaction id
+-- the data of a Send or Data indication; of a request or a response the client, the method and the
+-- transaction id
 abbrev pub IsOfMessage : Policy → Addr → Parts → Carried → Type 0
 IsOfMessage policy client parts carried = IsOfClass policy client parts carried parts.class
 
@@ -64,8 +65,8 @@ pub record IsInMessage (policy : Policy) (client : Addr) (payload : List ℕ) (c
 abbrev pub IsOfClient : Policy → Addr → List ℕ → Carried → Type 0
 IsOfClient policy client payload carried = IsOfChannel payload carried ⊎ IsInMessage policy client payload carried
 
--- Between a relayed address and a peer the whole payload is the data. Between the server and a client it is that of ChannelData or of an
--- indication.
+-- Between a relayed address and a peer the whole payload is the data. Between the server and a
+-- client it is that of ChannelData or of an indication.
 abbrev pub IsCarried : Policy → Bool → Addr → List ℕ → Carried → Type 0
 IsCarried policy true far payload carried = carried ≡ data_of payload (peer_at policy far)
 IsCarried policy false far payload carried = IsOfClient policy far payload carried

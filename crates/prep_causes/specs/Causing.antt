@@ -28,7 +28,8 @@ Answers (Exchange true client method tid) (Exchange false receiver same_method s
 Answers (Exchange false client method tid) (Exchange is_request receiver same_method same_tid) = ⊥
 Answers (Exchange true client method tid) (Exchange true receiver same_method same_tid) = ⊥
 
--- It leaves at most the hold after it arrived. Two clocks may differ by as much as the slack, so it may seem to leave earlier.
+-- It leaves at most the hold after it arrived. Two clocks may differ by as much as the slack, so it
+-- may seem to leave earlier.
 pub record IsInReach (reach : Reach) (arrival departure : ℕ) : Type 0 where
   pub from : arrival ≤ departure + reach.slack
   pub within : departure ≤ (arrival + reach.hold) + reach.slack

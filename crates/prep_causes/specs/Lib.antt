@@ -2,3 +2,4 @@ pub mod Causing
 pub mod Slots
 pub mod Carrying
 pub mod Adding
+pub mod Numbers

@@ -30,7 +30,7 @@ is_pair Pair = true
 abbrev pub pairs_in : List Slot → ℕ
 pairs_in slots = length (filter is_pair slots)
 
--- so many numbers with nothing under them
+-- a count of numbers with nothing noted under any of them
 pub record AreEmpty (slots : List Slot) (count : ℕ) : Type 0 where
   pub len : length slots ≡ count
   pub empty : (number : ℕ) → get_or slots number Empty ≡ Empty

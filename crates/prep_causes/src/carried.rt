@@ -47,7 +47,8 @@ pub enum Carried {
 }
 
 impl Carried {
-    /// Whether a departure has the data of this arrival, and perhaps its peer, or is the response to this request.
+    /// Whether a departure has the data of this arrival, and perhaps its peer, or is the response
+    /// to this request.
     pub(crate) fn is_answered(&self, departure: &Carried) -> bool
         ensures { IsTrue result ↔ Answers self.now departure.now }
     {

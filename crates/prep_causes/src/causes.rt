@@ -19,7 +19,7 @@ pub struct Causes {
 }
 
 impl Causes {
-    /// Of so many numbers, with nothing under them.
+    /// For this count of numbers, with nothing noted under any of them.
     pub fn new(alloc: Global, reach: Reach, count: usize) -> Result<Self, AllocError>
         ensures { IfOk result (λ causes. (causes.reach ≡ reach) × AreEmpty causes.slots.items count) }
     {

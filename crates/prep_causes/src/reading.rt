@@ -39,11 +39,11 @@ impl Peer {
 }
 
 /// Data from or for a peer.
-fn of_data(data: &[u8], peer: Peer) -> Carried
-    ensures { result ≡ data_of data.now peer }
+fn of_data(carried: &[u8], peer: Peer) -> Carried
+    ensures { result ≡ data_of carried.now peer }
 {
     Carried::Data {
-        digest: Sha256::digest(data),
+        digest: Sha256::digest(carried),
         peer,
     }
 }
@@ -87,8 +87,9 @@ fn of_client(policy: &Policy, client: Addr, payload: &[u8]) -> Option<Carried>
     of_message(policy, client, &message)
 }
 
-/// What a datagram carries that is between a relayed address and a peer, or between the server and a client, by the end that isn't the
-/// service's. None if it is neither data nor a request nor a response.
+/// What a datagram carries that is between a relayed address and a peer, or between the server and
+/// a client, by the end that isn't the service's. None if it is neither data nor a request nor a
+/// response.
 pub fn carried_in(policy: &Policy, is_relayed: bool, far: Addr, payload: &[u8]) -> Option<Carried>
     ensures { IfSome result (λ carried. IsCarried policy.now is_relayed far payload.now carried) }
 {

@@ -22,7 +22,7 @@ undone text current blocks.Torn e = e
 undone text current blocks.NoSection e = e
 undone text current other e = absurd e
 
-pub nothing_yet : (cutter : Cutter) (plan : Plan) (proposals : List (Option Proposal)) (earlier : List Marked) (text : List ℕ) (current : List Block) (piece out : List ℕ)
+pub nothing_yet : (cutter : Cutter) (plan : Plan) (proposals : List Proposal) (earlier : List Marked) (text : List ℕ) (current : List Block) (piece out : List ℕ)
     → IsCutting cutter plan proposals earlier text current → GoesOn cutter plan proposals earlier text current piece piece out out
 nothing_yet cutter plan proposals earlier text current piece out c = record {
   taken = [];
@@ -33,7 +33,7 @@ nothing_yet cutter plan proposals earlier text current piece out c = record {
 }
 
 -- one block more, of which this was added
-step : (old new : Cutter) (plan : Plan) (proposals : List (Option Proposal)) (earlier : List Marked) (text : List ℕ) (current : List Block) (piece rest behind before after after' : List ℕ) (b : Block)
+step : (old new : Cutter) (plan : Plan) (proposals : List Proposal) (earlier : List Marked) (text : List ℕ) (current : List Block) (piece rest behind before after after' : List ℕ) (b : Block)
     → (g : GoesOn old plan proposals earlier text current piece rest before after) → Gave new.splitter (text ++ g.taken) (current ++ g.more) rest b behind
     → IsAt new.marker plan proposals earlier ((current ++ g.more) ++ b ∷ [])
     → after' ≡ before ++ written_of (marked plan (proposals_behind proposals current) (g.more ++ b ∷ [])) → GoesOn new plan proposals earlier text current piece behind before after'
@@ -51,12 +51,12 @@ step old new plan proposals earlier text current piece rest behind before after 
     }
 
 -- the block as it is marked behind those before
-mark_so : (old : Cutter) (plan : Plan) (proposals : List (Option Proposal)) (earlier : List Marked) (current more : List Block) (b : Block) → IsAt old.marker plan proposals earlier (current ++ more)
+mark_so : (old : Cutter) (plan : Plan) (proposals : List Proposal) (earlier : List Marked) (current more : List Block) (b : Block) → IsAt old.marker plan proposals earlier (current ++ more)
     → marked_by old.marker.plan.now old.marker.proposals.now b ≡ marked_by plan (proposals_behind (proposals_behind proposals current) more) b
 mark_so old plan proposals earlier current more b at =
-    ap (λ (p : Plan). marked_by p old.marker.proposals.now b) at.plan_is ∙ ap (λ (ps : List (Option Proposal)). marked_by plan ps b) (at.rest ∙ behind-append proposals current more)
+    ap (λ (p : Plan). marked_by p old.marker.proposals.now b) at.plan_is ∙ ap (λ (ps : List Proposal). marked_by plan ps b) (at.rest ∙ behind-append proposals current more)
 
-pub step_written : (old new : Cutter) (plan : Plan) (proposals : List (Option Proposal)) (earlier : List Marked) (text : List ℕ) (current : List Block) (piece rest behind before after after' : List ℕ) (b : Block)
+pub step_written : (old new : Cutter) (plan : Plan) (proposals : List Proposal) (earlier : List Marked) (text : List ℕ) (current : List Block) (piece rest behind before after after' : List ℕ) (b : Block)
     → (g : GoesOn old plan proposals earlier text current piece rest before after) → Gave new.splitter (text ++ g.taken) (current ++ g.more) rest b behind
     → IsAt new.marker plan proposals earlier ((current ++ g.more) ++ b ∷ [])
     → is_written (marked_by old.marker.plan.now old.marker.proposals.now b) ≡ true → after' ≡ after ++ b.bytes → GoesOn new plan proposals earlier text current piece behind before after'
@@ -68,7 +68,7 @@ step_written old new plan proposals earlier text current piece rest behind befor
     (added ∙ ap (λ (t : List ℕ). t ++ b.bytes) g.added ∙ append_assoc before (written_of (marked plan start g.more)) b.bytes
     ∙ ap (λ (t : List ℕ). before ++ t) (sym (written_yes (marked plan start g.more) one is) ∙ ap written_of (sym (marked-one plan start g.more b))))
 
-pub step_left : (old new : Cutter) (plan : Plan) (proposals : List (Option Proposal)) (earlier : List Marked) (text : List ℕ) (current : List Block) (piece rest behind before after after' : List ℕ) (b : Block)
+pub step_left : (old new : Cutter) (plan : Plan) (proposals : List Proposal) (earlier : List Marked) (text : List ℕ) (current : List Block) (piece rest behind before after after' : List ℕ) (b : Block)
     → (g : GoesOn old plan proposals earlier text current piece rest before after) → Gave new.splitter (text ++ g.taken) (current ++ g.more) rest b behind
     → IsAt new.marker plan proposals earlier ((current ++ g.more) ++ b ∷ [])
     → is_written (marked_by old.marker.plan.now old.marker.proposals.now b) ≡ false → after' ≡ after → GoesOn new plan proposals earlier text current piece behind before after'
@@ -80,7 +80,7 @@ step_left old new plan proposals earlier text current piece rest behind before a
     (same ∙ g.added ∙ ap (λ (t : List ℕ). before ++ t) (sym (written_no (marked plan start g.more) one is) ∙ ap written_of (sym (marked-one plan start g.more b))))
 
 -- the rest of the piece is no whole block
-pub all_taken : (old new : Cutter) (plan : Plan) (proposals : List (Option Proposal)) (earlier : List Marked) (text : List ℕ) (current : List Block) (piece rest before after : List ℕ)
+pub all_taken : (old new : Cutter) (plan : Plan) (proposals : List Proposal) (earlier : List Marked) (text : List ℕ) (current : List Block) (piece rest before after : List ℕ)
     → (g : GoesOn old plan proposals earlier text current piece rest before after)
     → StandsFor new.splitter ((text ++ g.taken) ++ rest) (current ++ g.more) → new.marker ≡ old.marker → GoesOn new plan proposals earlier text current piece [] before after
 all_taken old new plan proposals earlier text current piece rest before after g stands marker = record {
@@ -92,14 +92,14 @@ all_taken old new plan proposals earlier text current piece rest before after g 
   added = g.added;
 }
 
-pub fault_of_text : (old : Cutter) (plan : Plan) (proposals : List (Option Proposal)) (earlier : List Marked) (text : List ℕ) (current : List Block) (piece rest before after : List ℕ) (fault : CaptureFault)
+pub fault_of_text : (old : Cutter) (plan : Plan) (proposals : List Proposal) (earlier : List Marked) (text : List ℕ) (current : List Block) (piece rest before after : List ℕ) (fault : CaptureFault)
     → (g : GoesOn old plan proposals earlier text current piece rest before after)
     → EndsBy ((text ++ g.taken) ++ rest) (current ++ g.more) fault → IsRefused (faults.Capture fault) (text ++ piece) current
 fault_of_text old plan proposals earlier text current piece rest before after fault g ends =
     let whole : (text ++ g.taken) ++ rest ≡ text ++ piece = append_assoc text g.taken rest ∙ ap (λ (t : List ℕ). text ++ t) (sym g.cut) in
     λ named. let first = ends named in (first.0, subst (λ (t : List ℕ). FirstFault t first.0 fault) whole first.1)
 
-pub fault_of_block : (old new : Cutter) (plan : Plan) (proposals : List (Option Proposal)) (earlier : List Marked) (text : List ℕ) (current : List Block) (piece rest behind before after : List ℕ) (b : Block) (fault : CutFault)
+pub fault_of_block : (old new : Cutter) (plan : Plan) (proposals : List Proposal) (earlier : List Marked) (text : List ℕ) (current : List Block) (piece rest behind before after : List ℕ) (b : Block) (fault : CutFault)
     → (g : GoesOn old plan proposals earlier text current piece rest before after)
     → Gave new.splitter (text ++ g.taken) (current ++ g.more) rest b behind → RefusesBlock fault b → IsRefused fault (text ++ piece) current
 fault_of_block old new plan proposals earlier text current piece rest behind before after b fault g gave refused = by_fault fault refused where
@@ -111,6 +111,6 @@ fault_of_block old new plan proposals earlier text current piece rest behind bef
   by_fault (faults.Capture f) r = absurd r
   by_fault faults.SectionLength r = record { more = g.more; block = b; rest = new.splitter.held.items ++ behind; spelled = spelled_so; refused = r }
 
-pub at_end : (cutter : Cutter) (plan : Plan) (proposals : List (Option Proposal)) (earlier : List Marked) (text : List ℕ) (current : List Block) (piece rest before after : List ℕ)
+pub at_end : (cutter : Cutter) (plan : Plan) (proposals : List Proposal) (earlier : List Marked) (text : List ℕ) (current : List Block) (piece rest before after : List ℕ)
     → rest ≡ [] → GoesOn cutter plan proposals earlier text current piece rest before after → GoesOn cutter plan proposals earlier text current piece [] before after
 at_end cutter plan proposals earlier text current piece rest before after none g = subst (λ (r : List ℕ). GoesOn cutter plan proposals earlier text current piece r before after) none g

@@ -20,16 +20,16 @@ use Rattle.prep_cut.proofs.Pairing.{causes-one}
 use Rattle.prep_cut.specs.Marking.{AreTallies, IsAt, tally_at, tally_more, totals_of, totals_more, tallied_with}
 use Rattle.prep_cut.specs.Tallied.{no_tally, no_totals}
 
-pub marked-one : (plan : Plan) (proposals : List (Option Proposal)) (current : List Block) (b : Block)
+pub marked-one : (plan : Plan) (proposals : List Proposal) (current : List Block) (b : Block)
     → marked plan proposals (current ++ b ∷ []) ≡ marked plan proposals current ++ marked_by plan (proposals_behind proposals current) b ∷ []
 marked-one plan proposals [] b = refl
 marked-one plan proposals (first ∷ others) b = ap (λ (t : List Marked). marked_by plan proposals first ∷ t) (marked-one plan (behind first.packet proposals) others b)
 
-pub behind-one : (proposals : List (Option Proposal)) (current : List Block) (b : Block) → proposals_behind proposals (current ++ b ∷ []) ≡ behind b.packet (proposals_behind proposals current)
+pub behind-one : (proposals : List Proposal) (current : List Block) (b : Block) → proposals_behind proposals (current ++ b ∷ []) ≡ behind b.packet (proposals_behind proposals current)
 behind-one proposals [] b = refl
 behind-one proposals (first ∷ others) b = behind-one (behind first.packet proposals) others b
 
-pub behind-append : (proposals : List (Option Proposal)) (a b : List Block) → proposals_behind proposals (a ++ b) ≡ proposals_behind (proposals_behind proposals a) b
+pub behind-append : (proposals : List Proposal) (a b : List Block) → proposals_behind proposals (a ++ b) ≡ proposals_behind (proposals_behind proposals a) b
 behind-append proposals [] b = refl
 behind-append proposals (first ∷ others) b = behind-append (behind first.packet proposals) others b
 
@@ -66,7 +66,7 @@ totals-one : (plan : Plan) (blocks : List Marked) (one : Marked) → totals_of p
 totals-one plan blocks one = fold-append (totals_more plan) no_totals blocks (one ∷ [])
 
 -- a marker's relation, one block later
-pub is_at-one : (old new : Marker) (plan : Plan) (proposals : List (Option Proposal)) (earlier : List Marked) (current : List Block) (b : Block) → IsAt old plan proposals earlier current
+pub is_at-one : (old new : Marker) (plan : Plan) (proposals : List Proposal) (earlier : List Marked) (current : List Block) (b : Block) → IsAt old plan proposals earlier current
     → new.plan.now ≡ old.plan.now → new.proposals.now ≡ behind b.packet old.proposals.now
     → new.totals ≡ totals_more old.plan.now old.totals (marked_by old.plan.now old.proposals.now b)
     → length new.tallies.lines.items ≡ length old.tallies.lines.items
@@ -113,7 +113,7 @@ written_yes xs one e = ap bytes_in (filter_yes xs one e) ∙ bytes_in-one (filte
 pub written_no : (xs : List Marked) (one : Marked) → is_written one ≡ false → written_of (xs ++ one ∷ []) ≡ written_of xs
 written_no xs one e = ap bytes_in (filter_no xs one e)
 
-marked-append : (plan : Plan) (proposals : List (Option Proposal)) (a b : List Block) → marked plan proposals (a ++ b) ≡ marked plan proposals a ++ marked plan (proposals_behind proposals a) b
+marked-append : (plan : Plan) (proposals : List Proposal) (a b : List Block) → marked plan proposals (a ++ b) ≡ marked plan proposals a ++ marked plan (proposals_behind proposals a) b
 marked-append plan proposals [] b = refl
 marked-append plan proposals (first ∷ others) b = ap (λ (t : List Marked). marked_by plan proposals first ∷ t) (marked-append plan (behind first.packet proposals) others b)
 
@@ -124,7 +124,7 @@ bytes_in-append xs ys =
     ap bytes_of (map-append block xs ys) ∙ ap concat (map-append bytes (map block xs) (map block ys)) ∙ concat-append (map bytes (map block xs)) (map bytes (map block ys))
 
 -- what is written of blocks and of those behind them
-pub written_of-append : (plan : Plan) (proposals : List (Option Proposal)) (a b : List Block)
+pub written_of-append : (plan : Plan) (proposals : List Proposal) (a b : List Block)
     → written_of (marked plan proposals (a ++ b)) ≡ written_of (marked plan proposals a) ++ written_of (marked plan (proposals_behind proposals a) b)
 written_of-append plan proposals a b =
     let first = marked plan proposals a in

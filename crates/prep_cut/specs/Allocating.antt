@@ -48,8 +48,9 @@ abbrev pub AreAllNoted : Policy → Allocations → List Block → Type 0
 AreAllNoted policy allocations [] = ⊤
 AreAllNoted policy allocations (first ∷ others) = (is_noted_in policy allocations first ≡ true) × AreAllNoted policy allocations others
 
--- What these blocks ask and grant is noted, and no packet of theirs is before the first moment that is noted. Each release and each event
--- that is noted is one of theirs, and each client that is noted sends something in them.
+-- What these blocks ask and grant is noted, and no packet of theirs is before the first moment that
+-- is noted. Each release and each event that is noted is one of theirs, and each client that is
+-- noted sends something in them.
 pub record AreNoted (policy : Policy) (allocations : Allocations) (blocks : List Block) : Type 0 where
   pub noted : AreAllNoted policy allocations blocks
   pub released : AreReleased policy allocations blocks

@@ -10,7 +10,8 @@ use Rattle.prep_cut.specs.declared.reason.Reason.TheVariants.{Released}
 use Rattle.prep_cut.specs.Guard.{is_named}
 use Rattle.prep_cut.specs.Releasing.{IsShownBy}
 
--- it is of the client or the address, behind a release that the captures show, and leaves in the time that is stated
+-- it is of the client or the address, behind a release that the captures show, and leaves in the
+-- time that is stated
 pub record IsBehind (plan : Plan) (captured : List Block) (pair : Pair) (relayed : Addr) (moment : ℕ) (datagram : Datagram) : Type 0 where
   pub stated : 0 < plan.stated.released_ms
   pub shown : IsShownBy plan.policy (record { client = pair.client; listen = pair.listen; moment = moment }) captured

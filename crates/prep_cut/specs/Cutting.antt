@@ -15,13 +15,15 @@ use Rattle.prep_cut.specs.declared.plan.Proposal.{Proposal}
 use Rattle.prep_cut.specs.Marks.{Marked, marked, proposals_behind, written_of}
 use Rattle.prep_cut.specs.Marking.{IsAt, AreTallies, totals_of, RefusesBlock}
 
--- behind this text of a capture, which has these whole blocks, and the blocks of the captures before
-pub record IsCutting (cutter : Cutter) (plan : Plan) (proposals : List (Option Proposal)) (earlier : List Marked) (text : List ℕ) (current : List Block) : Type 0 where
+-- behind this text of a capture, which has these whole blocks, and the blocks of the captures
+-- before
+pub record IsCutting (cutter : Cutter) (plan : Plan) (proposals : List Proposal) (earlier : List Marked) (text : List ℕ) (current : List Block) : Type 0 where
   pub splits : StandsFor cutter.splitter text current
   pub at : IsAt cutter.marker plan proposals earlier current
 
--- the piece was taken up to the rest, and of the blocks that are whole now was added what is written
-pub record GoesOn (cutter : Cutter) (plan : Plan) (proposals : List (Option Proposal)) (earlier : List Marked) (text : List ℕ) (current : List Block) (piece rest before after : List ℕ) : Type 0 where
+-- the piece was taken up to the rest, and of the blocks that are whole now was added what is
+-- written
+pub record GoesOn (cutter : Cutter) (plan : Plan) (proposals : List Proposal) (earlier : List Marked) (text : List ℕ) (current : List Block) (piece rest before after : List ℕ) : Type 0 where
   pub taken : List ℕ
   pub more : List Block
   pub cut : piece ≡ taken ++ rest
@@ -42,7 +44,7 @@ IsRefused (faults.Capture fault) text current = fault ≢ blocks.Memory → (pac
 IsRefused faults.SectionLength text current = Misfits faults.SectionLength text current
 
 -- the text is a whole capture of these blocks; what it adds to the captures before
-pub record IsCut (cut : WasCut) (plan : Plan) (proposals : List (Option Proposal)) (earlier : List Marked) (text : List ℕ) (current : List Block) : Type 0 where
+pub record IsCut (cut : WasCut) (plan : Plan) (proposals : List Proposal) (earlier : List Marked) (text : List ℕ) (current : List Block) : Type 0 where
   pub whole : IsWhole text current
   pub totals : cut.totals ≡ totals_of plan (marked plan proposals current)
   pub tallies : AreTallies plan (earlier ++ marked plan proposals current) cut.tallies

@@ -51,8 +51,8 @@ is_leaving Leaves is_inside = not is_inside
 abbrev pub is_departure : Datagram → Bool
 is_departure datagram = is_leaving datagram.side datagram.is_inside
 
--- If the server started with the captures, there is no client from before. Without clients by TCP, TLS, DTLS or IPv6 there is no address of
--- such a client, and no DTLS.
+-- If the server started with the captures, there is no client from before. Without clients by TCP,
+-- TLS, DTLS or IPv6 there is no address of such a client, and no DTLS.
 abbrev pub is_stated : Stated → Reason → Bool
 is_stated stated reasons.BeforeSince = true
 is_stated stated (reasons.Client pair) = not stated.is_from_start
@@ -110,9 +110,9 @@ is_apart allocations datagram = not (is_leased allocations (own_end datagram) da
 abbrev pub is_free : Allocations → Datagram → Bool
 is_free allocations datagram = not (is_tenant allocations (far_end datagram) (own_end datagram) datagram.stamp)
 
--- No line but `inside` excludes something at an address of which the captures show a lease. No line excludes something of a client since its
--- grant, but `inner` and `released` its data. The release that a reason names is noted, a departure is in its time, and the address was the
--- client's.
+-- No line but `inside` excludes something at an address of which the captures show a lease. No line
+-- excludes something of a client since its grant, but `inner` and `released` its data. The release
+-- that a reason names is noted, a departure is in its time, and the address was the client's.
 abbrev pub is_due : Stated → Allocations → Reason → Datagram → Bool
 is_due stated allocations (reasons.Released pair relayed moment) datagram =
     is_released allocations (record { client = pair.client; listen = pair.listen; moment = moment })
@@ -141,8 +141,9 @@ may_leave_datagram stated allocations reason None = false
 may_leave_datagram stated allocations reason (Some datagram) =
     is_stated stated reason && (is_due stated allocations reason datagram && ((is_named reason datagram && is_heard allocations reason) && not (is_shown allocations datagram)))
 
--- The reason may exclude a packet of this stamp, which contains this datagram or none. Outside of the stated moments it excludes no Allocate
--- that the captures show with its success, and nothing for a client that sends nothing in all of the captures.
+-- The reason may exclude a packet of this stamp, which contains this datagram or none. Outside of
+-- the stated moments it excludes no Allocate that the captures show with its success, and nothing
+-- for a client that sends nothing in all of the captures.
 abbrev pub may_leave_packet : Stated → Allocations → Reason → ℕ → Option Datagram → Bool
 may_leave_packet stated allocations reasons.BeforeSince stamp datagram = is_early stated.since stamp
 may_leave_packet stated allocations reasons.AfterUntil stamp datagram = is_late stated.until stamp

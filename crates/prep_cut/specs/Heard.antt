@@ -22,8 +22,8 @@ IsOfHeard plan captured (reasons.Dtls pair) = IsHeard plan captured pair
 IsOfHeard plan captured (reasons.Inner pair peer) = IsHeard plan captured pair
 IsOfHeard plan captured other = ⊤
 
--- A datagram that a line may exclude is of the client or the address that the line names, that client sends something, and what the operator
--- states allows the line.
+-- A datagram that a line may exclude is of the client or the address that the line names, that
+-- client sends something, and what the operator states allows the line.
 pub record IsOfSender (plan : Plan) (captured : List Block) (reason : Reason) (datagram : Datagram) : Type 0 where
   pub stated : is_stated plan.stated reason ≡ true
   pub named : is_named reason datagram ≡ true

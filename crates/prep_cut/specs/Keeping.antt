@@ -22,8 +22,8 @@ IsOfData (reasons.Inner pair peer) = ⊤
 IsOfData (reasons.Released pair relayed moment) = ⊤
 IsOfData other = ⊥
 
--- It is at no address of which a client has a lease. If it is between the service and a client that was granted an allocation before, it is
--- data, and the line is one of data.
+-- It is at no address of which a client has a lease. If it is between the service and a client that
+-- was granted an allocation before, it is data, and the line is one of data.
 pub record KeepsLeases (allocations : Allocations) (reason : Reason) (datagram : Datagram) : Type 0 where
   pub apart : is_leased allocations (own_end datagram) datagram.stamp ≡ false
   pub only : is_tenant allocations (far_end datagram) (own_end datagram) datagram.stamp ≡ true → (datagram.is_data ≡ true) × IsOfData reason
@@ -35,8 +35,9 @@ Keeps allocations reasons.AfterUntil datagram = ⊤
 Keeps allocations (reasons.Inside from to) datagram = ⊤
 Keeps allocations other datagram = KeepsLeases allocations other datagram
 
--- The captures show that a client was granted this address by a response to a request that is noted, that the time which the response states
--- lasts at this moment, and no response that ends the allocation up to it.
+-- The captures show that a client was granted this address by a response to a request that is
+-- noted, that the time which the response states lasts at this moment, and no response that ends
+-- the allocation up to it.
 pub record HasLease (policy : Policy) (allocations : Allocations) (captured : List Block) (grant : Event) (relayed : Addr) (tid : List ℕ) (stamp : ℕ) : Type 0 where
   pub granted : IsEventShown policy grant captured
   pub address : grant.said.act ≡ acts.Grants relayed tid
@@ -45,7 +46,8 @@ pub record HasLease (policy : Policy) (allocations : Allocations) (captured : Li
   pub lasting : stamp ≤ grant.moment + grant.said.seconds * 1000000000
   pub unended : (event : Event) → IsEventShown policy event captured → event.said.act ≡ acts.Ends → grant.moment ≤ event.moment → event.moment ≤ stamp → ⊥
 
--- `edge` excludes what leaves the service before the hold and twice the greatest skew have passed after the captures begin, unless the server
+-- `edge` excludes what leaves the service before the hold and twice the greatest skew have passed
+-- after the captures begin, unless the server
 -- started with them
 pub record IsEarly (plan : Plan) (datagram : Datagram) : Type 0 where
   pub started : plan.stated.is_from_start ≡ false

@@ -26,7 +26,8 @@ tally_more plan tally one = tallied_block tally one.block.packet (datagram_of_bl
 abbrev pub tally_at : Plan → ℕ → List Marked → Tally
 tally_at plan line blocks = fold (tally_more plan) no_tally (filter (is_of_line line) blocks)
 
--- each line's tally is that of the packets that are left out by it, and what was found under each number is of them
+-- each line's tally is that of the packets that are left out by it, and what was found under each
+-- number is of them
 pub record AreTallies (plan : Plan) (blocks : List Marked) (tallies : Tallies) : Type 0 where
   pub len : length tallies.lines.items ≡ length plan.lines
   pub lines : (line : ℕ) → line < length plan.lines → get_or tallies.lines.items line no_tally ≡ tally_at plan line blocks
@@ -45,7 +46,7 @@ tallied_with None packet datagram other tally = tally
 tallied_with (Some line) packet datagram other tally = tallied_at line packet datagram other tally
 
 -- behind these blocks of a capture, and the blocks of the captures before
-pub record IsAt (marker : Marker) (plan : Plan) (proposals : List (Option Proposal)) (earlier : List Marked) (current : List Block) : Type 0 where
+pub record IsAt (marker : Marker) (plan : Plan) (proposals : List Proposal) (earlier : List Marked) (current : List Block) : Type 0 where
   pub plan_is : marker.plan.now ≡ plan
   pub rest : marker.proposals.now ≡ proposals_behind proposals current
   pub totals : marker.totals ≡ totals_of plan (marked plan proposals current)

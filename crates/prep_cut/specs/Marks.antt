@@ -3,6 +3,7 @@ use Rattle.std.specs.Prelude.{ℕ, Bool, true, false, ◌&&◌, nat_le, ◌==◌
 use Rattle.prep_blocks.specs.declared.block.Block.{Block}
 use Rattle.prep_blocks.specs.declared.block.PacketHead.{PacketHead}
 use Rattle.prep_blocks.specs.Read.{bytes_of}
+use Rattle.prep_causes.specs.Numbers.{number_in}
 use Rattle.prep_cut.specs.declared.plan.Plan.{Plan}
 use Rattle.prep_cut.specs.declared.plan.Proposal.{Proposal}
 use Rattle.prep_cut.specs.declared.reason.Reason.{Reason}
@@ -11,7 +12,8 @@ use Rattle.prep_cut.specs.Datagrams.{datagram_of_block}
 use Rattle.prep_cut.specs.Edges.{edge_of}
 use Rattle.prep_cut.specs.Guard.{may_leave_packet}
 
--- `edge` excludes something only until the hold and twice the greatest skew after the captures begin
+-- `edge` excludes something only until the hold and twice the greatest skew after the captures
+-- begin
 abbrev pub is_at_edge : Plan → Reason → ℕ → Bool
 is_at_edge plan reasons.Edge stamp = nat_le stamp (edge_of plan.policy plan.stated plan.allocations)
 is_at_edge plan other stamp = true
@@ -31,27 +33,27 @@ abbrev pub line_of : Plan → Option ℕ → Block → Option ℕ
 line_of plan None block = None
 line_of plan (Some line) block = if may_leave_at plan line block then Some line else None
 
-abbrev pub first_of : List (Option Proposal) → Option Proposal
+abbrev pub first_of : List Proposal → Option Proposal
 first_of [] = None
-first_of (first ∷ others) = first
+first_of (first ∷ others) = Some first
 
 -- proposals are for the packets in their order: that of a block's packet
-abbrev pub proposed_for : Option PacketHead → List (Option Proposal) → Option Proposal
+abbrev pub proposed_for : Option PacketHead → List Proposal → Option Proposal
 proposed_for None proposals = None
 proposed_for (Some head) proposals = first_of proposals
 
 -- and those for the packets behind it
-abbrev pub behind : Option PacketHead → List (Option Proposal) → List (Option Proposal)
+abbrev pub behind : Option PacketHead → List Proposal → List Proposal
 behind None proposals = proposals
 behind (Some head) proposals = drop 1 proposals
 
 abbrev pub proposed_line : Option Proposal → Option ℕ
 proposed_line None = None
-proposed_line (Some proposal) = Some proposal.line
+proposed_line (Some proposal) = number_in proposal.line
 
 abbrev pub proposed_cause : Option Proposal → Option ℕ
 proposed_cause None = None
-proposed_cause (Some proposal) = proposal.cause
+proposed_cause (Some proposal) = number_in proposal.cause
 
 -- a block, the line by which it is left out, and the number that it has in common with another one
 pub record Marked : Type 0 where
@@ -62,16 +64,16 @@ pub record Marked : Type 0 where
 abbrev pub marked_of : Plan → Option Proposal → Block → Marked
 marked_of plan proposal block = record { block = block; line = line_of plan (proposed_line proposal) block; cause = proposed_cause proposal }
 
-abbrev pub marked_by : Plan → List (Option Proposal) → Block → Marked
+abbrev pub marked_by : Plan → List Proposal → Block → Marked
 marked_by plan proposals block = marked_of plan (proposed_for block.packet proposals) block
 
 -- the blocks of a capture, each with its line
-abbrev pub marked : Plan → List (Option Proposal) → List Block → List Marked
+abbrev pub marked : Plan → List Proposal → List Block → List Marked
 marked plan proposals [] = []
 marked plan proposals (first ∷ others) = marked_by plan proposals first ∷ marked plan (behind first.packet proposals) others
 
 -- the proposals behind blocks
-abbrev pub proposals_behind : List (Option Proposal) → List Block → List (Option Proposal)
+abbrev pub proposals_behind : List Proposal → List Block → List Proposal
 proposals_behind proposals [] = proposals
 proposals_behind proposals (first ∷ others) = proposals_behind (behind first.packet proposals) others
 

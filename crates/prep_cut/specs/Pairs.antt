@@ -45,7 +45,8 @@ pub record IsNumbered (plan : Plan) (blocks : List Marked) (number : ℕ) (half 
   pub number_is : one.cause ≡ Some number
   pub half_is : IsHalfOf plan one half
 
--- A departure and an arrival with this number are both excluded, and the arrival can have caused the departure.
+-- A departure and an arrival with this number are both excluded, and the arrival can have caused
+-- the departure.
 pub record IsPaired (plan : Plan) (blocks : List Marked) (number : ℕ) : Type 0 where
   pub arrival : Half
   pub departure : Half
@@ -79,7 +80,8 @@ abbrev pub Ascend : ℕ → List ℕ → Type 0
 Ascend least [] = ⊤
 Ascend least (first ∷ others) = (least ≤ first) × Ascend (suc first) others
 
--- Under so many different numbers there is a departure with its arrival. No block has two numbers, so each departure has an arrival of its own.
+-- Under so many different numbers there is a departure with its arrival. No block has two numbers,
+-- so each departure has an arrival of its own.
 pub record ArePaired (plan : Plan) (blocks : List Marked) (count : ℕ) : Type 0 where
   pub numbers : List ℕ
   pub different : Ascend 0 numbers

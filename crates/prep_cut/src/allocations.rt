@@ -1,4 +1,5 @@
-//! Which Allocate requests and successes captures show, which releases of allocations, and who sends anything.
+//! Which Allocate requests and successes captures show, which releases of allocations, and who
+//! sends anything.
 
 ghost use Rattle.std.specs.Prelude.{◌≡◌, ◌⊎◌, ◌≤◌, [], Contains, true, false, Some, OnOk};
 ghost use Rattle.prep_cut.specs.declared.datagram.Datagram.{Datagram as AnyDatagram};
@@ -52,8 +53,8 @@ impl Allocations {
         }
     }
 
-    /// Notes what the datagram of a block asks or grants, the release that it is, and its sender. The cost is the logarithm of how many are
-    /// noted.
+    /// Notes what the datagram of a block asks or grants, the release that it is, and its sender.
+    /// The cost is the logarithm of how many are noted.
     pub fn note(&mut self, policy: &Policy, block: &Block) -> Result<(), AllocError>
         ensures noted { OnOk result (is_noted_in policy.now self.new block.now ≡ true) }
         ensures kept { OnOk result ((other : AnyDatagram) → is_noted self.old other ≡ true → is_noted self.new other ≡ true) }
@@ -139,8 +140,8 @@ impl Allocations {
         Ok(())
     }
 
-    /// Whether a datagram is an Allocate success whose request is noted, or an Allocate request whose success is. The cost is the logarithm
-    /// of how many are noted.
+    /// Whether a datagram is an Allocate success whose request is noted, or an Allocate request
+    /// whose success is. The cost is the logarithm of how many are noted.
     pub fn shows(&self, datagram: &Datagram) -> bool
         ensures { result ≡ is_shown self.now datagram.now }
     {
@@ -151,7 +152,8 @@ impl Allocations {
         }
     }
 
-    /// Whether the client sends something to its listen address. The cost is the logarithm of how many do.
+    /// Whether the client sends something to its listen address. The cost is the logarithm of how
+    /// many do.
     pub fn has_sender(&self, pair: &Pair) -> bool
         ensures { result ≡ is_sender self.now pair.now.client pair.now.listen }
     {

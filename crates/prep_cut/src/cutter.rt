@@ -15,7 +15,8 @@ use crate::tally::{Tallies, Totals};
 use prep_blocks::BlockSplitter;
 use std::alloc::Global;
 
-/// Cuts a capture that comes in pieces. It keeps the one block that is not yet whole. After a fault it is thrown away.
+/// Cuts a capture that comes in pieces. It keeps the one block that is not yet whole. After a fault
+/// it is thrown away.
 #[derive(Drop)]
 pub struct Cutter<'p> {
     splitter: BlockSplitter,
@@ -31,13 +32,9 @@ pub struct WasCut {
 }
 
 impl<'p> Cutter<'p> {
-    /// A cutter of no bytes, with the tallies of the captures before. What is proposed for each packet is a line of the plan or none.
-    pub fn new(
-        alloc: Global,
-        plan: &'p Plan,
-        proposals: &'p [Option<Proposal>],
-        tallies: Tallies,
-    ) -> Self
+    /// A cutter of no bytes, with the tallies of the captures before. What is proposed for each
+    /// packet is a line of the plan or none.
+    pub fn new(alloc: Global, plan: &'p Plan, proposals: &'p [Proposal], tallies: Tallies) -> Self
         ensures { (earlier : List Marked) → AreTallies plan.now earlier tallies →
             IsCutting result plan.now proposals.now earlier [] [] }
     {
@@ -47,13 +44,13 @@ impl<'p> Cutter<'p> {
         }
     }
 
-    /// Takes the next piece of the capture, and adds the blocks that are whole now and are not left out. C1 to C13 refuse it, and a
-    /// section that states its length.
+    /// Takes the next piece of the capture, and adds the blocks that are whole now and are not left
+    /// out. C1 to C13 refuse it, and a section that states its length.
     pub fn feed(&mut self, piece: &[u8], out: &mut Vec<u8>) -> Result<(), CutFault>
-        ensures ok { (plan : Plan) (proposals : List (Option Proposal)) (earlier : List Marked) (text : List ℕ) (current : List Block) →
+        ensures ok { (plan : Plan) (proposals : List Proposal) (earlier : List Marked) (text : List ℕ) (current : List Block) →
             IsCutting self.old plan proposals earlier text current →
             OnOk result (GoesOn self.new plan proposals earlier text current piece.now [] out.old.items out.new.items) }
-        ensures err { (plan : Plan) (proposals : List (Option Proposal)) (earlier : List Marked) (text : List ℕ) (current : List Block) →
+        ensures err { (plan : Plan) (proposals : List Proposal) (earlier : List Marked) (text : List ℕ) (current : List Block) →
             IsCutting self.old plan proposals earlier text current → IfErr result (λ fault. IsRefused fault (text ++ piece.now) current) }
     {
         let mut rest = piece;
@@ -71,9 +68,9 @@ impl<'p> Cutter<'p> {
 
     /// Ends the capture.
     pub fn finish(self) -> Result<WasCut, CutFault>
-        ensures ok { (plan : Plan) (proposals : List (Option Proposal)) (earlier : List Marked) (text : List ℕ) (current : List Block) →
+        ensures ok { (plan : Plan) (proposals : List Proposal) (earlier : List Marked) (text : List ℕ) (current : List Block) →
             IsCutting self.entry plan proposals earlier text current → IfOk result (λ cut. IsCut cut plan proposals earlier text current) }
-        ensures err { (plan : Plan) (proposals : List (Option Proposal)) (earlier : List Marked) (text : List ℕ) (current : List Block) →
+        ensures err { (plan : Plan) (proposals : List Proposal) (earlier : List Marked) (text : List ℕ) (current : List Block) →
             IsCutting self.entry plan proposals earlier text current → IfErr result (λ fault. IsUndone fault text current) }
     {
         self.splitter.finish()?;

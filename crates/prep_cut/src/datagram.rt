@@ -24,11 +24,13 @@ pub struct Datagram {
     pub is_inside: bool,
     /// Whether its payload begins as DTLS does: 20 to 63 (RFC 7983).
     pub is_dtls: bool,
-    /// Whether its payload begins as data between a client and the server does: ChannelData, or a Send or Data indication.
+    /// Whether its payload begins as data between a client and the server does: ChannelData, or a
+    /// Send or Data indication.
     pub is_data: bool,
     /// How many bytes its payload has.
     pub size: usize,
-    /// Of an Allocate request that arrives at a listen address from a client, and of a success that leaves one.
+    /// Of an Allocate request that arrives at a listen address from a client, and of a success that
+    /// leaves one.
     pub allocate: Option<Transaction>,
 }
 
@@ -152,8 +154,9 @@ fn is_dtls(payload: &[u8]) -> bool
     }
 }
 
-/// Whether a payload begins as ChannelData does, with a number whose two highest bits are 01 (RFC 8656, section 12.4), or with the type of
-/// a Send or a Data indication, 0x0016 or 0x0017 (section 17).
+/// Whether a payload begins as ChannelData does, with a number whose two highest bits are 01 (RFC
+/// 8656, section 12.4), or with the type of a Send or a Data indication, 0x0016 or 0x0017 (section
+/// 17).
 fn is_data(payload: &[u8]) -> bool
     ensures { result ≡ carries payload.now }
 {

@@ -19,7 +19,8 @@ pub fn slack_of(policy: &Policy) -> u64
     most.saturating_mul(2)
 }
 
-/// The last moment at which something leaves whose cause may have arrived before the captures begin.
+/// The last moment at which something leaves whose cause may have arrived before the captures
+/// begin.
 pub fn last_at_edge(policy: &Policy, stated: &Stated, allocations: &Allocations) -> u64
     ensures { result ≡ edge_of policy.now stated.now allocations.now }
 {

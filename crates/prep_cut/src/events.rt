@@ -28,7 +28,8 @@ impl Events {
         }
     }
 
-    /// Those of two addresses, in the order in which they were noted. The cost is the logarithm of the number of addresses.
+    /// Those of two addresses, in the order in which they were noted. The cost is the logarithm of
+    /// the number of addresses.
     pub(crate) fn at(&self, one: Addr, other: Addr) -> &[Event]
         ensures { result.now ≡ events_at self.now one other }
     {

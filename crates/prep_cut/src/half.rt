@@ -9,7 +9,8 @@ use audit_model::Policy;
 use prep_blocks::Block;
 use prep_causes::{Half, carried_in};
 
-/// An arrival or a departure by what it carries. None if it is neither data nor a request nor a response.
+/// An arrival or a departure by what it carries. None if it is neither data nor a request nor a
+/// response.
 pub(crate) fn half_in(policy: &Policy, block: &Block, datagram: &Datagram) -> Option<Half>
     ensures { IfSome result (λ half. IsOfDatagram policy.now (payload_of_block block.now) datagram.now half) }
 {

@@ -107,7 +107,8 @@ impl Allocations {
         self.has_begun(grant, stamp) && self.lasts(grant, stamp) && !self.is_ended(grant, stamp)
     }
 
-    /// Whether a client has a lease of an address at a moment. The cost is the number of its leases, times that of the client's responses.
+    /// Whether a client has a lease of an address at a moment. The cost is the number of its
+    /// leases, times that of the client's responses.
     pub fn is_leased(&self, relayed: Addr, stamp: u64) -> bool
         ensures { result ≡ is_leased self.now relayed stamp }
     {
@@ -115,7 +116,8 @@ impl Allocations {
         grants.iter().any(|grant| self.covers(grant, stamp))
     }
 
-    /// Whether a client was granted an allocation up to a moment. The cost is the number of its responses.
+    /// Whether a client was granted an allocation up to a moment. The cost is the number of its
+    /// responses.
     pub fn is_tenant(&self, client: Addr, listen: Addr, stamp: u64) -> bool
         ensures { result ≡ is_tenant self.now client listen stamp }
     {
@@ -130,7 +132,8 @@ impl Allocations {
         events.iter().any(|event| self.has_begun(event, moment) && event.grants(relayed))
     }
 
-    /// Whether an address was granted to a client up to a moment, or the client is from before the captures.
+    /// Whether an address was granted to a client up to a moment, or the client is from before the
+    /// captures.
     pub fn is_its(&self, pair: &Pair, relayed: Addr, moment: u64) -> bool
         ensures { result ≡ is_its self.now pair.now relayed moment }
     {

@@ -34,7 +34,8 @@ impl Leases {
         }
     }
 
-    /// Notes the event that a block shows. The cost is the logarithm of the number of clients and addresses.
+    /// Notes the event that a block shows. The cost is the logarithm of the number of clients and
+    /// addresses.
     pub(crate) fn note(&mut self, policy: &Policy, block: &Block) -> Result<(), AllocError>
         ensures shown { OnOk result ((event : AnyEvent) → IsEventIn policy.now event block.now → HasEvent self.new event) }
         ensures kept { OnOk result ((event : AnyEvent) → HasEvent self.old event → HasEvent self.new event) }

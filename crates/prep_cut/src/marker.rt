@@ -31,14 +31,14 @@ const SECTION_LENGTH_END: usize = 24;
 pub struct Marker<'p> {
     plan: &'p Plan,
     /// What is proposed for the packets that are still to come.
-    proposals: &'p [Option<Proposal>],
+    proposals: &'p [Proposal],
     totals: Totals,
     tallies: Tallies,
 }
 
 impl<'p> Marker<'p> {
     /// Before the first block.
-    pub fn new(plan: &'p Plan, proposals: &'p [Option<Proposal>], tallies: Tallies) -> Self
+    pub fn new(plan: &'p Plan, proposals: &'p [Proposal], tallies: Tallies) -> Self
         ensures { (earlier : List Marked) → AreTallies plan.now earlier tallies →
             IsAt result plan.now proposals.now earlier [] }
     {
@@ -52,7 +52,7 @@ impl<'p> Marker<'p> {
 
     /// Takes the next block, and tells whether it is written.
     pub fn take(&mut self, block: &Block) -> Result<bool, CutFault>
-        ensures ok { (plan : Plan) (proposals : List (Option Proposal)) (earlier : List Marked) (current : List Block) →
+        ensures ok { (plan : Plan) (proposals : List Proposal) (earlier : List Marked) (current : List Block) →
             IsAt self.old plan proposals earlier current → OnOk result (IsAt self.new plan proposals earlier (current ++ block.now ∷ [])) }
         ensures written { IfOk result (λ written. written ≡ is_written (marked_by self.old.plan.now self.old.proposals.now block.now)) }
         ensures err { IfErr result (λ fault. RefusesBlock fault block.now) }
@@ -78,7 +78,7 @@ impl<'p> Marker<'p> {
         packet?;
         let (first, rest) = self.proposals.split_first()?;
         self.proposals = rest;
-        *first
+        Some(*first)
     }
 
     /// Notes an arrival that is excluded, or a departure by a line that needs its arrival.

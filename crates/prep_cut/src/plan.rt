@@ -11,35 +11,36 @@ use crate::reason::Reason;
 use crate::stated::Stated;
 use audit_model::{Listed, Policy};
 use prep_blocks::Block;
-use prep_causes::{CauseNumber, Reach};
+use prep_causes::{CauseNumber, MaybeNumber, Reach};
 
 /// The number of a line of the list, from 0.
 pub type LineNumber = u32;
 
-/// What is proposed for a packet.
+/// What is proposed for a packet, in eight bytes.
 #[derive(Clone, Copy, Debug, PartialEq, Eq)]
 pub struct Proposal {
-    /// The line that excludes it.
-    pub line: LineNumber,
-    /// The number that a departure has in common with its arrival.
-    pub cause: Option<CauseNumber>,
+    /// The number of the line that excludes it (a `LineNumber`); none if it stays in.
+    pub line: MaybeNumber,
+    /// The number that a departure has in common with its arrival (a `CauseNumber`).
+    pub cause: MaybeNumber,
 }
 
 /// The line that is proposed.
 pub(crate) fn line_in(proposal: Option<Proposal>) -> Option<LineNumber>
     ensures { result ≡ proposed_line proposal }
 {
-    Some(proposal?.line)
+    proposal?.line.get()
 }
 
 /// The number that is proposed.
 pub(crate) fn cause_in(proposal: Option<Proposal>) -> Option<CauseNumber>
     ensures { result ≡ proposed_cause proposal }
 {
-    proposal?.cause
+    proposal?.cause.get()
 }
 
-/// The lines of the list, and what they go by. Which packets are proposed for them is told capture by capture.
+/// The lines of the list, and what they go by. Which packets are proposed for them is told capture
+/// by capture.
 #[derive(Debug, Drop)]
 pub struct Plan {
     pub policy: Policy,
@@ -51,7 +52,8 @@ pub struct Plan {
 }
 
 impl Plan {
-    /// The line by which a block is left out: the one that is proposed for its packet, where that line's reason may set it aside.
+    /// The line by which a block is left out: the one that is proposed for its packet, where that
+    /// line's reason may set it aside.
     pub fn line_of(&self, proposed: Option<LineNumber>, block: &Block) -> Option<LineNumber>
         ensures { result ≡ line_of self.now proposed block.now }
     {

@@ -23,7 +23,8 @@ pub enum Reason {
     Client(Pair),
     /// A response whose request may be from before the capture.
     Answer(Pair),
-    /// Data of a client from before the capture, at a relayed address that nobody was given. A lease of the address begins a tenure.
+    /// Data of a client from before the capture, at a relayed address that nobody was given. A
+    /// lease of the address begins a tenure.
     AddressOf {
         relayed: Addr,
         tenure: u32,
@@ -40,8 +41,9 @@ pub enum Reason {
         relayed: Addr,
         tenure: u32,
     },
-    /// What is relayed for a client in the time that `--released-ms` says, behind its Refresh success with LIFETIME 0 at this moment: data
-    /// with the client, and what is at the relayed address that it had.
+    /// What is relayed for a client in the time that `--released-ms` says, behind its Refresh
+    /// success with LIFETIME 0 at this moment: data with the client, and what is at the relayed
+    /// address that it had.
     Released {
         pair: Pair,
         relayed: Addr,
@@ -83,8 +85,9 @@ pub enum ReasonKind {
 }
 
 impl Reason {
-    /// Whether what leaves by such a line is to have its arrival excluded as well. The other lines are of moments, of what
-    /// may be from before the captures, of clients whose datagrams can't be read, and of datagrams that the service sends to itself.
+    /// Whether what leaves by such a line is to have its arrival excluded as well. The other lines
+    /// are of moments, of what may be from before the captures, of clients whose datagrams can't be
+    /// read, and of datagrams that the service sends to itself.
     pub fn needs_cause(&self) -> bool
         ensures { result ≡ needs_cause self.now }
     {

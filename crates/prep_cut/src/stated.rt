@@ -24,7 +24,8 @@ pub struct Stated {
     pub keeps_inner: bool,
     /// The longest lifetime of an allocation from before, in seconds.
     pub lifetime: u64,
-    /// For so many milliseconds behind a client's Refresh success with LIFETIME 0 what is relayed for it is left out: 0 to 60,000.
+    /// For so many milliseconds behind a client's Refresh success with LIFETIME 0 what is relayed
+    /// for it is left out: 0 to 60,000.
     pub released_ms: u64,
 }
 
@@ -32,11 +33,13 @@ pub struct Stated {
 const MILLISECOND: u64 = 1_000_000;
 
 impl Stated {
-    /// Whether the reason may set aside a packet of this stamp, which holds this datagram of the service or none: what the operator
-    /// states has to allow the reason, and the packet has to be of the client or the address that the reason names. A client that sends
-    /// nothing in all of the captures has nothing excluded. An Allocate success
-    /// whose request is among the allocations, and an Allocate request whose success is, is set aside only by its moment. What is relayed
-    /// behind a release is so only where the release is among the allocations, and where it left in the time that is stated.
+    /// Whether the reason may set aside a packet of this stamp, which holds this datagram of the
+    /// service or none: what the operator states has to allow the reason, and the packet has to be
+    /// of the client or the address that the reason names. A client that sends nothing in all of
+    /// the captures has nothing excluded. An Allocate success whose request is among the
+    /// allocations, and an Allocate request whose success is, is set aside only by its moment. What
+    /// is relayed behind a release is so only where the release is among the allocations, and where
+    /// it left in the time that is stated.
     pub fn may_leave(
         &self,
         allocations: &Allocations,
@@ -97,8 +100,8 @@ impl Stated {
         }
     }
 
-    /// Whether the captures show no lease of what the reason names, and of released data the release, with the address, and a departure in its
-    /// time.
+    /// Whether the captures show no lease of what the reason names, and of released data the
+    /// release, with the address, and a departure in its time.
     fn is_due(&self, allocations: &Allocations, reason: &Reason, datagram: &Datagram) -> bool
         ensures { result ≡ is_due self.now allocations.now reason.now datagram.now }
     {

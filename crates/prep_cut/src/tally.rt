@@ -44,7 +44,7 @@ impl Count {
         }
     }
 
-    /// With a datagram more, of so many bytes.
+    /// With a datagram more, of this size in bytes.
     fn with(self, size: usize) -> Self
         ensures { result ≡ counted self size }
     {
@@ -60,7 +60,8 @@ impl Count {
 pub struct Tally {
     pub arrived: Count,
     pub left: Count,
-    /// Packets that are no datagram of the service: fragments, packets that were captured cut, and what others sent.
+    /// Packets that are no datagram of the service: fragments, packets that were captured cut, and
+    /// what others sent.
     pub others: u64,
     /// The least and the greatest of their moments; of no packet the greatest u64, and 0.
     pub first: u64,
@@ -193,7 +194,8 @@ impl Totals {
     }
 }
 
-/// The tallies of the lines of a list, and the departures that are excluded together with their arrivals.
+/// The tallies of the lines of a list, and the departures that are excluded together with their
+/// arrivals.
 #[derive(Debug, Drop)]
 pub struct Tallies {
     lines: Vec<Tally>,
@@ -201,7 +203,8 @@ pub struct Tallies {
 }
 
 impl Tallies {
-    /// Of a plan's lines, without a packet, and of so many numbers of departures and arrivals.
+    /// Of a plan's lines, without a packet, and for this count of numbers that departures have in
+    /// common with arrivals.
     pub fn new(alloc: Global, plan: &Plan, causes: usize) -> Result<Self, AllocError>
         ensures { IfOk result (λ tallies. AreTallies plan.now [] tallies) }
     {
@@ -211,7 +214,8 @@ impl Tallies {
         })
     }
 
-    /// How many departures are excluded together with their arrivals, by lines that need these. It takes as long as there are numbers.
+    /// How many departures are excluded together with their arrivals, by lines that need these. It
+    /// takes as long as there are numbers.
     pub fn pairs(&self) -> usize
         ensures value { result ≡ pairs_in self.now.causes.slots.items }
         ensures paired { (plan : Plan) (blocks : List Marked) → AreTallies plan blocks self.now → ArePaired plan blocks result }

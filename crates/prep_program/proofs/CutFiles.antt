@@ -14,12 +14,12 @@ use Rattle.prep_program.specs.declared.stop.Stop.{Stop}
 use Rattle.prep_program.specs.Cuts.{CutSoFar, Cuts}
 use Rattle.prep_program.proofs.Captures.{followed_twice, followed_none}
 
-pub nothing_cut : (cutter : Cutter) (plan : Plan) (proposals : List (Option Proposal)) (earlier : List Marked) (before : Option (List ℕ)) → IsCutting cutter plan proposals earlier [] []
+pub nothing_cut : (cutter : Cutter) (plan : Plan) (proposals : List Proposal) (earlier : List Marked) (before : Option (List ℕ)) → IsCutting cutter plan proposals earlier [] []
     → CutSoFar cutter plan proposals earlier [] before before
 nothing_cut cutter plan proposals earlier before cutting = record { current = []; cutting = cutting; added = followed_none before }
 
 -- a piece more
-pub cut_more : (cutter new : Cutter) (plan : Plan) (proposals : List (Option Proposal)) (earlier : List Marked) (text piece out : List ℕ) (before middle after : Option (List ℕ))
+pub cut_more : (cutter new : Cutter) (plan : Plan) (proposals : List Proposal) (earlier : List Marked) (text piece out : List ℕ) (before middle after : Option (List ℕ))
     → (s : CutSoFar cutter plan proposals earlier text before middle)
     → GoesOn new plan proposals earlier text s.current piece [] [] out → after ≡ followed_by middle out → CutSoFar new plan proposals earlier (text ++ piece) before after
 cut_more cutter new plan proposals earlier text piece out before middle after s on put =
@@ -34,7 +34,7 @@ cut_more cutter new plan proposals earlier text piece out before middle after s 
     }
 
 -- the end of a capture
-pub cut_ended : (cutter : Cutter) (plan : Plan) (proposals : List (Option Proposal)) (earlier : List Marked) (text whole : List ℕ) (before after : Option (List ℕ)) (r : Result WasCut Stop) → text ≡ whole
+pub cut_ended : (cutter : Cutter) (plan : Plan) (proposals : List Proposal) (earlier : List Marked) (text whole : List ℕ) (before after : Option (List ℕ)) (r : Result WasCut Stop) → text ≡ whole
     → (s : CutSoFar cutter plan proposals earlier text before after)
     → IfOk r (λ cut. IsCut cut plan proposals earlier text s.current) → IfOk r (λ cut. Cuts cut plan proposals earlier whole before after)
 cut_ended cutter plan proposals earlier text whole before after (Ok cut) e s is = record { current = s.current; ended = subst (λ (t : List ℕ). IsCut cut plan proposals earlier t s.current) e is; added = s.added }

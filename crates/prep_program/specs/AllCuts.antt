@@ -30,8 +30,8 @@ files_cut [] marks = []
 files_cut (one ∷ others) [] = []
 files_cut (one ∷ others) (blocks ∷ marks) = record { name = string_bytes one.file; bytes = written_of blocks } ∷ files_cut others marks
 
--- the texts are whole captures, each of which was cut to its file. The tallies are those of all of them, and so many departures have
--- an arrival of their own.
+-- the texts are whole captures, each of which was cut to its file. The tallies are those of all of
+-- them, and so many departures have an arrival of their own.
 pub record CutsAll (all : AllCut) (plan : Plan) (asked : List ToCut) (texts : List (List ℕ)) (before after : Option (List FileMade)) : Type 0 where
   pub captures : List (List Block)
   pub spelled : map bytes_of captures ≡ texts

@@ -1,4 +1,5 @@
--- What a request comes to: what is written to standard output and to standard error, and the exit status.
+-- What a request comes to: what is written to standard output and to standard error, and the exit
+-- status.
 use Rattle.std.specs.Prelude.{◌≡◌, ◌⊎◌, ◌==◌, ◌||◌, true, ℕ, List, Option, Ok, Err, Result, IfOk, OnOk, string_bytes}
 use Rattle.audit_model.specs.Sink.{followed_by}
 use Rattle.clap.specs.Words.{Text, fault_of, subcommand_of}
@@ -30,8 +31,11 @@ IsSuccess done = IfOk done (λ status. status ≡ 0)
 abbrev pub IsReady : Result ℕ Stop → Type 0
 IsReady done = IfOk done (λ status. ((status == 0) || (status == 6)) ≡ true)
 
--- `cut` has status 6 and a line on standard error if it kept no datagram, and else status 0 and none. A page of help, or the line of the release, goes to standard output alone, and what is no request to standard error alone, with status 5.
--- What each command makes is in the contract of its own function; those that take no standard error leave it.
+-- `cut` has status 6 and a line on standard error if it kept no datagram, and else status 0 and
+-- none. A page of help, or the line of the release, goes to standard output alone, and what is no
+-- request to standard error alone, with status 5.
+-- What each command makes is in the contract of its own function; those that take no standard error
+-- leave it.
 abbrev pub Answers : Streams → Request → Result ℕ Stop → Type 0
 Answers streams (Join captures file) done = IsSilent streams × IsSuccess done
 Answers streams (Look request) done = IsSilent streams × IsSuccess done
@@ -50,8 +54,8 @@ abbrev pub status_given : Result ℕ Stop → ℕ
 status_given (Ok status) = status
 status_given (Err stop) = status_of_stop stop
 
--- The request is what the arguments are, and was answered; a line about what stopped it may follow on standard error. Or there was no
--- memory for the arguments.
+-- The request is what the arguments are, and was answered; a line about what stopped it may follow
+-- on standard error. Or there was no memory for the arguments.
 abbrev pub IsRun : List Text → Streams → ℕ → Type 0
 IsRun words streams status =
     ((request : Request) × Asks (subcommand_of turnprep words) (fault_of turnprep words) request × (done : Result ℕ Stop) × (said : Option (List ℕ)) × Answers (record streams { said_after = said }) request done

@@ -1,4 +1,5 @@
--- How a call of `cut` ends that nothing stopped, by the number of datagrams of the service that it wrote.
+-- How a call of `cut` ends that nothing stopped, by the number of datagrams of the service that it
+-- wrote.
 use Rattle.std.specs.Prelude.{◌≡◌, ℕ, ◌==◌, if◌then◌else◌, List, Option, codes}
 use Rattle.audit_model.specs.Sink.{followed_by}
 

@@ -10,13 +10,13 @@ use Rattle.prep_cut.specs.Marks.{Marked, marked, written_of}
 use Rattle.prep_cut.specs.Cutting.{IsCut, IsCutting}
 
 -- of a capture's text so far what is not left out was written
-pub record CutSoFar (cutter : Cutter) (plan : Plan) (proposals : List (Option Proposal)) (earlier : List Marked) (text : List ℕ) (before after : Option (List ℕ)) : Type 0 where
+pub record CutSoFar (cutter : Cutter) (plan : Plan) (proposals : List Proposal) (earlier : List Marked) (text : List ℕ) (before after : Option (List ℕ)) : Type 0 where
   pub current : List Block
   pub cutting : IsCutting cutter plan proposals earlier text current
   pub added : after ≡ followed_by before (written_of (marked plan proposals current))
 
 -- the text is a whole capture, and of its blocks what is not left out was written
-pub record Cuts (cut : WasCut) (plan : Plan) (proposals : List (Option Proposal)) (earlier : List Marked) (text : List ℕ) (before after : Option (List ℕ)) : Type 0 where
+pub record Cuts (cut : WasCut) (plan : Plan) (proposals : List Proposal) (earlier : List Marked) (text : List ℕ) (before after : Option (List ℕ)) : Type 0 where
   pub current : List Block
   pub ended : IsCut cut plan proposals earlier text current
   pub added : after ≡ followed_by before (written_of (marked plan proposals current))

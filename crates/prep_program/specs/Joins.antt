@@ -27,7 +27,8 @@ pub record Joins (joiner : Joiner) (done : List (List Block)) (text : List ℕ) 
 abbrev pub IsPart : List (List Block) → List Block → Type 0
 IsPart captures blocks = IsWhole (bytes_of blocks) blocks × (interfaces_of blocks ≡ interfaces_of (first_of captures []))
 
--- the texts are whole captures, each of which goes on with those before it, and what was written is what they are joined
+-- the texts are whole captures, each of which goes on with those before it, and what was written is
+-- what they are joined
 pub record JoinsAll (texts : List (List ℕ)) (before after : Option (List ℕ)) : Type 0 where
   pub captures : List (List Block)
   pub spelled : map bytes_of captures ≡ texts

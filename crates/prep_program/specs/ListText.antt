@@ -1,4 +1,5 @@
--- The list of what is set aside, line by line. A decimal number has no leading zero, and moments are nanoseconds.
+-- The list of what is set aside, line by line. A decimal number has no leading zero, and moments
+-- are nanoseconds.
 use Rattle.std.specs.Prelude.{ℕ, ◌+◌, ◌*◌, ◌-◌, ◌/◌, nat_lt, ◌==◌, if◌then◌else◌, Bool, true, false, not, List, [], ◌∷◌, ◌++◌, Option, Some, None, codes, decimal}
 use Rattle.prep_cut.specs.declared.plan.Plan.{Plan}
 use Rattle.prep_cut.specs.declared.reason.Reason.{Reason}

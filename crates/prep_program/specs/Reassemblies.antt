@@ -11,7 +11,8 @@ pub record ReassemblesSoFar (reassembler : Reassembler) (text : List ℕ) (befor
   pub reassembling : IsReassembling reassembler text blocks
   pub added : after ≡ followed_by before (reassembled [] blocks)
 
--- the text is a whole capture of blocks in which no datagram lacks a fragment, and they were written reassembled
+-- the text is a whole capture of blocks in which no datagram lacks a fragment, and they were
+-- written reassembled
 pub record Reassembles (text : List ℕ) (before after : Option (List ℕ)) : Type 0 where
   pub blocks : List Block
   pub ended : IsDone text blocks

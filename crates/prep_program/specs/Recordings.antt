@@ -25,7 +25,8 @@ abbrev pub blocks_of : List (List Block) → List Block
 blocks_of [] = []
 blocks_of (first ∷ others) = first ++ blocks_of others
 
--- the texts are whole captures, and what their blocks ask and grant from the stated moment on is noted
+-- the texts are whole captures, and what their blocks ask and grant from the stated moment on is
+-- noted
 pub record RecordedAll (texts : List (List ℕ)) (policy : Policy) (since : Option ℕ) (allocations : Allocations) : Type 0 where
   pub captures : List (List Block)
   pub spelled : map bytes_of captures ≡ texts

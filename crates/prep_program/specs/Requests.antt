@@ -25,7 +25,8 @@ abbrev pub given_number : Result ℕ TokenFault → Option (Option ℕ)
 given_number (Ok number) = Some (Some number)
 given_number (Err fault) = None
 
--- the number that a value is, none without a value, and nothing where a value is no number of digits up to `most`
+-- the number that a value is, none without a value, and nothing where a value is no number of
+-- digits up to `most`
 abbrev pub number_in : ℕ → Option Text → Option (Option ℕ)
 number_in most None = Some None
 number_in most (Some text) = given_number (number_of most text)
@@ -62,7 +63,8 @@ are_ordered None until = true
 are_ordered (Some since) None = true
 are_ordered (Some since) (Some until) = nat_le since until
 
--- what an operator states for `cut`: moments in nanoseconds since 1970, seconds of a lifetime, milliseconds after a Refresh with LIFETIME 0
+-- what an operator states for `cut`: moments in nanoseconds since 1970, seconds of a lifetime,
+-- milliseconds after a Refresh with LIFETIME 0
 pub record IsStated (rows : List Row) (stated : Stated) : Type 0 where
   pub since' : number_given 18446744073709551615 (codes "since") rows ≡ Some stated.since
   pub until' : number_given 18446744073709551615 (codes "until") rows ≡ Some stated.until
@@ -147,8 +149,9 @@ Requests named (Reassemble request) = Names named (Reassemble request)
 Requests named (Users request) = Names named (Users request)
 Requests named (Ready request) = Names named (Ready request)
 
--- A command is requested by its name, and help and the release by what stands for them. Arguments are no request where `clap` refuses them
--- for one of these kinds, or they name no command with all that it needs.
+-- A command is requested by its name, and help and the release by what stands for them. Arguments
+-- are no request where `clap` refuses them for one of these kinds, or they name no command with all
+-- that it needs.
 abbrev pub Asks : Option (Text × List Row) → Kinds → Request → Type 0
 Asks named kinds (Help page) = IsAmong kind.DisplayHelp kinds
 Asks named kinds Release = IsAmong kind.DisplayVersion kinds

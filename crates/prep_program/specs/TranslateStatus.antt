@@ -1,4 +1,5 @@
--- How a call of `translate` ends that nothing stopped, by the number of datagrams that it translated.
+-- How a call of `translate` ends that nothing stopped, by the number of datagrams that it
+-- translated.
 use Rattle.std.specs.Prelude.{◌≡◌, ℕ, ◌==◌, if◌then◌else◌, List, Option, codes}
 use Rattle.audit_model.specs.Sink.{followed_by}
 

@@ -13,7 +13,8 @@ pub record TranslatesSoFar (renaming : Renaming) (translator : Translator) (text
   pub translating : IsTranslating renaming translator text blocks
   pub added : after ≡ followed_by before (translated renaming blocks)
 
--- the text is a whole capture of blocks that are not refused, and each was written translated, in order
+-- the text is a whole capture of blocks that are not refused, and each was written translated, in
+-- order
 pub record Translates (renaming : Renaming) (text : List ℕ) (tally : Tally) (before after : Option (List ℕ)) : Type 0 where
   pub blocks : List Block
   pub ended : IsDone renaming text blocks tally

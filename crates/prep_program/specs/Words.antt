@@ -1,4 +1,5 @@
--- The program's commands as they are written, and what the arguments name for each by what `clap` says of such commands.
+-- The program's commands as they are written, and what the arguments name for each by what `clap`
+-- says of such commands.
 use Rattle.std.specs.Prelude.{true, Some, codes}
 use Rattle.clap.specs.Lexer.{usize_max}
 use Rattle.clap.specs.Words.{App, Rule, Text, new_app, new_rule, with_rule, with_subcommand}

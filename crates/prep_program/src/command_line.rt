@@ -1,4 +1,5 @@
-//! The command line, as clap reads it. No file but this one and those in `command_line/` knows clap.
+//! The command line, as clap reads it. No file but this one and those in `command_line/` knows
+//! clap.
 
 ghost use Rattle.std.specs.Prelude.{◌≡◌, IfNone, IfOk, IfSome, List, Option, Some, codes, map};
 ghost use Rattle.clap.specs.Words.{HasKind, Kinds, Row, Text, fault_of, found_of, rows_of, subcommand_of, subcommand_rows_of};

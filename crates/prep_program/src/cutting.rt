@@ -17,7 +17,8 @@ use crate::stop::Stop;
 use prep_cut::{CauseNumber, Cutter, Plan, Proposal, Tallies, Totals, WasCut};
 use std::alloc::Global;
 
-/// Writes a capture without what is set aside, from its first byte to its last, to the file that was made last.
+/// Writes a capture without what is set aside, from its first byte to its last, to the file that
+/// was made last.
 pub fn cut_capture<S: Source, M: Maker>(
     alloc: Global,
     source: &mut S,
@@ -28,7 +29,7 @@ pub fn cut_capture<S: Source, M: Maker>(
 ) -> Result<WasCut, Stop>
     ensures kept { S.holds source.new ≡ S.holds source.old }
     ensures others { M.making made.new ≡ M.making made.old }
-    ensures cuts { (text : List ℕ) (plan : Plan) (proposals : List (Option Proposal)) (earlier : List Marked) → S.holds source.old name.now ≡ Some text →
+    ensures cuts { (text : List ℕ) (plan : Plan) (proposals : List Proposal) (earlier : List Marked) → S.holds source.old name.now ≡ Some text →
         IsCutting cutter.entry plan proposals earlier [] [] →
         IfOk result (λ cut. Cuts cut plan proposals earlier text (M.taken made.old) (M.taken made.new)) }
 {
@@ -56,7 +57,7 @@ pub fn cut_capture<S: Source, M: Maker>(
 
 /// Ends a capture.
 fn end_capture(cutter: Cutter<'_>, capture: u32) -> Result<WasCut, Stop>
-    ensures { (plan : Plan) (proposals : List (Option Proposal)) (earlier : List Marked) (text : List ℕ) (current : List Block) →
+    ensures { (plan : Plan) (proposals : List Proposal) (earlier : List Marked) (text : List ℕ) (current : List Block) →
         IsCutting cutter.entry plan proposals earlier text current → IfOk result (λ cut. IsCut cut plan proposals earlier text current) }
 {
     match cutter.finish() {
@@ -72,7 +73,7 @@ pub struct ToCut<'a> {
     /// The file that is made of it.
     pub file: String,
     /// What is proposed for each of its packets.
-    pub proposals: Vec<Option<Proposal>>,
+    pub proposals: Vec<Proposal>,
 }
 
 /// Captures that were cut.
@@ -82,8 +83,8 @@ pub struct AllCut {
     pub tallies: Tallies,
 }
 
-/// Cuts captures one after another, each to a file of its own. The tallies are those of all of them, whose departures and arrivals have so many
-/// numbers in common.
+/// Cuts captures one after another, each to a file of its own. The tallies are those of all of
+/// them, whose departures and arrivals have so many numbers in common.
 pub fn cut_captures<S: Source, M: Maker>(
     alloc: Global,
     source: &mut S,

@@ -21,7 +21,8 @@ pub fn last_part(name: &str) -> Result<&str, Stop> {
     }
 }
 
-/// Refuses captures of which one's last part is an earlier one's. The cost is their number, squared.
+/// Refuses captures of which one's last part is an earlier one's. The cost is their number,
+/// squared.
 pub fn check_parts(names: &[&str]) -> Result<(), Stop> {
     let mut number = 0u32;
     for (at, name) in names.iter().enumerate() {

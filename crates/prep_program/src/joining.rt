@@ -60,8 +60,8 @@ fn end_capture(joiner: &mut Joiner, capture: u32) -> Result<Counts, Stop>
     }
 }
 
-/// Joins captures in their order to the file that was made last, and tells how many blocks each has. Of a capture that is refused the
-/// blocks before its fault are written.
+/// Joins captures in their order to the file that was made last, and tells how many blocks each
+/// has. Of a capture that is refused the blocks before its fault are written.
 pub fn join_captures<S: Source, M: Maker>(
     alloc: Global,
     source: &mut S,

@@ -6,7 +6,8 @@ ghost use Rattle.prep_program.specs.ListText.{moment_line, number_line, told_lin
 use prep_cut::Stated;
 use std::alloc::{AllocError, Global};
 
-/// The lifetime of an allocation from before, in seconds, unless another is said: coturn's greatest.
+/// The lifetime of an allocation from before, in seconds, unless another is said: coturn's
+/// greatest.
 pub const USUAL_LIFETIME: u64 = 3_600;
 
 /// The line of a moment that may be stated.

@@ -30,7 +30,8 @@ struct Taken {
     suggested: Vec<u8>,
 }
 
-/// Tells what captures hold. It reads them twice: a guess needs all answers before the first datagram is taken for one of the service.
+/// Tells what captures hold. It reads them twice: a guess needs all answers before the first
+/// datagram is taken for one of the service.
 pub fn run_look<S: Source, O: Sink>(
     alloc: Global,
     request: &LookRequest<'_>,
@@ -76,7 +77,8 @@ fn guessed(alloc: Global, survey: &Survey) -> Result<Taken, Stop> {
 /// The longest time that `cut` takes for what is relayed after deletions, in milliseconds.
 pub const LONGEST_RELEASED: u64 = 60_000;
 
-/// How long allocations from before last, and the longest time after deletions, so that the page has the time that the captures show.
+/// How long allocations from before last, and the longest time after deletions, so that the page
+/// has the time that the captures show.
 fn stated_for(lifetime: u64) -> Stated {
     Stated {
         since: None,

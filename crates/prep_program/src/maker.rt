@@ -16,13 +16,15 @@ pub enum MakeFault {
     Memory,
 }
 
-/// Makes files, and puts what it is given into the one that it made last. They get their names once all are written: before, no other program
-/// finds one under its name. A file that is there is never written over.
+/// Makes files, and puts what it is given into the one that it made last. They get their names once
+/// all are written: before, no other program finds one under its name. A file that is there is
+/// never written over.
 pub trait Maker: Sink {
     ghost use Rattle.std.specs.Prelude.{Option};
     ghost use Rattle.prep_program.specs.Making.{Making};
 
-    /// The files that it made, but for what the last of them takes. A maker that is None claims nothing of them.
+    /// The files that it made, but for what the last of them takes. A maker that is None claims
+    /// nothing of them.
     ghost making: { Self → Option Making };
 
     /// Makes an empty file.

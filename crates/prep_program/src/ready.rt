@@ -1,4 +1,5 @@
-//! The command `ready`: from the captures of a relay in use to a folder that `turnaudit audit` takes.
+//! The command `ready`: from the captures of a relay in use to a folder that `turnaudit audit`
+//! takes.
 
 ghost use Rattle.prep_program.specs.Answered.{IsReady};
 
@@ -49,8 +50,9 @@ pub struct ReadyRequest<'a> {
     pub captures: Vec<&'a str>,
 }
 
-/// Prepares captures in a folder of another name, which gets its own name once all is done: a call that fails leaves no folder. The exit
-/// status is 6, and no folder is left, if no datagram of the service is kept.
+/// Prepares captures in a folder of another name, which gets its own name once all is done: a call
+/// that fails leaves no folder. The exit status is 6, and no folder is left, if no datagram of the
+/// service is kept.
 pub fn run_ready<S: Source, M: Maker, F: Folders, O: Sink, E: Sink>(
     alloc: Global,
     request: &ReadyRequest<'_>,

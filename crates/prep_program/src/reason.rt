@@ -8,7 +8,8 @@ use prep_join::JoinFault;
 use prep_translate::TranslateFault;
 use std::fmt;
 
-/// What stands after the line of a refusal: a colon and the words of its code; nothing if it has no code.
+/// What stands after the line of a refusal: a colon and the words of its code; nothing if it has no
+/// code.
 #[derive(Clone, Copy)]
 pub struct Reason<'a> {
     pub stop: &'a Stop,

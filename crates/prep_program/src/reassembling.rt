@@ -23,8 +23,8 @@ pub struct ReassembleRequest<'a> {
     pub captures: Vec<&'a str>,
 }
 
-/// Reassembles a capture to the file that was made last, and tells what was put together. Of a capture that is refused the blocks before its
-/// fault are written.
+/// Reassembles a capture to the file that was made last, and tells what was put together. Of a
+/// capture that is refused the blocks before its fault are written.
 pub fn reassemble_capture<S: Source, M: Maker>(
     alloc: Global,
     source: &mut S,
@@ -78,7 +78,8 @@ fn stop_of(capture: u32, fault: ReassembleFault) -> Stop {
     }
 }
 
-/// Reassembles captures to files of their names in a folder, and writes how many fragments were put together.
+/// Reassembles captures to files of their names in a folder, and writes how many fragments were put
+/// together.
 pub fn run_reassemble<S: Source, M: Maker, O: Sink>(
     alloc: Global,
     request: &ReassembleRequest<'_>,

@@ -55,8 +55,8 @@ fn end_capture(recorder: &mut Recorder<'_>, capture: u32) -> Result<(), Stop>
     }
 }
 
-/// Reads captures for what is to be proposed. What they ask and grant of allocations is noted whole, but for packets before the moment that
-/// is stated.
+/// Reads captures for what is to be proposed. What they ask and grant of allocations is noted
+/// whole, but for packets before the moment that is stated.
 pub fn record_captures<S: Source>(
     alloc: Global,
     source: &mut S,

@@ -16,7 +16,8 @@ const MARK: usize = 22;
 const SECOND: usize = 6;
 
 impl<'a> RingName<'a> {
-    /// The numbers of a name, where dumpcap gave it: those of the last mark in it that has no `/` behind it.
+    /// The numbers of a name, where dumpcap gave it: those of the last mark in it that has no `/`
+    /// behind it.
     pub fn of(name: &'a [u8]) -> Option<Self> {
         if name.len() < MARK {
             return None;
@@ -62,7 +63,8 @@ fn number_in(digits: &[u8]) -> u32 {
     number
 }
 
-/// Two files of one ring between which a file is missing: the number of the second one among the names, and the numbers in both.
+/// Two files of one ring between which a file is missing: the number of the second one among the
+/// names, and the numbers in both.
 #[derive(Clone, Copy, Debug, PartialEq, Eq)]
 pub struct Gap {
     pub capture: u32,

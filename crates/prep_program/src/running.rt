@@ -26,7 +26,8 @@ use prep_coturn::Asked;
 use std::alloc::{AllocError, Global};
 use std::convert::AsStr;
 
-/// The line that says why a run ended: what can't be read or written by its name, and the system's reason.
+/// The line that says why a run ended: what can't be read or written by its name, and the system's
+/// reason.
 fn line_of<'x, S: Source, M: Maker, F: Folders>(
     alloc: Global,
     source: &'x S,
@@ -186,10 +187,10 @@ fn run_request<S: Source, M: Maker, F: Folders, O: Sink, E: Sink>(
     }
 }
 
-/// Runs the program on its words, the first of which is its name, and gives its exit status: 0 done, help or the release; 2 an input is
-/// refused; 3 out of memory; 4 a file that can't be read or made, or something that can't be written; 5 words that are no request; 6 `cut` is done, or `ready`, and kept
-/// no datagram.
-/// What ended it is one line on `err`.
+/// Runs the program on its words, the first of which is its name, and gives its exit status: 0
+/// done, help or the release; 2 an input is refused; 3 out of memory; 4 a file that can't be read
+/// or made, or something that can't be written; 5 words that are no request; 6 `cut` is done, or
+/// `ready`, and kept no datagram. What ended it is one line on `err`.
 pub fn run<N: AsStr, S: Source, M: Maker, F: Folders, O: Sink, E: Sink>(
     alloc: Global,
     words: &[N],

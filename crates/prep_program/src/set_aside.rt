@@ -45,13 +45,13 @@ struct Planned {
     plan: Plan,
     told: Told,
     /// What is proposed for the packets of each capture.
-    proposals: Vec<Vec<Option<Proposal>>>,
+    proposals: Vec<Vec<Proposal>>,
     /// How many numbers these have.
     causes: CauseNumber,
 }
 
-/// Writes the captures without what is set aside into a folder, and the list of that, which is printed, too. Where no datagram is kept, it
-/// says so on `err`, and the exit status is 6.
+/// Writes the captures without what is set aside into a folder, and the list of that, which is
+/// printed, too. Where no datagram is kept, it says so on `err`, and the exit status is 6.
 pub fn run_cut<S: Source, M: Maker, O: Sink, E: Sink>(
     alloc: Global,
     request: &CutRequest<'_>,
@@ -82,7 +82,8 @@ pub fn run_cut<S: Source, M: Maker, O: Sink, E: Sink>(
     Ok(status)
 }
 
-/// The exit status of a call that kept so many datagrams. Where there are none, it says so on `err`.
+/// The exit status of a call that kept so many datagrams. Where there are none, it says so on
+/// `err`.
 fn end_cut<E: Sink>(kept: u64, err: &mut E) -> Result<u8, Stop>
     ensures { IfOk result (λ status. EndsByKept kept status (E.taken err.old) (E.taken err.new)) }
 {
@@ -157,7 +158,7 @@ fn write_list<M: Maker, O: Sink>(
 fn captures_of<'a>(
     alloc: Global,
     request: &CutRequest<'a>,
-    proposals: Vec<Vec<Option<Proposal>>>,
+    proposals: Vec<Vec<Proposal>>,
 ) -> Result<Vec<ToCut<'a>>, Stop>
     ensures { IfOk result (λ all. map (λ one. one.name.now) all.items ≡ map (λ name. name.now) request.now.captures.items) }
 {

@@ -21,7 +21,8 @@ pub trait Source {
     /// The bytes of the file of a name. A source that is None claims nothing of them.
     ghost holds: { Self → List ℕ → Option (List ℕ) };
 
-    /// Reads bytes of the file from an offset on into the buffer, and tells how many: 0 at the end of the file, or where the buffer has no room.
+    /// Reads bytes of the file from an offset on into the buffer, and tells how many: 0 at the end
+    /// of the file, or where the buffer has no room.
     fn piece(&mut self, name: &str, at: u64, into: &mut [u8]) -> Result<usize, ReadFailed>
         ensures within { IfOk result (λ n. n ≤ length into.old) }
         ensures kept { holds self.new ≡ holds self.old }

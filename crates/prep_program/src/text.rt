@@ -47,7 +47,8 @@ pub fn read_policy_text<S: Source>(
     read_checked(alloc, source, name, &mut PolicyCheck::new(alloc))
 }
 
-/// The bytes of a configuration's file. A file that no configuration is, is refused where that shows, and not read on.
+/// The bytes of a configuration's file. A file that no configuration is, is refused where that
+/// shows, and not read on.
 pub fn read_conf_text<S: Source>(alloc: Global, source: &mut S, name: &str) -> Result<Vec<u8>, Stop>
     ensures kept { S.holds source.new ≡ S.holds source.old }
     ensures whole { (bytes : List ℕ) → S.holds source.old name.now ≡ Some bytes → IfOk result (λ text. text.items ≡ bytes) }

@@ -41,7 +41,8 @@ impl TextCheck for PolicyCheck {
     }
 }
 
-/// Checks a configuration: its lines say what they say, but a file of which they would fill the memory is none.
+/// Checks a configuration: its lines say what they say, but a file of which they would fill the
+/// memory is none.
 #[derive(Drop)]
 pub struct ConfCheck {
     /// The number of the line that is read, from 1.

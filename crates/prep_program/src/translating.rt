@@ -30,8 +30,8 @@ pub struct TranslateRequest<'a> {
     pub captures: Vec<&'a str>,
 }
 
-/// Translates a capture to the file that was made last, and tells what was translated. Of a capture that is refused the blocks before its
-/// fault are written.
+/// Translates a capture to the file that was made last, and tells what was translated. Of a capture
+/// that is refused the blocks before its fault are written.
 pub fn translate_capture<S: Source, M: Maker>(
     alloc: Global,
     source: &mut S,
@@ -130,7 +130,8 @@ fn report_of(alloc: Global, translations: &[Translation]) -> Result<String, Allo
 const NOTHING_TRANSLATED: &str =
     "turnprep: translated 0 datagrams: the captures have no private address of --external-ip at a relayed port\n";
 
-/// The exit status of a call that translated so many datagrams. If there are none, it says so on `err`.
+/// The exit status of a call that translated so many datagrams. If there are none, it says so on
+/// `err`.
 fn end_translate<E: Sink>(total: u64, err: &mut E) -> Result<u8, Stop>
     ensures done { IsSuccess result }
     ensures said { IfOk result (λ status. EndsByTranslated total status (E.taken err.old) (E.taken err.new)) }
@@ -142,8 +143,8 @@ fn end_translate<E: Sink>(total: u64, err: &mut E) -> Result<u8, Stop>
     Ok(0)
 }
 
-/// Translates captures to files of their names in a folder, and writes what was translated there and to `out`. If no datagram is translated,
-/// it says so on `err`.
+/// Translates captures to files of their names in a folder, and writes what was translated there
+/// and to `out`. If no datagram is translated, it says so on `err`.
 pub fn run_translate<S: Source, M: Maker, O: Sink, E: Sink>(
     alloc: Global,
     request: &TranslateRequest<'_>,

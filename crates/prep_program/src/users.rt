@@ -60,7 +60,8 @@ fn scan_capture<S: Source>(
     Err(Stop::Read)
 }
 
-/// Writes the users of captures whose requests are signed by passwords made of these secrets, and what is told of the others.
+/// Writes the users of captures whose requests are signed by passwords made of these secrets, and
+/// what is told of the others.
 fn write_signed<S: Source, O: Sink, E: Sink>(
     alloc: Global,
     mut roll: Roll,

@@ -17,8 +17,8 @@ use std::collections::BTreeSet;
 /// Addresses in a tenure of which something that leaves is set aside.
 type LeftOf = BTreeSet<(Addr, u32)>;
 
-/// Excludes what leaves relayed addresses that nobody was granted, and what arrives there. It returns which of these clients from before
-/// have.
+/// Excludes what leaves relayed addresses that nobody was granted, and what arrives there. It
+/// returns which of these clients from before have.
 pub(crate) fn leave_addresses(
     sheet: &mut Sheet<'_>,
     shown: &Shown,
@@ -57,8 +57,9 @@ fn tenure_of(sheet: &Sheet<'_>, shown: &Shown, stray: Stray) -> Option<(Addr, u3
     Some((relayed, shown.tenures.begun(relayed, record.stamp)))
 }
 
-/// The line of what leaves an address that nobody was granted, if it looks like what can't be judged. What leaves after the deletion of a
-/// client from before is excluded at once, with its arrival.
+/// The line of what leaves an address that nobody was granted, if it looks like what can't be
+/// judged. What leaves after the deletion of a client from before is excluded at once, with its
+/// arrival.
 fn reason_to_leave(
     sheet: &mut Sheet<'_>,
     shown: &Shown,
@@ -99,8 +100,8 @@ fn reason_to_leave(
     }
 }
 
-/// Excludes what arrives at an address that nobody was granted, if the address is of a client from before, or something that left it is
-/// excluded.
+/// Excludes what arrives at an address that nobody was granted, if the address is of a client from
+/// before, or something that left it is excluded.
 fn leave_arrival(
     sheet: &mut Sheet<'_>,
     shown: &Shown,

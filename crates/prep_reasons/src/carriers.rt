@@ -1,4 +1,5 @@
-//! Departures whose data may have come by TCP, TLS, DTLS or IPv6: each with a packet that may have carried it.
+//! Departures whose data may have come by TCP, TLS, DTLS or IPv6: each with a packet that may have
+//! carried it.
 
 use prep_records::Carrier;
 use std::alloc::{AllocError, Global};
@@ -61,8 +62,8 @@ impl Carriers {
         self.over = 0;
     }
 
-    /// Has the carrier that is just long enough carry data, if there is one. What is wanted next isn't before it. The cost of all is the
-    /// number of carriers and loads, times its logarithm.
+    /// Has the carrier that is just long enough carry data, if there is one. What is wanted next
+    /// isn't before it. The cost of all is the number of carriers and loads, times its logarithm.
     pub(crate) fn take(&mut self, load: Load) -> Result<bool, AllocError> {
         self.enter_until(load)?;
         self.end_before(load.from);
@@ -107,7 +108,8 @@ impl Carriers {
         Ok(())
     }
 
-    /// Takes a carrier, with what the one before it on its connection didn't carry, if its data may go on in this one.
+    /// Takes a carrier, with what the one before it on its connection didn't carry, if its data may
+    /// go on in this one.
     fn enter(&mut self, at: usize, carrier: Carrier) -> Result<(), AllocError> {
         let number = u32::try_from(at).unwrap_or(u32::MAX);
         let mut bytes = carrier.bytes;

@@ -19,8 +19,8 @@ use prep_records::Records;
 use std::alloc::{AllocError, Global};
 use std::mem;
 
-/// Proposes for each packet of the captures a line of the list by which it is set aside, or none. The cost is the number of records
-/// times its logarithm.
+/// Proposes for each packet of the captures a line of the list by which it is set aside, or none.
+/// The cost is the number of records times its logarithm.
 pub fn decide(
     alloc: Global,
     policy: &Policy,
@@ -42,8 +42,8 @@ struct Sorted<'a> {
     shown: Shown,
 }
 
-/// The records of captures in the order of their moments, with what is set aside and what answers what. The cost is their number times
-/// its logarithm.
+/// The records of captures in the order of their moments, with what is set aside and what answers
+/// what. The cost is their number times its logarithm.
 pub fn sort_out<'a>(
     alloc: Global,
     policy: &'a Policy,

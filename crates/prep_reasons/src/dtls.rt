@@ -13,7 +13,8 @@ use std::alloc::AllocError;
 /// The type of a DTLS record with application data (RFC 9147, section 4).
 const APPLICATION_DATA: u64 = 23;
 
-/// A record that leaves for a client has at most so many bytes that its cause hasn't: the header of a Data indication and what DTLS adds.
+/// A record that leaves for a client has at most so many bytes that its cause hasn't: the header of
+/// a Data indication and what DTLS adds.
 const ADDED: u16 = 96;
 
 /// How a client speaks.
@@ -26,7 +27,8 @@ enum Speech {
     Other,
 }
 
-/// What may be the cause of application data: data at relayed addresses that no judged client has, and what clients by DTLS send.
+/// What may be the cause of application data: data at relayed addresses that no judged client has,
+/// and what clients by DTLS send.
 #[derive(Drop)]
 struct Causes {
     /// In the order of their moments.
@@ -53,7 +55,8 @@ impl Causes {
         Ok(Causes { records, next: 0 })
     }
 
-    /// Takes the first one between two moments that explains no other departure. What is wanted next isn't before it.
+    /// Takes the first one between two moments that explains no other departure. What is wanted
+    /// next isn't before it.
     fn take(&mut self, sheet: &mut Sheet<'_>, from: u64, to: u64) -> bool {
         for place in self.next..self.records.len() {
             let Some(at) = self.records.get(place).copied() else {
@@ -99,8 +102,8 @@ fn speech_of(sheet: &Sheet<'_>) -> Result<Vec<Speech>, AllocError> {
     Ok(all)
 }
 
-/// Excludes DTLS with clients that send nothing else, unless the operator states that no client comes by DTLS. Application data that leaves
-/// without a cause of its own stays in.
+/// Excludes DTLS with clients that send nothing else, unless the operator states that no client
+/// comes by DTLS. Application data that leaves without a cause of its own stays in.
 pub(crate) fn leave_dtls(
     sheet: &mut Sheet<'_>,
     tenures: &Tenures,

@@ -13,8 +13,9 @@ use prep_cut::Reason;
 use prep_records::Record;
 use std::alloc::AllocError;
 
-/// Sets aside what is left of clients from before, with what asked for it, and answers that may be to what came before. It counts
-/// the departures of such clients that no state from before allows, or that have no arrival of their own.
+/// Sets aside what is left of clients from before, with what asked for it, and answers that may be
+/// to what came before. It counts the departures of such clients that no state from before allows,
+/// or that have no arrival of their own.
 pub(crate) fn leave_clients(
     sheet: &mut Sheet<'_>,
     times: &[TimeBefore],
@@ -63,7 +64,8 @@ fn leave_needing(sheet: &mut Sheet<'_>, shown: &Shown, needs: &[bool]) -> Result
     Ok(())
 }
 
-/// The client of a record that stays in and needs an allocation from before. An error response alone shows no such allocation.
+/// The client of a record that stays in and needs an allocation from before. An error response
+/// alone shows no such allocation.
 fn needing(sheet: &Sheet<'_>, at: usize) -> Option<u32> {
     let pair = sheet.pair_number(at)?;
     let record = sheet.record(at)?;
@@ -83,7 +85,8 @@ fn needing(sheet: &Sheet<'_>, at: usize) -> Option<u32> {
     }
 }
 
-/// From where the server has what leaves for a client from before. Data of a judged client's relayed address has no such origin.
+/// From where the server has what leaves for a client from before. Data of a judged client's
+/// relayed address has no such origin.
 fn origin_of(
     sheet: &mut Sheet<'_>,
     shown: &Shown,
@@ -105,8 +108,8 @@ fn origin_of(
     }
 }
 
-/// Excludes a record that a state from before explains, with its request. Data that leaves without an arrival of its own stays in, and so
-/// does data that names a judged client's relayed address.
+/// Excludes a record that a state from before explains, with its request. Data that leaves without
+/// an arrival of its own stays in, and so does data that names a judged client's relayed address.
 fn leave_explained(
     sheet: &mut Sheet<'_>,
     shown: &Shown,
@@ -137,7 +140,8 @@ fn leave_explained(
     Ok(())
 }
 
-/// Excludes a response without a request in the captures that may be to one before them, unless it grants a judged client's relayed address.
+/// Excludes a response without a request in the captures that may be to one before them, unless it
+/// grants a judged client's relayed address.
 fn leave_answer(
     sheet: &mut Sheet<'_>,
     shown: &Shown,

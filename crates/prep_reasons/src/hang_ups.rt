@@ -126,7 +126,8 @@ impl HangUps {
         self.last_at(relayed, u64::MAX).is_some()
     }
 
-    /// The line of data that leaves for a client, where it is behind a release that would have allowed it.
+    /// The line of data that leaves for a client, where it is behind a release that would have
+    /// allowed it.
     fn to_client(
         &self,
         sheet: &Sheet<'_>,
@@ -139,8 +140,9 @@ impl HangUps {
         allowed_by(sheet, tenures, one, peer, record.stamp)
     }
 
-    /// Excludes data that leaves a relayed address for a peer behind a release that would have allowed it, with its arrival: the same data
-    /// of that client for that peer. Without one it stays in. It tells whether it is behind such a release.
+    /// Excludes data that leaves a relayed address for a peer behind a release that would have
+    /// allowed it, with its arrival: the same data of that client for that peer. Without one it
+    /// stays in. It tells whether it is behind such a release.
     pub(crate) fn leave_to_peer(
         &self,
         sheet: &mut Sheet<'_>,
@@ -178,8 +180,8 @@ fn key_at(all: &[Released], place: u32) -> Option<(Option<Addr>, u64)> {
     Some((one.relayed, one.moment))
 }
 
-/// The line of data from or for a peer at a moment: in the time that is stated, before the client asks for an allocation anew, and before
-/// the address is another's.
+/// The line of data from or for a peer at a moment: in the time that is stated, before the client
+/// asks for an allocation anew, and before the address is another's.
 fn allowed_by(
     sheet: &Sheet<'_>,
     tenures: &Tenures,
@@ -241,7 +243,8 @@ fn take_own(sheet: &mut Sheet<'_>, one: &Released, record: &Record, pool: &mut P
     }
 }
 
-/// Sets aside data that leaves for clients behind their releases, with its arrivals. What left before takes its own arrivals first.
+/// Sets aside data that leaves for clients behind their releases, with its arrivals. What left
+/// before takes its own arrivals first.
 pub(crate) fn leave_hang_ups(
     sheet: &mut Sheet<'_>,
     tenures: &Tenures,

@@ -116,8 +116,9 @@ pub(crate) fn leave_inner(
     leave_inner_departures(sheet, shown, by_client, unread)
 }
 
-/// Excludes the data that leaves for clients from addresses of the service: from an address that a client has if that client sent it to this
-/// one, and from another one if a client from before did, or one by TCP, TLS, DTLS or IPv6 may have.
+/// Excludes the data that leaves for clients from addresses of the service: from an address that a
+/// client has if that client sent it to this one, and from another one if a client from before did,
+/// or one by TCP, TLS, DTLS or IPv6 may have.
 fn leave_inner_departures(
     sheet: &mut Sheet<'_>,
     shown: &Shown,
@@ -179,7 +180,8 @@ fn origin_at(
     }
 }
 
-/// Takes the arrival that is wanted for data that leaves for a client, and tells whether it was sent to an address that this client may have.
+/// Takes the arrival that is wanted for data that leaves for a client, and tells whether it was
+/// sent to an address that this client may have.
 fn take_inner(
     sheet: &mut Sheet<'_>,
     shown: &Shown,

@@ -1,4 +1,5 @@
-//! What is relayed for clients from before after their deletions, if the operator states for how long.
+//! What is relayed for clients from before after their deletions, if the operator states for how
+//! long.
 
 use crate::hang_ups::HangUps;
 use crate::inner::{is_data, wanted_of};
@@ -15,7 +16,8 @@ use std::collections::BTreeMap;
 /// The clients from before of relayed addresses.
 pub(crate) type Owners = BTreeMap<Addr, u32>;
 
-/// The line of data between a relayed address and a peer, after the deletion of the client from before that has the address.
+/// The line of data between a relayed address and a peer, after the deletion of the client from
+/// before that has the address.
 fn line_of(
     sheet: &Sheet<'_>,
     tenures: &Tenures,
@@ -40,8 +42,9 @@ fn line_of(
     })
 }
 
-/// Excludes data that leaves a relayed address for a peer after the deletion of its client from before, with that client's arrival, if the
-/// two are the same data for the same peer. It tells whether it does.
+/// Excludes data that leaves a relayed address for a peer after the deletion of its client from
+/// before, with that client's arrival, if the two are the same data for the same peer. It tells
+/// whether it does.
 pub(crate) fn leave_late_to_peer(
     sheet: &mut Sheet<'_>,
     tenures: &Tenures,
@@ -101,7 +104,8 @@ fn late_arrivals(
     Pool::new(sheet, Grouping::Together, arrivals)
 }
 
-/// Excludes data that leaves for clients from before after their deletions, each with an arrival of its own at the client's address.
+/// Excludes data that leaves for clients from before after their deletions, each with an arrival of
+/// its own at the client's address.
 pub(crate) fn leave_late_data(
     sheet: &mut Sheet<'_>,
     tenures: &Tenures,
@@ -137,7 +141,8 @@ pub(crate) fn leave_late_data(
     Ok(())
 }
 
-/// Excludes data that leaves for a client with its arrival, if that is from the same peer at the client's address.
+/// Excludes data that leaves for a client with its arrival, if that is from the same peer at the
+/// client's address.
 fn leave_late(
     sheet: &mut Sheet<'_>,
     tenures: &Tenures,

@@ -1,5 +1,6 @@
-//! What is proposed to be set aside, and by which line of the list. Nothing rests on it: what is written goes by `prep_cut`,
-//! which keeps a packet that a line may not set aside, and counts the others.
+//! What is proposed to be set aside, and by which line of the list. Nothing rests on it: what is
+//! written goes by `prep_cut`, which keeps a packet that a line may not set aside, and counts the
+//! others.
 #![tactic(auto)]
 
 mod addresses;

@@ -1,7 +1,8 @@
 //! The records of each client.
 
 use audit_model::Pair;
-use prep_records::{Kept, MaybeNumber};
+use prep_causes::MaybeNumber;
+use prep_records::Kept;
 use std::alloc::{AllocError, Global};
 
 /// The numbers of the records of each client, client by client, in the order of their moments.

@@ -3,8 +3,9 @@
 use crate::members::Members;
 use crate::sheet::Sheet;
 use audit_model::{Addr, Pair, Side};
+use prep_causes::MaybeNumber;
 use prep_cut::Reason;
-use prep_records::{Content, MaybeNumber};
+use prep_records::Content;
 use std::alloc::AllocError;
 use std::collections::BTreeMap;
 

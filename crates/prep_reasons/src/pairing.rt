@@ -4,8 +4,9 @@ use crate::channels::Channels;
 use crate::sheet::Sheet;
 use audit_model::{Addr, Side};
 use audit_stun::Class;
-use prep_cut::{CauseNumber, Reason};
-use prep_records::{Content, MaybeNumber, Record};
+use prep_causes::{CauseNumber, MaybeNumber};
+use prep_cut::Reason;
+use prep_records::{Content, Record};
 use std::alloc::AllocError;
 
 /// The numbers of the pairs, from 0.
@@ -35,6 +36,15 @@ enum Key {
     },
 }
 
+/// A record that may be paired, by its key and its moment.
+#[derive(Clone, Copy, PartialEq, Eq, PartialOrd, Ord)]
+struct Placed {
+    key: Key,
+    stamp: u64,
+    /// The record's number.
+    at: u32,
+}
+
 /// By what data is compared.
 #[derive(Clone, Copy, PartialEq, Eq)]
 enum By {
@@ -44,12 +54,13 @@ enum By {
     Channel,
 }
 
-/// Stands for each address of the service, since two clients that relay to each other name each other's.
+/// Stands for each address of the service, since two clients that relay to each other name each
+/// other's.
 const OF_SERVICE: Addr = Addr { ip: 0, port: 0 };
 
 impl Pairing {
-    /// Pairs what is excluded: each departure with the first arrival that can have caused it and that no departure before has. The cost is the
-    /// number of records times its logarithm.
+    /// Pairs what is excluded: each departure with the first arrival that can have caused it and
+    /// that no departure before has. The cost is the number of records times its logarithm.
     pub(crate) fn new(sheet: &Sheet<'_>, channels: &Channels) -> Result<Self, AllocError> {
         let mut pairing = Pairing {
             numbers: vec![in sheet.alloc; MaybeNumber::none(); sheet.records.len()]?,
@@ -65,6 +76,14 @@ impl Pairing {
         self.numbers.get(at)?.get()
     }
 
+    /// The same in four bytes.
+    pub(crate) fn kept_number(&self, at: usize) -> MaybeNumber {
+        match self.numbers.get(at) {
+            Some(number) => *number,
+            None => MaybeNumber::none(),
+        }
+    }
+
     /// How many numbers there are.
     pub(crate) fn count(&self) -> CauseNumber {
         self.count
@@ -75,41 +94,41 @@ impl Pairing {
         let arrivals = self.rest(sheet, channels, by, Side::Arrives)?;
         let departures = self.rest(sheet, channels, by, Side::Leaves)?;
         let mut next = 0usize;
-        for departure in departures {
-            next = self.pair_with(sheet, channels, by, (departure, next), &arrivals);
+        for departure in &departures {
+            next = self.pair_with(sheet, departure, &arrivals, next);
         }
         Ok(())
     }
 
-    /// Pairs a departure with an arrival from this place on, and returns the place from which the next departure's is.
+    /// Pairs a departure with an arrival from this place on, and returns the place from which the
+    /// next departure's is. Both lists are in one order, so no arrival is looked at twice.
     fn pair_with(
         &mut self,
         sheet: &Sheet<'_>,
-        channels: &Channels,
-        by: By,
-        one: (u32, usize),
-        arrivals: &[u32],
+        departure: &Placed,
+        arrivals: &[Placed],
+        from: usize,
     ) -> usize {
-        let (departure, from) = one;
-        let Some((key, stamp)) = place_of(sheet, channels, by, departure) else {
-            return from;
-        };
         let reach = sheet.policy.hold.saturating_add(sheet.slack);
-        let least = Some((key, stamp.saturating_sub(reach)));
-        let rest = arrivals.get(from..).unwrap_or(&[]);
-        let passed = rest.partition_point(|at| place_of(sheet, channels, by, *at) < least);
-        let place = from.saturating_add(passed);
-        let Some(arrival) = arrivals.get(place).copied() else {
+        let least = (departure.key, departure.stamp.saturating_sub(reach));
+        let mut place = from;
+        while place < arrivals.len() {
+            let arrival = arrivals[place];
+            if (arrival.key, arrival.stamp) >= least {
+                break;
+            }
+            place += 1;
+        }
+        let Some(arrival) = arrivals.get(place) else {
             return place;
         };
-        let Some((its, came)) = place_of(sheet, channels, by, arrival) else {
-            return place;
-        };
-        if its != key || came > stamp.saturating_add(sheet.slack) {
+        if arrival.key != departure.key
+            || arrival.stamp > departure.stamp.saturating_add(sheet.slack)
+        {
             return place;
         }
-        self.mark(departure);
-        self.mark(arrival);
+        self.mark(departure.at);
+        self.mark(arrival.at);
         self.count = self.count.saturating_add(1);
         place.saturating_add(1)
     }
@@ -128,26 +147,24 @@ impl Pairing {
         channels: &Channels,
         by: By,
         side: Side,
-    ) -> Result<Vec<u32>, AllocError> {
+    ) -> Result<Vec<Placed>, AllocError> {
         let mut rest = Vec::new(sheet.alloc);
         for at in 0..sheet.records.len() {
-            let number = u32::try_from(at).unwrap_or(u32::MAX);
-            let is_its = match sheet.record(at) {
-                Some(record) => record.side == side,
-                None => false,
-            };
-            let has_key = place_of(sheet, channels, by, number).is_some();
-            if is_its && has_key && self.number(at).is_none() && is_proposed(sheet, at, side) {
-                rest.push(number)?;
+            if self.number(at).is_some() || !is_proposed(sheet, at, side) {
+                continue;
+            }
+            if let Some(placed) = place_of(sheet, channels, by, at, side) {
+                rest.push(placed)?;
             }
         }
-        rest.sort_unstable_by_key(|at| place_of(sheet, channels, by, *at));
+        rest.sort_unstable();
         Ok(rest)
     }
 }
 
-/// Keeps each departure in that a line excludes without the arrival that it needs, except `inner` data, which a packet that isn't read may have
-/// carried. If the arrival may be from before the captures, `edge` excludes the departure.
+/// Keeps each departure in that a line excludes without the arrival that it needs, except `inner`
+/// data, which a packet that isn't read may have carried. If the arrival may be from before the
+/// captures, `edge` excludes the departure.
 pub(crate) fn keep_unpaired(sheet: &mut Sheet<'_>, pairing: &Pairing) -> Result<(), AllocError> {
     for at in 0..sheet.records.len() {
         let Some(record) = sheet.record(at) else {
@@ -189,9 +206,18 @@ fn is_proposed(sheet: &Sheet<'_>, at: usize, side: Side) -> bool {
     }
 }
 
-/// The key of a record, with its moment.
-fn place_of(sheet: &Sheet<'_>, channels: &Channels, by: By, at: u32) -> Option<(Key, u64)> {
-    let record = sheet.record(at as usize)?;
+/// A record of this side, by its key and its moment; none if it has no key.
+fn place_of(
+    sheet: &Sheet<'_>,
+    channels: &Channels,
+    by: By,
+    at: usize,
+    side: Side,
+) -> Option<Placed> {
+    let record = sheet.record(at)?;
+    if record.side != side {
+        return None;
+    }
     let key = match record.content {
         Content::Relayed => match by {
             By::Peer => data_of(sheet, &record, Some(far_end(&record))),
@@ -203,7 +229,7 @@ fn place_of(sheet: &Sheet<'_>, channels: &Channels, by: By, at: u32) -> Option<(
         },
         Content::Channel { number } => match by {
             By::Peer => {
-                let client = sheet.pair_number(at as usize)?;
+                let client = sheet.pair_number(at)?;
                 let moment = record.stamp.saturating_add(sheet.slack);
                 data_of(sheet, &record, channels.peer(client, number, moment))
             }
@@ -216,14 +242,18 @@ fn place_of(sheet: &Sheet<'_>, channels: &Channels, by: By, at: u32) -> Option<(
                 return None;
             }
             Key::Exchange {
-                client: sheet.pair_number(at as usize)?,
+                client: sheet.pair_number(at)?,
                 method: stun.method,
                 tid: stun.tid,
             }
         }
         Content::Inside | Content::Dtls | Content::Other => return None,
     };
-    Some((key, record.stamp))
+    Some(Placed {
+        key,
+        stamp: record.stamp,
+        at: u32::try_from(at).ok()?,
+    })
 }
 
 fn data_of(sheet: &Sheet<'_>, record: &Record, peer: Option<Addr>) -> Key {

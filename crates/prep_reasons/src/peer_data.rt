@@ -21,7 +21,8 @@ pub(crate) struct PeerData {
 }
 
 impl PeerData {
-    /// Those of the captures within the moments that are stated. The cost is the number of records times its logarithm.
+    /// Those of the captures within the moments that are stated. The cost is the number of records
+    /// times its logarithm.
     pub(crate) fn new(sheet: &Sheet<'_>, shown: &Shown) -> Result<Self, AllocError> {
         let mut judged = Vec::new(sheet.alloc);
         let mut other = Vec::new(sheet.alloc);
@@ -50,9 +51,10 @@ impl PeerData {
         })
     }
 
-    /// From where the server has data that leaves for a client from before: from an arrival of its own, which it takes, with the same data
-    /// within the hold before, at a relayed address that no judged client has. Or it is from before the captures, unless a judged client's
-    /// address got the same data.
+    /// From where the server has data that leaves for a client from before: from an arrival of its
+    /// own, which it takes, with the same data within the hold before, at a relayed address that no
+    /// judged client has. Or it is from before the captures, unless a judged client's address got
+    /// the same data.
     pub(crate) fn origin(&mut self, sheet: &mut Sheet<'_>, record: &Record) -> Origin {
         let wanted = wanted_of(sheet, record, Group::All);
         if self.other.take(sheet, wanted).is_some() {
@@ -64,14 +66,16 @@ impl PeerData {
         }
     }
 
-    /// Whether the same data arrived at a relayed address of a judged client, or of such a client, within the hold before.
+    /// Whether the same data arrived at a relayed address of a judged client, or of such a client,
+    /// within the hold before.
     pub(crate) fn has_judged(&self, sheet: &Sheet<'_>, record: &Record) -> bool {
         let wanted = wanted_of(sheet, record, Group::All);
         self.judged.first(sheet, wanted).is_some()
     }
 }
 
-/// Whether data of a client may be for an address of the service: it names one, or a channel whose peer the captures don't show.
+/// Whether data of a client may be for an address of the service: it names one, or a channel whose
+/// peer the captures don't show.
 pub(crate) fn may_be_inner(sheet: &Sheet<'_>, channels: &Channels, at: usize) -> bool {
     if inner_peer(sheet, channels, at).is_some() {
         return true;

@@ -109,8 +109,9 @@ impl Pool {
         self.fitting(sheet, self.begin(sheet, wanted), wanted)
     }
 
-    /// Takes the first record that is wanted and is not used, which it then is. Places that are used are passed over at once the
-    /// next time, so that the cost of all is nearly their number times its logarithm.
+    /// Takes the first record that is wanted and is not used, which it then is. Places that are
+    /// used are passed over at once the next time, so that the cost of all is nearly their number
+    /// times its logarithm.
     pub(crate) fn take(&mut self, sheet: &mut Sheet<'_>, wanted: Wanted) -> Option<usize> {
         let begin = self.begin(sheet, wanted);
         let mut at = begin;

@@ -3,7 +3,8 @@
 use crate::pairing::Pairing;
 use crate::sheet::Sheet;
 use audit_model::Side;
-use prep_cut::{CauseNumber, LineNumber, Proposal, Reason};
+use prep_causes::{CauseNumber, MaybeNumber};
+use prep_cut::{LineNumber, Proposal, Reason};
 use prep_records::CapturePackets;
 use std::alloc::{AllocError, Global};
 
@@ -15,7 +16,7 @@ pub struct Proposed {
     /// The reasons of the list's lines, in order. A line may be one by which no packet is left out.
     pub lines: Vec<Reason>,
     /// Of each capture what is proposed for each of its packets.
-    pub captures: Vec<Vec<Option<Proposal>>>,
+    pub captures: Vec<Vec<Proposal>>,
     /// How many numbers of departures with their arrivals there are.
     pub causes: CauseNumber,
     /// Departures of clients from before that no state from before allows, and that stay in.
@@ -61,14 +62,21 @@ fn order_lines(sheet: &Sheet<'_>) -> Result<Ordered, AllocError> {
     Ok(Ordered { reasons, numbers })
 }
 
+/// Of a packet that stays in.
+fn no_proposal() -> Proposal {
+    Proposal {
+        line: MaybeNumber::none(),
+        cause: MaybeNumber::none(),
+    }
+}
+
 /// A line by its number in the list, with the number that a departure and its arrival have.
-fn proposal_of(
-    ordered: &Ordered,
-    line: LineNumber,
-    cause: Option<CauseNumber>,
-) -> Option<Proposal> {
-    let line = *ordered.numbers.get(line as usize)?;
-    Some(Proposal { line, cause })
+fn proposal_of(ordered: &Ordered, line: LineNumber, cause: MaybeNumber) -> Proposal {
+    let line = match ordered.numbers.get(line as usize) {
+        Some(line) => MaybeNumber::some(*line),
+        None => MaybeNumber::none(),
+    };
+    Proposal { line, cause }
 }
 
 /// What is proposed, behind all decisions.
@@ -83,12 +91,12 @@ pub(crate) fn propose(
     sheet.forget_marks();
     let mut captures = Vec::new(sheet.alloc);
     for capture in packets {
-        let mut proposals: Vec<Option<Proposal>> =
-            vec![in sheet.alloc; None; capture.count as usize]?;
+        let mut proposals: Vec<Proposal> =
+            vec![in sheet.alloc; no_proposal(); capture.count as usize]?;
         for outside in &capture.outside {
             let line = if outside.is_early { early } else { late };
             if let Some(mark) = proposals.get_mut(outside.packet as usize) {
-                *mark = proposal_of(&ordered, line, None);
+                *mark = proposal_of(&ordered, line, MaybeNumber::none());
             }
         }
         captures.push(proposals)?;
@@ -97,7 +105,7 @@ pub(crate) fn propose(
         let (Some(record), Some(line)) = (sheet.record(at), sheet.line_of(at)) else {
             continue;
         };
-        let proposal = proposal_of(&ordered, line, pairing.number(at));
+        let proposal = proposal_of(&ordered, line, pairing.kept_number(at));
         if let Some(proposals) = captures.get_mut(record.capture() as usize) {
             if let Some(mark) = proposals.get_mut(record.packet as usize) {
                 *mark = proposal;

@@ -17,7 +17,8 @@ struct Bound {
     until: u64,
 }
 
-/// An allocation that a client has, with its permissions and channels. To each end the grace is added.
+/// An allocation that a client has, with its permissions and channels. To each end the grace is
+/// added.
 #[derive(Drop)]
 struct Held {
     /// Of a client from before it isn't known.
@@ -47,7 +48,8 @@ pub(crate) struct Released {
     held: Held,
 }
 
-/// What clients let go of, client by client, in the order of their moments. The cost is the number of records times its logarithm.
+/// What clients let go of, client by client, in the order of their moments. The cost is the number
+/// of records times its logarithm.
 pub(crate) fn find_released(sheet: &Sheet<'_>) -> Result<Vec<Released>, AllocError> {
     let mut all = Vec::new(sheet.alloc);
     for client in 0..sheet.pair_count() {
@@ -90,7 +92,8 @@ fn is_asked(sheet: &Sheet<'_>, at: usize) -> bool {
     }
 }
 
-/// Notes when a client asked for an allocation the next time, where it let go of one. Its own begin at a place.
+/// Notes when a client asked for an allocation the next time, where it let go of one. Its own begin
+/// at a place.
 fn close_last(sheet: &Sheet<'_>, at: usize, first: usize, all: &mut Vec<Released>) {
     let (Some(record), Some(last)) = (sheet.record(at), all.len().checked_sub(1)) else {
         return;
@@ -229,7 +232,8 @@ impl Released {
         (is_permitted || moment <= self.held.permissions_end) && moment <= self.held.until
     }
 
-    /// Whether a record may carry data from or for a peer at a moment: it names the peer, or a channel that is bound to it or may be.
+    /// Whether a record may carry data from or for a peer at a moment: it names the peer, or a
+    /// channel that is bound to it or may be.
     pub(crate) fn may_be_with(&self, record: &Record, peer: Addr, moment: u64) -> bool {
         match self.peer_of(record.content, moment) {
             Some(named) => named == peer,
@@ -240,7 +244,8 @@ impl Released {
         }
     }
 
-    /// The peer whose data a payload to the client carries, where a channel that it names would have been bound at a moment.
+    /// The peer whose data a payload to the client carries, where a channel that it names would
+    /// have been bound at a moment.
     pub(crate) fn peer_of(&self, content: Content, moment: u64) -> Option<Addr> {
         match content {
             Content::Data { peer } => peer,

@@ -30,7 +30,8 @@ struct Requests {
 }
 
 impl Requests {
-    /// The request to which one more response belongs, if there is one without a response from a moment on.
+    /// The request to which one more response belongs, if there is one without a response from a
+    /// moment on.
     fn answer(&mut self, from: u64) -> Option<usize> {
         let early = self.moments.partition_point(|moment| *moment < from);
         let next = self.over.max(early);

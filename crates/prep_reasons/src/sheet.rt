@@ -5,15 +5,17 @@ use crate::lines::Lines;
 use crate::members::Members;
 use crate::state_before::StateBefore;
 use audit_model::{Addr, Pair, Policy, Side};
+use prep_causes::MaybeNumber;
 use prep_cut::{LineNumber, Reason, Stated, slack_of};
-use prep_records::{Carrier, Content, Kept, MaybeNumber, Record, Records, Stun, Told};
+use prep_records::{Carrier, Content, Kept, Record, Records, Stun, Told};
 use std::alloc::{AllocError, Global};
 
 /// Nanoseconds of a second.
 pub(crate) const SECOND: u64 = 1_000_000_000;
 
-/// What is known of the captures: their records by number, from 0, in the order of their moments. Of each datagram it keeps little: what is
-/// numbered takes four bytes, and what was needed to decide is let go of.
+/// What is known of the captures: their records by number, from 0, in the order of their moments.
+/// Of each datagram it keeps little: what is numbered takes four bytes, and what was needed to
+/// decide is let go of.
 #[derive(Drop)]
 pub struct Sheet<'a> {
     pub(crate) alloc: Global,
@@ -47,7 +49,8 @@ pub struct Sheet<'a> {
 }
 
 impl<'a> Sheet<'a> {
-    /// The records in their order, none of which is set aside but those outside the moments that are stated.
+    /// The records in their order, none of which is set aside but those outside the moments that
+    /// are stated.
     pub(crate) fn new(
         alloc: Global,
         policy: &'a Policy,

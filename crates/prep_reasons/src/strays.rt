@@ -71,8 +71,8 @@ pub(crate) fn find_strays(
     Ok(found)
 }
 
-/// Takes the data that left from its client's own address, and finds what is at addresses that nobody was given. What leaves for a peer
-/// behind a release is set aside, with its arrival.
+/// Takes the data that left from its client's own address, and finds what is at addresses that
+/// nobody was given. What leaves for a peer behind a release is set aside, with its arrival.
 fn strays_of(
     sheet: &mut Sheet<'_>,
     tenures: &Tenures,

@@ -42,7 +42,8 @@ impl Unread {
         self.carriers.rewind();
     }
 
-    /// Whether a packet that isn't DTLS may have carried so many bytes, which it then did. Departures come in the order of their moments.
+    /// Whether a packet that isn't DTLS may have carried so many bytes, which it then did.
+    /// Departures come in the order of their moments.
     pub(crate) fn carries_without_dtls(&mut self, load: Load) -> Result<bool, AllocError> {
         match &mut self.others {
             Some(others) => others.take(load),
@@ -50,8 +51,9 @@ impl Unread {
         }
     }
 
-    /// From where the server may have the data of a departure that isn't a judged client's: such a client may have sent it in a packet within
-    /// the hold before, which then carried it, or it may be from before the captures. Departures come in the order of their moments.
+    /// From where the server may have the data of a departure that isn't a judged client's: such a
+    /// client may have sent it in a packet within the hold before, which then carried it, or it may
+    /// be from before the captures. Departures come in the order of their moments.
     pub(crate) fn origin(
         &mut self,
         sheet: &Sheet<'_>,

@@ -17,8 +17,8 @@ is_from since (Some head) = not (is_early since head.stamp)
 abbrev pub blocks_from : Option ℕ → List Block → List Block
 blocks_from since blocks = filter (λ (block : Block). is_from since block.packet) blocks
 
--- After this text of a capture, which has these whole blocks, and the blocks of the captures before: what those from the stated moment on
--- ask and grant is noted.
+-- After this text of a capture, which has these whole blocks, and the blocks of the captures
+-- before: what those from the stated moment on ask and grant is noted.
 pub record IsRecording (recorder : Recorder) (policy : Policy) (since : Option ℕ) (earlier : List Block) (text : List ℕ) (current : List Block) : Type 0 where
   pub policy_is : recorder.policy.now ≡ policy
   pub splits : StandsFor recorder.splitter text current

@@ -18,7 +18,8 @@ pub struct Carrier {
     pub is_dtls: bool,
 }
 
-/// A TCP segment of fewer bytes ends where its data ends: each host has to take one of 536 (RFC 9293, section 3.7.1).
+/// A TCP segment of fewer bytes ends where its data ends: each host has to take one of 536 (RFC
+/// 9293, section 3.7.1).
 const LEAST_FULL: u32 = 500;
 
 const TCP: u8 = 6;
@@ -38,8 +39,8 @@ struct Ends<'a> {
     bytes: usize,
 }
 
-/// The carrier that a frame is: a packet of TCP or IPv6 that comes to the service and has data. Where addresses don't tell which end is
-/// the service's, it is the one of the lesser port.
+/// The carrier that a frame is: a packet of TCP or IPv6 that comes to the service and has data.
+/// Where addresses don't tell which end is the service's, it is the one of the lesser port.
 pub(crate) fn carrier_in(policy: &Policy, stamp: u64, frame: &[u8]) -> Option<Carrier> {
     let (kind, packet) = behind_ethernet(frame)?;
     let ends = match kind {

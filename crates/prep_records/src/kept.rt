@@ -1,10 +1,11 @@
 //! A record as it is kept.
 
-use crate::maybe_number::MaybeNumber;
 use crate::record::{Content, Record};
 use audit_model::{Addr, Side};
+use prep_causes::MaybeNumber;
 
-/// A record in 48 bytes: the addresses stand in parts, so that no byte between them is lost. The other parts are those of a `Record`.
+/// A record in 48 bytes: the addresses stand in parts, so that no byte between them is lost. The
+/// other parts are those of a `Record`.
 #[derive(Clone, Copy, Debug)]
 pub struct Kept {
     stamp: u64,
@@ -68,7 +69,8 @@ impl Kept {
         }
     }
 
-    /// By what records are put in their order: moments, and of one moment the interface and the packet's number. No two have the same.
+    /// By what records are put in their order: moments, and of one moment the interface and the
+    /// packet's number. No two have the same.
     pub fn order(&self) -> (u64, u16, u32) {
         (self.stamp, self.iface, self.packet)
     }

@@ -1,11 +1,11 @@
-//! A record of each datagram of the service, for what is to be set aside. Nothing rests on it but on the Allocates: what else it holds is only proposed.
+//! A record of each datagram of the service, for what is to be set aside. Nothing rests on it but
+//! on the Allocates: what else it holds is only proposed.
 #![tactic(auto)]
 
 mod carrier;
 mod elsewhere;
 mod keeper;
 mod kept;
-mod maybe_number;
 mod payload;
 mod record;
 mod recorder;
@@ -13,6 +13,5 @@ mod recorder;
 pub use carrier::Carrier;
 pub use elsewhere::note_told;
 pub use kept::Kept;
-pub use maybe_number::MaybeNumber;
 pub use record::{CapturePackets, Content, Outside, Record, Records, Stun, Told};
 pub use recorder::Recorder;

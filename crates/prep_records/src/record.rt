@@ -20,10 +20,12 @@ pub struct Record {
     pub to: Addr,
     /// The packet's number among those of its capture, from 0.
     pub packet: u32,
-    /// 64 times the capture's number, plus the interface's number in the capture, which is less than 64.
+    /// 64 times the capture's number, plus the interface's number in the capture, which is less
+    /// than 64.
     pub iface: u16,
     pub side: Side,
-    /// The data has at least so many bytes: its length, rounded down to a multiple of 8, and at most 2,040.
+    /// The data has at least so many bytes: its length, rounded down to a multiple of 8, and at
+    /// most 2,040.
     pub least: u16,
     pub content: Content,
 }

@@ -14,8 +14,9 @@ use prep_blocks::{Block, BlockSplitter};
 use prep_cut::{Allocations, Stated};
 use std::alloc::{AllocError, Global};
 
-/// Records captures, each of which comes in pieces, cut anywhere. After a fault it is thrown away. What it holds besides the allocations
-/// is only proposed. Of packets before the moment that is stated it notes nothing: the captures are taken as if they began there.
+/// Records captures, each of which comes in pieces, cut anywhere. After a fault it is thrown away.
+/// What it holds besides the allocations is only proposed. Of packets before the moment that is
+/// stated it notes nothing: the captures are taken as if they began there.
 #[derive(Drop)]
 pub struct Recorder<'p> {
     policy: &'p Policy,

@@ -79,14 +79,14 @@ AreRead-rest (one ∷ others) scope after kept read = rest_by scope after one ot
 
 -- ---- a plan leaves out packets alone
 
-no_line : (plan : Plan) (proposals : List (Option Proposal)) (b : Block) → b.packet ≡ None → line_of plan (proposed_line (proposed_for b.packet proposals)) b ≡ None
+no_line : (plan : Plan) (proposals : List Proposal) (b : Block) → b.packet ≡ None → line_of plan (proposed_line (proposed_for b.packet proposals)) b ≡ None
 no_line plan proposals b none = rw none refl
 
-all_kept : (plan : Plan) (proposals : List (Option Proposal)) (blocks : List Block) → AllByRecursion IsKept (marked plan proposals blocks)
+all_kept : (plan : Plan) (proposals : List Proposal) (blocks : List Block) → AllByRecursion IsKept (marked plan proposals blocks)
 all_kept plan proposals [] = tt
 all_kept plan proposals (b ∷ others) = (no_line plan proposals b, all_kept plan (behind b.packet proposals) others)
 
-blocks_of : (plan : Plan) (proposals : List (Option Proposal)) (blocks : List Block) → map (λ (one : Marked). one.block) (marked plan proposals blocks) ≡ blocks
+blocks_of : (plan : Plan) (proposals : List Proposal) (blocks : List Block) → map (λ (one : Marked). one.block) (marked plan proposals blocks) ≡ blocks
 blocks_of plan proposals [] = refl
 blocks_of plan proposals (b ∷ others) = ap (λ (rest : List Block). b ∷ rest) (blocks_of plan (behind b.packet proposals) others)
 

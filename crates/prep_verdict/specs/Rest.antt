@@ -29,7 +29,7 @@ rest_of blocks = map (λ (one : Marked). one.block) (filter is_written blocks)
 pub record Capture : Type 0 where
   pub text : List ℕ
   pub blocks : List Block
-  pub proposals : List (Option Proposal)
+  pub proposals : List Proposal
 
 -- the blocks of it that stay by a plan
 abbrev pub stays : Plan → Capture → List Block

@@ -18,7 +18,8 @@ pub const LONGEST: u64 = 1_000_000_000;
 
 const NOT_A_NUMBER: &str = "turnprep: --since, --until and --lifetime are numbers\n";
 
-/// The longest time after a success response to a Refresh with LIFETIME 0 that may be stated, in milliseconds.
+/// The longest time after a success response to a Refresh with LIFETIME 0 that may be stated, in
+/// milliseconds.
 const LONGEST_RELEASED: u64 = 60_000;
 
 const NOT_RELEASED: &str = "turnprep: --released-ms is a number up to 60000\n";

@@ -1,5 +1,5 @@
-//! The options that commands have, as clap has them. Each is made where it is added: one that waits in a variable would be let go on each way
-//! out of the function, and each of these is proved.
+//! The options that commands have, as clap has them. Each is made where it is added: one that waits
+//! in a variable would be let go on each way out of the function, and each of these is proved.
 
 ghost use Rattle.std.specs.Prelude.{◌≡◌, ◌≤◌, false};
 ghost use Rattle.clap.specs.Words.{rule_of};
@@ -55,7 +55,8 @@ pub fn flag<'a>(alloc: Global, name: &'a str) -> Arg<'a>
     Arg::new(alloc, name).long(name).action(ArgAction::SetTrue)
 }
 
-/// The option `-o`: the file that is made, or the folder in which files are made. An empty name would make files in the root folder.
+/// The option `-o`: the file that is made, or the folder in which files are made. An empty name
+/// would make files in the root folder.
 pub fn output<'a>(alloc: Global, shown: &'a str) -> Arg<'a>
     ensures rule { rule_of result ≡ words.output }
     ensures local { result.global ≡ false }

@@ -37,7 +37,8 @@ fn refusal_text(alloc: Global, words: &[String]) -> Result<String, AllocError> {
     command(alloc)?.render_usage()
 }
 
-/// What clap says of arguments that it refuses, with no byte of them that a terminal acts on: it is what clap says of them escaped.
+/// What clap says of arguments that it refuses, with no byte of them that a terminal acts on: it is
+/// what clap says of them escaped.
 pub fn usage_text<N: AsStr>(alloc: Global, words: &[N]) -> Result<String, AllocError> {
     let escaped = escaped_words(alloc, words)?;
     refusal_text(alloc, &escaped)

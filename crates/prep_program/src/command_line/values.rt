@@ -47,7 +47,8 @@ pub fn flag_of(matches: &ArgMatches<'_>, name: &str) -> bool
     matches.get_flag(name)
 }
 
-/// The number of an option, if it is there; nothing where its value is no number of digits up to `most`.
+/// The number of an option, if it is there; nothing where its value is no number of digits up to
+/// `most`.
 pub fn number_of(matches: &ArgMatches<'_>, name: &str, most: u64) -> Option<Option<u64>>
     ensures { result ≡ number_given most name.now (rows_of (found_of matches.now)) }
 {

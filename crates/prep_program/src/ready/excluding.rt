@@ -53,8 +53,9 @@ fn say_notes(notes: &[u8], work: &mut Work) -> Result<(), Stop> {
     Ok(())
 }
 
-/// What the captures leave open, with the option that decides it. Which time of a restarted server is meant has to be stated. What left after
-/// an interface's end is excluded only if that is stated, since it may be the server's breach.
+/// What the captures leave open, with the option that decides it. Which time of a restarted server
+/// is meant has to be stated. What left after an interface's end is excluded only if that is
+/// stated, since it may be the server's breach.
 fn say_open(alloc: Global, stated: Stated, needs: &Needs, work: &mut Work) -> Result<(), Stop> {
     if stated.since.is_some() || stated.until.is_some() {
         return Ok(());
@@ -105,8 +106,8 @@ fn needs_by<S: Source>(
     Ok(needs_of(alloc, &survey, policy, &sheet, stated.released_ms)?)
 }
 
-/// Leaves the captures in the folder: without what is excluded, with the list of that, or as they are. None is left if no datagram of the
-/// service is kept.
+/// Leaves the captures in the folder: without what is excluded, with the list of that, or as they
+/// are. None is left if no datagram of the service is kept.
 pub fn leave_step<S: Source, M: Maker, F: Folders, E: Sink>(
     alloc: Global,
     decided: Decided,

@@ -63,7 +63,8 @@ fn survey_of<S: Source>(
     survey_captures(alloc, source, &files)
 }
 
-/// A policy that is a file. An address that its clients were granted, and that isn't in the captures, is translated.
+/// A policy that is a file. An address that its clients were granted, and that isn't in the
+/// captures, is translated.
 fn given<S: Source, M: Maker>(
     alloc: Global,
     name: &str,
@@ -164,7 +165,8 @@ fn write_policy<M: Maker>(text: &[u8], work: &Work, maker: &mut M) -> Result<(),
     Ok(())
 }
 
-/// Writes the policy that a configuration comes to, with the addresses that it lacks and the captures have, and what it leaves open to `err`.
+/// Writes the policy that a configuration comes to, with the addresses that it lacks and the
+/// captures have, and what it leaves open to `err`.
 fn prepared_by<M: Maker, E: Sink>(
     alloc: Global,
     text: &[u8],

@@ -50,7 +50,8 @@ impl<'a> Ring<'a> {
     }
 }
 
-/// The captures by their rings, each ring where its first file is. The cost is the number of captures times its logarithm.
+/// The captures by their rings, each ring where its first file is. The cost is the number of
+/// captures times its logarithm.
 pub fn rings_of<'a>(alloc: Global, names: &[&'a str]) -> Result<Vec<Ring<'a>>, AllocError> {
     let mut rings: Vec<Ring<'a>> = Vec::new(alloc);
     let mut places: BTreeMap<&'a [u8], usize> = BTreeMap::new(alloc);
@@ -76,7 +77,8 @@ pub fn rings_of<'a>(alloc: Global, names: &[&'a str]) -> Result<Vec<Ring<'a>>, A
     Ok(rings)
 }
 
-/// The name of the capture that a ring is joined to: the part of its files' names that is before their numbers.
+/// The name of the capture that a ring is joined to: the part of its files' names that is before
+/// their numbers.
 pub fn joined_name(alloc: Global, part: &str) -> Result<String, AllocError> {
     let stem = match RingName::of(part.as_bytes()) {
         Some(ring) => part.get(..ring.stem.len()).unwrap_or(part),

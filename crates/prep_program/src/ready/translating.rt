@@ -41,7 +41,8 @@ pub fn translate_step<S: Source, M: Maker, F: Folders, E: Sink>(
     Ok(work.staged_in("outer", &captures)?)
 }
 
-/// Translates each capture, and returns the line that says how many datagrams were translated, and by which pairs.
+/// Translates each capture, and returns the line that says how many datagrams were translated, and
+/// by which pairs.
 fn translate_all<S: Source, M: Maker, E: Sink>(
     alloc: Global,
     translations: &[Translation],

@@ -51,7 +51,8 @@ fn given<S: Source, M: Maker>(
     work.end_line()
 }
 
-/// The users that a configuration names, and those whose requests in the captures are signed by its secret.
+/// The users that a configuration names, and those whose requests in the captures are signed by its
+/// secret.
 fn configured<S: Source, M: Maker, E: Sink>(
     alloc: Global,
     name: &str,

@@ -1,4 +1,5 @@
-//! What `ready` has done so far: the folder in which it works, the commands that repeat it by hand, and what is printed.
+//! What `ready` has done so far: the folder in which it works, the commands that repeat it by hand,
+//! and what is printed.
 
 use super::auditing::audit_line;
 use super::copying::copy;
@@ -65,7 +66,8 @@ pub struct Work {
 }
 
 impl Work {
-    /// Nothing was done for a folder. A `/` at the end of its name says no more than that it is one.
+    /// Nothing was done for a folder. A `/` at the end of its name says no more than that it is
+    /// one.
     pub fn new(alloc: Global, name: &str) -> Result<Self, AllocError> {
         let folder = match name.trim_end_matches('/') {
             "" => name,
@@ -155,7 +157,8 @@ impl Work {
         Ok(all)
     }
 
-    /// A capture that was written to the folder in which it works, and by hand to a folder `ready` in its own.
+    /// A capture that was written to the folder in which it works, and by hand to a folder `ready`
+    /// in its own.
     fn ended(&self, name: &str) -> Result<Staged, AllocError> {
         let inside = path_in(self.alloc, "ready", name)?;
         Ok(Staged {

@@ -13,6 +13,6 @@ invariant-pieces g l = record {
   same : g.S.Source.holds l.source ≡ g.S.Source.holds l.fn.source;
   others : g.M.Maker.making l.made ≡ g.M.Maker.making l.fn.made;
   empty : l.out.items ≡ [];
-  fed : (text : List ℕ) (plan : Plan) (proposals : List (Option Proposal)) (earlier : List Marked) → g.S.Source.holds l.fn.source l.fn.name ≡ Some text → IsCutting l.fn.cutter plan proposals earlier [] []
+  fed : (text : List ℕ) (plan : Plan) (proposals : List Proposal) (earlier : List Marked) → g.S.Source.holds l.fn.source l.fn.name ≡ Some text → IsCutting l.fn.cutter plan proposals earlier [] []
       → CutSoFar l.cutter plan proposals earlier (take l.at text) (g.M.Sink.taken l.fn.made) (g.M.Sink.taken l.made);
 }

@@ -43,7 +43,7 @@ loop-one-preserved g c = record {
       let holds : g.S.Source.holds c.loop-one.source one.name.now ≡ Some text =
       ap (λ (h : List ℕ → Option (List ℕ)). h one.name.now) c.loop-one.invariant.same ∙ subst (λ (each : ToCut). g.S.Source.holds c.args.source.now each.name.now ≡ Some text) e at.1 in
       let earlier = all_marks (marks_of plan (take index asked) before.done) in
-      let cutting = subst (λ (ps : List (Option Proposal)). IsCutting c.new-cutter.result plan ps earlier [] []) c.deref.ensures.value (c.new-cutter.ensures earlier before.tallies_are) in
+      let cutting = subst (λ (ps : List Proposal). IsCutting c.new-cutter.result plan ps earlier [] []) c.deref.ensures.value (c.new-cutter.ensures earlier before.tallies_are) in
       let cuts = c.in_ok-cut.ensures.cuts text plan one.proposals.items earlier holds cutting in
       let opened : m1 ≡ opened_by (string_bytes one.file) (files_of m0 t0) = c.in_ok-make.ensures.opened ∙ ap (λ (n : List ℕ). opened_by n (files_of m0 t0)) c.as_str.ensures.value in
       let more = one_cut c.loop-one.totals.items c.loop-one.tallies plan (take index asked) (take index texts) first (files_of m0 t0) (files_of m2 t2) one text c.in_ok-cut.cut t1 t2 before cuts

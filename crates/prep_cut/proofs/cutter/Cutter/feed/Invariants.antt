@@ -7,5 +7,5 @@ use Rattle.prep_cut.specs.Cutting.{IsCutting, GoesOn}
 use Rattle.prep_cut.proofs.cutter.Cutter.feed.Given as goal
 
 abbrev pub invariant-loop : goal.invariant-loop
-invariant-loop l = (plan : Plan) (proposals : List (Option Proposal)) (earlier : List Marked) (text : List ℕ) (current : List Block) → IsCutting l.fn.self plan proposals earlier text current →
+invariant-loop l = (plan : Plan) (proposals : List Proposal) (earlier : List Marked) (text : List ℕ) (current : List Block) → IsCutting l.fn.self plan proposals earlier text current →
     GoesOn l.self plan proposals earlier text current l.piece l.rest l.fn.out.items l.out.items × (length l.rest + l.counter ≤ length l.piece)

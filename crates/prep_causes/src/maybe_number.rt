@@ -1,9 +1,10 @@
 //! A number or none in four bytes.
 
 ghost use Rattle.std.specs.Prelude.{◌≡◌, ◌<◌, Some, None};
-ghost use Rattle.prep_records.specs.Numbers.{number_in};
+ghost use Rattle.prep_causes.specs.Numbers.{number_in};
 
-/// A number below 4,294,967,295, or none. An `Option<u32>` takes eight bytes, and each datagram has several.
+/// A number below 4,294,967,295, or none. An `Option<u32>` takes eight bytes, and each datagram has
+/// several.
 #[derive(Clone, Copy, Debug, PartialEq, Eq)]
 pub struct MaybeNumber {
     /// The greatest `u32` stands for none.

@@ -1,6 +1,6 @@
 -- A number or none in four bytes.
 use Rattle.std.specs.Prelude.{ℕ, ◌==◌, if◌then◌else◌, Option, Some, None}
-use Rattle.prep_records.specs.declared.maybe_number.MaybeNumber.{MaybeNumber}
+use Rattle.prep_causes.specs.declared.maybe_number.MaybeNumber.{MaybeNumber}
 
 -- the greatest of 32 bits stands for none
 abbrev pub number_in : MaybeNumber → Option ℕ
