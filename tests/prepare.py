@@ -1,12 +1,13 @@
 #!/usr/bin/env python3
 """Runs turnprep on the cases of tests/prepare, and compares its status, what it tells and what it wrote.
+Of what `cut` wrote the comment is taken off and read (tests/cut_comments.py).
 
     tests/prepare.py PROGRAM
 
 Each line of tests/prepare/cases is a name and the words, in which OUT is a new folder. Of words that are no request
 only the status is compared, since clap says the rest. Then it asks for what no case has: that a file that is there is
-never written over, that a missing file of a ring is told, what `cut` tells of its words, and what it leaves out behind a Refresh
-of 0 (tests/hang_ups.py).
+never written over, that a missing file of a ring is told, what `cut` tells of its words, what it leaves out behind a Refresh
+of 0 (tests/hang_ups.py), and the comment of a big-endian capture and of one that was cut before.
 """
 
 import hashlib
@@ -16,6 +17,7 @@ import subprocess
 import sys
 import tempfile
 
+import cut_comments
 import hang_ups
 
 HERE = pathlib.Path(__file__).resolve().parent / "prepare"
@@ -38,6 +40,11 @@ def told_by(program, words):
             text += f"stderr\n{done.stderr}"
         for file in sorted(pathlib.Path(folder).iterdir()):
             written = file.read_bytes()
+            if words[0] == "cut" and file.suffix == ".pcapng":
+                original = (HERE / next(word for word in words if word.endswith(f"/{file.name}"))).read_bytes()
+                fault = cut_comments.fault_of(written, original)
+                text += f"{fault}\n" if fault else ""
+                written, _ = cut_comments.parted(written)
             text += f"wrote {file.name} {len(written)} bytes {hashlib.sha256(written).hexdigest()}\n"
         return text
 
@@ -137,15 +144,35 @@ def check_since(program):
             words = ["cut", "--policy", "inputs/policy", "-o"]
             done = run(program, [*words, f"{room}/since", "--since", str(moment), "inputs/long-midcall.pcapng"])
             run(program, [*words, f"{room}/begun", f"{room}/long-midcall.pcapng"])
-            written = [(folder / name / "long-midcall.pcapng").read_bytes() for name in ("since", "begun")]
+            written = [cut_comments.parted((folder / name / "long-midcall.pcapng").read_bytes())[0] for name in ("since", "begun")]
             if done.returncode != 0 or written[0] != written[1]:
                 faults.append(f"--since {moment} differs from a capture that begins there: {done.stdout}{done.stderr}")
     return faults
 
 
+def check_comments(program):
+    """The comment of a big-endian capture, and of one that was cut before."""
+    faults = []
+    original = HERE.parent / "answers" / "capture-big-endian"
+    with tempfile.TemporaryDirectory() as room:
+        read = original / "cap0"
+        for name in ("once", "twice"):
+            folder = pathlib.Path(room, name)
+            folder.mkdir()
+            done = run(program, ["cut", "--policy", str(original / "policy"), "-o", str(folder), str(read)])
+            written = (folder / "cap0").read_bytes() if done.returncode == 0 else b""
+            if not written or cut_comments.parted(written)[0] != read.read_bytes():
+                faults.append(f"a big-endian capture cut {name} lost bytes: {done.stderr}")
+                break
+            if fault := cut_comments.fault_of(written, read.read_bytes()):
+                faults.append(f"a big-endian capture cut {name}: {fault}")
+            read = folder / "cap0"
+    return faults
+
+
 def main():
     program = pathlib.Path(sys.argv[1]).resolve()
-    faults = check_files(program) + check_cut(program) + check_released(program) + check_since(program)
+    faults = check_files(program) + check_cut(program) + check_released(program) + check_since(program) + check_comments(program)
     cases = [line.split(" | ") for line in (HERE / "cases").read_text().splitlines()]
     for name, words in cases:
         if told_by(program, words.split()) != expected(name):

@@ -14,6 +14,7 @@ import subprocess
 import sys
 import tempfile
 
+import cut_comments
 import hang_ups
 import late_leaks
 import leaks
@@ -59,8 +60,12 @@ def check_example(preparer, example):
         done = subprocess.run([preparer, "cut", "--policy", example / "policy", "-o", folder, *captures], capture_output=True, text=True)
         if done.returncode != 0:
             return f"status {done.returncode}"
-        if any((pathlib.Path(folder) / it.name).read_bytes() != it.read_bytes() for it in captures):
-            return "writes other captures"
+        for it in captures:
+            written = (pathlib.Path(folder) / it.name).read_bytes()
+            if cut_comments.parted(written)[0] != it.read_bytes():
+                return "writes other captures"
+            if fault := cut_comments.fault_of(written, it.read_bytes()):
+                return fault
         if "\naside in 0 0 out 0 0\n" not in done.stdout:
             return "sets something aside"
     return None

@@ -1,5 +1,5 @@
 -- Captures that are cut, one after another.
-use Rattle.std.proofs.Common.{◌≡◌, ◌<◌, ℕ, zero, suc, List, [], ◌∷◌, ◌++◌, map, length, get_or, Option, Some, None, refl, sym, ap, subst, ◌∙◌, append_assoc, string_bytes, arith}
+use Rattle.std.proofs.Common.{◌≡◌, ℕ, suc, List, [], ◌∷◌, ◌++◌, map, length, Option, Some, None, refl, sym, ap, subst, ◌∙◌, append_assoc, string_bytes, arith}
 use Rattle.std.specs.List.{AllByRecursion}
 use Rattle.std.proofs.lemmas.List.{append-nil, map-append}
 use Rattle.audit_model.specs.Sink.{followed_by}
@@ -10,11 +10,15 @@ use Rattle.prep_cut.specs.declared.cutter.WasCut.{WasCut}
 use Rattle.prep_cut.specs.declared.plan.Plan.{Plan}
 use Rattle.prep_cut.specs.declared.tally.Tallies.{Tallies}
 use Rattle.prep_cut.specs.declared.tally.Totals.{Totals}
-use Rattle.prep_cut.specs.Marks.{Marked, marked, written_of}
+use Rattle.prep_cut.specs.declared.plan.Proposal.{Proposal}
+use Rattle.prep_cut.specs.Marks.{Marked, behind, marked, written_of}
 use Rattle.prep_cut.specs.Marking.{AreTallies, totals_of}
 use Rattle.prep_program.specs.declared.cutting.ToCut.{ToCut}
+use Rattle.sha2.specs.Sha256.{sha256}
 use Rattle.prep_program.specs.AllCuts.{marks_of, all_marks, files_cut}
+use Rattle.prep_program.specs.CutComment.{blocks_of, comment_for, comment_of_cut, file_of}
 use Rattle.prep_program.specs.Cuts.{Cuts}
+use Rattle.prep_program.proofs.Captures.{followed_twice}
 use Rattle.prep_program.specs.Making.{FileMade, Making, emptied, files_of, opened_by, with_files}
 
 -- the captures that are cut
@@ -25,7 +29,7 @@ pub record AreCut (totals : List Totals) (tallies : Tallies) (plan : Plan) (aske
   pub wholes : AllByRecursion (λ blocks. IsWhole (bytes_of blocks) blocks) done
   pub totals_are : totals ≡ map (totals_of plan) (marks_of plan asked done)
   pub tallies_are : AreTallies plan (all_marks (marks_of plan asked done)) tallies
-  pub files : after ≡ with_files before (files_cut asked (marks_of plan asked done))
+  pub files : after ≡ with_files before (files_cut plan asked (marks_of plan asked done))
 
 no_files : (before : Option (List FileMade)) → before ≡ with_files before []
 no_files None = refl
@@ -54,12 +58,12 @@ marks-one plan (a ∷ asked) one [] blocks e = absurd (omega (arith, e))
 marks-one plan (a ∷ asked) one (b ∷ done) blocks e = ap (λ (t : List (List Marked)). marked plan a.proposals.items b ∷ t) (marks-one plan asked one done blocks (omega (arith, e)))
 
 files-one : (plan : Plan) (asked : List ToCut) (one : ToCut) (done : List (List Block)) (last : List Marked) → length done ≡ length asked
-    → files_cut (asked ++ one ∷ []) (marks_of plan asked done ++ last ∷ []) ≡ files_cut asked (marks_of plan asked done) ++ record { name = string_bytes one.file; bytes = written_of last } ∷ []
+    → files_cut plan (asked ++ one ∷ []) (marks_of plan asked done ++ last ∷ []) ≡ files_cut plan asked (marks_of plan asked done) ++ record { name = string_bytes one.file; bytes = file_of plan last } ∷ []
 files-one plan [] one [] last e = refl
 files-one plan [] one (b ∷ done) last e = absurd (omega (arith, e))
 files-one plan (a ∷ asked) one [] last e = absurd (omega (arith, e))
 files-one plan (a ∷ asked) one (b ∷ done) last e =
-    ap (λ (t : List FileMade). record { name = string_bytes a.file; bytes = written_of (marked plan a.proposals.items b) } ∷ t) (files-one plan asked one done last (omega (arith, e)))
+    ap (λ (t : List FileMade). record { name = string_bytes a.file; bytes = file_of plan (marked plan a.proposals.items b) } ∷ t) (files-one plan asked one done last (omega (arith, e)))
 
 all_then : (P : List Block → Type 0) (xs : List (List Block)) (x : List Block) → AllByRecursion P xs → P x → AllByRecursion P (xs ++ x ∷ [])
 all_then P [] x all one = (one, tt)
@@ -88,13 +92,24 @@ length_one : {A : Type 0} (xs : List A) (x : A) → length (xs ++ x ∷ []) ≡ 
 length_one [] x = refl
 length_one (y ∷ xs) x = ap suc (length_one xs x)
 
+pub blocks_same : (plan : Plan) (proposals : List Proposal) (blocks : List Block) → blocks_of (marked plan proposals blocks) ≡ blocks
+blocks_same plan proposals [] = refl
+blocks_same plan proposals (b ∷ others) = ap (λ (rest : List Block). b ∷ rest) (blocks_same plan (behind b.packet proposals) others)
+
+-- the comment of a capture that was cut is about it
+commented : (plan : Plan) (proposals : List Proposal) (blocks : List Block) (totals : Totals) (text digest : List ℕ) → totals ≡ totals_of plan (marked plan proposals blocks) → text ≡ bytes_of blocks → digest ≡ sha256 text
+    → comment_of_cut totals digest ≡ comment_for plan (marked plan proposals blocks)
+commented plan proposals blocks totals text digest e f g =
+    rw (e, g) (ap (λ (bytes : List ℕ). comment_of_cut (totals_of plan (marked plan proposals blocks)) (sha256 bytes)) (f ∙ ap bytes_of (sym (blocks_same plan proposals blocks))))
+
 -- a capture more
 pub one_cut : (totals : List Totals) (tallies : Tallies) (plan : Plan) (asked : List ToCut) (texts : List (List ℕ)) (before middle after : Option (List FileMade)) (one : ToCut) (text : List ℕ) (cut : WasCut)
-    (first last : Option (List ℕ)) → (d : AreCut totals tallies plan asked texts before middle)
+    (digest : List ℕ) (first last end : Option (List ℕ)) → (d : AreCut totals tallies plan asked texts before middle)
     → Cuts cut plan one.proposals.items (all_marks (marks_of plan asked d.done)) text first last
-    → ((bytes : List ℕ) → last ≡ followed_by first bytes → after ≡ with_files middle (record { name = string_bytes one.file; bytes = bytes } ∷ []))
+    → digest ≡ sha256 text → end ≡ followed_by last (comment_of_cut cut.totals digest)
+    → ((bytes : List ℕ) → end ≡ followed_by first bytes → after ≡ with_files middle (record { name = string_bytes one.file; bytes = bytes } ∷ []))
     → AreCut (totals ++ cut.totals ∷ []) cut.tallies plan (asked ++ one ∷ []) (texts ++ text ∷ []) before after
-one_cut totals tallies plan asked texts before middle after one text cut first last d c made =
+one_cut totals tallies plan asked texts before middle after one text cut digest first last end d c hashed put made =
     let new = marked plan one.proposals.items c.current in
     let marks = marks_of plan asked d.done in
     let longer : marks_of plan (asked ++ one ∷ []) (d.done ++ c.current ∷ []) ≡ marks ++ new ∷ [] = marks-one plan asked one d.done c.current d.len in
@@ -107,7 +122,10 @@ one_cut totals tallies plan asked texts before middle after one text cut first l
       totals_are = ap (λ (t : List Totals). t ++ cut.totals ∷ []) d.totals_are ∙ ap (λ (t : Totals). map (totals_of plan) marks ++ t ∷ []) c.ended.totals
           ∙ sym (map-append (totals_of plan) marks (new ∷ [])) ∙ ap (map (totals_of plan)) (sym longer);
       tallies_are = subst (λ (m : List (List Marked)). AreTallies plan (all_marks m) cut.tallies) (sym longer) (subst (λ (m : List Marked). AreTallies plan m cut.tallies) (sym all) c.ended.tallies);
-      files = made (written_of new) c.added ∙ ap (λ (m : Option (List FileMade)). with_files m (record { name = string_bytes one.file; bytes = written_of new } ∷ [])) d.files
-          ∙ files_twice before (files_cut asked marks) (record { name = string_bytes one.file; bytes = written_of new } ∷ [])
-          ∙ ap (with_files before) (sym (files-one plan asked one d.done new d.len) ∙ ap (files_cut (asked ++ one ∷ [])) (sym longer));
+      files = made (file_of plan new)
+          (put ∙ ap (λ (l : Option (List ℕ)). followed_by l (comment_of_cut cut.totals digest)) c.added ∙ followed_twice first (written_of new) (comment_of_cut cut.totals digest)
+          ∙ ap (λ (said : List ℕ). followed_by first (written_of new ++ said)) (commented plan one.proposals.items c.current cut.totals text digest c.ended.totals c.ended.whole.spelled hashed))
+          ∙ ap (λ (m : Option (List FileMade)). with_files m (record { name = string_bytes one.file; bytes = file_of plan new } ∷ [])) d.files
+          ∙ files_twice before (files_cut plan asked marks) (record { name = string_bytes one.file; bytes = file_of plan new } ∷ [])
+          ∙ ap (with_files before) (sym (files-one plan asked one d.done new d.len) ∙ ap (files_cut plan (asked ++ one ∷ [])) (sym longer));
     }

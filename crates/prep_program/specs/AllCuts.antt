@@ -5,12 +5,13 @@ use Rattle.prep_blocks.specs.declared.block.Block.{Block}
 use Rattle.prep_blocks.specs.Read.{bytes_of}
 use Rattle.prep_blocks.specs.Splitting.{IsWhole}
 use Rattle.prep_cut.specs.declared.plan.Plan.{Plan}
-use Rattle.prep_cut.specs.Marks.{Marked, marked, written_of}
+use Rattle.prep_cut.specs.Marks.{Marked, marked}
 use Rattle.prep_causes.specs.Slots.{pairs_in}
 use Rattle.prep_cut.specs.Marking.{AreTallies, totals_of}
 use Rattle.prep_cut.specs.Pairs.{ArePaired}
 use Rattle.prep_program.specs.declared.cutting.AllCut.{AllCut}
 use Rattle.prep_program.specs.declared.cutting.ToCut.{ToCut}
+use Rattle.prep_program.specs.CutComment.{file_of}
 use Rattle.prep_program.specs.Making.{FileMade, with_files}
 
 -- the blocks of each capture, each with its line
@@ -24,11 +25,11 @@ abbrev pub all_marks : List (List Marked) → List Marked
 all_marks [] = []
 all_marks (first ∷ others) = first ++ all_marks others
 
--- a file of what is not left out of each
-abbrev pub files_cut : List ToCut → List (List Marked) → List FileMade
-files_cut [] marks = []
-files_cut (one ∷ others) [] = []
-files_cut (one ∷ others) (blocks ∷ marks) = record { name = string_bytes one.file; bytes = written_of blocks } ∷ files_cut others marks
+-- a file of each
+abbrev pub files_cut : Plan → List ToCut → List (List Marked) → List FileMade
+files_cut plan [] marks = []
+files_cut plan (one ∷ others) [] = []
+files_cut plan (one ∷ others) (blocks ∷ marks) = record { name = string_bytes one.file; bytes = file_of plan blocks } ∷ files_cut plan others marks
 
 -- the texts are whole captures, each of which was cut to its file. The tallies are those of all of
 -- them, and so many departures have an arrival of their own.
@@ -39,4 +40,4 @@ pub record CutsAll (all : AllCut) (plan : Plan) (asked : List ToCut) (texts : Li
   pub totals : all.totals.items ≡ map (totals_of plan) (marks_of plan asked captures)
   pub tallies : AreTallies plan (all_marks (marks_of plan asked captures)) all.tallies
   pub paired : ArePaired plan (all_marks (marks_of plan asked captures)) (pairs_in all.tallies.causes.slots.items)
-  pub files : after ≡ with_files before (files_cut asked (marks_of plan asked captures))
+  pub files : after ≡ with_files before (files_cut plan asked (marks_of plan asked captures))

@@ -1,5 +1,5 @@
 -- Captures that are cut, and what was written of them.
-use Rattle.std.specs.Prelude.{◌≡◌, ℕ, List, [], Option}
+use Rattle.std.specs.Prelude.{◌≡◌, ℕ, List, Option}
 use Rattle.audit_model.specs.Sink.{followed_by}
 use Rattle.prep_blocks.specs.declared.block.Block.{Block}
 use Rattle.prep_cut.specs.declared.cutter.Cutter.{Cutter}

@@ -7,6 +7,7 @@ pub mod Translations
 pub mod Reassemblies
 pub mod Cuts
 pub mod Recordings
+pub mod CutComment
 pub mod AllCuts
 pub mod ListText
 pub mod Listing

@@ -1,9 +1,10 @@
 //! Cutting captures that are files.
 
-ghost use Rattle.std.specs.Prelude.{◌≡◌, [], ℕ, List, Option, Some, IfOk};
+ghost use Rattle.std.specs.Prelude.{◌≡◌, ◌++◌, [], ℕ, List, Option, Some, IfOk, OnOk};
 ghost use Rattle.std.specs.List.{AllZip};
+ghost use Rattle.sha2.specs.Hashers.{Holds256};
 ghost use Rattle.prep_blocks.specs.declared.block.Block.{Block};
-ghost use Rattle.prep_cut.specs.Cutting.{IsCut, IsCutting};
+ghost use Rattle.prep_cut.specs.Cutting.{GoesOn, IsCut, IsCutting};
 ghost use Rattle.prep_cut.specs.Marks.{Marked};
 ghost use Rattle.prep_cut.specs.declared.plan.Plan.{Plan};
 ghost use Rattle.prep_cut.specs.declared.plan.Proposal.{Proposal};
@@ -11,28 +12,36 @@ ghost use Rattle.prep_program.specs.AllCuts.{CutsAll};
 ghost use Rattle.prep_program.specs.Cuts.{Cuts};
 ghost use Rattle.prep_program.specs.Making.{files_of};
 
+use crate::cut_comment::section_of_cut;
 use crate::maker::{Maker, append_all};
-use crate::source::{PIECE, Source};
+use crate::source::Source;
 use crate::stop::Stop;
-use prep_cut::{CauseNumber, Cutter, Plan, Proposal, Tallies, Totals, WasCut};
-use std::alloc::Global;
+use prep_cut::{CauseNumber, CutFault, Cutter, Plan, Proposal, Tallies, Totals, WasCut};
+use sha2::{Digest, Sha256};
+use std::thread::{Threads, join_mut};
+
+/// How many bytes are taken at once, so that starting a thread for them takes no time beside them.
+const PIECE: usize = 262_144;
 
 /// Writes a capture without what is set aside, from its first byte to its last, to the file that
 /// was made last.
-pub fn cut_capture<S: Source, M: Maker>(
-    alloc: Global,
+pub fn cut_capture<R: Threads + AllocGlobal, S: Source, M: Maker>(
+    rt: &R,
     source: &mut S,
     name: &str,
     cutter: Cutter<'_>,
     capture: u32,
     made: &mut M,
+    hasher: &mut Sha256,
 ) -> Result<WasCut, Stop>
     ensures kept { S.holds source.new ≡ S.holds source.old }
     ensures others { M.making made.new ≡ M.making made.old }
+    ensures hashes { (text : List ℕ) → S.holds source.old name.now ≡ Some text → Holds256 hasher.old [] → OnOk result (Holds256 hasher.new text) }
     ensures cuts { (text : List ℕ) (plan : Plan) (proposals : List Proposal) (earlier : List Marked) → S.holds source.old name.now ≡ Some text →
         IsCutting cutter.entry plan proposals earlier [] [] →
         IfOk result (λ cut. Cuts cut plan proposals earlier text (M.taken made.old) (M.taken made.new)) }
 {
+    let alloc = rt.alloc();
     let mut cutter = cutter;
     let mut piece = vec![in alloc; 0u8; PIECE]?;
     let mut out = Vec::new(alloc);
@@ -42,7 +51,7 @@ pub fn cut_capture<S: Source, M: Maker>(
         if read == 0 {
             return end_capture(cutter, capture);
         }
-        if let Err(fault) = cutter.feed(&piece[..read], &mut out) {
+        if let Err(fault) = take_piece(rt, &mut cutter, hasher, &piece[..read], &mut out) {
             return Err(Stop::of_cut(capture, fault));
         }
         append_all(made, &out)?;
@@ -53,6 +62,27 @@ pub fn cut_capture<S: Source, M: Maker>(
         at = next;
     }
     Err(Stop::Read)
+}
+
+/// Has the next piece cut, and hashed by another thread meanwhile.
+fn take_piece<R: Threads>(
+    rt: &R,
+    cutter: &mut Cutter<'_>,
+    hasher: &mut Sha256,
+    piece: &[u8],
+    out: &mut Vec<u8>,
+) -> Result<(), CutFault>
+    ensures hashes { (bytes : List ℕ) → Holds256 hasher.old bytes → Holds256 hasher.new (bytes ++ piece.now) }
+    ensures ok { (plan : Plan) (proposals : List Proposal) (earlier : List Marked) (text : List ℕ) (current : List Block) →
+        IsCutting cutter.old plan proposals earlier text current →
+        OnOk result (GoesOn cutter.new plan proposals earlier text current piece.now [] out.old.items out.new.items) }
+{
+    let (fed, ()) = join_mut(
+        rt,
+        &mut || cutter.feed(piece, out),
+        &mut || hasher.update(piece),
+    );
+    fed
 }
 
 /// Ends a capture.
@@ -85,8 +115,8 @@ pub struct AllCut {
 
 /// Cuts captures one after another, each to a file of its own. The tallies are those of all of
 /// them, whose departures and arrivals have so many numbers in common.
-pub fn cut_captures<S: Source, M: Maker>(
-    alloc: Global,
+pub fn cut_captures<R: Threads + AllocGlobal, S: Source, M: Maker>(
+    rt: &R,
     source: &mut S,
     captures: &[ToCut<'_>],
     plan: &Plan,
@@ -96,13 +126,17 @@ pub fn cut_captures<S: Source, M: Maker>(
     ensures { (texts : List (List ℕ)) → AllZip (λ one text. S.holds source.old one.name.now ≡ Some text) captures.now texts →
         IfOk result (λ all. CutsAll all plan.now captures.now texts (files_of (M.making made.old) (M.taken made.old)) (files_of (M.making made.new) (M.taken made.new))) }
 {
+    let alloc = rt.alloc();
     let mut tallies = Tallies::new(alloc, plan, causes as usize)?;
     let mut totals = Vec::new(alloc);
     let mut number = 0u32;
     for one in captures {
         made.make(one.file.as_str())?;
         let cutter = Cutter::new(alloc, plan, &one.proposals, tallies);
-        let cut = cut_capture(alloc, source, one.name, cutter, number, made)?;
+        let mut hasher = Sha256::new();
+        let cut = cut_capture(rt, source, one.name, cutter, number, made, &mut hasher)?;
+        let section = section_of_cut(alloc, &cut.totals, &hasher.finalize())?;
+        append_all(made, section.as_slice())?;
         tallies = cut.tallies;
         totals.push(cut.totals)?;
         number = number.saturating_add(1);

@@ -4,6 +4,7 @@
 
 mod collected;
 mod command_line;
+mod cut_comment;
 mod cutting;
 mod folder;
 mod folders;

@@ -28,6 +28,7 @@ use crate::stop::Stop;
 use audit_model::{Sink, put_all};
 use prep_cut::Stated;
 use std::alloc::Global;
+use std::thread::Threads;
 
 /// What the policy is made of.
 #[derive(Clone, Copy)]
@@ -53,8 +54,8 @@ pub struct ReadyRequest<'a> {
 /// Prepares captures in a folder of another name, which gets its own name once all is done: a call
 /// that fails leaves no folder. The exit status is 6, and no folder is left, if no datagram of the
 /// service is kept.
-pub fn run_ready<S: Source, M: Maker, F: Folders, O: Sink, E: Sink>(
-    alloc: Global,
+pub fn run_ready<R: Threads + AllocGlobal, S: Source, M: Maker, F: Folders, O: Sink, E: Sink>(
+    rt: &R,
     request: &ReadyRequest<'_>,
     source: &mut S,
     maker: &mut M,
@@ -64,11 +65,12 @@ pub fn run_ready<S: Source, M: Maker, F: Folders, O: Sink, E: Sink>(
 ) -> Result<u8, Stop>
     ensures { IsReady result }
 {
+    let alloc = rt.alloc();
     check_inputs(alloc, request, source)?;
     let mut work = Work::new(alloc, request.folder)?;
     folders.check_new(work.folder())?;
     folders.make_folder(work.part())?;
-    match prepare(alloc, request, &mut work, source, maker, folders, err) {
+    match prepare(rt, request, &mut work, source, maker, folders, err) {
         Ok(true) => {
             give_name(&work, folders)?;
             put_all(out, work.report())?;
@@ -110,8 +112,8 @@ fn give_name<F: Folders>(work: &Work, folders: &mut F) -> Result<(), Stop> {
 }
 
 /// All steps, in the folder that has another name, and whether a datagram of the service is kept.
-fn prepare<S: Source, M: Maker, F: Folders, E: Sink>(
-    alloc: Global,
+fn prepare<R: Threads + AllocGlobal, S: Source, M: Maker, F: Folders, E: Sink>(
+    rt: &R,
     request: &ReadyRequest<'_>,
     work: &mut Work,
     source: &mut S,
@@ -119,16 +121,17 @@ fn prepare<S: Source, M: Maker, F: Folders, E: Sink>(
     folders: &mut F,
     err: &mut E,
 ) -> Result<bool, Stop> {
+    let alloc = rt.alloc();
     let joined = join_step(alloc, &request.captures, work, source, maker, folders)?;
     let policy = policy_step(alloc, request.source, &joined, work, source, maker, err)?;
     prepare_by(
-        alloc, request, &policy, joined, work, source, maker, folders, err,
+        rt, request, &policy, joined, work, source, maker, folders, err,
     )
 }
 
 /// The steps that need the policy.
-fn prepare_by<S: Source, M: Maker, F: Folders, E: Sink>(
-    alloc: Global,
+fn prepare_by<R: Threads + AllocGlobal, S: Source, M: Maker, F: Folders, E: Sink>(
+    rt: &R,
     request: &ReadyRequest<'_>,
     policy: &Chosen,
     joined: Vec<Staged>,
@@ -138,11 +141,12 @@ fn prepare_by<S: Source, M: Maker, F: Folders, E: Sink>(
     folders: &mut F,
     err: &mut E,
 ) -> Result<bool, Stop> {
+    let alloc = rt.alloc();
     let whole = reassemble_step(alloc, policy, joined, work, source, maker, folders)?;
     let has_users = users_step(alloc, request, &whole, work, source, maker, err)?;
     let outer = translate_step(alloc, policy, whole, work, source, maker, folders, err)?;
     let decided = decide_step(alloc, request.stated, &outer, work, source)?;
-    let Some(ready) = leave_step(alloc, decided, outer, work, source, maker, folders, err)? else {
+    let Some(ready) = leave_step(rt, decided, outer, work, source, maker, folders, err)? else {
         return Ok(false);
     };
     work.end(&ready, has_users)?;

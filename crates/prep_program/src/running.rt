@@ -25,6 +25,7 @@ use explain_text::Escaped;
 use prep_coturn::Asked;
 use std::alloc::{AllocError, Global};
 use std::convert::AsStr;
+use std::thread::Threads;
 
 /// The line that says why a run ended: what can't be read or written by its name, and the system's
 /// reason.
@@ -110,8 +111,8 @@ fn run_join<S: Source, M: Maker, O: Sink>(
 }
 
 /// Cuts captures, which are read twice, and gives the files that are made their names at the end.
-fn cut_and_publish<S: Source, M: Maker, O: Sink, E: Sink>(
-    alloc: Global,
+fn cut_and_publish<R: Threads + AllocGlobal, S: Source, M: Maker, O: Sink, E: Sink>(
+    rt: &R,
     request: &CutRequest<'_>,
     source: &mut S,
     maker: &mut M,
@@ -120,8 +121,9 @@ fn cut_and_publish<S: Source, M: Maker, O: Sink, E: Sink>(
 ) -> Result<u8, Stop>
     ensures { IfOk result (λ status. (kept : ℕ) × EndsByKept kept status (E.taken err.old) (E.taken err.new)) }
 {
+    let alloc = rt.alloc();
     check_repeatable(alloc, source, &request.captures)?;
-    let status = run_cut(alloc, request, source, maker, out, err)?;
+    let status = run_cut(rt, request, source, maker, out, err)?;
     maker.publish()?;
     Ok(status)
 }
@@ -140,8 +142,8 @@ fn look<S: Source, O: Sink>(
 }
 
 /// Does what is requested, and returns the exit status.
-fn run_request<S: Source, M: Maker, F: Folders, O: Sink, E: Sink>(
-    alloc: Global,
+fn run_request<R: Threads + AllocGlobal, S: Source, M: Maker, F: Folders, O: Sink, E: Sink>(
+    rt: &R,
     request: &Request<'_>,
     source: &mut S,
     maker: &mut M,
@@ -151,6 +153,7 @@ fn run_request<S: Source, M: Maker, F: Folders, O: Sink, E: Sink>(
 ) -> Result<u8, Stop>
     ensures { Answers (record { before = O.taken out.old; after = O.taken out.new; said_before = E.taken err.old; said_after = E.taken err.new }) request.now result }
 {
+    let alloc = rt.alloc();
     match request {
         Request::Join { captures, file } => run_join(alloc, captures, file, source, maker, out),
         Request::Policy {
@@ -167,11 +170,11 @@ fn run_request<S: Source, M: Maker, F: Folders, O: Sink, E: Sink>(
             run_policy(alloc, file, &asked, source, out, err)
         }
         Request::Look(asked) => look(alloc, asked, source, out),
-        Request::Cut(words) => cut_and_publish(alloc, words, source, maker, out, err),
+        Request::Cut(words) => cut_and_publish(rt, words, source, maker, out, err),
         Request::Translate(asked) => run_translate(alloc, asked, source, maker, out, err),
         Request::Reassemble(asked) => run_reassemble(alloc, asked, source, maker, out),
         Request::Users(asked) => run_users(alloc, asked, source, out, err),
-        Request::Ready(words) => run_ready(alloc, words, source, maker, folders, out, err),
+        Request::Ready(words) => run_ready(rt, words, source, maker, folders, out, err),
         Request::Help(page) => {
             put_text(out, page.text())?;
             Ok(0)
@@ -191,8 +194,8 @@ fn run_request<S: Source, M: Maker, F: Folders, O: Sink, E: Sink>(
 /// done, help or the release; 2 an input is refused; 3 out of memory; 4 a file that can't be read
 /// or made, or something that can't be written; 5 words that are no request; 6 `cut` is done, or
 /// `ready`, and kept no datagram. What ended it is one line on `err`.
-pub fn run<N: AsStr, S: Source, M: Maker, F: Folders, O: Sink, E: Sink>(
-    alloc: Global,
+pub fn run<R: Threads + AllocGlobal, N: AsStr, S: Source, M: Maker, F: Folders, O: Sink, E: Sink>(
+    rt: &R,
     words: &[N],
     source: &mut S,
     maker: &mut M,
@@ -203,6 +206,7 @@ pub fn run<N: AsStr, S: Source, M: Maker, F: Folders, O: Sink, E: Sink>(
     ensures { IsRun (map N.text words.now)
         (record { before = O.taken out.old; after = O.taken out.new; said_before = E.taken err.old; said_after = E.taken err.new }) result }
 {
+    let alloc = rt.alloc();
     let request = match read_words(alloc, words) {
         Ok(request) => request,
         Err(_) => {
@@ -210,7 +214,7 @@ pub fn run<N: AsStr, S: Source, M: Maker, F: Folders, O: Sink, E: Sink>(
             return Stop::Memory.status();
         }
     };
-    match run_request(alloc, &request, source, maker, folders, out, err) {
+    match run_request(rt, &request, source, maker, folders, out, err) {
         Ok(status) => status,
         Err(stop) => {
             maker.discard();

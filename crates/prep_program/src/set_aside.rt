@@ -22,6 +22,7 @@ use prep_cut::{Allocations, CauseNumber, Plan, Proposal, Stated};
 use prep_reasons::{Proposed, decide};
 use std::alloc::Global;
 use std::mem;
+use std::thread::Threads;
 
 /// The arguments of the command `cut`.
 #[derive(Drop)]
@@ -52,8 +53,8 @@ struct Planned {
 
 /// Writes the captures without what is set aside into a folder, and the list of that, which is
 /// printed, too. Where no datagram is kept, it says so on `err`, and the exit status is 6.
-pub fn run_cut<S: Source, M: Maker, O: Sink, E: Sink>(
-    alloc: Global,
+pub fn run_cut<R: Threads + AllocGlobal, S: Source, M: Maker, O: Sink, E: Sink>(
+    rt: &R,
     request: &CutRequest<'_>,
     source: &mut S,
     maker: &mut M,
@@ -66,6 +67,7 @@ pub fn run_cut<S: Source, M: Maker, O: Sink, E: Sink>(
         IfOk result (λ status. IsCutRun request.now policy captures
         (files_of (M.making maker.old) (M.taken maker.old)) (files_of (M.making maker.new) (M.taken maker.new)) (O.taken out.old) (O.taken out.new) (E.taken err.old) (E.taken err.new) status) }
 {
+    let alloc = rt.alloc();
     check_parts(&request.captures)?;
     let Planned {
         plan,
@@ -74,7 +76,7 @@ pub fn run_cut<S: Source, M: Maker, O: Sink, E: Sink>(
         causes,
     } = plan_of(alloc, request, source)?;
     let captures = captures_of(alloc, request, proposals)?;
-    let all = cut_captures(alloc, source, &captures, &plan, causes, maker)?;
+    let all = cut_captures(rt, source, &captures, &plan, causes, maker)?;
     let list = list_of(alloc, &plan, &told, &all)?;
     write_list(alloc, request.folder, list.as_str(), maker, out)?;
     let kept = kept_in(&all.totals);

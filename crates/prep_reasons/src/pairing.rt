@@ -101,7 +101,7 @@ impl Pairing {
     }
 
     /// Pairs a departure with an arrival from this place on, and returns the place from which the
-    /// next departure's is. Both lists are in one order, so no arrival is looked at twice.
+    /// next departure's is. Both lists are in one order, so none before it is needed any more.
     fn pair_with(
         &mut self,
         sheet: &Sheet<'_>,
@@ -111,14 +111,9 @@ impl Pairing {
     ) -> usize {
         let reach = sheet.policy.hold.saturating_add(sheet.slack);
         let least = (departure.key, departure.stamp.saturating_sub(reach));
-        let mut place = from;
-        while place < arrivals.len() {
-            let arrival = arrivals[place];
-            if (arrival.key, arrival.stamp) >= least {
-                break;
-            }
-            place += 1;
-        }
+        let rest = arrivals.get(from..).unwrap_or(&[]);
+        let passed = rest.partition_point(|arrival| (arrival.key, arrival.stamp) < least);
+        let place = from.saturating_add(passed);
         let Some(arrival) = arrivals.get(place) else {
             return place;
         };

@@ -10,9 +10,10 @@ use Rattle.prep_blocks.specs.declared.block.Block.{Block}
 use Rattle.prep_blocks.specs.Read.{bytes_of}
 use Rattle.prep_blocks.specs.Splitting.{IsWhole}
 use Rattle.prep_cut.specs.declared.plan.Plan.{Plan}
-use Rattle.prep_cut.specs.Marks.{marked, written_of}
+use Rattle.prep_cut.specs.Marks.{marked}
 use Rattle.prep_program.specs.declared.cutting.ToCut.{ToCut}
 use Rattle.prep_program.specs.declared.set_aside.CutRequest.{CutRequest}
+use Rattle.prep_program.specs.CutComment.{file_of}
 use Rattle.prep_program.specs.CutRuns.{IsCutRun}
 use Rattle.prep_program.specs.Making.{FileMade}
 use Rattle.prep_verdict.specs.Audited.{AreWhole}
@@ -24,7 +25,7 @@ texts_same : (plan : Plan) (asked : List ToCut) (captures : List (List Block)) �
 texts_same plan [] captures = refl
 texts_same plan (one ∷ others) [] = refl
 texts_same plan (one ∷ others) (blocks ∷ captures) =
-    ap (λ (texts : List (List ℕ)). written_of (marked plan one.proposals.items blocks) ∷ texts) (texts_same plan others captures)
+    ap (λ (texts : List (List ℕ)). file_of plan (marked plan one.proposals.items blocks) ∷ texts) (texts_same plan others captures)
 
 whole_at : (asked : List ToCut) (captures : List (List Block)) → AllByRecursion (λ blocks. IsWhole (bytes_of blocks) blocks) captures → AreWhole (captures_of asked captures)
 whole_at [] captures all file lt = absurd (omega (arith, lt))

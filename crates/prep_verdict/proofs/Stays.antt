@@ -1,5 +1,5 @@
 -- The packets of blocks, and of those that stay.
-use Rattle.std.proofs.Common.{◌≡◌, ◌≢◌, ℕ, List, [], ◌∷◌, ◌++◌, map, Option, Some, None, refl, sym, ap, subst, ◌∙◌}
+use Rattle.std.proofs.Common.{◌≡◌, ◌≢◌, ℕ, List, [], ◌∷◌, ◌++◌, map, Option, Some, None, refl, sym, ap, subst, append_assoc, ◌∙◌}
 use Rattle.std.specs.Prelude.{option_map}
 use Rattle.std.specs.Option.{option_to_list}
 use Rattle.std.specs.List.{AllByRecursion}
@@ -18,6 +18,13 @@ use Rattle.prep_blocks.specs.Splitting.{IsWhole}
 use Rattle.prep_cut.specs.declared.plan.Plan.{Plan}
 use Rattle.prep_cut.specs.declared.plan.Proposal.{Proposal}
 use Rattle.prep_cut.specs.Marks.{Marked, marked, behind, line_of, proposed_for, proposed_line}
+use Rattle.hex.specs.Hex.{encode_lower}
+use Rattle.sha2.specs.Sha256.{sha256}
+use Rattle.prep_comment.specs.Sections.{block_of, scope_behind, section_of}
+use Rattle.prep_comment.proofs.Reading.{section_read}
+use Rattle.prep_cut.specs.Marking.{totals_of}
+use Rattle.prep_program.specs.CutComment.{blocks_of, comment_text}
+use Rattle.prep_program.proofs.AllCuts.{blocks_same}
 use Rattle.prep_verdict.specs.Rest.{packet_by, packet_in, packets_in, rest_of, Capture, stays, written}
 use Rattle.prep_verdict.proofs.Gives.{block_has}
 
@@ -86,12 +93,33 @@ all_kept : (plan : Plan) (proposals : List Proposal) (blocks : List Block) → A
 all_kept plan proposals [] = tt
 all_kept plan proposals (b ∷ others) = (no_line plan proposals b, all_kept plan (behind b.packet proposals) others)
 
-blocks_of : (plan : Plan) (proposals : List Proposal) (blocks : List Block) → map (λ (one : Marked). one.block) (marked plan proposals blocks) ≡ blocks
-blocks_of plan proposals [] = refl
-blocks_of plan proposals (b ∷ others) = ap (λ (rest : List Block). b ∷ rest) (blocks_of plan (behind b.packet proposals) others)
+-- ---- the comment behind them
+
+then_read : (blocks : List Block) (scope middle after : Scope) (b : Block) → AreRead scope blocks middle → IsRead middle b None after → AreRead scope (blocks ++ b ∷ []) after
+then_read [] scope middle after b e one = (None, after, subst (λ (s : Scope). IsRead s b None after) e one, refl)
+then_read (first ∷ others) scope middle after b read one = (read.0, read.1, read.2, then_read others read.1 middle after b read.3 one)
+
+bytes_then : (blocks : List Block) (b : Block) → bytes_of (blocks ++ b ∷ []) ≡ bytes_of blocks ++ b.bytes
+bytes_then [] b = append-nil b.bytes
+bytes_then (first ∷ others) b = ap (λ (t : List ℕ). first.bytes ++ t) (bytes_then others b) ∙ sym (append_assoc first.bytes (bytes_of others) b.bytes)
+
+packets_then : (blocks : List Block) (b : Block) → packet_in b ≡ None → packets_in (blocks ++ b ∷ []) ≡ packets_in blocks
+packets_then [] b none = joined None [] [] b none refl
+packets_then (first ∷ others) b none =
+    joined (packet_in first) (packets_in others) (others ++ b ∷ []) first refl (packets_then others b none) ∙ sym (joined (packet_in first) (packets_in others) others first refl refl)
+
+-- the text of a capture whose last block is such a comment
+with_comment : (blocks : List Block) (scope : Scope) (comment : List ℕ) (packets : List Packet) → AreRead no_blocks blocks scope → IsCapture (bytes_of blocks ++ section_of comment) packets → packets ≡ packets_in blocks
+with_comment blocks scope comment packets read is =
+    let last = block_of comment in
+    let all = blocks ++ last ∷ [] in
+    let whole = then_read blocks no_blocks scope (scope_behind scope) last read (section_read scope comment) in
+    let same : IsCapture (bytes_of all) packets = subst (λ (text : List ℕ). IsCapture text packets) (sym (bytes_then blocks last)) is in
+    (one_list (bytes_of all) packets (packets_in all) same.1 (scope_behind scope) [] [] (record { front = same.2; cut = cut_by_end same.1 [] refl }) (reads all (scope_behind scope) whole)).0
+    ∙ packets_then blocks last refl
 
 pub written_has : (plan : Plan) (capture : Capture) (packets : List Packet) → IsWhole capture.text capture.blocks → IsCapture (written plan capture) packets → packets ≡ packets_in (stays plan capture)
 written_has plan capture packets whole is =
     let marks = marked plan capture.proposals capture.blocks in
-    let read = AreRead-rest marks no_blocks whole.scope (all_kept plan capture.proposals capture.blocks) (rw (blocks_of plan capture.proposals capture.blocks) whole.read) in
-    (one_list (written plan capture) packets (packets_in (stays plan capture)) is.1 whole.scope [] [] (record { front = is.2; cut = cut_by_end is.1 [] refl }) (reads (stays plan capture) whole.scope read)).0
+    let read = AreRead-rest marks no_blocks whole.scope (all_kept plan capture.proposals capture.blocks) (rw (blocks_same plan capture.proposals capture.blocks) whole.read) in
+    with_comment (rest_of marks) whole.scope (comment_text (totals_of plan marks) (encode_lower (sha256 (bytes_of (blocks_of marks))))) packets read is

@@ -18,7 +18,7 @@ captures_of (one ∷ others) (blocks ∷ captures) = record { text = bytes_of bl
 
 -- what the files that were made of them contain
 abbrev pub texts_cut : Plan → List ToCut → List (List Block) → List (List ℕ)
-texts_cut plan asked captures = map (λ (file : FileMade). file.bytes) (files_cut asked (marks_of plan asked captures))
+texts_cut plan asked captures = map (λ (file : FileMade). file.bytes) (files_cut plan asked (marks_of plan asked captures))
 
 -- By the policy of the call, one run of the server explains every datagram of the service in the texts of its captures, except those of packets
 -- that a line of its list excludes.

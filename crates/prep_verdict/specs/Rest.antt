@@ -7,7 +7,8 @@ use Rattle.prep_blocks.specs.declared.block.PacketHead.{PacketHead}
 use Rattle.prep_cut.specs.declared.plan.Plan.{Plan}
 use Rattle.prep_cut.specs.declared.plan.Proposal.{Proposal}
 use Rattle.prep_cut.specs.Datagrams.{frame_of}
-use Rattle.prep_cut.specs.Marks.{Marked, marked, is_written, written_of}
+use Rattle.prep_cut.specs.Marks.{Marked, marked, is_written}
+use Rattle.prep_program.specs.CutComment.{file_of}
 
 -- a packet, by what its block says before its bytes, and by these
 abbrev pub packet_by : Block → PacketHead → Packet
@@ -35,6 +36,6 @@ pub record Capture : Type 0 where
 abbrev pub stays : Plan → Capture → List Block
 stays plan capture = rest_of (marked plan capture.proposals capture.blocks)
 
--- what is written of it
+-- the file that is written of it, with its comment
 abbrev pub written : Plan → Capture → List ℕ
-written plan capture = written_of (marked plan capture.proposals capture.blocks)
+written plan capture = file_of plan (marked plan capture.proposals capture.blocks)

@@ -40,7 +40,7 @@ fn main(rt: HostRuntime) -> ExitCode {
     let mut err = HostStream::new(rt.stderr(), &progress);
     let status = match words_of(&rt) {
         Ok(words) => run(
-            alloc,
+            &rt,
             &words,
             &mut HostFiles::new(&rt, alloc, &progress),
             &mut HostMaker::new(&rt, alloc),

@@ -17,6 +17,7 @@ use prep_cut::Stated;
 use prep_look::{Needs, needs_of};
 use prep_reasons::sort_out;
 use std::alloc::Global;
+use std::thread::Threads;
 
 /// Whether `cut` is needed, and with which options.
 #[derive(Clone, Copy)]
@@ -108,8 +109,8 @@ fn needs_by<S: Source>(
 
 /// Leaves the captures in the folder: without what is excluded, with the list of that, or as they
 /// are. None is left if no datagram of the service is kept.
-pub fn leave_step<S: Source, M: Maker, F: Folders, E: Sink>(
-    alloc: Global,
+pub fn leave_step<R: Threads + AllocGlobal, S: Source, M: Maker, F: Folders, E: Sink>(
+    rt: &R,
     decided: Decided,
     captures: Vec<Staged>,
     work: &mut Work,
@@ -118,8 +119,9 @@ pub fn leave_step<S: Source, M: Maker, F: Folders, E: Sink>(
     folders: &mut F,
     err: &mut E,
 ) -> Result<Option<Vec<Staged>>, Stop> {
+    let alloc = rt.alloc();
     if decided.is_cut {
-        exclude(alloc, decided.stated, &captures, work, source, maker, err)
+        exclude(rt, decided.stated, &captures, work, source, maker, err)
     } else {
         let kept = keep(alloc, captures, work, source, maker, folders)?;
         Ok(Some(kept))
@@ -143,8 +145,8 @@ fn keep<S: Source, M: Maker, F: Folders>(
 }
 
 /// Writes the captures without what is excluded, and the list.
-fn exclude<S: Source, M: Maker, E: Sink>(
-    alloc: Global,
+fn exclude<R: Threads + AllocGlobal, S: Source, M: Maker, E: Sink>(
+    rt: &R,
     stated: Stated,
     captures: &[Staged],
     work: &mut Work,
@@ -152,8 +154,9 @@ fn exclude<S: Source, M: Maker, E: Sink>(
     maker: &mut M,
     err: &mut E,
 ) -> Result<Option<Vec<Staged>>, Stop> {
+    let alloc = rt.alloc();
     let mut list = Collected::new(alloc);
-    if cut_by(alloc, stated, captures, work, source, maker, &mut list, err)? != 0 {
+    if cut_by(rt, stated, captures, work, source, maker, &mut list, err)? != 0 {
         return Ok(None);
     }
     if let Some(line) = list.line(b"excluded ") {
@@ -182,8 +185,8 @@ fn by_hand(
 }
 
 /// The exit status of `cut`, which writes to the folder in which `ready` works.
-fn cut_by<S: Source, M: Maker, E: Sink>(
-    alloc: Global,
+fn cut_by<R: Threads + AllocGlobal, S: Source, M: Maker, E: Sink>(
+    rt: &R,
     stated: Stated,
     captures: &[Staged],
     work: &Work,
@@ -195,7 +198,7 @@ fn cut_by<S: Source, M: Maker, E: Sink>(
     let policy = work.file("policy")?;
     let folder = work.part();
     let status = cut_to(
-        alloc,
+        rt,
         stated,
         captures,
         policy.as_str(),
@@ -210,8 +213,8 @@ fn cut_by<S: Source, M: Maker, E: Sink>(
 }
 
 /// The exit status of `cut` to the folder.
-fn cut_to<'x, S: Source, M: Maker, E: Sink>(
-    alloc: Global,
+fn cut_to<'x, R: Threads + AllocGlobal, S: Source, M: Maker, E: Sink>(
+    rt: &R,
     stated: Stated,
     captures: &'x [Staged],
     policy: &'x str,
@@ -221,13 +224,14 @@ fn cut_to<'x, S: Source, M: Maker, E: Sink>(
     list: &mut Collected,
     err: &mut E,
 ) -> Result<u8, Stop> {
+    let alloc = rt.alloc();
     let request = CutRequest {
         policy,
         folder,
         stated,
         captures: files_of(alloc, captures)?,
     };
-    run_cut(alloc, &request, source, maker, list, err)
+    run_cut(rt, &request, source, maker, list, err)
 }
 
 /// What is stated, as options of `cut`.

@@ -1,4 +1,4 @@
-use Rattle.std.proofs.Common.{◌≡◌, ◌≤◌, ◌<◌, ◌∙◌, ◌++◌, ◌+◌, ◌∷◌, [], ℕ, List, Option, Some, length, refl, get_or, take, ap, sym, subst, arith, Bor, string_bytes}
+use Rattle.std.proofs.Common.{◌≡◌, ◌≤◌, ◌∙◌, ◌++◌, ◌+◌, ◌∷◌, [], ℕ, List, Option, Some, length, refl, get_or, take, ap, sym, subst, arith, string_bytes}
 use Rattle.prep_cut.specs.declared.plan.Proposal.{Proposal}
 use Rattle.std.proofs.lemmas.List.{take_all}
 use Rattle.std.proofs.lemmas.Grind.{take_at_read}
@@ -7,8 +7,10 @@ use Rattle.prep_cut.specs.declared.tally.Totals.{Totals}
 use Rattle.prep_cut.specs.Cutting.{IsCutting}
 use Rattle.prep_cut.proofs.Pairing.{are_paired}
 use Rattle.prep_program.specs.declared.cutting.ToCut.{ToCut}
+use Rattle.sha2.specs.Sha256.{sha256}
+use Rattle.prep_program.specs.CutComment.{comment_of_cut}
 use Rattle.prep_program.specs.AllCuts.{marks_of, all_marks}
-use Rattle.prep_program.specs.Making.{FileMade, emptied, files_of, opened_by, with_files}
+use Rattle.prep_program.specs.Making.{files_of, opened_by}
 use Rattle.prep_program.proofs.Pieces.{zip_at, zip_len}
 use Rattle.prep_program.proofs.AllCuts.{AreCut, none_cut, one_cut, file_made}
 use Rattle.prep_program.proofs.cutting.cut_captures.Goals as goal
@@ -35,6 +37,8 @@ loop-one-preserved g c = record {
       let t1 = g.M.Sink.taken c.make.new.self in
       let m2 = g.M.Maker.making c.cut_capture.new.made in
       let t2 = g.M.Sink.taken c.cut_capture.new.made in
+      let m3 = g.M.Maker.making c.append_all.new.maker in
+      let t3 = g.M.Sink.taken c.append_all.new.maker in
       let first = files_of (g.M.Maker.making c.args.made.now) (g.M.Sink.taken c.args.made.now) in
       let before = c.loop-one.invariant.fed texts all in
       let at = zip_at (λ (each : ToCut) (text : List ℕ). g.S.Source.holds c.args.source.now each.name.now ≡ Some text) asked texts index one [] all c.loop-one-test.true in
@@ -46,12 +50,16 @@ loop-one-preserved g c = record {
       let cutting = subst (λ (ps : List Proposal). IsCutting c.new-cutter.result plan ps earlier [] []) c.deref.ensures.value (c.new-cutter.ensures earlier before.tallies_are) in
       let cuts = c.in_ok-cut.ensures.cuts text plan one.proposals.items earlier holds cutting in
       let opened : m1 ≡ opened_by (string_bytes one.file) (files_of m0 t0) = c.in_ok-make.ensures.opened ∙ ap (λ (n : List ℕ). opened_by n (files_of m0 t0)) c.as_str.ensures.value in
-      let more = one_cut c.loop-one.totals.items c.loop-one.tallies plan (take index asked) (take index texts) first (files_of m0 t0) (files_of m2 t2) one text c.in_ok-cut.cut t1 t2 before cuts
-      (λ bytes took. file_made m0 m1 m2 t0 t1 t2 (string_bytes one.file) bytes opened c.in_ok-make.ensures.empty c.cut_capture.ensures.others took) in
+      let digest : List ℕ = c.finalize.result in
+      let hashed : digest ≡ sha256 text = c.finalize.ensures text (c.in_ok-cut.ensures.hashes text holds c.new-hasher.ensures) in
+      let put : t3 ≡ followed_by t2 (comment_of_cut c.in_ok-cut.cut.totals digest) =
+      c.in_ok-append_all.ensures.ok ∙ ap (λ (s : List ℕ). followed_by t2 s) (c.as_slice.ensures.value ∙ c.in_ok-section.ensures) in
+      let more = one_cut c.loop-one.totals.items c.loop-one.tallies plan (take index asked) (take index texts) first (files_of m0 t0) (files_of m3 t3) one text c.in_ok-cut.cut digest t1 t2 t3 before cuts hashed put
+      (λ bytes took. file_made m0 m1 m3 t0 t1 t3 (string_bytes one.file) bytes opened c.in_ok-make.ensures.empty (c.append_all.ensures.others ∙ c.cut_capture.ensures.others) took) in
       let whole : take (index + 1) asked ≡ take index asked ++ one ∷ [] = (take_at_read asked index one c.loop-one-test.true).1 ∙ ap (λ (each : ToCut). take index asked ++ each ∷ []) e in
-      subst (λ (t : List (List ℕ)). AreCut c.push.new.self.items c.in_ok-cut.cut.tallies plan (take (index + 1) asked) t first (files_of m2 t2)) (sym (take_at_read texts index [] at.0).1)
-      (subst (λ (a : List ToCut). AreCut c.push.new.self.items c.in_ok-cut.cut.tallies plan a (take index texts ++ text ∷ []) first (files_of m2 t2)) (sym whole)
-      (subst (λ (t : List Totals). AreCut t c.in_ok-cut.cut.tallies plan (take index asked ++ one ∷ []) (take index texts ++ text ∷ []) first (files_of m2 t2)) (sym c.in_ok-push.ensures.items) more));
+      subst (λ (t : List (List ℕ)). AreCut c.push.new.self.items c.in_ok-cut.cut.tallies plan (take (index + 1) asked) t first (files_of m3 t3)) (sym (take_at_read texts index [] at.0).1)
+      (subst (λ (a : List ToCut). AreCut c.push.new.self.items c.in_ok-cut.cut.tallies plan a (take index texts ++ text ∷ []) first (files_of m3 t3)) (sym whole)
+      (subst (λ (t : List Totals). AreCut t c.in_ok-cut.cut.tallies plan (take index asked ++ one ∷ []) (take index texts ++ text ∷ []) first (files_of m3 t3)) (sym c.in_ok-push.ensures.items) more));
 }
 
 pub returns : goal.returns

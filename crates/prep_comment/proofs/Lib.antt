@@ -1,0 +1,5 @@
+pub mod Lengths
+pub mod Spelled
+pub mod Reading
+pub mod Writing
+pub mod Commented

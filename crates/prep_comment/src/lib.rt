@@ -1,0 +1,8 @@
+//! A section header that says nothing but a comment (pcapng, sections 3.5 and 4.1).
+#![tactic(auto)]
+
+mod laws;
+mod section;
+
+pub use laws::{a_section_has_no_packet, a_section_has_the_comment};
+pub use section::comment_section;
