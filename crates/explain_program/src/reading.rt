@@ -87,7 +87,8 @@ fn with_block(row: CaptureRow, block: &Block) -> CaptureRow {
 #[derive(Drop)]
 pub struct CaptureFacts {
     pub row: CaptureRow,
-    /// The comment of its first section header; none if there is none.
+    /// The comment of the last section header that has one; none if none has. What wrote the file
+    /// last says so last, as `turnprep cut` does.
     pub comment: Option<String>,
 }
 
@@ -95,8 +96,10 @@ impl CaptureFacts {
     /// Takes the next block.
     fn take(&mut self, alloc: Global, block: &Block) -> Result<(), AllocError> {
         self.row = with_block(self.row, block);
-        if block.kind == BlockKind::Section && self.comment.is_none() {
-            self.comment = comment_of(alloc, block)?;
+        if block.kind == BlockKind::Section {
+            if let Some(comment) = comment_of(alloc, block)? {
+                self.comment = Some(comment);
+            }
         }
         Ok(())
     }
