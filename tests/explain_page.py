@@ -5,9 +5,9 @@
 
 It is HTML whose elements are closed, asks for nothing from elsewhere and has no script; the same inputs give the same page; the
 digests, sizes, packets and moments are those of the files; it has no password, and no digest of one; names out of files can't become
-markup; a file that is there is kept; it has the list of what turnprep cut; of a capture that changes meanwhile there is none; its
-picture has an axis, a legend and the deleted allocations, and each mark is inside it. Where there is a Chromium, it opens the page
-without an error on its console and prints it.
+markup; a file that is there is kept; it has the list of what turnprep cut, or says by the last section's comment that there is one; of
+a capture that changes meanwhile there is none; its picture has an axis, a legend and the deleted allocations, and each mark is inside
+it. Where there is a Chromium, it opens the page without an error on its console and prints it.
 """
 
 import hashlib
@@ -163,6 +163,60 @@ def check_cut(program, folder):
     return [f"cut: {fault}" for fault in faults] + [f"cut: {fault}" for fault in looked_at(page)]
 
 
+def section(comment):
+    """A section header block without interfaces, little endian, whose only option is this comment (pcapng, sections 3.5 and 4.1)."""
+    option = struct.pack("<HH", 1, len(comment)) + comment + bytes(-len(comment) % 4) + struct.pack("<HH", 0, 0)
+    length = 28 + len(option)
+    return struct.pack("<IIIHHq", 0x0A0D0D0A, length, 0x1A2B3C4D, 1, 0, -1) + option + struct.pack("<I", length)
+
+
+def check_last_section(program, folder):
+    """Captures that end with a section header whose comment is of `turnprep cut`: the page says so before the verdict's meaning, has that
+    comment and none of the sections before, and names the option for the list. The verdict is that of the capture without the section."""
+    cut = "turnprep cut: kept 4444 packets and excluded 123, which the list set-aside has; SHA-256 of the original: " + 32 * "0f"
+    says, faults = "turnprep excluded packets from the captures", []
+    for name, file, status, means in (
+        ("coturn-channels-two-files", "client.pcapng", 0, "Some one order of all captured"),
+        ("coturn-permission-outlived", "cap.pcapng", 1, "The order of the captured datagrams that was tried"),
+    ):
+        example = TOP / "examples" / name
+        original = (example / file).read_bytes()
+        of_another = with_comment(original, b"my holiday")
+        others = [one for one in sorted(example.glob("*.pcapng")) if one.name != file]
+        words = ["--policy", example / "policy", "--creds", example / "creds"]
+        verdicts = []
+        for case, content, is_cut, comment in (
+            ("none", original, False, None),
+            ("another", of_another, False, "my holiday"),
+            ("cut", original + section(cut.encode()), True, cut),
+            ("another, cut", of_another + section(cut.encode()), True, cut),
+            ("cut, another", original + section(cut.encode()) + section(b"my holiday"), False, "my holiday"),
+            ("cut, without", original + section(cut.encode()) + original[:struct.unpack_from("<I", original, 4)[0]], True, cut),
+        ):
+            (folder / "last").mkdir(exist_ok=True)
+            (folder / "last" / file).write_bytes(content)
+            done, page = page_of(program, [*words, folder / "last" / file, *others], folder, "last.html")
+            (folder / "last.html").unlink(missing_ok=True)
+            wanted = [f"The comment of capture 0: {comment}"] if comment else []
+            if done.returncode != status or [line[3:-4] for line in page.splitlines() if line.startswith("<p>The comment of")] != wanted:
+                faults.append(f"{name}, {case}: status {done.returncode}, or the comments aren't {wanted}")
+            if is_cut != (0 < page.find(says) < page.find(means)) or is_cut != ("--excluded FILE" in page) or "What was excluded" in page:
+                faults.append(f"{name}, {case}: says that packets were excluded where they weren't, or doesn't")
+            faults += [f"{name}, {case}: {fault}" for fault in looked_at(page)]
+            given = [program, "verdict", *words, file, *others]
+            done = subprocess.run(given, capture_output=True, cwd=folder / "last", check=False)
+            verdicts.append((done.returncode, done.stdout, done.stderr))
+        if len(set(verdicts)) != 1 or verdicts[0][0] != status:
+            faults.append(f"{name}: the verdict depends on the last section: {verdicts}")
+        listed = folder / "list"
+        listed.write_text("client 198.51.100.7:1 192.0.2.1:3478 in 1 1 out 2 2\n")
+        (folder / "last" / file).write_bytes(original + section(cut.encode()))
+        _, page = page_of(program, [*words, "--excluded", listed, folder / "last" / file, *others], folder, f"last-{name}.html")
+        if says in page or "turnprep excluded datagrams from the captures" not in page or cut not in page:
+            faults.append(f"{name}: with its list the page isn't about that alone")
+    return [f"last section: {fault}" for fault in faults]
+
+
 def check_changing(program, folder):
     """A capture that is replaced after it was judged and before it is read again: an error with its name, and nothing is filed."""
     if shutil.which("gcc") is None:
@@ -235,6 +289,7 @@ def main():
             faults += check_example(program, TOP / "examples" / name, status, folder)
         faults += check_markup(program, folder)
         faults += check_cut(program, folder)
+        faults += check_last_section(program, pathlib.Path(folder))
         faults += check_changing(program, folder)
         faults += check_picture(program, pathlib.Path(folder))
         faults += check_browser(folder)

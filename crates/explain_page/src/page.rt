@@ -5,7 +5,9 @@ use crate::facts::Facts;
 use crate::markup::Plain;
 use crate::style::{HEAD, STYLE};
 use crate::tables::{captures, clients, comments, files, users};
-use crate::words::{CONFORMING, CUT, NOT_PROVED, NOT_SAID, NOT_SHOWN, PROVED, REPEATS};
+use crate::words::{
+    CONFORMING, CUT, CUT_BY_COMMENT, CUT_COMMENT, NOT_PROVED, NOT_SAID, NOT_SHOWN, PROVED, REPEATS,
+};
 use std::alloc::{AllocError, Global};
 
 /// A section.
@@ -16,6 +18,19 @@ fn section(alloc: Global, title: &str, body: &str) -> Result<String, AllocError>
 /// Whether the program was built with its proofs, as its release says.
 fn is_proved(facts: &Facts<'_>) -> bool {
     !facts.release.ends_with("not proved")
+}
+
+/// What is said first of captures that `turnprep cut` wrote, by its list or by their comments.
+fn cut(facts: &Facts<'_>) -> &'static str {
+    if facts.excluded.is_some() {
+        return CUT;
+    }
+    for row in facts.comments {
+        if row.text.starts_with(CUT_COMMENT) {
+            return CUT_BY_COMMENT;
+        }
+    }
+    ""
 }
 
 /// What stands at the top: the verdict, and what it says.
@@ -31,7 +46,7 @@ fn verdict(alloc: Global, facts: &Facts<'_>) -> Result<String, AllocError> {
         (true, true) => PROVED,
         (true, false) => "",
     };
-    let cut = if facts.excluded.is_some() { CUT } else { "" };
+    let cut = cut(facts);
     format!(in alloc;
         "{HEAD}<title>turnaudit: {head}</title>\n{STYLE}</head>\n<body>\n<h1>Audit of a TURN server by RFC 8656</h1>\n<p class=\"word\">{head}</p>\n{cut}{says}{proved}{NOT_SAID}"
     )

@@ -1,8 +1,15 @@
 //! What the page says in its own words.
 
-/// What is said first of captures from which datagrams were excluded.
+/// What is said first of captures from which packets were excluded, if the list of those is filed.
 pub const CUT: &str =
     "<p><strong>Before this audit turnprep excluded datagrams from the captures</strong>: their list is below (What was excluded). All that follows is about the datagrams that were left in.</p>\n";
+
+/// What is said first if a capture's comment says that `turnprep cut` wrote it, and no list is filed.
+pub const CUT_BY_COMMENT: &str =
+    "<p><strong>Before this audit turnprep excluded packets from the captures</strong>: the comments of the captures (Captures) say how many. <code>turnexplain evidence --excluded FILE</code> appends their list. All that follows is about the packets that were kept.</p>\n";
+
+/// How the comment begins that `turnprep cut` writes.
+pub const CUT_COMMENT: &str = "turnprep cut: ";
 
 /// What `conforming` says.
 pub const CONFORMING: &str =
