@@ -14,14 +14,14 @@ title_of Unbound = codes "relayed without a channel"
 title_of Unfit = codes "responded wrongly"
 title_of Unauthentic = codes "granted without a user's request"
 
--- first whether the captures have the beginning of the allocation of a client that asked for it, where that matters
+-- first whether the captures have the beginning of the allocation of a client for which the departure may have been sent, if that matters
 abbrev pub beginning_in_time : Fault → Bool → List ℕ
 beginning_in_time Unasked predates = []
-beginning_in_time Unallocated true = codes "beginning not captured: the capture began too late for that relayed address; no captured Allocate success told it to a client that asked for it before it\n"
+beginning_in_time Unallocated true = codes "beginning not captured: the capture began too late for that relayed address; no captured Allocate success response granted it to a client for which this datagram may have been sent, and whose request came before this datagram\n"
 beginning_in_time Unallocated false = codes "beginning captured\n"
-beginning_in_time Unpermitted true = codes "beginning not captured: the capture began too late for that relayed address; no captured Allocate success told it to a client that asked for it before it\n"
+beginning_in_time Unpermitted true = codes "beginning not captured: the capture began too late for that relayed address; no captured Allocate success response granted it to a client for which this datagram may have been sent, and whose request came before this datagram\n"
 beginning_in_time Unpermitted false = codes "beginning captured\n"
-beginning_in_time Unbound true = codes "beginning not captured: the capture began too late for that relayed address; no captured Allocate success told it to a client that asked for it before it\n"
+beginning_in_time Unbound true = codes "beginning not captured: the capture began too late for that relayed address; no captured Allocate success response granted it to a client for which this datagram may have been sent, and whose request came before this datagram\n"
 beginning_in_time Unbound false = codes "beginning captured\n"
 beginning_in_time Unfit predates = []
 beginning_in_time Unauthentic predates = []
@@ -33,23 +33,23 @@ beginning_of fault predates false = beginning_in_time fault predates
 
 -- when the lease was granted that it lacked
 abbrev pub allocation_reason : Granted → List ℕ
-allocation_reason Never = codes "never granted: no captured success told a client that asked for it that relayed address\n"
-allocation_reason Later = codes "granted later: each captured success that told a client that asked for it that relayed address answers a request that came after it\n"
-allocation_reason Before = codes "no captured arrival that asked for it was for a client that was told that relayed address by then\n"
+allocation_reason Never = codes "never granted: no captured Allocate success response granted that relayed address to a client for which this datagram may have been sent\n"
+allocation_reason Later = codes "granted later: each captured Allocate success response that granted that relayed address to a client for which this datagram may have been sent is for a request that came after this datagram\n"
+allocation_reason Before = codes "no client for which this datagram may have been sent was granted that relayed address by then\n"
 
 abbrev pub permission_reason : Granted → List ℕ
-permission_reason Never = codes "never granted: no captured success granted a permission for the peer's IP to a client that asked for it and was told that relayed address\n"
-permission_reason Later = codes "granted later: each captured success that granted a permission for the peer's IP to a client that asked for it and was told that relayed address answers a request that came after it\n"
-permission_reason Before = codes "expired: each captured arrival that asked for it came later than 300 seconds and the grace after the last success that granted a permission for the peer's IP\n"
+permission_reason Never = codes "never granted: no captured success response granted a permission for the peer's IP to a client for which this datagram may have been sent, and which was granted that relayed address\n"
+permission_reason Later = codes "granted later: each captured success response that granted a permission for the peer's IP to a client for which this datagram may have been sent, and which was granted that relayed address by then, is for a request that came after this datagram\n"
+permission_reason Before = codes "expired: each captured arrival for which this datagram may have been sent came later than 300 seconds and the grace after the last success response that granted a permission for the peer's IP\n"
 
 abbrev pub channel_reason : Granted → List ℕ
-channel_reason Never = codes "never granted: no captured success bound the channel to the peer for a client that asked for it and was told that relayed address\n"
-channel_reason Later = codes "granted later: each captured success that bound the channel to the peer for a client that asked for it and was told that relayed address answers a request that came after it\n"
-channel_reason Before = codes "expired: each captured arrival that asked for it came later than 600 seconds and the grace after the last success that bound the channel to the peer\n"
+channel_reason Never = codes "never granted: no captured success response bound the channel to the peer for a client for which this datagram may have been sent, and which was granted that relayed address\n"
+channel_reason Later = codes "granted later: each captured success response that bound the channel to the peer for a client for which this datagram may have been sent, and which was granted that relayed address by then, is for a request that came after this datagram\n"
+channel_reason Before = codes "expired: each captured arrival for which this datagram may have been sent came later than 600 seconds and the grace after the last success response that bound the channel to the peer\n"
 
--- a reason is told of each fault, of a lease by when it was granted
+-- each fault has a reason, that of a lease by when it was granted
 abbrev pub reason_of : Fault → Option Granted → List ℕ
-reason_of Unasked granted = codes "nothing that was captured within hold before it asked for it\n"
+reason_of Unasked granted = codes "for no arrival that was captured within hold before it may this datagram have been sent\n"
 reason_of Unallocated None = []
 reason_of Unallocated (Some granted) = allocation_reason granted
 reason_of Unpermitted None = []

@@ -19,12 +19,13 @@ pub fn title(fault: Fault) -> &'static str
     }
 }
 
-/// What is told where the beginning of no client's allocation was captured.
+/// What is reported if the beginning of no client's allocation was captured.
 const NOT_CAPTURED: &str =
-    "beginning not captured: the capture began too late for that relayed address; no captured Allocate success told it to a client that asked for it before it\n";
+    "beginning not captured: the capture began too late for that relayed address; no captured Allocate success response granted it to a client for which this datagram may have been sent, and whose request came before this datagram\n";
 
-/// Whether the captures have the beginning of the allocation of a client that asked for it, where
-/// that matters. Of data that was for another client it isn't the beginning that is missing.
+/// Whether the captures have the beginning of the allocation of a client for which the departure may
+/// have been sent, if that matters. Of data that was for another client it isn't the beginning that
+/// is missing.
 pub fn beginning(fault: Fault, predates: bool, is_misdelivered: bool) -> &'static str
     ensures { result.now ≡ beginning_of fault predates is_misdelivered }
 {
@@ -44,11 +45,11 @@ fn of_allocation(granted: Granted) -> &'static str
 {
     match granted {
         Granted::Never =>
-            "never granted: no captured success told a client that asked for it that relayed address\n",
+            "never granted: no captured Allocate success response granted that relayed address to a client for which this datagram may have been sent\n",
         Granted::Later =>
-            "granted later: each captured success that told a client that asked for it that relayed address answers a request that came after it\n",
+            "granted later: each captured Allocate success response that granted that relayed address to a client for which this datagram may have been sent is for a request that came after this datagram\n",
         Granted::Before =>
-            "no captured arrival that asked for it was for a client that was told that relayed address by then\n",
+            "no client for which this datagram may have been sent was granted that relayed address by then\n",
     }
 }
 
@@ -58,11 +59,11 @@ fn of_permission(granted: Granted) -> &'static str
 {
     match granted {
         Granted::Never =>
-            "never granted: no captured success granted a permission for the peer's IP to a client that asked for it and was told that relayed address\n",
+            "never granted: no captured success response granted a permission for the peer's IP to a client for which this datagram may have been sent, and which was granted that relayed address\n",
         Granted::Later =>
-            "granted later: each captured success that granted a permission for the peer's IP to a client that asked for it and was told that relayed address answers a request that came after it\n",
+            "granted later: each captured success response that granted a permission for the peer's IP to a client for which this datagram may have been sent, and which was granted that relayed address by then, is for a request that came after this datagram\n",
         Granted::Before =>
-            "expired: each captured arrival that asked for it came later than 300 seconds and the grace after the last success that granted a permission for the peer's IP\n",
+            "expired: each captured arrival for which this datagram may have been sent came later than 300 seconds and the grace after the last success response that granted a permission for the peer's IP\n",
     }
 }
 
@@ -72,11 +73,11 @@ fn of_channel(granted: Granted) -> &'static str
 {
     match granted {
         Granted::Never =>
-            "never granted: no captured success bound the channel to the peer for a client that asked for it and was told that relayed address\n",
+            "never granted: no captured success response bound the channel to the peer for a client for which this datagram may have been sent, and which was granted that relayed address\n",
         Granted::Later =>
-            "granted later: each captured success that bound the channel to the peer for a client that asked for it and was told that relayed address answers a request that came after it\n",
+            "granted later: each captured success response that bound the channel to the peer for a client for which this datagram may have been sent, and which was granted that relayed address by then, is for a request that came after this datagram\n",
         Granted::Before =>
-            "expired: each captured arrival that asked for it came later than 600 seconds and the grace after the last success that bound the channel to the peer\n",
+            "expired: each captured arrival for which this datagram may have been sent came later than 600 seconds and the grace after the last success response that bound the channel to the peer\n",
     }
 }
 
@@ -85,7 +86,8 @@ pub fn reason(fault: Fault, granted: Option<Granted>) -> &'static str
     ensures { result.now ≡ reason_of fault granted }
 {
     match (fault, granted) {
-        (Fault::Unasked, _) => "nothing that was captured within hold before it asked for it\n",
+        (Fault::Unasked, _) =>
+            "for no arrival that was captured within hold before it may this datagram have been sent\n",
         (Fault::Unallocated, Some(granted)) => of_allocation(granted),
         (Fault::Unpermitted, Some(granted)) => of_permission(granted),
         (Fault::Unbound, Some(granted)) => of_channel(granted),
