@@ -32,7 +32,7 @@ OUT = out
 ## install      install what is built, below PREFIX=/usr/local: seconds, no proofs
 ## uninstall    remove what `make install` put below PREFIX: seconds
 ## deb          pack what is built, into out/: seconds; dpkg-deb and binutils
-## test         every proof, all tests and the examples: 80 minutes, 12 GB
+## test         every proof, all tests and the examples: 2 hours, 12 GB
 ## edits        try all must-fail edits: hours; CRATES="audit_rules" of these alone
 ## fuzz         damaged input, SECONDS=60 a program; proves and builds it first
 ## format       lay out the code of every crate, before a commit: seconds
