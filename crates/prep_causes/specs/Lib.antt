@@ -3,3 +3,4 @@ pub mod Slots
 pub mod Carrying
 pub mod Adding
 pub mod Numbers
+pub mod Groups

@@ -39,6 +39,13 @@ impl Causes {
         }
     }
 
+    /// How far the moments of an arrival and of what it caused may be apart.
+    pub fn reach(&self) -> Reach
+        ensures { result ≡ self.now.reach }
+    {
+        self.reach
+    }
+
     /// How many departures have their arrival. It takes as long as there are numbers.
     pub fn pairs(&self) -> usize
         ensures { result ≡ pairs_in self.now.slots.items }

@@ -1,5 +1,5 @@
 -- A cutter's relation, step by step.
-use Rattle.std.proofs.Common.{◌≡◌, ℕ, true, false, List, [], ◌∷◌, ◌++◌, Option, Err, refl, sym, ap, subst, ◌∙◌, append_assoc}
+use Rattle.std.proofs.Common.{◌≡◌, ℕ, true, false, List, [], ◌∷◌, ◌++◌, Err, refl, sym, ap, subst, ◌∙◌, append_assoc}
 use Rattle.std.proofs.lemmas.List.{append-nil}
 use Rattle.audit_pcapng.specs.declared.fault.CaptureFault.{CaptureFault}
 use Rattle.audit_pcapng.specs.declared.fault.CaptureFault.TheVariants as blocks

@@ -19,6 +19,11 @@ use Rattle.prep_cut.specs.Pairs.{Notes}
 use Rattle.prep_cut.proofs.Pairing.{causes-one}
 use Rattle.prep_cut.specs.Marking.{AreTallies, IsAt, tally_at, tally_more, totals_of, totals_more, tallied_with}
 use Rattle.prep_cut.specs.Tallied.{no_tally, no_totals}
+use Rattle.prep_causes.specs.declared.unread.Group.{Group}
+use Rattle.prep_causes.specs.Groups.{no_group}
+use Rattle.prep_cut.specs.declared.datagram.Datagram.{Datagram}
+use Rattle.prep_cut.specs.Marks.{marked_of, proposed_cause}
+use Rattle.prep_cut.specs.Unread.{group_at, group_by, group_more, group_of, owes_datagram, owing_more, owing_of, owing_with, unread_by}
 
 pub marked-one : (plan : Plan) (proposals : List Proposal) (current : List Block) (b : Block)
     → marked plan proposals (current ++ b ∷ []) ≡ marked plan proposals current ++ marked_by plan (proposals_behind proposals current) b ∷ []
@@ -50,10 +55,26 @@ tally-one plan line blocks one =
     ∙ fold-append (tally_more plan) no_tally (filter (is_of_line line) blocks) (filter (is_of_line line) (one ∷ []))
     ∙ last_at plan line one.block one.cause (tally_at plan line blocks) one.line
 
+group-one : (plan : Plan) (number : ℕ) (blocks : List Marked) (one : Marked) → group_at plan number (blocks ++ one ∷ []) ≡ group_more plan number (group_at plan number blocks) one
+group-one plan number blocks one = fold-append (group_more plan number) no_group blocks (one ∷ [])
+
+owing-one : (plan : Plan) (blocks : List Marked) (one : Marked) → owing_of plan (blocks ++ one ∷ []) ≡ owing_more plan (owing_of plan blocks) one
+owing-one plan blocks one = fold-append (owing_more plan) 0 blocks (one ∷ [])
+
+-- a block more in its group, and among the departures that need an arrival or a carrier
+pub record IsJoined (plan : Plan) (one : Marked) (old new : Tallies) : Type 0 where
+  pub len : length new.groups.groups.items ≡ length old.groups.groups.items
+  pub groups : (other : ℕ) → other < length old.groups.groups.items → get_or new.groups.groups.items other no_group ≡ group_more plan other (get_or old.groups.groups.items other no_group) one
+  pub owing : new.owing ≡ owing_more plan old.owing one
+
 tallies-one : (plan : Plan) (blocks : List Marked) (one : Marked) (old new : Tallies) → AreTallies plan blocks old → length new.lines.items ≡ length old.lines.items
     → ((other : ℕ) → other < length old.lines.items → get_or new.lines.items other no_tally ≡ tallied_with one.line one.block.packet (datagram_of_block plan.policy one.block) other (get_or old.lines.items other no_tally))
-    → Notes plan one old.causes new.causes → AreTallies plan (blocks ++ one ∷ []) new
-tallies-one plan blocks one old new are len added notes = record {
+    → Notes plan one old.causes new.causes → IsJoined plan one old new → AreTallies plan (blocks ++ one ∷ []) new
+tallies-one plan blocks one old new are len added notes joined = record {
+  groups = λ number within.
+      let before : number < length old.groups.groups.items = rw (sym joined.len) within in
+      joined.groups number before ∙ ap (λ (g : Group). group_more plan number g one) (are.groups number before) ∙ sym (group-one plan number blocks one);
+  owing = joined.owing ∙ ap (λ (n : ℕ). owing_more plan n one) are.owing ∙ sym (owing-one plan blocks one);
   causes = causes-one plan blocks one old.causes new.causes are.causes notes;
   len = len ∙ are.len;
   lines = λ line within.
@@ -72,8 +93,9 @@ pub is_at-one : (old new : Marker) (plan : Plan) (proposals : List Proposal) (ea
     → length new.tallies.lines.items ≡ length old.tallies.lines.items
     → ((other : ℕ) → other < length old.tallies.lines.items → get_or new.tallies.lines.items other no_tally
     ≡ tallied_with (line_of old.plan.now (proposed_line (proposed_for b.packet old.proposals.now)) b) b.packet (datagram_of_block old.plan.now.policy b) other (get_or old.tallies.lines.items other no_tally))
-    → Notes old.plan.now (marked_by old.plan.now old.proposals.now b) old.tallies.causes new.tallies.causes → IsAt new plan proposals earlier (current ++ b ∷ [])
-is_at-one old new plan proposals earlier current b at e-plan e-rest e-totals e-len e-lines notes =
+    → Notes old.plan.now (marked_by old.plan.now old.proposals.now b) old.tallies.causes new.tallies.causes
+    → IsJoined old.plan.now (marked_by old.plan.now old.proposals.now b) old.tallies new.tallies → IsAt new plan proposals earlier (current ++ b ∷ [])
+is_at-one old new plan proposals earlier current b at e-plan e-rest e-totals e-len e-lines notes joined =
     let one = marked_by plan (proposals_behind proposals current) b in
     let same : marked_by old.plan.now old.proposals.now b ≡ one = rw (at.plan_is, at.rest) refl in
     let longer = marked-one plan proposals current b in
@@ -88,8 +110,22 @@ is_at-one old new plan proposals earlier current b at e-plan e-rest e-totals e-l
           (tallies-one plan (earlier ++ marked plan proposals current) one old.tallies new.tallies at.tallies e-len
           (λ other within. e-lines other within ∙ rw (at.plan_is, at.rest) refl)
           (subst (λ (m : Marked). Notes plan m old.tallies.causes new.tallies.causes) same
-          (subst (λ (p : Plan). Notes p (marked_by old.plan.now old.proposals.now b) old.tallies.causes new.tallies.causes) at.plan_is notes)));
+          (subst (λ (p : Plan). Notes p (marked_by old.plan.now old.proposals.now b) old.tallies.causes new.tallies.causes) at.plan_is notes))
+          (subst (λ (m : Marked). IsJoined plan m old.tallies new.tallies) same
+          (subst (λ (p : Plan). IsJoined p (marked_by old.plan.now old.proposals.now b) old.tallies new.tallies) at.plan_is joined)));
     }
+
+-- what is known of a block's group by the parts of its mark
+pub group_parts : (p q r : Plan) (b : Block) (proposal : Option Proposal) (line cause : Option ℕ) (datagram : Option Datagram) (other : ℕ) (found middle old : Group) → q ≡ p → r ≡ p
+    → line ≡ line_of r (proposed_line proposal) b → cause ≡ proposed_cause proposal → datagram ≡ datagram_of_block r.policy b → middle ≡ old
+    → found ≡ group_by (group_of q cause) (unread_by q line b b.packet datagram) other middle → found ≡ group_more p other old (marked_of p proposal b)
+group_parts p q r b proposal line cause datagram other found middle old eq er el ec ed em e = e ∙ rw (em, ed, ec, el, er, eq) refl
+
+-- and of whether it needs an arrival or a carrier
+pub owing_parts : (p q r : Plan) (b : Block) (proposal : Option Proposal) (line : Option ℕ) (datagram : Option Datagram) (found middle old : ℕ) → q ≡ p → r ≡ p
+    → line ≡ line_of r (proposed_line proposal) b → datagram ≡ datagram_of_block r.policy b → middle ≡ old → found ≡ owing_with (owes_datagram q line b datagram) middle
+    → found ≡ owing_more p old (marked_of p proposal b)
+owing_parts p q r b proposal line datagram found middle old eq er el ed em e = e ∙ rw (em, ed, el, er, eq) refl
 
 filter_yes : (xs : List Marked) (one : Marked) → is_written one ≡ true → filter is_written (xs ++ one ∷ []) ≡ filter is_written xs ++ one ∷ []
 filter_yes xs one e = let last : filter is_written (one ∷ []) ≡ one ∷ [] = rw e refl in filter-append is_written xs (one ∷ []) ∙ ap (λ (t : List Marked). filter is_written xs ++ t) last

@@ -17,6 +17,10 @@ use Rattle.prep_cut.specs.declared.plan.Plan.{Plan}
 use Rattle.prep_cut.specs.declared.plan.Proposal.{Proposal}
 use Rattle.prep_cut.specs.Marks.{Marked, marked_of, line_of, proposed_line, proposed_cause}
 use Rattle.prep_cut.specs.Needing.{reach_of}
+use Rattle.prep_cut.specs.declared.tally.Tallies.{Tallies}
+use Rattle.prep_causes.specs.Groups.{carried_with}
+use Rattle.prep_cut.specs.Marking.{AreTallies, carried_of}
+use Rattle.prep_cut.specs.Unread.{AreCarried}
 use Rattle.prep_cut.specs.Pairs.{Ascend, AreCauses, ArePaired, Holds, IsNoted, IsNumbered, IsPaired, Notes}
 
 numbered_more : (plan : Plan) (blocks more : List Marked) (number : ℕ) (half : Half) → IsNumbered plan blocks number half → IsNumbered plan (blocks ++ more) number half
@@ -134,6 +138,14 @@ paired_from plan blocks n (One half ∷ rest) h = paired_from plan blocks (suc n
 paired_from plan blocks n (Pair ∷ rest) h =
     let first : n + 0 ≡ n = omega arith in
     (subst (λ (m : ℕ). IsPaired plan blocks m) first (h 0), paired_from plan blocks (suc n) rest (hold_rest plan blocks n Pair rest h))
+
+-- each group has its packets
+pub are_carried : (plan : Plan) (blocks : List Marked) (tallies : Tallies) → AreTallies plan blocks tallies → AreCarried plan blocks (carried_of tallies)
+are_carried plan blocks tallies are = record {
+  groups = tallies.groups.groups.items;
+  group_is = are.groups;
+  counted = ap (λ (r : Reach). carried_with 0 r tallies.groups.groups.items) are.causes.reach;
+}
 
 pub are_paired : (plan : Plan) (blocks : List Marked) (causes : Causes) → AreCauses plan blocks causes → ArePaired plan blocks (pairs_in causes.slots.items)
 are_paired plan blocks causes are =

@@ -1,5 +1,5 @@
 -- A capture that comes in pieces, and what is written of it.
-use Rattle.std.specs.Prelude.{◌≡◌, ◌≢◌, ℕ, List, [], ◌∷◌, ◌++◌, Option}
+use Rattle.std.specs.Prelude.{◌≡◌, ◌≢◌, ℕ, List, [], ◌∷◌, ◌++◌}
 use Rattle.audit_pcapng.specs.declared.packet.Packet.{Packet}
 use Rattle.audit_pcapng.specs.declared.fault.CaptureFault.TheVariants as blocks
 use Rattle.audit_pcapng.specs.Captures.{FirstFault}

@@ -13,6 +13,7 @@ pub mod Guard
 pub mod Needing
 pub mod Marks
 pub mod Pairs
+pub mod Unread
 pub mod Kept
 pub mod Bounded
 pub mod Heard

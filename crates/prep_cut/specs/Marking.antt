@@ -17,6 +17,8 @@ use Rattle.prep_cut.specs.declared.tally.Totals.{Totals}
 use Rattle.prep_cut.specs.Datagrams.{datagram_of_block}
 use Rattle.prep_cut.specs.Marks.{Marked, marked, proposals_behind, is_written, is_of_line}
 use Rattle.prep_cut.specs.Pairs.{AreCauses}
+use Rattle.prep_causes.specs.Groups.{no_group, carried_with}
+use Rattle.prep_cut.specs.Unread.{group_at, owing_of}
 use Rattle.prep_cut.specs.Tallied.{no_tally, no_totals, tallied_at, tallied_block, totals_with}
 
 abbrev pub tally_more : Plan → Tally → Marked → Tally
@@ -26,12 +28,19 @@ tally_more plan tally one = tallied_block tally one.block.packet (datagram_of_bl
 abbrev pub tally_at : Plan → ℕ → List Marked → Tally
 tally_at plan line blocks = fold (tally_more plan) no_tally (filter (is_of_line line) blocks)
 
--- each line's tally is that of the packets that are left out by it, and what was found under each
--- number is of them
+-- Each line's tally is that of the packets that it excludes, and what was found under each number
+-- is of them. Each group has its packets, and the departures that need an arrival or a carrier are
+-- counted.
 pub record AreTallies (plan : Plan) (blocks : List Marked) (tallies : Tallies) : Type 0 where
   pub len : length tallies.lines.items ≡ length plan.lines
   pub lines : (line : ℕ) → line < length plan.lines → get_or tallies.lines.items line no_tally ≡ tally_at plan line blocks
   pub causes : AreCauses plan blocks tallies.causes
+  pub groups : (number : ℕ) → number < length tallies.groups.groups.items → get_or tallies.groups.groups.items number no_group ≡ group_at plan number blocks
+  pub owing : tallies.owing ≡ owing_of plan blocks
+
+-- the departures that packets which aren't read may have carried
+abbrev pub carried_of : Tallies → ℕ
+carried_of tallies = carried_with 0 tallies.causes.reach tallies.groups.groups.items
 
 abbrev pub totals_more : Plan → Totals → Marked → Totals
 totals_more plan totals one = totals_with totals (is_written one) one.block.packet (datagram_of_block plan.policy one.block)

@@ -19,6 +19,7 @@ mod release;
 mod stated;
 mod tally;
 mod transaction;
+mod unread;
 
 pub use allocations::Allocations;
 pub use cutter::{Cutter, WasCut};

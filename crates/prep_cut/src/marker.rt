@@ -6,7 +6,9 @@ ghost use Rattle.prep_cut.specs.declared.plan.Plan.{Plan};
 ghost use Rattle.prep_cut.specs.declared.plan.Proposal.{Proposal};
 ghost use Rattle.prep_cut.specs.Datagrams.{datagram_of_block};
 ghost use Rattle.prep_cut.specs.Marks.{Marked, marked_by, is_written, proposed_for, behind};
+ghost use Rattle.prep_causes.specs.Groups.{no_group};
 ghost use Rattle.prep_cut.specs.Pairs.{Notes};
+ghost use Rattle.prep_cut.specs.Unread.{owing_with, owes_datagram, group_by, group_of, unread_by};
 ghost use Rattle.prep_cut.specs.Tallied.{no_tally, totals_with};
 ghost use Rattle.prep_cut.specs.Marking.{AreTallies, IsAt, IsUnbounded, RefusesBlock, tallied_with};
 
@@ -63,7 +65,9 @@ impl<'p> Marker<'p> {
         let proposal = self.next_proposal(block.packet);
         let line = self.plan.line_of(line_in(proposal), block);
         let datagram = datagram_in(&self.plan.policy, block);
-        self.note_cause(line, cause_in(proposal), block, datagram);
+        let cause = cause_in(proposal);
+        self.note_cause(line, cause, block, datagram);
+        self.note_unread(line, cause, block, datagram);
         Ok(self.count(line, block.packet, datagram))
     }
 
@@ -93,17 +97,53 @@ impl<'p> Marker<'p> {
         ensures plan { self.new.plan ≡ self.old.plan }
         ensures totals { self.new.totals ≡ self.old.totals }
         ensures lines { self.new.tallies.lines ≡ self.old.tallies.lines }
+        ensures groups { self.new.tallies.groups ≡ self.old.tallies.groups }
+        ensures owing { self.new.tallies.owing ≡ self.old.tallies.owing }
         ensures causes { datagram ≡ datagram_of_block self.old.plan.now.policy block.now →
             Notes self.old.plan.now (record { block = block.now; line = line; cause = cause }) self.old.tallies.causes self.new.tallies.causes }
     {
         let (Some(line), Some(number), Some(datagram)) = (line, cause, datagram) else {
             return;
         };
+        if number >= self.plan.pairs {
+            return;
+        }
         if datagram.side == Side::Leaves && !self.plan.needs_cause(line) {
             return;
         }
         if let Some(half) = half_in(&self.plan.policy, block, &datagram) {
             self.tallies.note(number, half);
+        }
+    }
+
+    /// Counts a departure that needs an arrival or a carrier, and adds a block to its group of what
+    /// isn't read.
+    fn note_unread(
+        &mut self,
+        line: Option<LineNumber>,
+        cause: Option<CauseNumber>,
+        block: &Block,
+        datagram: Option<Datagram>,
+    )
+        ensures rest { self.new.proposals ≡ self.old.proposals }
+        ensures plan { self.new.plan ≡ self.old.plan }
+        ensures totals { self.new.totals ≡ self.old.totals }
+        ensures lines { self.new.tallies.lines ≡ self.old.tallies.lines }
+        ensures causes { self.new.tallies.causes ≡ self.old.tallies.causes }
+        ensures owing { self.new.tallies.owing ≡ owing_with (owes_datagram self.old.plan.now line block.now datagram) self.old.tallies.owing }
+        ensures len { length self.new.tallies.groups.groups.items ≡ length self.old.tallies.groups.groups.items }
+        ensures groups { (other : ℕ) → other < length self.old.tallies.groups.groups.items →
+            get_or self.new.tallies.groups.groups.items other no_group
+            ≡ group_by (group_of self.old.plan.now cause) (unread_by self.old.plan.now line block.now block.now.packet datagram) other (get_or self.old.tallies.groups.groups.items other no_group) }
+    {
+        if self.plan.owes(line, block, datagram) {
+            self.tallies.note_owing();
+        }
+        let Some(group) = self.plan.group_of(cause) else {
+            return;
+        };
+        if let Some(unread) = self.plan.unread_in(line, block, block.packet, datagram) {
+            self.tallies.note_unread(group, unread);
         }
     }
 
@@ -119,6 +159,8 @@ impl<'p> Marker<'p> {
         ensures plan { self.new.plan ≡ self.old.plan }
         ensures totals { self.new.totals ≡ totals_with self.old.totals (is_none line) packet datagram }
         ensures causes { self.new.tallies.causes ≡ self.old.tallies.causes }
+        ensures groups { self.new.tallies.groups ≡ self.old.tallies.groups }
+        ensures owing { self.new.tallies.owing ≡ self.old.tallies.owing }
         ensures len { length self.new.tallies.lines.items ≡ length self.old.tallies.lines.items }
         ensures tallies { (other : ℕ) → other < length self.old.tallies.lines.items →
             get_or self.new.tallies.lines.items other no_tally ≡ tallied_with line packet datagram other (get_or self.old.tallies.lines.items other no_tally) }

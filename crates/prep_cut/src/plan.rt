@@ -21,7 +21,8 @@ pub type LineNumber = u32;
 pub struct Proposal {
     /// The number of the line that excludes it (a `LineNumber`); none if it stays in.
     pub line: MaybeNumber,
-    /// The number that a departure has in common with its arrival (a `CauseNumber`).
+    /// The number that a departure has in common with its arrival (a `CauseNumber`), or the count of
+    /// such numbers and the number of a group of what isn't read.
     pub cause: MaybeNumber,
 }
 
@@ -47,6 +48,8 @@ pub struct Plan {
     pub stated: Stated,
     /// What Allocates the captures show.
     pub allocations: Allocations,
+    /// How many numbers departures have in common with arrivals.
+    pub pairs: CauseNumber,
     /// Each line's reason, in the order of the list.
     pub lines: Listed<Reason>,
 }

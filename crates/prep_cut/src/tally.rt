@@ -1,19 +1,21 @@
 //! How many packets are set aside, and how much the datagrams among them carried.
 
-ghost use Rattle.std.specs.Prelude.{◌≡◌, ◌<◌, [], ℕ, List, length, get_or, IfOk};
+ghost use Rattle.std.specs.Prelude.{◌≡◌, ◌<◌, ◌+◌, [], ℕ, List, length, get_or, IfOk};
 ghost use Rattle.prep_causes.specs.Adding.{IsAdded};
+ghost use Rattle.prep_causes.specs.Groups.{capped, no_group, group_with_at};
 ghost use Rattle.prep_causes.specs.Slots.{pairs_in};
 ghost use Rattle.prep_cut.specs.declared.plan.Plan.{Plan};
-ghost use Rattle.prep_cut.specs.Marking.{AreTallies};
+ghost use Rattle.prep_cut.specs.Marking.{AreTallies, carried_of};
 ghost use Rattle.prep_cut.specs.Marks.{Marked};
 ghost use Rattle.prep_cut.specs.Pairs.{ArePaired};
+ghost use Rattle.prep_cut.specs.Unread.{AreCarried, owing_of};
 ghost use Rattle.prep_cut.specs.Tallied.{no_count, no_tally, no_totals, counted, counted_both, tallied, tallied_at, tallied_block, tallied_other, totals_with, is_counted};
 
 use crate::datagram::Datagram;
 use crate::plan::Plan;
 use audit_model::Side;
 use prep_blocks::PacketHead;
-use prep_causes::{CauseNumber, Causes, Half};
+use prep_causes::{CauseNumber, Causes, Groups, Half, Unread};
 use std::alloc::{AllocError, Global};
 
 /// Datagrams, and the bytes of their payloads. No number goes over 64 bits.
@@ -194,23 +196,27 @@ impl Totals {
     }
 }
 
-/// The tallies of the lines of a list, and the departures that are excluded together with their
-/// arrivals.
+/// The tallies of the lines of a list, the departures that are excluded together with their
+/// arrivals, and those whose data packets that aren't read may have carried.
 #[derive(Debug, Drop)]
 pub struct Tallies {
     lines: Vec<Tally>,
     causes: Causes,
+    groups: Groups,
+    /// Departures that are excluded by a line by which they need one or the other.
+    owing: u64,
 }
 
 impl Tallies {
-    /// Of a plan's lines, without a packet, and for this count of numbers that departures have in
-    /// common with arrivals.
-    pub fn new(alloc: Global, plan: &Plan, causes: usize) -> Result<Self, AllocError>
+    /// Of a plan's lines and pairs, and of this count of groups of what isn't read, without a packet.
+    pub fn new(alloc: Global, plan: &Plan, groups: usize) -> Result<Self, AllocError>
         ensures { IfOk result (λ tallies. AreTallies plan.now [] tallies) }
     {
         Ok(Tallies {
             lines: vec![in alloc; Tally::none(); plan.lines.len()]?,
-            causes: Causes::new(alloc, plan.reach(), causes)?,
+            causes: Causes::new(alloc, plan.reach(), plan.pairs as usize)?,
+            groups: Groups::new(alloc, groups)?,
+            owing: 0,
         })
     }
 
@@ -223,9 +229,51 @@ impl Tallies {
         self.causes.pairs()
     }
 
+    /// How many departures are excluded that packets which aren't read may have carried. It takes as
+    /// long as there are groups of these.
+    pub fn carried(&self) -> u64
+        ensures value { result ≡ carried_of self.now }
+        ensures carried { (plan : Plan) (blocks : List Marked) → AreTallies plan blocks self.now → AreCarried plan blocks result }
+    {
+        self.groups.carried(self.causes.reach())
+    }
+
+    /// How many departures are excluded that need an arrival, or a packet that may have carried
+    /// their data.
+    pub fn owing(&self) -> u64
+        ensures value { result ≡ self.now.owing }
+        ensures owing { (plan : Plan) (blocks : List Marked) → AreTallies plan blocks self.now → result ≡ owing_of plan blocks }
+    {
+        self.owing
+    }
+
+    /// Counts a departure that needs an arrival, or a packet that may have carried its data.
+    pub(crate) fn note_owing(&mut self)
+        ensures lines { self.new.lines ≡ self.old.lines }
+        ensures causes { self.new.causes ≡ self.old.causes }
+        ensures groups { self.new.groups ≡ self.old.groups }
+        ensures owing { self.new.owing ≡ capped (self.old.owing + 1) }
+    {
+        self.owing = self.owing.saturating_add(1);
+    }
+
+    /// Adds a packet to a group of what isn't read.
+    pub(crate) fn note_unread(&mut self, number: CauseNumber, unread: Unread)
+        ensures lines { self.new.lines ≡ self.old.lines }
+        ensures causes { self.new.causes ≡ self.old.causes }
+        ensures owing { self.new.owing ≡ self.old.owing }
+        ensures len { length self.new.groups.groups.items ≡ length self.old.groups.groups.items }
+        ensures groups { (other : ℕ) → other < length self.old.groups.groups.items →
+            get_or self.new.groups.groups.items other no_group ≡ group_with_at number unread other (get_or self.old.groups.groups.items other no_group) }
+    {
+        self.groups.add(number, unread);
+    }
+
     /// Notes an arrival or a departure that is excluded.
     pub(crate) fn note(&mut self, number: CauseNumber, half: Half)
         ensures lines { self.new.lines ≡ self.old.lines }
+        ensures groups { self.new.groups ≡ self.old.groups }
+        ensures owing { self.new.owing ≡ self.old.owing }
         ensures causes { IsAdded self.old.causes number half self.new.causes }
     {
         self.causes.add(number, half);
@@ -241,6 +289,8 @@ impl Tallies {
     /// Counts a block to a line; to no line where there is none of that number.
     pub fn add(&mut self, line: usize, packet: Option<PacketHead>, datagram: Option<Datagram>)
         ensures causes { self.new.causes ≡ self.old.causes }
+        ensures groups { self.new.groups ≡ self.old.groups }
+        ensures owing { self.new.owing ≡ self.old.owing }
         ensures len { length self.new.lines.items ≡ length self.old.lines.items }
         ensures lines { (other : ℕ) → other < length self.old.lines.items →
             get_or self.new.lines.items other no_tally ≡ tallied_at line packet datagram other (get_or self.old.lines.items other no_tally) }

@@ -7,8 +7,9 @@ use Rattle.prep_blocks.specs.Splitting.{IsWhole}
 use Rattle.prep_cut.specs.declared.plan.Plan.{Plan}
 use Rattle.prep_cut.specs.Marks.{Marked, marked}
 use Rattle.prep_causes.specs.Slots.{pairs_in}
-use Rattle.prep_cut.specs.Marking.{AreTallies, totals_of}
+use Rattle.prep_cut.specs.Marking.{AreTallies, carried_of, totals_of}
 use Rattle.prep_cut.specs.Pairs.{ArePaired}
+use Rattle.prep_cut.specs.Unread.{AreCarried, owing_of}
 use Rattle.prep_program.specs.declared.cutting.AllCut.{AllCut}
 use Rattle.prep_program.specs.declared.cutting.ToCut.{ToCut}
 use Rattle.prep_program.specs.CutComment.{file_of}
@@ -31,8 +32,9 @@ files_cut plan [] marks = []
 files_cut plan (one ∷ others) [] = []
 files_cut plan (one ∷ others) (blocks ∷ marks) = record { name = string_bytes one.file; bytes = file_of plan blocks } ∷ files_cut plan others marks
 
--- the texts are whole captures, each of which was cut to its file. The tallies are those of all of
--- them, and so many departures have an arrival of their own.
+-- The texts are whole captures, each of which was cut to its file. The tallies are those of all of
+-- them. Of the departures that need one, these have an arrival of their own, and those packets that
+-- may have carried their data.
 pub record CutsAll (all : AllCut) (plan : Plan) (asked : List ToCut) (texts : List (List ℕ)) (before after : Option (List FileMade)) : Type 0 where
   pub captures : List (List Block)
   pub spelled : map bytes_of captures ≡ texts
@@ -40,4 +42,6 @@ pub record CutsAll (all : AllCut) (plan : Plan) (asked : List ToCut) (texts : Li
   pub totals : all.totals.items ≡ map (totals_of plan) (marks_of plan asked captures)
   pub tallies : AreTallies plan (all_marks (marks_of plan asked captures)) all.tallies
   pub paired : ArePaired plan (all_marks (marks_of plan asked captures)) (pairs_in all.tallies.causes.slots.items)
+  pub carried : AreCarried plan (all_marks (marks_of plan asked captures)) (carried_of all.tallies)
+  pub owing : all.tallies.owing ≡ owing_of plan (all_marks (marks_of plan asked captures))
   pub files : after ≡ with_files before (files_cut plan asked (marks_of plan asked captures))

@@ -6,10 +6,11 @@ use Rattle.prep_cut.specs.declared.reason.Reason.{Reason}
 use Rattle.prep_cut.specs.declared.reason.Reason.TheVariants as reasons
 use Rattle.prep_cut.specs.declared.stated.Stated.{Stated}
 use Rattle.prep_cut.specs.declared.tally.Count.{Count}
+use Rattle.prep_cut.specs.declared.tally.Tallies.{Tallies}
 use Rattle.prep_cut.specs.declared.tally.Tally.{Tally}
 use Rattle.prep_cut.specs.declared.tally.Totals.{Totals}
 use Rattle.prep_causes.specs.Slots.{pairs_in}
-use Rattle.prep_cut.specs.Caused.{needs_cause}
+use Rattle.prep_cut.specs.Marking.{carried_of}
 use Rattle.prep_cut.specs.ReasonText.{reason_text}
 use Rattle.prep_cut.specs.Tallied.{capped, counted_both, is_counted, no_count}
 use Rattle.prep_program.specs.declared.cutting.AllCut.{AllCut}
@@ -134,28 +135,10 @@ clients_with clients [] tallies = clients
 clients_with clients (reason ∷ lines) [] = clients
 clients_with clients (reason ∷ lines) (tally ∷ tallies) = clients_with (if is_client reason tally then capped (clients + 1) else clients) lines tallies
 
--- how many departures lines set aside that need their arrivals, with these
-abbrev pub caused_with : ℕ → List Reason → List Tally → ℕ
-caused_with caused [] tallies = caused
-caused_with caused (reason ∷ lines) [] = caused
-caused_with caused (reason ∷ lines) (tally ∷ tallies) = caused_with (if needs_cause reason then capped (caused + tally.left.datagrams) else caused) lines tallies
-
--- of clients by TCP, TLS, DTLS or IPv6, or of such as may be
-abbrev pub is_unread : Reason → Bool
-is_unread (reasons.AddressTold relayed tenure client) = true
-is_unread (reasons.Address relayed tenure) = true
-is_unread (reasons.Dtls pair) = true
-is_unread other = false
-
--- how many departures such lines set aside, with these
-abbrev pub unread_with : ℕ → List Reason → List Tally → ℕ
-unread_with unread [] tallies = unread
-unread_with unread (reason ∷ lines) [] = unread
-unread_with unread (reason ∷ lines) (tally ∷ tallies) = unread_with (if is_unread reason then capped (unread + tally.left.datagrams) else unread) lines tallies
-
--- of which so many have an arrival of their own that is set aside as well
-abbrev pub departures_of : List Reason → List Tally → ℕ → Departures
-departures_of lines tallies pairs = record { unpaired = caused_with 0 lines tallies - pairs; unread = unread_with 0 lines tallies; clients = clients_with 0 lines tallies }
+-- Of the departures that need an arrival, or a packet that may have carried their data, some have
+-- one or the other.
+abbrev pub departures_of : List Reason → Tallies → Departures
+departures_of lines tallies = record { unpaired = (tallies.owing - pairs_in tallies.causes.slots.items) - carried_of tallies; unread = carried_of tallies; clients = clients_with 0 lines tallies.lines.items }
 
 -- the datagrams that are set aside
 abbrev pub excluded_of : Sums → ℕ
@@ -184,4 +167,4 @@ abbrev pub list_text : Plan → Told → AllCut → List ℕ
 list_text plan told all =
     ((head_text plan.stated told.begin ++ lines_text plan.lines all.tallies.lines.items)
     ++ captures_text 0 all.totals.items)
-    ++ totals_text told (sums_of all.tallies.lines.items) (kept_of all.totals.items) (departures_of plan.lines all.tallies.lines.items (pairs_in all.tallies.causes.slots.items))
+    ++ totals_text told (sums_of all.tallies.lines.items) (kept_of all.totals.items) (departures_of plan.lines all.tallies)

@@ -114,20 +114,20 @@ pub struct AllCut {
 }
 
 /// Cuts captures one after another, each to a file of its own. The tallies are those of all of
-/// them, whose departures and arrivals have so many numbers in common.
+/// them, with this count of groups of what isn't read.
 pub fn cut_captures<R: Threads + AllocGlobal, S: Source, M: Maker>(
     rt: &R,
     source: &mut S,
     captures: &[ToCut<'_>],
     plan: &Plan,
-    causes: CauseNumber,
+    groups: CauseNumber,
     made: &mut M,
 ) -> Result<AllCut, Stop>
     ensures { (texts : List (List ℕ)) → AllZip (λ one text. S.holds source.old one.name.now ≡ Some text) captures.now texts →
         IfOk result (λ all. CutsAll all plan.now captures.now texts (files_of (M.making made.old) (M.taken made.old)) (files_of (M.making made.new) (M.taken made.new))) }
 {
     let alloc = rt.alloc();
-    let mut tallies = Tallies::new(alloc, plan, causes as usize)?;
+    let mut tallies = Tallies::new(alloc, plan, groups as usize)?;
     let mut totals = Vec::new(alloc);
     let mut number = 0u32;
     for one in captures {

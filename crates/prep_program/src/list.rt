@@ -104,7 +104,7 @@ pub fn list_of(alloc: Global, plan: &Plan, told: &Told, all: &AllCut) -> Result<
     let tallies = all.tallies.as_slice();
     let sums = add_up(tallies);
     let kept = kept_in(&all.totals);
-    let departures = departures_in(lines, tallies, all.tallies.pairs());
+    let departures = departures_in(lines, &all.tallies);
     let mut list = head_of(alloc, &plan.stated, told.begin)?;
     list.push_str(lines_of(alloc, lines, tallies)?.as_str())?;
     list.push_str(lines_of_captures(alloc, &all.totals)?.as_str())?;

@@ -1,9 +1,9 @@
 //! The end of the list of what is set aside: what its lines and captures add up to.
 
 ghost use Rattle.std.specs.Prelude.{◌≡◌, IfOk, string_bytes};
-ghost use Rattle.prep_program.specs.ListText.{counts_text, others_text, sums_of, sums_text, kept_of, kept_text, share_of, is_client, is_unread, clients_with, caused_with, unread_with, departures_of, excluded_of, share_text, departures_text, excluded_text, totals_text};
+ghost use Rattle.prep_program.specs.ListText.{counts_text, others_text, sums_of, sums_text, kept_of, kept_text, share_of, is_client, clients_with, departures_of, excluded_of, share_text, departures_text, excluded_text, totals_text};
 
-use prep_cut::{Count, Reason, Tally, Totals};
+use prep_cut::{Count, Reason, Tallies, Tally, Totals};
 use std::alloc::{AllocError, Global};
 
 /// What the list has in addition to counts.
@@ -26,9 +26,10 @@ pub struct Sums {
 /// The departures that are set aside.
 #[derive(Clone, Copy)]
 pub struct Departures {
-    /// Those without an arrival of their own that is set aside as well, by lines that need one.
+    /// Those that need an arrival of their own, or a packet that may have carried their data, and
+    /// have neither.
     pub unpaired: u64,
-    /// Those by lines of clients whose arrivals can't be read.
+    /// Those whose data packets that aren't read may have carried.
     pub unread: u64,
     /// How many clients from before there are.
     pub clients: u64,
@@ -144,60 +145,17 @@ fn clients_in(lines: &[Reason], tallies: &[Tally]) -> u64
     clients
 }
 
-/// How many departures lines set aside that need their arrivals.
-fn caused_in(lines: &[Reason], tallies: &[Tally]) -> u64
-    ensures { result ≡ caused_with 0 lines.now tallies.now }
+/// The departures that are excluded, of which some have an arrival of their own, and packets that
+/// aren't read may have carried others.
+pub fn departures_in(lines: &[Reason], tallies: &Tallies) -> Departures
+    ensures { result ≡ departures_of lines.now tallies.now }
 {
-    let mut caused = 0u64;
-    let mut rest = tallies;
-    for reason in lines {
-        let Some((tally, behind)) = rest.split_first() else {
-            return caused;
-        };
-        if reason.needs_cause() {
-            caused = caused.saturating_add(tally.left.datagrams);
-        }
-        rest = behind;
-    }
-    caused
-}
-
-/// Whether a line is of clients by TCP, TLS, DTLS or IPv6, or of such as may be.
-fn is_unread(reason: &Reason) -> bool
-    ensures { result ≡ is_unread reason.now }
-{
-    matches!(
-        reason,
-        Reason::AddressTold { .. } | Reason::Address { .. } | Reason::Dtls(_)
-    )
-}
-
-/// How many departures lines set aside whose arrivals can't be read.
-fn unread_in(lines: &[Reason], tallies: &[Tally]) -> u64
-    ensures { result ≡ unread_with 0 lines.now tallies.now }
-{
-    let mut unread = 0u64;
-    let mut rest = tallies;
-    for reason in lines {
-        let Some((tally, behind)) = rest.split_first() else {
-            return unread;
-        };
-        if is_unread(reason) {
-            unread = unread.saturating_add(tally.left.datagrams);
-        }
-        rest = behind;
-    }
-    unread
-}
-
-/// The departures that are set aside, of which so many have their arrivals.
-pub fn departures_in(lines: &[Reason], tallies: &[Tally], pairs: usize) -> Departures
-    ensures { result ≡ departures_of lines.now tallies.now pairs }
-{
+    let carried = tallies.carried();
+    let unpaired = tallies.owing().saturating_sub(tallies.pairs() as u64);
     Departures {
-        unpaired: caused_in(lines, tallies).saturating_sub(pairs as u64),
-        unread: unread_in(lines, tallies),
-        clients: clients_in(lines, tallies),
+        unpaired: unpaired.saturating_sub(carried),
+        unread: carried,
+        clients: clients_in(lines, tallies.as_slice()),
     }
 }
 

@@ -47,8 +47,8 @@ struct Planned {
     told: Told,
     /// What is proposed for the packets of each capture.
     proposals: Vec<Vec<Proposal>>,
-    /// How many numbers these have.
-    causes: CauseNumber,
+    /// How many groups of what isn't read these have.
+    groups: CauseNumber,
 }
 
 /// Writes the captures without what is set aside into a folder, and the list of that, which is
@@ -73,10 +73,10 @@ pub fn run_cut<R: Threads + AllocGlobal, S: Source, M: Maker, O: Sink, E: Sink>(
         plan,
         told,
         proposals,
-        causes,
+        groups,
     } = plan_of(alloc, request, source)?;
     let captures = captures_of(alloc, request, proposals)?;
-    let all = cut_captures(rt, source, &captures, &plan, causes, maker)?;
+    let all = cut_captures(rt, source, &captures, &plan, groups, maker)?;
     let list = list_of(alloc, &plan, &told, &all)?;
     write_list(alloc, request.folder, list.as_str(), maker, out)?;
     let kept = kept_in(&all.totals);
@@ -117,6 +117,7 @@ fn plan_of<S: Source>(
         lines,
         captures: proposals,
         causes,
+        groups,
         beyond,
         lanes,
     } = decide(alloc, &policy, stated, records)?;
@@ -125,6 +126,7 @@ fn plan_of<S: Source>(
             policy,
             stated,
             allocations,
+            pairs: causes,
             lines: Listed::from(lines),
         },
         told: Told {
@@ -133,7 +135,7 @@ fn plan_of<S: Source>(
             lanes,
         },
         proposals,
-        causes,
+        groups,
     })
 }
 

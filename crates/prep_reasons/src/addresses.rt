@@ -92,7 +92,7 @@ fn reason_to_leave(
             })),
             None => Ok(None),
         },
-        Cause::Nobody => match unread.origin(sheet, shown, &record)? {
+        Cause::Nobody => match unread.origin(sheet, shown, at)? {
             Origin::Shown => Ok(elsewhere(sheet, &record, relayed, tenure, true)),
             Origin::Early => Ok(Some(Reason::Edge)),
             Origin::Missing => Ok(None),
@@ -139,7 +139,7 @@ fn leave_arrival(
 }
 
 /// The reason of an address that was told over TCP or IPv6, or to nobody.
-fn elsewhere(
+pub(crate) fn elsewhere(
     sheet: &Sheet<'_>,
     record: &Record,
     relayed: Addr,

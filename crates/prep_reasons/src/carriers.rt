@@ -1,26 +1,49 @@
-//! Departures whose data may have come by TCP, TLS, DTLS or IPv6: each with a packet that may have
-//! carried it.
+//! Departures whose data may have come in packets that aren't read, or in DTLS records: each with
+//! the packet that may have carried it, its carrier.
 
-use prep_records::Carrier;
+use crate::links::Links;
+use prep_records::{Carrier, CarrierKind};
 use std::alloc::{AllocError, Global};
 use std::collections::{BTreeMap, BTreeSet};
 
-/// The least that such data has before it: the header of ChannelData.
-const HEADER: u32 = 4;
+/// A datagram that has more than so many bytes besides its load is taken only if no nearer one is
+/// there: so many are headers and what DTLS adds.
+const NEAR: u32 = 112;
 
-/// A carrier that may carry more, by how much that is, and its number.
+/// Among so many datagrams of nearly one length the one of the nearest moment is looked for.
+const TRIED: usize = 64;
+
+/// A carrier that may carry more, by its kind, by how many bytes that is, and its number.
 #[derive(Clone, Copy, PartialEq, Eq, PartialOrd, Ord)]
 struct Open {
+    kind: CarrierKind,
     bytes: u32,
     number: u32,
 }
 
-/// Between which moments a carrier is wanted, and for how many bytes of data.
+/// What a departure needs of a carrier.
 #[derive(Clone, Copy)]
 pub(crate) struct Load {
+    /// The departure's record.
+    pub(crate) departure: u32,
+    /// The departure's moment, in nanoseconds since 1970.
+    pub(crate) moment: u64,
+    /// The carrier's moment is between these.
     pub(crate) from: u64,
     pub(crate) to: u64,
+    /// How many bytes of the carrier it takes, which is at least 1.
     pub(crate) bytes: u32,
+    /// How many bytes the carrier has at most.
+    pub(crate) most: u32,
+    /// Whether it takes all bytes of the carrier, as of a datagram that causes one departure.
+    pub(crate) takes_all: bool,
+}
+
+/// A departure and its carrier, by their numbers.
+#[derive(Clone, Copy)]
+pub(crate) struct Carried {
+    pub(crate) departure: u32,
+    pub(crate) carrier: u32,
 }
 
 /// The carriers, each with what it may carry still.
@@ -29,11 +52,14 @@ pub(crate) struct Carriers {
     alloc: Global,
     /// In the order of their moments.
     all: Vec<Carrier>,
-    /// Those between the moments that were wanted last.
+    links: Links,
+    /// The departures in the order in which they took carriers.
+    carried: Vec<Carried>,
+    /// Those between the moments of the last load that may carry more.
     open: BTreeSet<Open>,
     /// Of each connection the last of these.
     last: BTreeMap<u64, u32>,
-    /// How many came before the last moment that was wanted.
+    /// How many came before the last moment of a load.
     entered: usize,
     /// How many came before the first.
     over: usize,
@@ -46,7 +72,9 @@ impl Carriers {
         all.sort_by_key(|carrier| carrier.stamp)?;
         Ok(Carriers {
             alloc,
+            links: Links::new(alloc, all.len())?,
             all,
+            carried: Vec::new(alloc),
             open: BTreeSet::new(alloc),
             last: BTreeMap::new(alloc),
             entered: 0,
@@ -62,36 +90,122 @@ impl Carriers {
         self.over = 0;
     }
 
-    /// Has the carrier that is just long enough carry data, if there is one. What is wanted next
-    /// isn't before it. The cost of all is the number of carriers and loads, times its logarithm.
-    pub(crate) fn take(&mut self, load: Load) -> Result<bool, AllocError> {
+    pub(crate) fn len(&self) -> usize {
+        self.all.len()
+    }
+
+    pub(crate) fn carrier(&self, number: usize) -> Option<Carrier> {
+        self.all.get(number).copied()
+    }
+
+    /// The departures with their carriers, in no order.
+    pub(crate) fn carried(&self) -> &[Carried] {
+        self.carried.as_slice()
+    }
+
+    /// The least carrier of the group of one. Departures with carriers of one group may have bytes
+    /// of any of them.
+    pub(crate) fn group(&mut self, carrier: u32) -> u32 {
+        self.links.root(carrier)
+    }
+
+    /// Has the carrier of these kinds that fits best carry a load, and returns its number; none if there is no such carrier. The next load isn't before it. The cost of all is
+    /// the number of carriers and loads, times its logarithm.
+    pub(crate) fn take(
+        &mut self,
+        load: Load,
+        kinds: &[CarrierKind],
+    ) -> Result<Option<u32>, AllocError> {
         self.enter_until(load)?;
         self.end_before(load.from);
-        let need = load.bytes.saturating_add(HEADER);
-        let least = Open {
-            bytes: need,
-            number: 0,
-        };
-        let found = match self.open.range(least..).next() {
-            Some(open) => *open,
-            None => return Ok(false),
+        let mut best: Option<Open> = None;
+        for kind in kinds {
+            let Some(open) = self.fitting(*kind, load) else {
+                continue;
+            };
+            best = match best {
+                Some(other) if (other.bytes, other.number) <= (open.bytes, open.number) => best,
+                _ => Some(open),
+            };
+        }
+        let Some(found) = best else {
+            return Ok(None);
         };
         self.open.remove(&found);
-        let left = found.bytes.saturating_sub(need);
+        self.links.spend(found.number, found.bytes, load.bytes);
+        let left = if load.takes_all {
+            0
+        } else {
+            found.bytes.saturating_sub(load.bytes)
+        };
         self.set(found.number, left)?;
-        Ok(true)
+        self.carried.push(Carried {
+            departure: load.departure,
+            carrier: found.number,
+        })?;
+        Ok(Some(found.number))
+    }
+
+    /// The carrier of a kind that fits best: of datagrams that are little longer than what is needed
+    /// the last one before the departure, and else the shortest.
+    fn fitting(&self, kind: CarrierKind, load: Load) -> Option<Open> {
+        let least = self.least_of(kind, load)?;
+        if kind == CarrierKind::TcpOrIpv6 {
+            return Some(least);
+        }
+        let most = load.most.min(load.bytes.saturating_add(NEAR));
+        let mut best = least;
+        for open in self.open.range(least..).take(TRIED) {
+            if open.kind != kind || open.bytes > most {
+                return Some(best);
+            }
+            if self.distance(open.number, load) < self.distance(best.number, load) {
+                best = *open;
+            }
+        }
+        Some(best)
+    }
+
+    /// How far a carrier is from a departure. It is nearer before than after that.
+    fn distance(&self, number: u32, load: Load) -> (bool, u64) {
+        match self.all.get(number as usize) {
+            Some(carrier) => (
+                carrier.stamp > load.moment,
+                carrier.stamp.abs_diff(load.moment),
+            ),
+            None => (true, u64::MAX),
+        }
+    }
+
+    /// The carrier of a kind that is just long enough.
+    fn least_of(&self, kind: CarrierKind, load: Load) -> Option<Open> {
+        let least = Open {
+            kind,
+            bytes: load.bytes,
+            number: 0,
+        };
+        let open = *self.open.range(least..).next()?;
+        if open.kind == kind && open.bytes <= load.most {
+            Some(open)
+        } else {
+            None
+        }
     }
 
     /// Notes what a carrier may carry still.
     fn set(&mut self, number: u32, bytes: u32) -> Result<(), AllocError> {
-        if let Some(carrier) = self.all.get_mut(number as usize) {
-            carrier.bytes = bytes;
+        let Some(carrier) = self.all.get_mut(number as usize) else {
+            return Ok(());
+        };
+        carrier.bytes = bytes;
+        if bytes > 0 {
+            let open = open_of(carrier, number);
+            self.open.insert(open)?;
         }
-        self.open.insert(Open { bytes, number })?;
         Ok(())
     }
 
-    /// Takes the carriers that came up to a moment.
+    /// Takes the carriers that came up to a load's last moment.
     fn enter_until(&mut self, load: Load) -> Result<(), AllocError> {
         for at in self.entered..self.all.len() {
             let Some(carrier) = self.all.get(at).copied() else {
@@ -114,15 +228,11 @@ impl Carriers {
         let number = u32::try_from(at).unwrap_or(u32::MAX);
         let mut bytes = carrier.bytes;
         if let Some(before) = self.last.get(&carrier.connection).copied() {
-            let earlier = self.all.get(before as usize).copied();
-            if let Some(earlier) = earlier {
-                let open = Open {
-                    bytes: earlier.bytes,
-                    number: before,
-                };
-                if earlier.goes_on && self.open.remove(&open) {
+            if let Some(earlier) = self.all.get(before as usize).copied() {
+                if earlier.goes_on && self.open.remove(&open_of(&earlier, before)) {
                     bytes = bytes.saturating_add(earlier.bytes);
                     self.set(before, 0)?;
+                    self.links.move_on(before, number, earlier.bytes);
                 }
             }
         }
@@ -140,11 +250,16 @@ impl Carriers {
                 return;
             }
             self.over = at.saturating_add(1);
-            let open = Open {
-                bytes: carrier.bytes,
-                number: u32::try_from(at).unwrap_or(u32::MAX),
-            };
-            self.open.remove(&open);
+            let number = u32::try_from(at).unwrap_or(u32::MAX);
+            self.open.remove(&open_of(&carrier, number));
         }
+    }
+}
+
+fn open_of(carrier: &Carrier, number: u32) -> Open {
+    Open {
+        kind: carrier.kind,
+        bytes: carrier.bytes,
+        number,
     }
 }

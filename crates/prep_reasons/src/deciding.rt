@@ -10,9 +10,9 @@ use crate::late::leave_late_data;
 use crate::members::Members;
 use crate::pairing::{Pairing, keep_unpaired};
 use crate::proposals::{Proposed, propose};
-use crate::responses::{Shown, read_responses};
+use crate::responses::read_responses;
 use crate::sheet::Sheet;
-use crate::unread::Unread;
+use crate::unread::{Carrying, Unread};
 use audit_model::Policy;
 use prep_cut::Stated;
 use prep_records::Records;
@@ -29,17 +29,21 @@ pub fn decide(
 ) -> Result<Proposed, AllocError> {
     let mut records = records;
     let packets = mem::replace(&mut records.captures, Vec::new(alloc));
-    let Sorted { mut sheet, shown } = sort_all(alloc, policy, stated, records)?;
-    let pairing = Pairing::new(&sheet, &shown.channels)?;
-    keep_unpaired(&mut sheet, &pairing)?;
-    propose(&mut sheet, &packets, &pairing)
+    let Sorted {
+        mut sheet,
+        pairing,
+        mut carrying,
+    } = sort_all(alloc, policy, stated, records)?;
+    keep_unpaired(&mut sheet, &pairing, &carrying)?;
+    propose(&mut sheet, &packets, &pairing, &mut carrying)
 }
 
-/// What is sorted out, with what responses show.
+/// What is sorted out, with the departures that have an arrival or a carrier.
 #[derive(Drop)]
 struct Sorted<'a> {
     sheet: Sheet<'a>,
-    shown: Shown,
+    pairing: Pairing,
+    carrying: Carrying,
 }
 
 /// The records of captures in the order of their moments, with what is set aside and what answers
@@ -50,7 +54,7 @@ pub fn sort_out<'a>(
     stated: Stated,
     records: Records,
 ) -> Result<Sheet<'a>, AllocError> {
-    let Sorted { sheet, shown: _ } = sort_all(alloc, policy, stated, records)?;
+    let Sorted { sheet, .. } = sort_all(alloc, policy, stated, records)?;
     Ok(sheet)
 }
 
@@ -79,6 +83,13 @@ fn sort_all<'a>(
     let owners = leave_addresses(&mut sheet, &shown, &hang_ups, by_client, &mut unread)?;
     leave_clients(&mut sheet, &times, &shown)?;
     leave_late_data(&mut sheet, &shown.tenures, &hang_ups, &owners)?;
-    leave_dtls(&mut sheet, &shown.tenures, &mut unread)?;
-    Ok(Sorted { sheet, shown })
+    // What is paired is no carrier of DTLS, and DTLS is in no pair.
+    let pairing = Pairing::new(&sheet, &shown.channels)?;
+    leave_dtls(&mut sheet, &shown.tenures, &pairing, &mut unread)?;
+    let Unread { carrying, .. } = unread;
+    Ok(Sorted {
+        sheet,
+        pairing,
+        carrying,
+    })
 }

@@ -1,158 +1,145 @@
-//! DTLS, which isn't read: what leaves for a client by DTLS needs a cause.
+//! DTLS, which isn't read: what leaves for a client by DTLS needs a carrier.
 
-use crate::carriers::Load;
+use crate::addresses::elsewhere;
+use crate::carriers::{Carriers, Load};
 use crate::inner::is_outside;
+use crate::pairing::Pairing;
 use crate::sheet::Sheet;
+use crate::speech::{Speech, carrier_of, may_have_data};
 use crate::tenures::Tenures;
 use crate::unread::Unread;
 use audit_model::Side;
 use prep_cut::Reason;
-use prep_records::{Content, Record};
+use prep_records::{CarrierKind, Content, Record};
 use std::alloc::AllocError;
 
-/// The type of a DTLS record with application data (RFC 9147, section 4).
-const APPLICATION_DATA: u64 = 23;
-
-/// A record that leaves for a client has at most so many bytes that its cause hasn't: the header of
-/// a Data indication and what DTLS adds.
+/// A record that leaves for a client has at most so many bytes that its carrier hasn't: the header
+/// of a Data indication and what DTLS adds.
 const ADDED: u16 = 96;
 
-/// How a client speaks.
-#[derive(Clone, Copy, PartialEq, Eq)]
-enum Speech {
-    Nothing,
-    /// DTLS alone.
-    Dtls,
-    /// Something else, too.
-    Other,
-}
-
-/// What may be the cause of application data: data at relayed addresses that no judged client has,
-/// and what clients by DTLS send.
+/// Data that arrives at relayed addresses that no judged client has.
 #[derive(Drop)]
-struct Causes {
-    /// In the order of their moments.
+pub(crate) struct Relayed {
+    pub(crate) carriers: Carriers,
+    /// Of each carrier its record.
     records: Vec<u32>,
-    next: usize,
 }
 
-impl Causes {
-    fn new(sheet: &Sheet<'_>, tenures: &Tenures) -> Result<Self, AllocError> {
+impl Relayed {
+    /// What is in no pair. The cost is the number of records times its logarithm.
+    fn new(sheet: &Sheet<'_>, tenures: &Tenures, pairing: &Pairing) -> Result<Self, AllocError> {
         let mut records = Vec::new(sheet.alloc);
+        let mut carriers = Vec::new(sheet.alloc);
         for at in 0..sheet.records.len() {
             let Some(record) = sheet.record(at) else {
                 continue;
             };
-            let is_cause = match record.content {
-                Content::Relayed => tenures.holder(record.to, record.stamp).is_none(),
-                Content::Dtls => record.digest == APPLICATION_DATA,
-                _ => false,
-            };
-            if is_cause && matches!(record.side, Side::Arrives) && !is_outside(sheet, at) {
+            let is_free = matches!(record.content, Content::Relayed)
+                && matches!(record.side, Side::Arrives)
+                && tenures.holder(record.to, record.stamp).is_none();
+            let is_used = matches!(sheet.used.get(at), Some(true)) || pairing.number(at).is_some();
+            if is_free && !is_used && !is_outside(sheet, at) {
                 records.push(u32::try_from(at).unwrap_or(u32::MAX))?;
+                carriers.push(carrier_of(&record, CarrierKind::Relayed))?;
             }
         }
-        Ok(Causes { records, next: 0 })
+        Ok(Relayed {
+            carriers: Carriers::new(sheet.alloc, carriers)?,
+            records,
+        })
     }
 
-    /// Takes the first one between two moments that explains no other departure. What is wanted
-    /// next isn't before it.
-    fn take(&mut self, sheet: &mut Sheet<'_>, from: u64, to: u64) -> bool {
-        for place in self.next..self.records.len() {
-            let Some(at) = self.records.get(place).copied() else {
-                return false;
-            };
-            let Some(record) = sheet.record(at as usize) else {
-                return false;
-            };
-            if record.stamp > to {
-                return false;
-            }
-            self.next = place.saturating_add(1);
-            if let Some(mark) = sheet.used.get_mut(at as usize) {
-                if record.stamp >= from && !*mark {
-                    *mark = true;
-                    return true;
-                }
-            }
-        }
-        false
-    }
-}
-
-/// How each client speaks within the moments that are stated.
-fn speech_of(sheet: &Sheet<'_>) -> Result<Vec<Speech>, AllocError> {
-    let mut all = vec![in sheet.alloc; Speech::Nothing; sheet.pairs.len()]?;
-    for at in 0..sheet.records.len() {
-        let (Some(record), Some(pair)) = (sheet.record(at), sheet.pair_number(at)) else {
-            continue;
+    /// Has the one that fits best carry a load, if there is one, and excludes it.
+    fn take(
+        &mut self,
+        sheet: &mut Sheet<'_>,
+        tenures: &Tenures,
+        load: Load,
+    ) -> Result<bool, AllocError> {
+        let Some(number) = self.carriers.take(load, &[CarrierKind::Relayed])? else {
+            return Ok(false);
         };
-        if !matches!(record.side, Side::Arrives) || is_outside(sheet, at) {
-            continue;
+        let Some(at) = self.records.get(number as usize).copied() else {
+            return Ok(false);
+        };
+        if let Some(record) = sheet.record(at as usize) {
+            let tenure = tenures.begun(record.to, record.stamp);
+            if let Some(reason) = elsewhere(sheet, &record, record.to, tenure, true) {
+                sheet.leave(at as usize, reason)?;
+            }
         }
-        let is_dtls = matches!(record.content, Content::Dtls);
-        if let Some(speech) = all.get_mut(pair as usize) {
-            *speech = if is_dtls && *speech != Speech::Other {
-                Speech::Dtls
-            } else {
-                Speech::Other
-            };
-        }
+        Ok(true)
     }
-    Ok(all)
 }
 
 /// Excludes DTLS with clients that send nothing else, unless the operator states that no client
-/// comes by DTLS. Application data that leaves without a cause of its own stays in.
+/// comes by DTLS. Application data that leaves without a carrier stays in.
 pub(crate) fn leave_dtls(
     sheet: &mut Sheet<'_>,
     tenures: &Tenures,
+    pairing: &Pairing,
     unread: &mut Unread,
 ) -> Result<(), AllocError> {
-    if sheet.stated.has_no_tcp {
+    if !unread.speech.contains(&Speech::Dtls) {
         return Ok(());
     }
-    let speech = speech_of(sheet)?;
-    if !speech.contains(&Speech::Dtls) {
-        return Ok(());
-    }
-    let mut causes = Causes::new(sheet, tenures)?;
+    unread.rewind();
+    let mut relayed = Relayed::new(sheet, tenures, pairing)?;
     for at in 0..sheet.records.len() {
         let (Some(record), Some(pair)) = (sheet.record(at), sheet.pair_number(at)) else {
             continue;
         };
-        let (Some(Speech::Dtls), Some(named)) = (speech.get(pair as usize), sheet.pair(pair)) else {
+        let (Some(Speech::Dtls), Some(named)) =
+            (unread.speech.get(pair as usize), sheet.pair(pair))
+        else {
             continue;
         };
         if !matches!(record.content, Content::Dtls) || !sheet.is_kept(at) {
             continue;
         }
-        let is_data = matches!(record.side, Side::Leaves) && record.digest == APPLICATION_DATA;
-        if !is_data || has_cause(sheet, &record, &mut causes, unread)? {
+        let is_data = matches!(record.side, Side::Leaves) && may_have_data(&record);
+        if !is_data || is_carried(sheet, tenures, at, &mut relayed, unread)? {
             sheet.leave(at, Reason::Dtls(named))?;
         } else if sheet.is_early(record.stamp) {
             sheet.leave(at, Reason::Edge)?;
         }
     }
+    unread.carrying.relayed = Some(relayed.carriers);
     Ok(())
 }
 
-/// Whether application data has a cause of its own within the hold before, which it then takes.
-fn has_cause(
+/// Whether application data has a carrier within the hold before, which it then takes: data at a
+/// relayed address, if possible data that isn't longer than the departure, a DTLS record, or a
+/// packet over TCP or IPv6.
+fn is_carried(
     sheet: &mut Sheet<'_>,
-    record: &Record,
-    causes: &mut Causes,
+    tenures: &Tenures,
+    at: usize,
+    relayed: &mut Relayed,
     unread: &mut Unread,
 ) -> Result<bool, AllocError> {
+    let Some(record) = sheet.record(at) else {
+        return Ok(false);
+    };
     let before = sheet.policy.hold.saturating_add(sheet.slack);
-    let from = record.stamp.saturating_sub(before);
-    let to = record.stamp.saturating_add(sheet.slack);
-    if causes.take(sheet, from, to) {
+    let load = Load {
+        departure: u32::try_from(at).unwrap_or(u32::MAX),
+        moment: record.stamp,
+        from: record.stamp.saturating_sub(before),
+        to: record.stamp.saturating_add(sheet.slack),
+        bytes: u32::from(record.least.saturating_sub(ADDED).max(1)),
+        most: u32::MAX,
+        takes_all: true,
+    };
+    let not_longer = Load {
+        most: u32::from(record.least.max(1)),
+        ..load
+    };
+    if relayed.take(sheet, tenures, not_longer)?
+        || unread.takes_record(load)?
+        || relayed.take(sheet, tenures, load)?
+    {
         return Ok(true);
     }
-    unread.carries_without_dtls(Load {
-        from,
-        to,
-        bytes: u32::from(record.least.saturating_sub(ADDED)),
-    })
+    unread.takes_packet(load)
 }

@@ -150,7 +150,7 @@ fn leave_inner_departures(
                 if is_sent {
                     Origin::Shown
                 } else {
-                    unread.origin(sheet, shown, &record)?
+                    unread.origin(sheet, shown, at)?
                 }
             }
         };

@@ -2,6 +2,7 @@
 
 use crate::channels::Channels;
 use crate::sheet::Sheet;
+use crate::unread::Carrying;
 use audit_model::{Addr, Side};
 use audit_stun::Class;
 use prep_causes::{CauseNumber, MaybeNumber};
@@ -157,16 +158,20 @@ impl Pairing {
     }
 }
 
-/// Keeps each departure in that a line excludes without the arrival that it needs, except `inner`
-/// data, which a packet that isn't read may have carried. If the arrival may be from before the
-/// captures, `edge` excludes the departure.
-pub(crate) fn keep_unpaired(sheet: &mut Sheet<'_>, pairing: &Pairing) -> Result<(), AllocError> {
+/// Keeps each departure in that a line excludes with neither the arrival that it needs nor a group
+/// of carriers. If the arrival may be from before the captures, `edge` excludes the departure.
+pub(crate) fn keep_unpaired(
+    sheet: &mut Sheet<'_>,
+    pairing: &Pairing,
+    carrying: &Carrying,
+) -> Result<(), AllocError> {
+    let carried = carrying.departures(sheet.alloc)?;
     for at in 0..sheet.records.len() {
         let Some(record) = sheet.record(at) else {
             continue;
         };
         let needs = record.side == Side::Leaves && is_proposed(sheet, at, Side::Leaves);
-        if !needs || pairing.number(at).is_some() || is_inner(sheet, at) {
+        if !needs || pairing.number(at).is_some() || is_among(carried.as_slice(), at) {
             continue;
         }
         if sheet.is_early(record.stamp) {
@@ -179,13 +184,11 @@ pub(crate) fn keep_unpaired(sheet: &mut Sheet<'_>, pairing: &Pairing) -> Result<
     Ok(())
 }
 
-/// Whether `inner` excludes a record.
-fn is_inner(sheet: &Sheet<'_>, at: usize) -> bool {
-    match sheet.line_of(at) {
-        Some(line) => matches!(
-            sheet.lines.reasons.get(line as usize),
-            Some(Reason::Inner { .. })
-        ),
+/// Whether a record is among these, which are in order.
+fn is_among(records: &[u32], at: usize) -> bool {
+    let before = records.partition_point(|one| (*one as usize) < at);
+    match records.get(before) {
+        Some(one) => *one as usize == at,
         None => false,
     }
 }

@@ -1,7 +1,9 @@
 //! The lines in the order of the list, and what is proposed for each packet.
 
+use crate::groups::propose_groups;
 use crate::pairing::Pairing;
 use crate::sheet::Sheet;
+use crate::unread::Carrying;
 use audit_model::Side;
 use prep_causes::{CauseNumber, MaybeNumber};
 use prep_cut::{LineNumber, Proposal, Reason};
@@ -19,6 +21,8 @@ pub struct Proposed {
     pub captures: Vec<Vec<Proposal>>,
     /// How many numbers of departures with their arrivals there are.
     pub causes: CauseNumber,
+    /// How many groups of carriers and departures there are, whose numbers are the next ones.
+    pub groups: CauseNumber,
     /// Departures of clients from before that no state from before allows, and that stay in.
     pub beyond: u64,
     /// Clients with their listen addresses from which something that stays in arrived.
@@ -84,6 +88,7 @@ pub(crate) fn propose(
     sheet: &mut Sheet<'_>,
     packets: &[CapturePackets],
     pairing: &Pairing,
+    carrying: &mut Carrying,
 ) -> Result<Proposed, AllocError> {
     let early = sheet.lines.number_of(Reason::BeforeSince)?;
     let late = sheet.lines.number_of(Reason::AfterUntil)?;
@@ -112,6 +117,7 @@ pub(crate) fn propose(
             }
         }
     }
+    let groups = propose_groups(sheet, pairing, carrying, captures.as_mut_slice())?;
     let lanes = lanes_of(sheet.alloc, sheet)?;
     let Ordered {
         reasons,
@@ -122,6 +128,7 @@ pub(crate) fn propose(
         lines: reasons,
         captures,
         causes: pairing.count(),
+        groups,
         beyond: sheet.beyond,
         lanes,
     })

@@ -1,22 +1,62 @@
 //! What clients by TCP, TLS, DTLS or IPv6 may have sent, which isn't read.
 
-use crate::carriers::{Carriers, Load};
+use crate::carriers::{Carried, Carriers, Load};
 use crate::inner::wanted_of;
 use crate::origin::Origin;
 use crate::peer_data::PeerData;
 use crate::pool::Group;
 use crate::responses::Shown;
 use crate::sheet::Sheet;
-use prep_records::{Carrier, Record};
+use crate::speech::{Speech, add_records, speech_of};
+use prep_records::{CarrierKind, Record};
 use std::alloc::{AllocError, Global};
 use std::mem;
+
+/// The least that data has before it in a carrier, in bytes: the header of ChannelData.
+const HEADER: u32 = 4;
+
+/// What data of clients that aren't judged may have come in.
+const ALL: [CarrierKind; 3] = [
+    CarrierKind::TcpOrIpv6,
+    CarrierKind::DtlsData,
+    CarrierKind::Dtls,
+];
+
+/// The carriers, with the departures that took them.
+#[derive(Drop)]
+pub(crate) struct Carrying {
+    /// TCP, IPv6 and DTLS.
+    pub(crate) carriers: Carriers,
+    /// Data at relayed addresses, for what leaves by DTLS.
+    pub(crate) relayed: Option<Carriers>,
+}
+
+impl Carrying {
+    /// The departures with carriers, in order.
+    pub(crate) fn departures(&self, alloc: Global) -> Result<Vec<u32>, AllocError> {
+        let mut departures = Vec::new(alloc);
+        add_departures(&mut departures, self.carriers.carried())?;
+        if let Some(relayed) = &self.relayed {
+            add_departures(&mut departures, relayed.carried())?;
+        }
+        departures.sort_unstable();
+        Ok(departures)
+    }
+}
+
+fn add_departures(all: &mut Vec<u32>, carried: &[Carried]) -> Result<(), AllocError> {
+    for one in carried {
+        all.push(one.departure)?;
+    }
+    Ok(())
+}
 
 /// The packets that may carry data of such clients, and the data of others.
 #[derive(Drop)]
 pub(crate) struct Unread {
-    carriers: Carriers,
-    /// Those that aren't DTLS, if there is some.
-    others: Option<Carriers>,
+    pub(crate) carrying: Carrying,
+    /// How each client speaks; of none if the operator states that none comes by DTLS.
+    pub(crate) speech: Vec<Speech>,
     /// It is made where it is needed first, since most captures have no data that isn't read.
     peer_data: Option<PeerData>,
 }
@@ -24,31 +64,45 @@ pub(crate) struct Unread {
 impl Unread {
     /// Of a sheet, which has the carriers no more.
     pub(crate) fn new(sheet: &mut Sheet<'_>) -> Result<Self, AllocError> {
-        let carriers = mem::replace(&mut sheet.carriers, Vec::new(sheet.alloc));
-        let others = if carriers.iter().any(|one| one.is_dtls) {
-            Some(others_of(sheet.alloc, &carriers)?)
+        let mut carriers = mem::replace(&mut sheet.carriers, Vec::new(sheet.alloc));
+        let mut speech = Vec::new(sheet.alloc);
+        if sheet.stated.has_no_tcp {
+            carriers = Vec::new(sheet.alloc);
         } else {
-            None
-        };
+            speech = speech_of(sheet)?;
+            add_records(sheet, speech.as_slice(), &mut carriers)?;
+        }
         Ok(Unread {
-            carriers: Carriers::new(sheet.alloc, carriers)?,
-            others,
+            carrying: Carrying {
+                carriers: Carriers::new(sheet.alloc, carriers)?,
+                relayed: None,
+            },
+            speech,
             peer_data: None,
         })
     }
 
     /// Begins again with the first departure.
     pub(crate) fn rewind(&mut self) {
-        self.carriers.rewind();
+        self.carrying.carriers.rewind();
     }
 
-    /// Whether a packet that isn't DTLS may have carried so many bytes, which it then did.
+    /// Whether a DTLS record may have been the cause of what leaves by DTLS, which then takes it.
     /// Departures come in the order of their moments.
-    pub(crate) fn carries_without_dtls(&mut self, load: Load) -> Result<bool, AllocError> {
-        match &mut self.others {
-            Some(others) => others.take(load),
-            None => Ok(false),
-        }
+    pub(crate) fn takes_record(&mut self, load: Load) -> Result<bool, AllocError> {
+        let taken = self.carrying.carriers.take(load, &[CarrierKind::DtlsData])?;
+        Ok(taken.is_some())
+    }
+
+    /// The same of a packet over TCP or IPv6, which may have carried more.
+    pub(crate) fn takes_packet(&mut self, load: Load) -> Result<bool, AllocError> {
+        let load = Load {
+            bytes: load.bytes.saturating_add(HEADER),
+            takes_all: false,
+            ..load
+        };
+        let taken = self.carrying.carriers.take(load, &[CarrierKind::TcpOrIpv6])?;
+        Ok(taken.is_some())
     }
 
     /// From where the server may have the data of a departure that isn't a judged client's: such a
@@ -58,18 +112,25 @@ impl Unread {
         &mut self,
         sheet: &Sheet<'_>,
         shown: &Shown,
-        record: &Record,
+        at: usize,
     ) -> Result<Origin, AllocError> {
-        if self.is_judged(sheet, shown, record)? {
+        let Some(record) = sheet.record(at) else {
+            return Ok(Origin::Missing);
+        };
+        if self.is_judged(sheet, shown, &record)? {
             return Ok(Origin::Missing);
         }
-        let wanted = wanted_of(sheet, record, Group::All);
+        let wanted = wanted_of(sheet, &record, Group::All);
         let load = Load {
+            departure: u32::try_from(at).unwrap_or(u32::MAX),
+            moment: record.stamp,
             from: wanted.from,
             to: wanted.to,
-            bytes: u32::from(record.least),
+            bytes: u32::from(record.least).saturating_add(HEADER),
+            most: u32::MAX,
+            takes_all: false,
         };
-        if !sheet.stated.has_no_tcp && self.carriers.take(load)? {
+        if self.carrying.carriers.take(load, &ALL)?.is_some() {
             Ok(Origin::Shown)
         } else if sheet.is_early(record.stamp) {
             Ok(Origin::Early)
@@ -93,15 +154,4 @@ impl Unread {
         self.peer_data = Some(arrivals);
         Ok(is_judged)
     }
-}
-
-/// The carriers that aren't DTLS.
-fn others_of(alloc: Global, all: &[Carrier]) -> Result<Carriers, AllocError> {
-    let mut others = Vec::new(alloc);
-    for carrier in all {
-        if !carrier.is_dtls {
-            others.push(*carrier)?;
-        }
-    }
-    Carriers::new(alloc, others)
 }

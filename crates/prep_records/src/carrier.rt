@@ -1,22 +1,55 @@
-//! Packets over TCP or IPv6 that may carry data of clients, which isn't read.
+//! Packets that may carry data of clients, which isn't read.
 
 use crate::elsewhere::behind_ethernet;
 use audit_model::Policy;
 use std::hash::{DefaultHasher, Hasher};
 
-/// What comes by TCP, TLS, DTLS or IPv6, and may carry the data of a client.
+/// What a carrier is.
+#[derive(Clone, Copy, Debug, PartialEq, Eq, PartialOrd, Ord)]
+pub enum CarrierKind {
+    /// A TCP segment or an IPv6 packet.
+    TcpOrIpv6,
+    /// A DTLS record with application data that arrives at a listen address.
+    DtlsData,
+    /// Another DTLS record that comes to the server.
+    Dtls,
+    /// Data that arrives at a relayed address.
+    Relayed,
+}
+
+/// A packet that may carry the data of a client.
 #[derive(Clone, Copy, Debug)]
 pub struct Carrier {
     /// Nanoseconds since 1970.
     pub stamp: u64,
-    /// How many bytes it has after its headers.
-    pub bytes: u32,
     /// Packets of one connection have the same.
     pub connection: u64,
+    /// How many bytes it has after its headers.
+    pub bytes: u32,
+    /// The packet's number among those of its capture, from 0.
+    pub packet: u32,
+    /// The capture's number.
+    pub capture: u16,
     /// Whether what it carries may go on in the next packet of its connection.
     pub goes_on: bool,
-    pub is_dtls: bool,
+    pub kind: CarrierKind,
 }
+
+/// Where and when a packet was captured.
+#[derive(Clone, Copy)]
+pub(crate) struct Captured {
+    /// Nanoseconds since 1970.
+    pub(crate) stamp: u64,
+    /// The frame's bytes, those that weren't captured among them.
+    pub(crate) original: u32,
+    /// The packet's number among those of its capture, from 0.
+    pub(crate) packet: u32,
+    /// The capture's number.
+    pub(crate) capture: u16,
+}
+
+/// The bytes of the headers of Ethernet and IPv4, the least before a transport header.
+const LEAST_HEADERS: u32 = 34;
 
 /// A TCP segment of fewer bytes ends where its data ends: each host has to take one of 536 (RFC
 /// 9293, section 3.7.1).
@@ -41,7 +74,7 @@ struct Ends<'a> {
 
 /// The carrier that a frame is: a packet of TCP or IPv6 that comes to the service and has data.
 /// Where addresses don't tell which end is the service's, it is the one of the lesser port.
-pub(crate) fn carrier_in(policy: &Policy, stamp: u64, frame: &[u8]) -> Option<Carrier> {
+pub(crate) fn carrier_in(policy: &Policy, captured: Captured, frame: &[u8]) -> Option<Carrier> {
     let (kind, packet) = behind_ethernet(frame)?;
     let ends = match kind {
         0x0800 => ends_ipv4(policy, packet)?,
@@ -64,11 +97,14 @@ pub(crate) fn carrier_in(policy: &Policy, stamp: u64, frame: &[u8]) -> Option<Ca
     hasher.write(ends.to);
     hasher.write(ends.transport.get(0..4)?);
     Some(Carrier {
-        stamp,
-        bytes,
+        stamp: captured.stamp,
         connection: hasher.finish(),
+        // A header may tell a greater length than the frame has.
+        bytes: bytes.min(captured.original.saturating_sub(LEAST_HEADERS)),
+        packet: captured.packet,
+        capture: captured.capture,
         goes_on: ends.protocol == TCP && bytes >= LEAST_FULL,
-        is_dtls: false,
+        kind: CarrierKind::TcpOrIpv6,
     })
 }
 

@@ -2,7 +2,7 @@
 
 ghost use Rattle.std.specs.Prelude.{◌≡◌};
 
-use crate::carrier::{Carrier, carrier_in};
+use crate::carrier::{Captured, Carrier, CarrierKind, carrier_in};
 use crate::elsewhere::note_told;
 use crate::kept::Kept;
 use crate::payload::{Read, read_payload};
@@ -102,7 +102,7 @@ impl<'p> Keeper<'p> {
                 to,
                 payload,
             })?,
-            Seen::Other => self.take_elsewhere(head.stamp, frame)?,
+            Seen::Other => self.take_elsewhere(head, frame)?,
             Seen::Fragment { .. } | Seen::Cut { .. } => {}
         }
         self.packets.count = self.packets.count.saturating_add(1);
@@ -110,21 +110,30 @@ impl<'p> Keeper<'p> {
     }
 
     /// Takes a frame that is no UDP over IPv4.
-    fn take_elsewhere(&mut self, stamp: u64, frame: &[u8]) -> Result<(), AllocError> {
-        if let Some(carrier) = carrier_in(self.policy, stamp, frame) {
+    fn take_elsewhere(&mut self, head: PacketHead, frame: &[u8]) -> Result<(), AllocError> {
+        let captured = Captured {
+            stamp: head.stamp,
+            original: head.original,
+            packet: self.packets.count,
+            capture: self.capture,
+        };
+        if let Some(carrier) = carrier_in(self.policy, captured, frame) {
             self.all.carriers.push(carrier)?;
         }
-        note_told(self.policy, stamp, frame, &mut self.all.told)
+        note_told(self.policy, head.stamp, frame, &mut self.all.told)
     }
 
-    /// Takes a DTLS record that comes to an address of the server.
+    /// Takes a DTLS record that comes to an address of the server and is no datagram of the
+    /// service.
     fn take_dtls(&mut self, stamp: u64, payload: &[u8]) -> Result<(), AllocError> {
         self.all.carriers.push(Carrier {
             stamp,
-            bytes: u32::try_from(payload.len()).unwrap_or(u32::MAX),
             connection: 0,
+            bytes: u32::try_from(payload.len()).unwrap_or(u32::MAX),
+            packet: self.packets.count,
+            capture: self.capture,
             goes_on: false,
-            is_dtls: true,
+            kind: CarrierKind::Dtls,
         })?;
         Ok(())
     }
@@ -153,10 +162,10 @@ impl<'p> Keeper<'p> {
         let leaves = self.policy.listens(from) || self.policy.relays(from);
         let arrives = self.policy.listens(to) || self.policy.relays(to);
         let is_dtls = matches!(payload, [20..=63, ..]);
-        if is_dtls && !leaves && self.policy.service_ip(to.ip) && !self.policy.relays(to) {
-            self.take_dtls(head.stamp, payload)?;
-        }
         if !leaves && !arrives {
+            if is_dtls && self.policy.service_ip(to.ip) {
+                self.take_dtls(head.stamp, payload)?;
+            }
             return Ok(());
         }
         let own = if leaves { from } else { to };

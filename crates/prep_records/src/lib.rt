@@ -10,7 +10,7 @@ mod payload;
 mod record;
 mod recorder;
 
-pub use carrier::Carrier;
+pub use carrier::{Carrier, CarrierKind};
 pub use elsewhere::note_told;
 pub use kept::Kept;
 pub use record::{CapturePackets, Content, Outside, Record, Records, Stun, Told};

@@ -5,7 +5,7 @@ use Rattle.std.proofs.lemmas.Grind.{take_at_read}
 use Rattle.audit_model.specs.Sink.{followed_by}
 use Rattle.prep_cut.specs.declared.tally.Totals.{Totals}
 use Rattle.prep_cut.specs.Cutting.{IsCutting}
-use Rattle.prep_cut.proofs.Pairing.{are_paired}
+use Rattle.prep_cut.proofs.Pairing.{are_carried, are_paired}
 use Rattle.prep_program.specs.declared.cutting.ToCut.{ToCut}
 use Rattle.sha2.specs.Sha256.{sha256}
 use Rattle.prep_program.specs.CutComment.{comment_of_cut}
@@ -71,4 +71,4 @@ returns g c = λ texts all.
     let e : AreCut c.loop-one.totals.items c.loop-one.tallies c.args.plan.now c.args.captures.now texts _ _ =
     subst (λ (t : List (List ℕ)). AreCut c.loop-one.totals.items c.loop-one.tallies c.args.plan.now c.args.captures.now t (files_of (g.M.Maker.making c.args.made.now) (g.M.Sink.taken c.args.made.now)) (files_of (g.M.Maker.making c.loop-one.made) (g.M.Sink.taken c.loop-one.made))) (take_all index texts past)
     (subst (λ (a : List ToCut). AreCut c.loop-one.totals.items c.loop-one.tallies c.args.plan.now a (take index texts) (files_of (g.M.Maker.making c.args.made.now) (g.M.Sink.taken c.args.made.now)) (files_of (g.M.Maker.making c.loop-one.made) (g.M.Sink.taken c.loop-one.made))) whole d) in
-    record { captures = e.done; spelled = e.spelled; wholes = e.wholes; totals = e.totals_are; tallies = e.tallies_are; paired = are_paired c.args.plan.now (all_marks (marks_of c.args.plan.now c.args.captures.now e.done)) c.loop-one.tallies.causes e.tallies_are.causes; files = e.files }
+    record { captures = e.done; spelled = e.spelled; wholes = e.wholes; totals = e.totals_are; tallies = e.tallies_are; paired = are_paired c.args.plan.now (all_marks (marks_of c.args.plan.now c.args.captures.now e.done)) c.loop-one.tallies.causes e.tallies_are.causes; carried = are_carried c.args.plan.now (all_marks (marks_of c.args.plan.now c.args.captures.now e.done)) c.loop-one.tallies e.tallies_are; owing = e.tallies_are.owing; files = e.files }

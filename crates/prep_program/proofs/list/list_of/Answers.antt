@@ -2,7 +2,6 @@ use Rattle.std.proofs.Common.{◌≡◌, ◌++◌, ◌∙◌, ℕ, List, ap, str
 use Rattle.prep_cut.specs.declared.reason.Reason.{Reason}
 use Rattle.prep_cut.specs.declared.tally.Tally.{Tally}
 use Rattle.prep_cut.specs.declared.tally.Totals.{Totals}
-use Rattle.prep_causes.specs.Slots.{pairs_in}
 use Rattle.prep_program.specs.declared.list_totals.Departures.{Departures}
 use Rattle.prep_program.specs.declared.list_totals.Sums.{Sums}
 use Rattle.prep_program.specs.ListText.{head_text, lines_text, captures_text, totals_text, sums_of, kept_of, departures_of}
@@ -21,12 +20,10 @@ returns c =
     let captures : string_bytes c.in_ok-lines_of_captures.field-0 ≡ captures_text 0 c.deref-2.result.now = c.in_ok-lines_of_captures.ensures in
     let sums : c.add_up-sums.result ≡ sums_of tallies = c.add_up-sums.ensures ∙ ap sums_of c.as_slice-tallies.ensures in
     let kept : c.kept_in-kept.result ≡ kept_of totals = c.kept_in-kept.ensures ∙ ap kept_of c.deref.ensures.value in
-    let pairs = pairs_in all.tallies.causes.slots.items in
-    let departures : c.departures_in-departures.result ≡ departures_of plan.lines tallies pairs =
-    c.departures_in-departures.ensures ∙ ap (λ (l : List Reason). departures_of l c.as_slice-tallies.result.now c.pairs.result) c.as_slice-lines.ensures
-    ∙ ap (λ (t : List Tally). departures_of plan.lines t c.pairs.result) c.as_slice-tallies.ensures ∙ ap (departures_of plan.lines tallies) c.pairs.ensures.value in
+    let departures : c.departures_in-departures.result ≡ departures_of plan.lines all.tallies =
+    c.departures_in-departures.ensures ∙ ap (λ (l : List Reason). departures_of l all.tallies) c.as_slice-lines.ensures in
     let last : string_bytes c.in_ok-lines_of_totals.field-0 ≡ totals_text told c.add_up-sums.result c.kept_in-kept.result c.departures_in-departures.result = c.in_ok-lines_of_totals.ensures in
-    with_more _ _ _ ((head_text plan.stated told.begin ++ lines_text plan.lines tallies) ++ captures_text 0 totals) (totals_text told (sums_of tallies) (kept_of totals) (departures_of plan.lines tallies pairs)) c.in_ok-push_str-3.ensures.bytes
+    with_more _ _ _ ((head_text plan.stated told.begin ++ lines_text plan.lines tallies) ++ captures_text 0 totals) (totals_text told (sums_of tallies) (kept_of totals) (departures_of plan.lines all.tallies)) c.in_ok-push_str-3.ensures.bytes
     (with_more _ _ _ (head_text plan.stated told.begin ++ lines_text plan.lines tallies) (captures_text 0 totals) c.in_ok-push_str-2.ensures.bytes
     (with_more _ _ _ (head_text plan.stated told.begin) (lines_text plan.lines tallies) c.in_ok-push_str.ensures.bytes head
     (c.as_str.ensures.value ∙ lines ∙ ap (λ (l : List Reason). lines_text l c.as_slice-tallies.result.now) c.as_slice-lines.ensures ∙ ap (λ (t : List Tally). lines_text plan.lines t) c.as_slice-tallies.ensures))
