@@ -112,6 +112,7 @@ fn by_frames<S: Source>(
     case: Case<'_>,
     lanes: Option<&Lanes<'_>>,
     verdict: &Verdict,
+    is_searched: bool,
 ) -> Result<(String, u64, Clients), Stop> {
     let (story, shown) = story_in(alloc, case, verdict)?;
     let mut frames = Frames::new(alloc);
@@ -132,7 +133,8 @@ fn by_frames<S: Source>(
     };
     let mut account = head(alloc, verdict)?;
     let length = account.len();
-    account.push_str(verdict_lines(alloc, &printer, verdict, &story, shown, length)?.as_str())?;
+    let lines = verdict_lines(alloc, &printer, verdict, &story, shown, is_searched, length)?;
+    account.push_str(lines.as_str())?;
     Ok((
         account,
         printer.first(),
@@ -167,7 +169,15 @@ fn gather<S: Source>(
 ) -> Result<Gathered, Stop> {
     let verdict = &judged.verdict;
     let lanes = lanes_of(alloc, case)?;
-    let (story, first, clients) = by_frames(alloc, source, case, lanes.as_ref(), verdict)?;
+    let is_searched = inputs.certificate.is_none();
+    let (story, first, clients) = by_frames(
+        alloc,
+        source,
+        case,
+        lanes.as_ref(),
+        verdict,
+        is_searched,
+    )?;
     let policy = text_of(alloc, source, inputs.policy, MOST_POLICY)?;
     let excluded = excluded_of(alloc, source, excluded)?;
     let captures = facts_of_captures(alloc, source, &inputs.captures)?;

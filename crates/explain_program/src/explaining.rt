@@ -35,17 +35,20 @@ pub fn case_of<'a>(judged: &'a Judged, captures: &'a [&'a str]) -> Case<'a> {
     }
 }
 
-/// What is told behind the head.
+/// What is printed after the head.
 fn rest_of<S: Source>(
     alloc: Global,
     source: &mut S,
     case: Case<'_>,
     verdict: &Verdict,
+    is_searched: bool,
     asked: Asked,
 ) -> Result<String, RunError> {
     let length = head(alloc, verdict)?.len();
     match asked {
-        Asked::Verdict { .. } => Ok(rest_of_verdict(alloc, source, case, verdict, length)?),
+        Asked::Verdict { .. } => {
+            Ok(rest_of_verdict(alloc, source, case, verdict, is_searched, length)?)
+        }
         Asked::Lanes { broken } => Ok(rest_of_lanes(alloc, source, case, verdict, broken, length)?),
         Asked::Client { lane, around } => {
             rest_of_client(alloc, source, case, lane, around, length)
@@ -130,7 +133,8 @@ pub fn explain<R: Threads + Wait + Sync, F: CertificateFinder, S: Explaining, O:
         workers,
     )?;
     let case = case_of(&judged, captures);
-    let rest = rest_of(alloc, source, case, &judged.verdict, asked)?;
+    let is_searched = certificate.is_none();
+    let rest = rest_of(alloc, source, case, &judged.verdict, is_searched, asked)?;
     if source.changed().is_some() {
         return Err(RunError::Stopped(Stop::Read));
     }

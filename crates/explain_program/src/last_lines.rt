@@ -202,12 +202,23 @@ fn excuse(intake: &Intake, departure: Option<SightId>, too_late: bool) -> &'stat
     if too_late { TOO_LATE } else { "" }
 }
 
-/// Whether another order may explain what breaks a rule.
+/// The line if no departure shows a fault, by the certificate of a file: no other order is tried.
+const ONE_ORDER: &str =
+    "Not shown is no proof of a fault: only the certificate's order was tried.\n";
+
+/// The line if no departure shows a fault, by a certificate that was found. Without such a fault
+/// the search ends at the first order that conforms, or after all that it tries.
+const SEARCHED_ORDERS: &str =
+    "Not shown is no proof of a fault: a search found no order that conforms, but it doesn't try all.\n";
+
+/// What is known of other orders than the one that breaks a rule: by the faults that hold in every
+/// order, and by whether orders were searched.
 pub fn last_line(
     alloc: Global,
     intake: &Intake,
     departure: Option<SightId>,
     shown: Option<InEveryOrder>,
+    is_searched: bool,
 ) -> Result<String, AllocError> {
     match shown {
         Some(
@@ -218,9 +229,13 @@ pub fn last_line(
             },
         ) => line_of_this(alloc, fault, count, excuse(intake, departure, too_late)),
         Some(InEveryOrder::Elsewhere { count }) => line_of_others(alloc, count),
-        None => String::from_str(
-            alloc,
-            "Not shown is no proof of a fault: another order may explain it.\n",
-        ),
+        None => {
+            let line = if is_searched {
+                SEARCHED_ORDERS
+            } else {
+                ONE_ORDER
+            };
+            String::from_str(alloc, line)
+        }
     }
 }

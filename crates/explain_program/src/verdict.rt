@@ -58,13 +58,14 @@ pub fn story_in(
     }
 }
 
-/// What is told behind a head of so many bytes, by the frames that were looked up.
+/// What is printed after a head of so many bytes, by the frames that were looked up.
 pub fn verdict_lines(
     alloc: Global,
     printer: &Printer<'_>,
     verdict: &Verdict,
     story: &Story,
     shown: Option<InEveryOrder>,
+    is_searched: bool,
     length: usize,
 ) -> Result<String, AllocError> {
     let mut rest = behind_head(alloc, printer, length)?;
@@ -75,19 +76,21 @@ pub fn verdict_lines(
         Verdict::NotShown(_) => {
             rest.push_str(printer.lines(alloc, story)?.as_str())?;
             rest.push_str(look_lines(alloc, printer, story)?.as_str())?;
-            let last = last_line(alloc, printer.case.intake, story.departure, shown)?;
+            let intake = printer.case.intake;
+            let last = last_line(alloc, intake, story.departure, shown, is_searched)?;
             rest.push_str(last.as_str())?;
         }
     }
     Ok(rest)
 }
 
-/// What is told behind a head of so many bytes.
+/// What is printed after a head of so many bytes.
 pub fn rest_of_verdict<S: Source>(
     alloc: Global,
     source: &mut S,
     case: Case<'_>,
     verdict: &Verdict,
+    is_searched: bool,
     length: usize,
 ) -> Result<String, Stop> {
     let (story, shown) = story_in(alloc, case, verdict)?;
@@ -104,5 +107,5 @@ pub fn rest_of_verdict<S: Source>(
         case,
         frames: &frames,
     };
-    Ok(verdict_lines(alloc, &printer, verdict, &story, shown, length)?)
+    Ok(verdict_lines(alloc, &printer, verdict, &story, shown, is_searched, length)?)
 }

@@ -143,7 +143,7 @@ fn reason(
     }
     match misdelivery {
         Some(found) if found.arrival == arrival.id => "  in time, but for another client",
-        _ => "  in time, and no other datagram answers it",
+        _ => "  in time, and no datagram answers it in this order",
     }
 }
 
