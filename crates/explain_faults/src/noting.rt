@@ -4,7 +4,7 @@ use audit_faults::{Fault, ShownFault};
 use audit_model::{Addr, SightId, Sighting};
 use audit_sightings::Intake;
 use explain_clients::{Misdelivery, Owners, is_dtls};
-use explain_frames::{Frames, ToldBy};
+use explain_frames::{Frames, GrantSource};
 use explain_text::Quoted;
 use std::alloc::{AllocError, Global};
 
@@ -45,7 +45,7 @@ pub fn request_frames(
     for shown in faults {
         if let Some(relayed) = relayed_of(intake, shown) {
             if owners.granted(relayed).is_none() {
-                frames.ask_told(relayed)?;
+                frames.look_for_grant(relayed)?;
             }
         }
     }
@@ -115,7 +115,7 @@ fn text_of_owner(alloc: Global, notes: &Notes<'_>, relayed: Addr) -> Result<Stri
         let SightId { iface, index } = grant.sight;
         return format!(in alloc; "datagram {iface}.{index} granted {relayed} to {client}\n");
     }
-    let Some(frame) = notes.frames.told(relayed) else {
+    let Some(frame) = notes.frames.grant_of(relayed) else {
         return format!(in alloc; "no client was granted {relayed} over UDP in these captures\n");
     };
     let name = notes.captures.get(usize::from(frame.file)).copied();
@@ -123,11 +123,11 @@ fn text_of_owner(alloc: Global, notes: &Notes<'_>, relayed: Addr) -> Result<Stri
         bytes: name.unwrap_or("?").as_bytes(),
     };
     let number = frame.number;
-    match frame.told {
-        ToldBy::Elsewhere(client) => format!(in alloc;
+    match frame.source {
+        GrantSource::Elsewhere(client) => format!(in alloc;
             "{capture} frame {number} grants {relayed} to {client}, a client that isn't judged\n"
         ),
-        ToldBy::Unlisted { server, client } => format!(in alloc;
+        GrantSource::Unlisted { server, client } => format!(in alloc;
             "{capture} frame {number} of {server} grants {relayed} to {client}: the policy lacks {server}\n"
         ),
     }

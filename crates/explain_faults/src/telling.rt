@@ -35,7 +35,7 @@ fn notes_of<'a, S: Source>(
     let owners = Owners::of(alloc, intake)?;
     let mut frames = Frames::new(alloc);
     request_frames(intake, &owners, faults, &mut frames)?;
-    if frames.asks_told() {
+    if frames.looks_for_grants() {
         look_up(alloc, source, intake.policy(), captures, &mut frames)?;
     }
     Ok(Notes {

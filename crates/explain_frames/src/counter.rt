@@ -135,7 +135,7 @@ impl<'p> FrameCounter<'p> {
         self.tally.add_packet();
         frames.note_stamp(packet.stamp);
         if !is_of_service(self.policy, packet) {
-            return frames.note_told(self.policy, self.file, self.tally.packets, packet);
+            return frames.note_unjudged_grants(self.policy, self.file, self.tally.packets, packet);
         }
         if packet.iface >= INTERFACES {
             return Ok(());

@@ -7,7 +7,7 @@ ghost use Rattle.audit_model.specs.declared.sighting.SightId.{SightId};
 ghost use Rattle.audit_model.specs.Sames.{same_sight};
 ghost use Rattle.explain_frames.specs.FramesOf.{Shows, frames_of, kept_for};
 
-use crate::told::{GrantedBy, ToldFrame, granted_in};
+use crate::granting::{GrantFrame, GrantedBy, granted_in};
 use audit_model::{Addr, Policy, SightId};
 use audit_pcapng::PacketSlice;
 use audit_sights::SightMap;
@@ -30,7 +30,7 @@ pub struct Frames {
     /// The least stamp of all packets so far.
     first: Option<u64>,
     /// The relayed addresses that are asked for, each with the first frame that grants it and isn't judged.
-    granted: BTreeMap<Addr, Option<ToldFrame>>,
+    granted: BTreeMap<Addr, Option<GrantFrame>>,
     alloc: Global,
 }
 
@@ -73,7 +73,7 @@ impl Frames {
 
     /// Asks which frame grants this relayed address and isn't judged: one of TCP or IPv6, or of an
     /// endpoint that the policy lacks.
-    pub fn ask_told(&mut self, relayed: Addr) -> Result<(), AllocError>
+    pub fn look_for_grant(&mut self, relayed: Addr) -> Result<(), AllocError>
         ensures { self.new.found ≡ self.old.found }
     {
         self.granted.insert(relayed, None)?;
@@ -81,12 +81,12 @@ impl Frames {
     }
 
     /// Whether any such address is asked for.
-    pub fn asks_told(&self) -> bool {
+    pub fn looks_for_grants(&self) -> bool {
         !self.granted.is_empty()
     }
 
     /// The first such frame.
-    pub fn told(&self, relayed: Addr) -> Option<ToldFrame> {
+    pub fn grant_of(&self, relayed: Addr) -> Option<GrantFrame> {
         *self.granted.get(&relayed)?
     }
 
@@ -112,7 +112,7 @@ impl Frames {
     }
 
     /// Looks whether a packet that isn't the service's grants a relayed address that is asked for.
-    pub(crate) fn note_told(
+    pub(crate) fn note_unjudged_grants(
         &mut self,
         policy: &Policy,
         file: u16,
@@ -132,7 +132,7 @@ impl Frames {
 
 /// Notes the frame of each address that is asked for and has none yet.
 fn note_grants(
-    granted: &mut BTreeMap<Addr, Option<ToldFrame>>,
+    granted: &mut BTreeMap<Addr, Option<GrantFrame>>,
     found: &[GrantedBy],
     file: u16,
     number: u64,
@@ -140,8 +140,12 @@ fn note_grants(
     for one in found {
         if let Some(frame) = granted.get_mut(&one.relayed) {
             if frame.is_none() {
-                let told = one.told;
-                *frame = Some(ToldFrame { told, file, number });
+                let source = one.source;
+                *frame = Some(GrantFrame {
+                    source,
+                    file,
+                    number,
+                });
             }
         }
     }

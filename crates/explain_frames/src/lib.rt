@@ -3,9 +3,9 @@
 
 mod counter;
 mod frames;
+mod granting;
 mod tally;
-mod told;
 
 pub use counter::FrameCounter;
 pub use frames::{Frame, Frames};
-pub use told::{ToldBy, ToldFrame, granted_address};
+pub use granting::{GrantFrame, GrantSource, granted_address};

@@ -4,7 +4,7 @@ use crate::lease::{ended_of, lease_of};
 use crate::object::{List, Object};
 use crate::sighting::sighting_of;
 use audit_model::{Addr, Rule, SightId};
-use explain_frames::{ToldBy, ToldFrame};
+use explain_frames::{GrantFrame, GrantSource};
 use explain_state::GrantAct;
 use explain_story::{Account, ClientOf, Line, Printer, Story};
 use explain_text::{anchor, cause, code, meaning};
@@ -90,7 +90,7 @@ fn written_of(
     alloc: Global,
     printer: &Printer<'_>,
     relayed: Addr,
-    frame: ToldFrame,
+    frame: GrantFrame,
 ) -> Result<Object, AllocError> {
     let mut object = Object::new(alloc);
     let capture = printer.capture_of(u32::from(frame.file));
@@ -98,12 +98,12 @@ fn written_of(
     object.string("relayed", format!(in alloc; "{relayed}")?)?;
     object.string("capture", format!(in alloc; "{capture}")?)?;
     object.number("frame", frame.number)?;
-    match frame.told {
-        ToldBy::Elsewhere(client) => {
+    match frame.source {
+        GrantSource::Elsewhere(client) => {
             object.nothing("unlisted")?;
             object.string("client", format!(in alloc; "{client}")?)?;
         }
-        ToldBy::Unlisted { server, client } => {
+        GrantSource::Unlisted { server, client } => {
             object.string("unlisted", format!(in alloc; "{server}")?)?;
             object.string("client", format!(in alloc; "{client}")?)?;
         }
@@ -129,7 +129,7 @@ fn write_line(
         Line::Datagram(sight) => account.object(shown(alloc, printer, *sight)?),
         Line::Lease(row) => account.object(lease_of(alloc, printer, row, moment)?),
         Line::Ended(ended) => account.object(ended_of(alloc, printer, ended)?),
-        Line::ToldElsewhere(relayed) => match printer.frames.told(*relayed) {
+        Line::GrantedElsewhere(relayed) => match printer.frames.grant_of(*relayed) {
             Some(frame) => account.object(written_of(alloc, printer, *relayed, frame)?),
             None => Ok(()),
         },

@@ -10,7 +10,7 @@ use audit_stun::numbers::attribute::{ERROR_CODE, EVEN_PORT, LIFETIME, XOR_RELAYE
 use audit_stun::numbers::method::{ALLOCATE, REFRESH};
 use audit_stun::{Message, address, error_code};
 use explain_clients::{Owners, is_dtls};
-use explain_frames::{ToldBy, ToldFrame};
+use explain_frames::{GrantFrame, GrantSource};
 use explain_text::{anchor, cause};
 use std::alloc::{AllocError, Global};
 
@@ -172,12 +172,12 @@ pub fn cause_of_departure(
 }
 
 /// The usual causes of a departure from a relayed address, by the frame that grants it and isn't judged.
-pub fn cause_by_frame(frame: Option<ToldFrame>, rule: Rule) -> &'static str {
+pub fn cause_by_frame(frame: Option<GrantFrame>, rule: Rule) -> &'static str {
     let Some(frame) = frame else {
         return cause(rule);
     };
-    match frame.told {
-        ToldBy::Elsewhere(_) => "clients by TCP, TLS or IPv6",
-        ToldBy::Unlisted { .. } => "a listen address that the policy lacks",
+    match frame.source {
+        GrantSource::Elsewhere(_) => "clients by TCP, TLS or IPv6",
+        GrantSource::Unlisted { .. } => "a listen address that the policy lacks",
     }
 }

@@ -51,7 +51,7 @@ pub enum Line {
         behind: String,
     },
     /// The frame that tells a relayed address and isn't judged; nothing where there is none.
-    ToldElsewhere(Addr),
+    GrantedElsewhere(Addr),
 }
 
 /// Lines in their order, and the moment at which leases are looked at.
@@ -76,7 +76,7 @@ fn add_act(sights: &mut Vec<SightId>, act: &GrantAct) -> Result<(), AllocError> 
 fn add_sights(sights: &mut Vec<SightId>, line: &Line) -> Result<(), AllocError> {
     match line {
         Line::Words(_) | Line::Client(_) | Line::Expected(_) | Line::Rule(_) => Ok(()),
-        Line::ToldElsewhere(_) => Ok(()),
+        Line::GrantedElsewhere(_) => Ok(()),
         Line::Datagram(sight) | Line::UpTo { sight, .. } => {
             sights.push(*sight)?;
             Ok(())
@@ -160,8 +160,8 @@ impl Story {
             frames.ask(*sight)?;
         }
         for line in &self.lines {
-            if let Line::ToldElsewhere(relayed) = line {
-                frames.ask_told(*relayed)?;
+            if let Line::GrantedElsewhere(relayed) = line {
+                frames.look_for_grant(*relayed)?;
             }
         }
         Ok(())

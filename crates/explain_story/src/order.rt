@@ -190,7 +190,7 @@ pub fn add_owner(
             story.say(format!(in alloc;
                 "  no client was granted {from} over UDP in these captures"
             )?)?;
-            story.add(Line::ToldElsewhere(from))
+            story.add(Line::GrantedElsewhere(from))
         }
     }
 }

@@ -4,7 +4,7 @@ use crate::causes::{cause_by_frame, cause_line};
 use crate::line::{ClientOf, Line, Story};
 use crate::place::Printer;
 use audit_model::{Addr, Rule};
-use explain_frames::ToldBy;
+use explain_frames::GrantSource;
 use explain_state::{Ended, GrantAct, LeaseKind, LeaseRow};
 use explain_text::{Ip, MethodWord, Quoted, Seconds, meaning};
 use std::alloc::{AllocError, Global};
@@ -73,16 +73,16 @@ impl Printer<'_> {
 
     /// The frame that grants a relayed address and isn't judged.
     fn line_of_owner(&self, alloc: Global, relayed: Addr) -> Result<String, AllocError> {
-        let Some(frame) = self.frames.told(relayed) else {
+        let Some(frame) = self.frames.grant_of(relayed) else {
             return Ok(String::new(alloc));
         };
         let capture = self.capture_of(u32::from(frame.file));
         let number = frame.number;
-        match frame.told {
-            ToldBy::Elsewhere(client) => format!(in alloc;
+        match frame.source {
+            GrantSource::Elsewhere(client) => format!(in alloc;
                 "  {capture} frame {number} grants {relayed} in an Allocate success to {client}, a client that isn't judged\n"
             ),
-            ToldBy::Unlisted { server, client } => format!(in alloc;
+            GrantSource::Unlisted { server, client } => format!(in alloc;
                 "  {capture} frame {number} grants {relayed} in an Allocate success of {server} to {client}: the policy lacks {server}\n"
             ),
         }
@@ -95,7 +95,7 @@ impl Printer<'_> {
             Line::Client(client) => client_line(alloc, client),
             Line::Expected(words) => format!(in alloc; "expected: {words}\n"),
             Line::Rule(rule) => rule_line(alloc, *rule),
-            Line::ToldElsewhere(relayed) => self.line_of_owner(alloc, *relayed),
+            Line::GrantedElsewhere(relayed) => self.line_of_owner(alloc, *relayed),
             Line::Datagram(sight) => self.datagram_line(alloc, *sight),
             Line::Lease(row) => self.lease_line(alloc, row, moment),
             Line::Ended(ended) => self.ended_line(alloc, ended),
@@ -123,7 +123,7 @@ impl Printer<'_> {
         rule: Rule,
     ) -> Result<String, AllocError> {
         let frame = match ungranted(story) {
-            Some(relayed) => self.frames.told(relayed),
+            Some(relayed) => self.frames.grant_of(relayed),
             None => None,
         };
         let mut line = cause_line(alloc, rule, cause_by_frame(frame, rule))?;
@@ -147,7 +147,7 @@ impl Printer<'_> {
 /// The relayed address of a story that no client was granted over UDP.
 fn ungranted(story: &Story) -> Option<Addr> {
     for line in &story.lines {
-        if let Line::ToldElsewhere(relayed) = line {
+        if let Line::GrantedElsewhere(relayed) = line {
             return Some(*relayed);
         }
     }

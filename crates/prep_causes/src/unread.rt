@@ -89,10 +89,10 @@ impl Group {
         ensures { result ≡ is_carried reach self.now }
     {
         let (slack, hold) = (u128::from(reach.slack), u128::from(reach.hold));
-        let comes_first =
-            u128::from(self.carriers.first) <= u128::from(self.departures.first) + slack;
-        let is_in_time =
-            u128::from(self.departures.last) <= u128::from(self.carriers.last) + hold + slack;
+        let comes_first = u128::from(self.carriers.first)
+            <= u128::from(self.departures.first) + slack;
+        let is_in_time = u128::from(self.departures.last)
+            <= u128::from(self.carriers.last) + hold + slack;
         self.carriers.count > 0
             && self.departures.bytes <= self.carriers.bytes
             && comes_first

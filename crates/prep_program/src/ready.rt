@@ -15,7 +15,7 @@ mod whole;
 mod work;
 
 use self::captures::join_step;
-use self::excluding::{decide_step, leave_step};
+use self::excluding::{decide_step, exclude_step};
 use self::policy::{Chosen, policy_step};
 use self::translating::translate_step;
 use self::users::users_step;
@@ -146,7 +146,7 @@ fn prepare_by<R: Threads + AllocGlobal, S: Source, M: Maker, F: Folders, E: Sink
     let has_users = users_step(alloc, request, &whole, work, source, maker, err)?;
     let outer = translate_step(alloc, policy, whole, work, source, maker, folders, err)?;
     let decided = decide_step(alloc, request.stated, &outer, work, source)?;
-    let Some(ready) = leave_step(rt, decided, outer, work, source, maker, folders, err)? else {
+    let Some(ready) = exclude_step(rt, decided, outer, work, source, maker, folders, err)? else {
         return Ok(false);
     };
     work.end(&ready, has_users)?;

@@ -1,7 +1,7 @@
 //! Relayed addresses that nobody was given.
 
 use crate::hang_ups::HangUps;
-use crate::late::{Owners, leave_late_to_peer};
+use crate::late::{Owners, exclude_late_to_peer};
 use crate::origin::Origin;
 use crate::pool::Pool;
 use crate::responses::Shown;
@@ -19,7 +19,7 @@ type LeftOf = BTreeSet<(Addr, u32)>;
 
 /// Excludes what leaves relayed addresses that nobody was granted, and what arrives there. It
 /// returns which of these clients from before have.
-pub(crate) fn leave_addresses(
+pub(crate) fn exclude_addresses(
     sheet: &mut Sheet<'_>,
     shown: &Shown,
     hang_ups: &HangUps,
@@ -33,8 +33,8 @@ pub(crate) fn leave_addresses(
         let Some(stray) = found.all.get(place).copied() else {
             continue;
         };
-        if let Some(reason) = reason_to_leave(sheet, shown, hang_ups, stray, &found, unread)? {
-            sheet.leave(stray.record as usize, reason)?;
+        if let Some(reason) = reason_to_exclude(sheet, shown, hang_ups, stray, &found, unread)? {
+            sheet.exclude(stray.record as usize, reason)?;
             if let (Some(key), false) = (tenure_of(sheet, shown, stray), reason == Reason::Edge) {
                 left.insert(key)?;
             }
@@ -44,7 +44,7 @@ pub(crate) fn leave_addresses(
         let Some(stray) = found.all.get(place).copied() else {
             continue;
         };
-        leave_arrival(sheet, shown, stray, &found, &left)?;
+        exclude_arrival(sheet, shown, stray, &found, &left)?;
     }
     let Strays { owners, .. } = found;
     Ok(owners)
@@ -60,7 +60,7 @@ fn tenure_of(sheet: &Sheet<'_>, shown: &Shown, stray: Stray) -> Option<(Addr, u3
 /// The line of what leaves an address that nobody was granted, if it looks like what can't be
 /// judged. What leaves after the deletion of a client from before is excluded at once, with its
 /// arrival.
-fn reason_to_leave(
+fn reason_to_exclude(
     sheet: &mut Sheet<'_>,
     shown: &Shown,
     hang_ups: &HangUps,
@@ -80,7 +80,7 @@ fn reason_to_leave(
         Cause::Judged(arrival) => {
             if let Some(arrival) = arrival {
                 let pass = (at, arrival as usize);
-                leave_late_to_peer(sheet, &shown.tenures, hang_ups, &found.owners, pass)?;
+                exclude_late_to_peer(sheet, &shown.tenures, hang_ups, &found.owners, pass)?;
             }
             Ok(None)
         }
@@ -102,7 +102,7 @@ fn reason_to_leave(
 
 /// Excludes what arrives at an address that nobody was granted, if the address is of a client from
 /// before, or something that left it is excluded.
-fn leave_arrival(
+fn exclude_arrival(
     sheet: &mut Sheet<'_>,
     shown: &Shown,
     stray: Stray,
@@ -133,12 +133,12 @@ fn leave_arrival(
         }
     };
     match reason {
-        Some(reason) => sheet.leave(at, reason),
+        Some(reason) => sheet.exclude(at, reason),
         None => Ok(()),
     }
 }
 
-/// The reason of an address that was told over TCP or IPv6, or to nobody.
+/// The reason of an address that was granted over TCP or IPv6, or to nobody.
 pub(crate) fn elsewhere(
     sheet: &Sheet<'_>,
     record: &Record,
@@ -150,11 +150,11 @@ pub(crate) fn elsewhere(
         return None;
     }
     let moment = record.stamp.saturating_add(sheet.slack);
-    if let Some(told) = sheet.told_before(relayed, moment) {
+    if let Some(grant) = sheet.unread_grant_before(relayed, moment) {
         return Some(Reason::AddressTold {
             relayed,
             tenure,
-            client: told.client,
+            client: grant.client,
         });
     }
     if else_nobody {

@@ -1,12 +1,12 @@
 //! What is proposed to be set aside, out of the records of captures.
 
-use crate::addresses::leave_addresses;
+use crate::addresses::exclude_addresses;
 use crate::before::{TimeBefore, explain, time_before};
-use crate::dtls::leave_dtls;
-use crate::from_before::leave_clients;
-use crate::hang_ups::{HangUps, leave_hang_ups};
-use crate::inner::{leave_inner, pool_of_arrivals};
-use crate::late::leave_late_data;
+use crate::dtls::exclude_dtls;
+use crate::from_before::exclude_clients;
+use crate::hang_ups::{HangUps, exclude_hang_ups};
+use crate::inner::{exclude_inner, pool_of_arrivals};
+use crate::late::exclude_late_data;
 use crate::members::Members;
 use crate::pairing::{Pairing, keep_unpaired};
 use crate::proposals::{Proposed, propose};
@@ -77,15 +77,15 @@ fn sort_all<'a>(
     let mut by_client = pool_of_arrivals(&sheet)?;
     let mut unread = Unread::new(&mut sheet)?;
     if !stated.keeps_inner {
-        leave_inner(&mut sheet, &shown, &mut by_client, &mut unread)?;
+        exclude_inner(&mut sheet, &shown, &mut by_client, &mut unread)?;
     }
-    leave_hang_ups(&mut sheet, &shown.tenures, &hang_ups)?;
-    let owners = leave_addresses(&mut sheet, &shown, &hang_ups, by_client, &mut unread)?;
-    leave_clients(&mut sheet, &times, &shown)?;
-    leave_late_data(&mut sheet, &shown.tenures, &hang_ups, &owners)?;
+    exclude_hang_ups(&mut sheet, &shown.tenures, &hang_ups)?;
+    let owners = exclude_addresses(&mut sheet, &shown, &hang_ups, by_client, &mut unread)?;
+    exclude_clients(&mut sheet, &times, &shown)?;
+    exclude_late_data(&mut sheet, &shown.tenures, &hang_ups, &owners)?;
     // What is paired is no carrier of DTLS, and DTLS is in no pair.
     let pairing = Pairing::new(&sheet, &shown.channels)?;
-    leave_dtls(&mut sheet, &shown.tenures, &pairing, &mut unread)?;
+    exclude_dtls(&mut sheet, &shown.tenures, &pairing, &mut unread)?;
     let Unread { carrying, .. } = unread;
     Ok(Sorted {
         sheet,

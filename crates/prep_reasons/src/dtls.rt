@@ -65,7 +65,7 @@ impl Relayed {
         if let Some(record) = sheet.record(at as usize) {
             let tenure = tenures.begun(record.to, record.stamp);
             if let Some(reason) = elsewhere(sheet, &record, record.to, tenure, true) {
-                sheet.leave(at as usize, reason)?;
+                sheet.exclude(at as usize, reason)?;
             }
         }
         Ok(true)
@@ -74,7 +74,7 @@ impl Relayed {
 
 /// Excludes DTLS with clients that send nothing else, unless the operator states that no client
 /// comes by DTLS. Application data that leaves without a carrier stays in.
-pub(crate) fn leave_dtls(
+pub(crate) fn exclude_dtls(
     sheet: &mut Sheet<'_>,
     tenures: &Tenures,
     pairing: &Pairing,
@@ -89,8 +89,7 @@ pub(crate) fn leave_dtls(
         let (Some(record), Some(pair)) = (sheet.record(at), sheet.pair_number(at)) else {
             continue;
         };
-        let (Some(Speech::Dtls), Some(named)) =
-            (unread.speech.get(pair as usize), sheet.pair(pair))
+        let (Some(Speech::Dtls), Some(named)) = (unread.speech.get(pair as usize), sheet.pair(pair))
         else {
             continue;
         };
@@ -99,9 +98,9 @@ pub(crate) fn leave_dtls(
         }
         let is_data = matches!(record.side, Side::Leaves) && may_have_data(&record);
         if !is_data || is_carried(sheet, tenures, at, &mut relayed, unread)? {
-            sheet.leave(at, Reason::Dtls(named))?;
+            sheet.exclude(at, Reason::Dtls(named))?;
         } else if sheet.is_early(record.stamp) {
-            sheet.leave(at, Reason::Edge)?;
+            sheet.exclude(at, Reason::Edge)?;
         }
     }
     unread.carrying.relayed = Some(relayed.carriers);

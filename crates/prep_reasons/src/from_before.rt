@@ -16,7 +16,7 @@ use std::alloc::AllocError;
 /// Sets aside what is left of clients from before, with what asked for it, and answers that may be
 /// to what came before. It counts the departures of such clients that no state from before allows,
 /// or that have no arrival of their own.
-pub(crate) fn leave_clients(
+pub(crate) fn exclude_clients(
     sheet: &mut Sheet<'_>,
     times: &[TimeBefore],
     shown: &Shown,
@@ -30,7 +30,7 @@ pub(crate) fn leave_clients(
         }
     }
     if needs.contains(&true) {
-        leave_needing(sheet, shown, &needs)?;
+        exclude_needing(sheet, shown, &needs)?;
     }
     for at in 0..sheet.records.len() {
         let (Some(pair), Some(record)) = (sheet.pair_number(at), sheet.record(at)) else {
@@ -40,7 +40,7 @@ pub(crate) fn leave_clients(
             continue;
         }
         if let Some(time) = times.get(pair as usize) {
-            leave_answer(sheet, shown, (at, pair), *time)?;
+            exclude_answer(sheet, shown, (at, pair), *time)?;
         }
         let is_beyond = sheet.state_before(at) == StateBefore::Forbids;
         if is_beyond && sheet.is_kept(at) && matches!(needs.get(pair as usize), Some(true)) {
@@ -51,14 +51,14 @@ pub(crate) fn leave_clients(
 }
 
 /// Excludes what is left of the clients that need an allocation from before.
-fn leave_needing(sheet: &mut Sheet<'_>, shown: &Shown, needs: &[bool]) -> Result<(), AllocError> {
+fn exclude_needing(sheet: &mut Sheet<'_>, shown: &Shown, needs: &[bool]) -> Result<(), AllocError> {
     let mut peer_data = PeerData::new(sheet, shown)?;
     for at in 0..sheet.records.len() {
         let Some(pair) = sheet.pair_number(at) else {
             continue;
         };
         if matches!(needs.get(pair as usize), Some(true)) {
-            leave_explained(sheet, shown, (at, pair), &mut peer_data)?;
+            exclude_explained(sheet, shown, (at, pair), &mut peer_data)?;
         }
     }
     Ok(())
@@ -110,7 +110,7 @@ fn origin_of(
 
 /// Excludes a record that a state from before explains, with its request. Data that leaves without
 /// an arrival of its own stays in, and so does data that names a judged client's relayed address.
-fn leave_explained(
+fn exclude_explained(
     sheet: &mut Sheet<'_>,
     shown: &Shown,
     one: (usize, u32),
@@ -125,7 +125,7 @@ fn leave_explained(
     }
     match origin_of(sheet, shown, at, &record, peer_data) {
         Origin::Shown => {}
-        Origin::Early => return sheet.leave(at, Reason::Edge),
+        Origin::Early => return sheet.exclude(at, Reason::Edge),
         Origin::Missing => {
             if let Some(mark) = sheet.old.get_mut(at) {
                 *mark = StateBefore::Forbids;
@@ -133,16 +133,16 @@ fn leave_explained(
             return Ok(());
         }
     }
-    sheet.leave(at, Reason::Client(named))?;
+    sheet.exclude(at, Reason::Client(named))?;
     if let Some(request) = sheet.request_of(at) {
-        sheet.leave(request, Reason::Client(named))?;
+        sheet.exclude(request, Reason::Client(named))?;
     }
     Ok(())
 }
 
 /// Excludes a response without a request in the captures that may be to one before them, unless it
 /// grants a judged client's relayed address.
-fn leave_answer(
+fn exclude_answer(
     sheet: &mut Sheet<'_>,
     shown: &Shown,
     one: (usize, u32),
@@ -160,7 +160,7 @@ fn leave_answer(
         None => false,
     };
     if exchanged.is_answer() && is_alone && is_early && !is_judged {
-        sheet.leave(at, Reason::Answer(named))?;
+        sheet.exclude(at, Reason::Answer(named))?;
     }
     Ok(())
 }

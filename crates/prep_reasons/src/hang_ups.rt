@@ -38,9 +38,9 @@ impl Allowed {
     }
 
     /// Excludes a departure with its arrival.
-    fn leave(&self, sheet: &mut Sheet<'_>, at: usize, arrival: usize) -> Result<(), AllocError> {
-        sheet.leave(at, self.reason)?;
-        sheet.leave(arrival, self.reason)
+    fn exclude(&self, sheet: &mut Sheet<'_>, at: usize, arrival: usize) -> Result<(), AllocError> {
+        sheet.exclude(at, self.reason)?;
+        sheet.exclude(arrival, self.reason)
     }
 }
 
@@ -143,7 +143,7 @@ impl HangUps {
     /// Excludes data that leaves a relayed address for a peer behind a release that would have
     /// allowed it, with its arrival: the same data of that client for that peer. Without one it
     /// stays in. It tells whether it is behind such a release.
-    pub(crate) fn leave_to_peer(
+    pub(crate) fn exclude_to_peer(
         &self,
         sheet: &mut Sheet<'_>,
         tenures: &Tenures,
@@ -162,7 +162,7 @@ impl HangUps {
         let wanted = wanted_of(sheet, &record, Group::Client(allowed.client));
         if let Some(arrival) = by_client.take(sheet, wanted) {
             if sent_to(sheet, one, arrival) == Some(allowed.peer) {
-                allowed.leave(sheet, at, arrival)?;
+                allowed.exclude(sheet, at, arrival)?;
             }
         }
         Ok(true)
@@ -195,11 +195,15 @@ fn allowed_by(
         Some(tenure) => tenure.pair == one.client && tenure.start <= one.moment,
         None => false,
     };
-    let is_told = match sheet.told_before(relayed, stamp.saturating_add(sheet.slack)) {
-        Some(told) => told.stamp.saturating_add(sheet.slack) >= one.moment,
+    let is_granted = match sheet.unread_grant_before(relayed, stamp.saturating_add(sheet.slack)) {
+        Some(grant) => grant.stamp.saturating_add(sheet.slack) >= one.moment,
         None => false,
     };
-    if !is_in_time || !is_own || is_told || !one.permits(peer, stamp.saturating_sub(sheet.slack)) {
+    if !is_in_time
+        || !is_own
+        || is_granted
+        || !one.permits(peer, stamp.saturating_sub(sheet.slack))
+    {
         return None;
     }
     let pair = sheet.pair(one.client)?;
@@ -245,7 +249,7 @@ fn take_own(sheet: &mut Sheet<'_>, one: &Released, record: &Record, pool: &mut P
 
 /// Sets aside data that leaves for clients behind their releases, with its arrivals. What left
 /// before takes its own arrivals first.
-pub(crate) fn leave_hang_ups(
+pub(crate) fn exclude_hang_ups(
     sheet: &mut Sheet<'_>,
     tenures: &Tenures,
     hang_ups: &HangUps,
@@ -268,7 +272,7 @@ pub(crate) fn leave_hang_ups(
         if let Some(allowed) = hang_ups.to_client(sheet, tenures, client, &record) {
             let wanted = wanted_of(sheet, &record, allowed.group());
             if let Some(arrival) = pool.take(sheet, wanted) {
-                allowed.leave(sheet, at, arrival)?;
+                allowed.exclude(sheet, at, arrival)?;
             }
         } else if let Some(one) = hang_ups.next_of(client, record.stamp) {
             take_own(sheet, one, &record, &mut pool);

@@ -96,7 +96,7 @@ pub(crate) fn wanted_of(sheet: &Sheet<'_>, record: &Record, group: Group) -> Wan
 }
 
 /// Sets aside datagrams inside the service, and the data of such.
-pub(crate) fn leave_inner(
+pub(crate) fn exclude_inner(
     sheet: &mut Sheet<'_>,
     shown: &Shown,
     by_client: &mut Pool,
@@ -108,18 +108,18 @@ pub(crate) fn leave_inner(
         };
         if matches!(record.content, Content::Inside) {
             let Record { from, to, .. } = record;
-            sheet.leave(at, Reason::Inside { from, to })?;
+            sheet.exclude(at, Reason::Inside { from, to })?;
         } else if matches!(record.side, Side::Arrives) && sheet.is_kept(at) {
-            leave_data(sheet, &shown.channels, at)?;
+            exclude_data(sheet, &shown.channels, at)?;
         }
     }
-    leave_inner_departures(sheet, shown, by_client, unread)
+    exclude_inner_departures(sheet, shown, by_client, unread)
 }
 
 /// Excludes the data that leaves for clients from addresses of the service: from an address that a
 /// client has if that client sent it to this one, and from another one if a client from before did,
 /// or one by TCP, TLS, DTLS or IPv6 may have.
-fn leave_inner_departures(
+fn exclude_inner_departures(
     sheet: &mut Sheet<'_>,
     shown: &Shown,
     by_client: &mut Pool,
@@ -155,8 +155,8 @@ fn leave_inner_departures(
             }
         };
         match origin {
-            Origin::Shown => leave_data(sheet, &shown.channels, at)?,
-            Origin::Early => sheet.leave(at, Reason::Edge)?,
+            Origin::Shown => exclude_data(sheet, &shown.channels, at)?,
+            Origin::Early => sheet.exclude(at, Reason::Edge)?,
             Origin::Missing => {}
         }
     }
@@ -204,7 +204,7 @@ fn take_inner(
     }
 }
 
-fn leave_data(sheet: &mut Sheet<'_>, channels: &Channels, at: usize) -> Result<(), AllocError> {
+fn exclude_data(sheet: &mut Sheet<'_>, channels: &Channels, at: usize) -> Result<(), AllocError> {
     let Some(peer) = inner_peer(sheet, channels, at) else {
         return Ok(());
     };
@@ -214,5 +214,5 @@ fn leave_data(sheet: &mut Sheet<'_>, channels: &Channels, at: usize) -> Result<(
     let Some(pair) = sheet.pair(number) else {
         return Ok(());
     };
-    sheet.leave(at, Reason::Inner { pair, peer })
+    sheet.exclude(at, Reason::Inner { pair, peer })
 }

@@ -29,7 +29,7 @@ fn line_of(
     let is_in_time = sheet.stated.is_behind(one.moment, stamp) && stamp < one.closed;
     let is_free = tenures.last_begun(relayed, stamp).is_none()
         && sheet
-            .told_before(relayed, stamp.saturating_add(sheet.slack))
+            .unread_grant_before(relayed, stamp.saturating_add(sheet.slack))
             .is_none();
     if !is_in_time || !is_free || !one.permits(peer, stamp.saturating_sub(sheet.slack)) {
         return None;
@@ -45,7 +45,7 @@ fn line_of(
 /// Excludes data that leaves a relayed address for a peer after the deletion of its client from
 /// before, with that client's arrival, if the two are the same data for the same peer. It tells
 /// whether it does.
-pub(crate) fn leave_late_to_peer(
+pub(crate) fn exclude_late_to_peer(
     sheet: &mut Sheet<'_>,
     tenures: &Tenures,
     hang_ups: &HangUps,
@@ -72,8 +72,8 @@ pub(crate) fn leave_late_to_peer(
     let Some(reason) = line_of(sheet, tenures, one, (record.from, record.to), record.stamp) else {
         return Ok(false);
     };
-    sheet.leave(at, reason)?;
-    sheet.leave(arrival, reason)?;
+    sheet.exclude(at, reason)?;
+    sheet.exclude(arrival, reason)?;
     Ok(true)
 }
 
@@ -106,7 +106,7 @@ fn late_arrivals(
 
 /// Excludes data that leaves for clients from before after their deletions, each with an arrival of
 /// its own at the client's address.
-pub(crate) fn leave_late_data(
+pub(crate) fn exclude_late_data(
     sheet: &mut Sheet<'_>,
     tenures: &Tenures,
     hang_ups: &HangUps,
@@ -135,7 +135,7 @@ pub(crate) fn leave_late_data(
         }
         let wanted = wanted_of(sheet, &record, Group::All);
         if let Some(arrival) = pool.take(sheet, wanted) {
-            leave_late(sheet, tenures, one, owners, (at, arrival), &record)?;
+            exclude_late(sheet, tenures, one, owners, (at, arrival), &record)?;
         }
     }
     Ok(())
@@ -143,7 +143,7 @@ pub(crate) fn leave_late_data(
 
 /// Excludes data that leaves for a client with its arrival, if that is from the same peer at the
 /// client's address.
-fn leave_late(
+fn exclude_late(
     sheet: &mut Sheet<'_>,
     tenures: &Tenures,
     one: &Released,
@@ -161,7 +161,7 @@ fn leave_late(
         return Ok(());
     }
     if let Some(reason) = line_of(sheet, tenures, one, (came.to, came.from), record.stamp) {
-        sheet.leave(at, reason)?;
+        sheet.exclude(at, reason)?;
         sheet.move_to(arrival, reason)?;
     }
     Ok(())

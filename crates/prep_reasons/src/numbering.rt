@@ -11,7 +11,7 @@ use std::collections::BTreeMap;
 
 impl<'a> Sheet<'a> {
     /// The line of what is after the moments that are stated.
-    pub(crate) fn leave_outside(&mut self) -> Result<(), AllocError> {
+    pub(crate) fn exclude_outside(&mut self) -> Result<(), AllocError> {
         let stated = self.stated;
         for at in 0..self.records.len() {
             let Some(record) = self.record(at) else {
@@ -22,7 +22,7 @@ impl<'a> Sheet<'a> {
                 Side::Arrives => record.stamp.saturating_sub(self.slack),
             };
             if stated.is_late(late) {
-                self.leave(at, Reason::AfterUntil)?;
+                self.exclude(at, Reason::AfterUntil)?;
             }
         }
         Ok(())

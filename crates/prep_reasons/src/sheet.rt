@@ -7,7 +7,7 @@ use crate::state_before::StateBefore;
 use audit_model::{Addr, Pair, Policy, Side};
 use prep_causes::MaybeNumber;
 use prep_cut::{LineNumber, Reason, Stated, slack_of};
-use prep_records::{Carrier, Content, Kept, Record, Records, Stun, Told};
+use prep_records::{Carrier, Content, Kept, Record, Records, Stun, UnreadGrant};
 use std::alloc::{AllocError, Global};
 
 /// Nanoseconds of a second.
@@ -32,7 +32,7 @@ pub struct Sheet<'a> {
     pub(crate) requests: Vec<MaybeNumber>,
     pub(crate) peers: Vec<Addr>,
     /// By address and moment.
-    pub(crate) told: Vec<Told>,
+    pub(crate) unread_grants: Vec<UnreadGrant>,
     /// What may carry data that isn't read.
     pub(crate) carriers: Vec<Carrier>,
     pub(crate) pairs: Vec<Pair>,
@@ -61,14 +61,14 @@ impl<'a> Sheet<'a> {
             mut records,
             stun,
             peers,
-            mut told,
+            mut unread_grants,
             carriers,
             captures: _,
             first,
             allocations: _,
         } = all;
         records.sort_unstable_by_key(|kept| kept.order());
-        told.sort_by_key(|told| (told.relayed, told.stamp))?;
+        unread_grants.sort_by_key(|grant| (grant.relayed, grant.stamp))?;
         let count = records.len();
         let begin = match (stated.since, first) {
             (Some(since), _) => since,
@@ -85,7 +85,7 @@ impl<'a> Sheet<'a> {
             requests: vec![in alloc; MaybeNumber::none(); stun.len()]?,
             stun,
             peers,
-            told,
+            unread_grants,
             carriers,
             pairs: Vec::new(alloc),
             lines: Lines::new(alloc),
@@ -95,7 +95,7 @@ impl<'a> Sheet<'a> {
             members: Members::new(alloc),
             beyond: 0,
         };
-        sheet.leave_outside()?;
+        sheet.exclude_outside()?;
         sheet.number_pairs()?;
         Ok(sheet)
     }
@@ -204,14 +204,14 @@ impl<'a> Sheet<'a> {
         u32::try_from(self.pairs.len()).unwrap_or(u32::MAX)
     }
 
-    /// The last client that was told a relayed address over TCP or IPv6 up to a moment.
-    pub(crate) fn told_before(&self, relayed: Addr, moment: u64) -> Option<Told> {
+    /// The last client that was granted a relayed address over TCP or IPv6 up to a moment.
+    pub(crate) fn unread_grant_before(&self, relayed: Addr, moment: u64) -> Option<UnreadGrant> {
         let behind = self
-            .told
-            .partition_point(|told| (told.relayed, told.stamp) <= (relayed, moment));
-        let told = *self.told.get(behind.checked_sub(1)?)?;
-        if told.relayed == relayed {
-            Some(told)
+            .unread_grants
+            .partition_point(|grant| (grant.relayed, grant.stamp) <= (relayed, moment));
+        let grant = *self.unread_grants.get(behind.checked_sub(1)?)?;
+        if grant.relayed == relayed {
+            Some(grant)
         } else {
             None
         }
@@ -231,7 +231,7 @@ impl<'a> Sheet<'a> {
     }
 
     /// Excludes a record by a line, unless it is already.
-    pub(crate) fn leave(&mut self, at: usize, reason: Reason) -> Result<(), AllocError> {
+    pub(crate) fn exclude(&mut self, at: usize, reason: Reason) -> Result<(), AllocError> {
         if !self.is_kept(at) {
             return Ok(());
         }

@@ -12,6 +12,7 @@ const APPLICATION_DATA: u64 = 23;
 /// The first byte of an encrypted record of DTLS 1.3 is between these (RFC 9147, section 4). It may
 /// have application data, too.
 const LEAST_ENCRYPTED: u64 = 32;
+
 const GREATEST_ENCRYPTED: u64 = 63;
 
 /// How a client speaks.

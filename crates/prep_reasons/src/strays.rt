@@ -89,7 +89,7 @@ fn strays_of(
             continue;
         };
         if matches!(record.side, Side::Leaves) {
-            if hang_ups.leave_to_peer(sheet, tenures, at, &mut by_client)? {
+            if hang_ups.exclude_to_peer(sheet, tenures, at, &mut by_client)? {
                 continue;
             }
         }

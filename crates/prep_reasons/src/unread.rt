@@ -101,7 +101,10 @@ impl Unread {
             takes_all: false,
             ..load
         };
-        let taken = self.carrying.carriers.take(load, &[CarrierKind::TcpOrIpv6])?;
+        let taken = self
+            .carrying
+            .carriers
+            .take(load, &[CarrierKind::TcpOrIpv6])?;
         Ok(taken.is_some())
     }
 

@@ -1,6 +1,6 @@
-//! Relayed addresses that are told over TCP or IPv6, as far as they can be read.
+//! Relayed addresses that are granted over TCP or IPv6, as far as they can be read.
 
-use crate::record::Told;
+use crate::record::UnreadGrant;
 use audit_model::{Addr, Policy};
 use audit_stun::numbers::attribute::XOR_RELAYED_ADDRESS;
 use audit_stun::{address, message};
@@ -11,11 +11,11 @@ use std::alloc::AllocError;
 const MOST_TRIED: usize = 16;
 
 /// Adds the relayed addresses in the Allocate successes of a frame that is TCP over IPv4, or IPv6.
-pub fn note_told(
+pub fn note_granted_address(
     policy: &Policy,
     stamp: u64,
     frame: &[u8],
-    told: &mut Vec<Told>,
+    grants: &mut Vec<UnreadGrant>,
 ) -> Result<(), AllocError> {
     let Some(client) = far_end(frame) else {
         return Ok(());
@@ -35,7 +35,7 @@ pub fn note_told(
         };
         if let Some(relayed) = relayed_in(bytes) {
             if policy.relays(relayed) {
-                told.push(Told {
+                grants.push(UnreadGrant {
                     stamp,
                     relayed,
                     client,

@@ -3,7 +3,7 @@
 ghost use Rattle.std.specs.Prelude.{◌≡◌};
 
 use crate::carrier::{Captured, Carrier, CarrierKind, carrier_in};
-use crate::elsewhere::note_told;
+use crate::elsewhere::note_granted_address;
 use crate::kept::Kept;
 use crate::payload::{Read, read_payload};
 use crate::record::{CapturePackets, Content, Outside, Record, Records};
@@ -120,7 +120,7 @@ impl<'p> Keeper<'p> {
         if let Some(carrier) = carrier_in(self.policy, captured, frame) {
             self.all.carriers.push(carrier)?;
         }
-        note_told(self.policy, head.stamp, frame, &mut self.all.told)
+        note_granted_address(self.policy, head.stamp, frame, &mut self.all.unread_grants)
     }
 
     /// Takes a DTLS record that comes to an address of the server and is no datagram of the

@@ -11,7 +11,7 @@ mod record;
 mod recorder;
 
 pub use carrier::{Carrier, CarrierKind};
-pub use elsewhere::note_told;
+pub use elsewhere::note_granted_address;
 pub use kept::Kept;
-pub use record::{CapturePackets, Content, Outside, Record, Records, Stun, Told};
+pub use record::{CapturePackets, Content, Outside, Record, Records, Stun, UnreadGrant};
 pub use recorder::Recorder;

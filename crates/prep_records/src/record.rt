@@ -74,7 +74,7 @@ pub struct Stun {
 
 /// A relayed address in an Allocate success over TCP or IPv6.
 #[derive(Clone, Copy, Debug)]
-pub struct Told {
+pub struct UnreadGrant {
     pub stamp: u64,
     pub relayed: Addr,
     pub client: FarEnd,
@@ -100,7 +100,7 @@ pub struct Records {
     pub records: Vec<Kept>,
     pub stun: Vec<Stun>,
     pub peers: Vec<Addr>,
-    pub told: Vec<Told>,
+    pub unread_grants: Vec<UnreadGrant>,
     /// What may carry data that isn't read.
     pub carriers: Vec<Carrier>,
     pub captures: Vec<CapturePackets>,
@@ -117,7 +117,7 @@ impl Records {
             records: Vec::new(alloc),
             stun: Vec::new(alloc),
             peers: Vec::new(alloc),
-            told: Vec::new(alloc),
+            unread_grants: Vec::new(alloc),
             carriers: Vec::new(alloc),
             captures: Vec::new(alloc),
             first: None,

@@ -109,7 +109,7 @@ fn needs_by<S: Source>(
 
 /// Leaves the captures in the folder: without what is excluded, with the list of that, or as they
 /// are. None is left if no datagram of the service is kept.
-pub fn leave_step<R: Threads + AllocGlobal, S: Source, M: Maker, F: Folders, E: Sink>(
+pub fn exclude_step<R: Threads + AllocGlobal, S: Source, M: Maker, F: Folders, E: Sink>(
     rt: &R,
     decided: Decided,
     captures: Vec<Staged>,

@@ -11,8 +11,8 @@ use Rattle.explain_frames.proofs.counter.FrameCounter.take.Goals as goal
 pub returns-then-not-is_of_service-clause-takes : goal.returns-then-not-is_of_service-clause-takes
 returns-then-not-is_of_service-clause-takes c =
     let unkept : is_some (kept_in c.args.self.now.policy.now (packet_of c.args.packet)) ≡ false = search rules in
-    on_ok c.note_told.result (takes_other c.args.self.now.policy.now c.args.self.now.file c.args.self.now.tally c.add_packet.new.self c.args.frames.now c.note_told.new.self (packet_of c.args.packet)
-    c.add_packet.ensures.packets c.add_packet.ensures.sightings (c.note_told.ensures ∙ c.note_stamp.ensures)
+    on_ok c.note_unjudged_grants.result (takes_other c.args.self.now.policy.now c.args.self.now.file c.args.self.now.tally c.add_packet.new.self c.args.frames.now c.note_unjudged_grants.new.self (packet_of c.args.packet)
+    c.add_packet.ensures.packets c.add_packet.ensures.sightings (c.note_unjudged_grants.ensures ∙ c.note_stamp.ensures)
     (none_unkept c.args.self.now.policy.now (packet_of c.args.packet) (none_if (kept_in c.args.self.now.policy.now (packet_of c.args.packet)) unkept)))
 
 pub returns-then-packet-ge-INTERFACES-clause-takes : goal.returns-then-packet-ge-INTERFACES-clause-takes

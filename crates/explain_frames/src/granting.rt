@@ -7,12 +7,12 @@ use audit_stun::numbers::attribute::XOR_RELAYED_ADDRESS;
 use audit_stun::numbers::method::ALLOCATE;
 use audit_stun::{Class, address, message};
 use prep_cut::FarEnd;
-use prep_records::note_told;
+use prep_records::note_granted_address;
 use std::alloc::{AllocError, Global};
 
 /// How an Allocate success came that isn't one of the service's datagrams.
 #[derive(Clone, Copy, Debug)]
-pub enum ToldBy {
+pub enum GrantSource {
     /// To a client by TCP or IPv6.
     Elsewhere(FarEnd),
     /// Over UDP, by an endpoint that the policy doesn't name.
@@ -21,8 +21,8 @@ pub enum ToldBy {
 
 /// A frame that tells a relayed address.
 #[derive(Clone, Copy, Debug)]
-pub struct ToldFrame {
-    pub told: ToldBy,
+pub struct GrantFrame {
+    pub source: GrantSource,
     /// The number of its file, from 0.
     pub file: u16,
     /// Its number in its file, from 1.
@@ -42,7 +42,7 @@ pub fn granted_address(payload: &[u8]) -> Option<Addr> {
 #[derive(Clone, Copy, Debug)]
 pub(crate) struct GrantedBy {
     pub(crate) relayed: Addr,
-    pub(crate) told: ToldBy,
+    pub(crate) source: GrantSource,
 }
 
 /// What a frame of TCP or IPv6 grants.
@@ -52,12 +52,12 @@ fn elsewhere(
     packet: PacketSlice<'_>,
 ) -> Result<Vec<GrantedBy>, AllocError> {
     let mut found = Vec::new(alloc);
-    note_told(policy, packet.stamp, packet.bytes, &mut found)?;
+    note_granted_address(policy, packet.stamp, packet.bytes, &mut found)?;
     let mut all = Vec::new(alloc);
     for one in &found {
         all.push(GrantedBy {
             relayed: one.relayed,
-            told: ToldBy::Elsewhere(one.client),
+            source: GrantSource::Elsewhere(one.client),
         })?;
     }
     Ok(all)
@@ -76,7 +76,7 @@ pub(crate) fn granted_in(
     if let Some(relayed) = granted_address(payload) {
         all.push(GrantedBy {
             relayed,
-            told: ToldBy::Unlisted {
+            source: GrantSource::Unlisted {
                 server: from,
                 client: to,
             },
