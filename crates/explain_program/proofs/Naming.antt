@@ -5,21 +5,21 @@ use Rattle.clap.specs.Words.{HasKind, IsAmong, Kinds, Row, Text, first_of}
 use Rattle.clap.specs.declared.error.Error.{Error}
 use Rattle.clap.specs.declared.error.kind.ErrorKind.{ErrorKind}
 use Rattle.clap.specs.declared.error.kind.ErrorKind.TheVariants as kind
-use Rattle.explain_program.specs.declared.command_line.Asked.TheVariants.{Verdict, Lanes, Client}
+use Rattle.explain_program.specs.declared.command_line.Subject.TheVariants.{Verdict, Lanes, Client}
 use Rattle.explain_program.specs.declared.command_line.Inputs.{Inputs}
 use Rattle.explain_program.specs.declared.command_line.Request.{Request}
 use Rattle.explain_program.specs.declared.command_line.Request.TheVariants.{Explain, AsJson, Faults, Evidence, Help, Release, Usage}
 use Rattle.explain_program.specs.Words.{AreNamed, Asks, HasNumber, Names, NamesNothing}
 
 -- what names a command asks for it
-pub named_is_asked : (named : Option (Text × List Row)) (kinds : Kinds) (request : Request) → Names named request → Asks named kinds request
-named_is_asked named kinds (Explain inputs what) names = names
-named_is_asked named kinds (AsJson inputs what) names = names
-named_is_asked named kinds (Faults inputs) names = names
-named_is_asked named kinds (Evidence inputs file list) names = names
-named_is_asked named kinds (Help page) names = absurd names
-named_is_asked named kinds Release names = absurd names
-named_is_asked named kinds (Usage text) names = absurd names
+pub named_is_requested : (named : Option (Text × List Row)) (kinds : Kinds) (request : Request) → Names named request → Asks named kinds request
+named_is_requested named kinds (Explain inputs what) names = names
+named_is_requested named kinds (AsJson inputs what) names = names
+named_is_requested named kinds (Faults inputs) names = names
+named_is_requested named kinds (Evidence inputs file list) names = names
+named_is_requested named kinds (Help page) names = absurd names
+named_is_requested named kinds Release names = absurd names
+named_is_requested named kinds (Usage text) names = absurd names
 
 -- the first letter of the command that is named, by which the five differ
 abbrev letter : Option (Text × List Row) → ℕ
@@ -74,20 +74,20 @@ module _ (rows : List Row) where
   no_evidence lacks (Usage text) named = named
 
 -- no command is named where each of the five isn't
-pub none_of_five : (asked : Option (Text × List Row)) → ((rows : List Row) → asked ≡ Some (codes "verdict", rows) → ⊥) → ((rows : List Row) → asked ≡ Some (codes "lanes", rows) → ⊥)
-    → ((rows : List Row) → asked ≡ Some (codes "client", rows) → ⊥) → ((rows : List Row) → asked ≡ Some (codes "faults", rows) → ⊥) → ((rows : List Row) → asked ≡ Some (codes "evidence", rows) → ⊥)
-    → NamesNothing asked
-none_of_five asked verdict lanes client faults evidence (Explain inputs (Verdict percent)) named = verdict named.0 named.1
-none_of_five asked verdict lanes client faults evidence (Explain inputs (Lanes broken)) named = lanes named.0 named.1
-none_of_five asked verdict lanes client faults evidence (Explain inputs (Client number events)) named = client named.0 named.1
-none_of_five asked verdict lanes client faults evidence (AsJson inputs (Verdict percent)) named = verdict named.0 named.1
-none_of_five asked verdict lanes client faults evidence (AsJson inputs (Lanes broken)) named = lanes named.0 named.1
-none_of_five asked verdict lanes client faults evidence (AsJson inputs (Client number events)) named = client named.0 named.1
-none_of_five asked verdict lanes client faults evidence (Faults inputs) named = faults named.0 named.1
-none_of_five asked verdict lanes client faults evidence (Evidence inputs file list) named = evidence named.0 named.1
-none_of_five asked verdict lanes client faults evidence (Help page) named = named
-none_of_five asked verdict lanes client faults evidence Release named = named
-none_of_five asked verdict lanes client faults evidence (Usage text) named = named
+pub none_of_five : (subcommand : Option (Text × List Row)) → ((rows : List Row) → subcommand ≡ Some (codes "verdict", rows) → ⊥) → ((rows : List Row) → subcommand ≡ Some (codes "lanes", rows) → ⊥)
+    → ((rows : List Row) → subcommand ≡ Some (codes "client", rows) → ⊥) → ((rows : List Row) → subcommand ≡ Some (codes "faults", rows) → ⊥) → ((rows : List Row) → subcommand ≡ Some (codes "evidence", rows) → ⊥)
+    → NamesNothing subcommand
+none_of_five subcommand verdict lanes client faults evidence (Explain inputs (Verdict percent)) named = verdict named.0 named.1
+none_of_five subcommand verdict lanes client faults evidence (Explain inputs (Lanes broken)) named = lanes named.0 named.1
+none_of_five subcommand verdict lanes client faults evidence (Explain inputs (Client number events)) named = client named.0 named.1
+none_of_five subcommand verdict lanes client faults evidence (AsJson inputs (Verdict percent)) named = verdict named.0 named.1
+none_of_five subcommand verdict lanes client faults evidence (AsJson inputs (Lanes broken)) named = lanes named.0 named.1
+none_of_five subcommand verdict lanes client faults evidence (AsJson inputs (Client number events)) named = client named.0 named.1
+none_of_five subcommand verdict lanes client faults evidence (Faults inputs) named = faults named.0 named.1
+none_of_five subcommand verdict lanes client faults evidence (Evidence inputs file list) named = evidence named.0 named.1
+none_of_five subcommand verdict lanes client faults evidence (Help page) named = named
+none_of_five subcommand verdict lanes client faults evidence Release named = named
+none_of_five subcommand verdict lanes client faults evidence (Usage text) named = named
 
 -- an error's kind is one of those that may come, unless memory ran out
 pub is_among : (error : Error) (kinds : Kinds) (k : ErrorKind) → HasKind kinds error → kind_of error ≢ kind.OutOfMemory → kind_of error ≡ k → IsAmong k kinds

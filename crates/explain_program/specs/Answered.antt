@@ -10,7 +10,7 @@ use Rattle.explain_program.specs.declared.command_line.Request.{Request}
 use Rattle.explain_program.specs.declared.command_line.Request.TheVariants.{Explain, AsJson, Faults, Evidence, Help, Release, Usage}
 use Rattle.explain_program.specs.declared.run_error.RunError.{RunError}
 use Rattle.explain_program.specs.Errors.{status_of_error}
-use Rattle.explain_program.specs.Explained.{IsExplained, IsToldAsJson, expected_by}
+use Rattle.explain_program.specs.Explained.{IsExplained, IsWrittenAsJson, expected_by}
 use Rattle.explain_program.specs.Pages.{page_text, release_text}
 use Rattle.explain_program.specs.Words.{Asks, turnexplain}
 
@@ -37,12 +37,12 @@ module _ (holds : List ℕ → Option (List ℕ)) (streams : Streams) where
   -- verdict of its page. A page of help, or the line of the release, goes to standard output alone, and what is no request to standard error
   -- alone, with status 5.
   abbrev pub Answers : Request → Result ℕ RunError → Type 0
-  Answers (Explain inputs asked) done =
+  Answers (Explain inputs subject) done =
       IsSilent streams × ((policy users : List ℕ) (captures : List (List ℕ)) → HaveTexts holds inputs policy users captures →
-      IfOk done (λ status. (by : Certificate) × IsExplained (expected_by asked) policy users captures by streams.before streams.after status))
-  Answers (AsJson inputs asked) done =
+      IfOk done (λ status. (by : Certificate) × IsExplained (expected_by subject) policy users captures by streams.before streams.after status))
+  Answers (AsJson inputs subject) done =
       IsSilent streams × ((policy users : List ℕ) (captures : List (List ℕ)) → HaveTexts holds inputs policy users captures →
-      IfOk done (λ status. (by : Certificate) × IsToldAsJson (expected_by asked) policy users captures by streams.before streams.after status))
+      IfOk done (λ status. (by : Certificate) × IsWrittenAsJson (expected_by subject) policy users captures by streams.before streams.after status))
   Answers (Faults inputs) done =
       IsSilent streams × ((policy users : List ℕ) (captures : List (List ℕ)) → HaveTexts holds inputs policy users captures →
       IfOk done (AreToldOf policy users captures streams.before streams.after))

@@ -3,8 +3,8 @@ use Rattle.std.specs.Prelude.{◌≡◌, ◌⊎◌, ◌++◌, ◌∷◌, [], ℕ
 use Rattle.audit_model.specs.declared.certificate.Certificate.{Certificate}
 use Rattle.audit_model.specs.declared.verdict.Verdict.{Verdict}
 use Rattle.audit_model.specs.declared.verdict.Verdict.TheVariants.{Conforming, NotShown}
-use Rattle.explain_program.specs.declared.command_line.Asked.{Asked}
-use Rattle.explain_program.specs.declared.command_line.Asked.TheVariants.{Verdict as OfVerdict, Lanes, Client}
+use Rattle.explain_program.specs.declared.command_line.Subject.{Subject}
+use Rattle.explain_program.specs.declared.command_line.Subject.TheVariants.{Verdict as OfVerdict, Lanes, Client}
 use Rattle.audit_model.specs.Sink.{followed_by}
 use Rattle.audit_files.specs.Judged.{AreRead, Judges, status_of}
 use Rattle.audit_keys.specs.KeyFor.{key_for}
@@ -24,7 +24,7 @@ abbrev pub IsByItsCertificate : Judged → Type 0
 IsByItsCertificate judged = Judges (taken judged.files.intake) (key_for judged.files.users) judged.certificate judged.verdict
 
 -- the percentage that a command expects
-abbrev pub expected_by : Asked → Option ℕ
+abbrev pub expected_by : Subject → Option ℕ
 expected_by (OfVerdict percent) = percent
 expected_by (Lanes broken) = None
 expected_by (Client number events) = None
@@ -34,7 +34,7 @@ abbrev pub IsStatus : Option ℕ → Verdict → ℕ → Type 0
 IsStatus None verdict status = status ≡ status_of verdict
 IsStatus (Some percent) verdict status = (status ≡ status_of verdict) ⊎ ((status ≡ 6) × (status_of verdict ≡ 0))
 
--- The verdict by the certificate on what these files' bytes say was told: the answer begins with it, and the status repeats it.
+-- The verdict by the certificate on what these files' bytes say was printed: the answer begins with it, and the status repeats it.
 pub record IsExplained (percent : Option ℕ) (policy users : List ℕ) (captures : List (List ℕ)) (certificate : Certificate) (before after : Option (List ℕ)) (status : ℕ) : Type 0 where
   pub taken : Taken
   pub key_for : KeyFor
@@ -43,7 +43,7 @@ pub record IsExplained (percent : Option ℕ) (policy users : List ℕ) (capture
   pub judges : Judges taken key_for certificate verdict
   pub rest : List ℕ
   pub written : after ≡ followed_by before (head_text verdict ++ rest)
-  pub told : IsStatus percent verdict status
+  pub status_is : IsStatus percent verdict status
 
 -- behind what was written before stands a line of JSON that says this verdict
 pub record IsJsonBehind (verdict : Verdict) (before after : Option (List ℕ)) : Type 0 where
@@ -52,11 +52,11 @@ pub record IsJsonBehind (verdict : Verdict) (before after : Option (List ℕ)) :
   pub written : after ≡ followed_by before (text ++ 10 ∷ [])
 
 -- The same of an answer in JSON: its members `verdict` and `rule` are those of the verdict.
-pub record IsToldAsJson (percent : Option ℕ) (policy users : List ℕ) (captures : List (List ℕ)) (certificate : Certificate) (before after : Option (List ℕ)) (status : ℕ) : Type 0 where
+pub record IsWrittenAsJson (percent : Option ℕ) (policy users : List ℕ) (captures : List (List ℕ)) (certificate : Certificate) (before after : Option (List ℕ)) (status : ℕ) : Type 0 where
   pub taken : Taken
   pub key_for : KeyFor
   pub read : AreRead policy users captures taken key_for
   pub verdict : Verdict
   pub judges : Judges taken key_for certificate verdict
   pub written : IsJsonBehind verdict before after
-  pub told : IsStatus percent verdict status
+  pub status_is : IsStatus percent verdict status

@@ -7,8 +7,8 @@ use Rattle.clap.specs.declared.builder.action.ArgAction.TheVariants.{Append, Set
 use Rattle.clap.specs.declared.builder.value_parser.ValueParser.TheVariants.{NonEmptyString, Signed}
 use Rattle.clap.specs.declared.error.kind.ErrorKind.{ErrorKind}
 use Rattle.clap.specs.declared.error.kind.ErrorKind.TheVariants as kind
-use Rattle.explain_program.specs.declared.command_line.Asked.{Asked}
-use Rattle.explain_program.specs.declared.command_line.Asked.TheVariants.{Verdict, Lanes, Client}
+use Rattle.explain_program.specs.declared.command_line.Subject.{Subject}
+use Rattle.explain_program.specs.declared.command_line.Subject.TheVariants.{Verdict, Lanes, Client}
 use Rattle.explain_program.specs.declared.command_line.Inputs.{Inputs}
 use Rattle.explain_program.specs.declared.command_line.Request.{Request}
 use Rattle.explain_program.specs.declared.command_line.Request.TheVariants.{Explain, AsJson, Faults, Evidence, Help, Release, Usage}
@@ -131,13 +131,13 @@ abbrev pub IsByNamed : List Row → Inputs → Type 0
 IsByNamed rows inputs = first_of (codes "cert") rows ≡ option_map (λ name. name.now) inputs.certificate
 
 -- the command by which part of a verdict is requested
-abbrev pub command_name : Asked → Text
+abbrev pub command_name : Subject → Text
 command_name (Verdict percent) = codes "verdict"
 command_name (Lanes broken) = codes "lanes"
 command_name (Client number events) = codes "client"
 
 -- and what its own options say
-abbrev pub HasOptions : List Row → Asked → Type 0
+abbrev pub HasOptions : List Row → Subject → Type 0
 HasOptions rows (Verdict percent) = HasOptional (codes "expect-answers") rows percent
 HasOptions rows (Lanes broken) = HasFlag (codes "broken") rows broken
 HasOptions rows (Client number events) = HasNumber (codes "lane") rows number × HasNumber (codes "around") rows events

@@ -1,11 +1,11 @@
-//! Every command whose answer may be JSON: the verdict, and what is asked of it.
+//! Every command whose answer may be JSON: the verdict, and what is requested of it.
 
 ghost use Rattle.std.specs.Prelude.{◌≡◌, [], ℕ, IfNone, IfOk, IfSome, List, OnOk, Some};
 ghost use Rattle.std.specs.List.{AllZip};
 ghost use Rattle.audit_model.specs.declared.certificate.Certificate.{Certificate as Found};
-ghost use Rattle.explain_program.specs.Explained.{IsJsonBehind, IsToldAsJson, expected_by};
+ghost use Rattle.explain_program.specs.Explained.{IsJsonBehind, IsWrittenAsJson, expected_by};
 
-use crate::command_line::Asked;
+use crate::command_line::Subject;
 use crate::digesting::{Digesting, unread};
 use crate::explaining::{case_of, expected_by, expected_status};
 use crate::host::{Explaining, check_captures};
@@ -42,14 +42,14 @@ pub fn explain_as_json<R: Threads + Wait + Sync, F: CertificateFinder, S: Explai
     certificate: Option<&str>,
     captures: &[&str],
     workers: Workers,
-    asked: Asked,
+    subject: Subject,
     out: &mut O,
 ) -> Result<u8, RunError>
     ensures { (policy_text users_text : List ℕ) (texts : List (List ℕ)) →
         S.holds source.old.inner policy.now ≡ Some policy_text →
         IfSome users.entry (λ name. S.holds source.old.inner name.now ≡ Some users_text) → IfNone users.entry (users_text ≡ []) →
         AllZip (λ name text. S.holds source.old.inner name.now ≡ Some text) captures.now texts →
-        IfOk result (λ status. (by : Found) × IsToldAsJson (expected_by asked) policy_text users_text texts by (O.taken out.old) (O.taken out.new) status) }
+        IfOk result (λ status. (by : Found) × IsWrittenAsJson (expected_by subject) policy_text users_text texts by (O.taken out.old) (O.taken out.new) status) }
 {
     check_captures(alloc, source, captures)?;
     source.watch(unread(alloc, policy, users, certificate, captures)?);
@@ -80,14 +80,14 @@ pub fn explain_as_json<R: Threads + Wait + Sync, F: CertificateFinder, S: Explai
         source,
         case_of(&judged, captures),
         verdict,
-        asked,
+        subject,
         &mut answer,
     )?;
     if source.changed().is_some() {
         return Err(RunError::Stopped(Stop::Read));
     }
     put_json(verdict, answer, out)?;
-    let expected = expected_by(asked);
+    let expected = expected_by(subject);
     let status = expected_status(alloc, &judged.files.intake, verdict, expected)?;
     Ok(status)
 }

@@ -65,7 +65,7 @@ fn ladder_of<S: Source>(
     Ok(rest)
 }
 
-/// What is told behind a head of so many bytes.
+/// What is printed after a head of this length in bytes.
 pub fn rest_of_client<S: Source>(
     alloc: Global,
     source: &mut S,

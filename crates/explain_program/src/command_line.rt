@@ -21,12 +21,12 @@ pub enum Request<'a> {
     /// Judge captures, and print what is requested of the verdict.
     Explain {
         inputs: Inputs<'a>,
-        asked: Asked,
+        subject: Subject,
     },
     /// The same, as JSON.
     AsJson {
         inputs: Inputs<'a>,
-        asked: Asked,
+        subject: Subject,
     },
     /// Print what no order of the captures explains.
     Faults {
@@ -49,7 +49,7 @@ pub enum Request<'a> {
 
 /// What is requested of a verdict.
 #[derive(Clone, Copy)]
-pub enum Asked {
+pub enum Subject {
     /// What it means, and the percentage of requests that is expected to have a response.
     Verdict { expected: Option<u32> },
     /// A line for each client, or for those alone that break a rule.
@@ -156,19 +156,19 @@ fn words_of<'m, 'a>(matches: &'m ArgMatches<'a>, name: &str) -> Option<&'m ArgMa
 fn explain_request<'a>(
     alloc: Global,
     matches: &ArgMatches<'a>,
-    asked: Asked,
+    subject: Subject,
 ) -> Result<Option<Request<'a>>, AllocError>
-    ensures named { HasOptions (rows_of (found_of matches.now)) asked →
-        IfOk result (λ request. IfSome request (Names (Some (command_name asked, rows_of (found_of matches.now))))) }
-    ensures none { IfOk result (λ request. IfNone request (NamesNothing (Some (command_name asked, rows_of (found_of matches.now))))) }
+    ensures named { HasOptions (rows_of (found_of matches.now)) subject →
+        IfOk result (λ request. IfSome request (Names (Some (command_name subject, rows_of (found_of matches.now))))) }
+    ensures none { IfOk result (λ request. IfNone request (NamesNothing (Some (command_name subject, rows_of (found_of matches.now))))) }
 {
     let Some(inputs) = inputs_with(alloc, matches, matches.get_str("cert"))? else {
         return Ok(None);
     };
     if flag_of(matches, "json") {
-        return Ok(Some(Request::AsJson { inputs, asked }));
+        return Ok(Some(Request::AsJson { inputs, subject }));
     }
-    Ok(Some(Request::Explain { inputs, asked }))
+    Ok(Some(Request::Explain { inputs, subject }))
 }
 
 /// The number that the words of a command give an option, or none.
@@ -190,7 +190,7 @@ fn verdict_request<'a>(
     ensures none { IfOk result (λ request. IfNone request (NamesNothing (Some (codes "verdict", rows_of (found_of matches.now))))) }
 {
     let expected = optional_number_of(matches, "expect-answers");
-    explain_request(alloc, matches, Asked::Verdict { expected })
+    explain_request(alloc, matches, Subject::Verdict { expected })
 }
 
 /// The request that the words of the command `lanes` are.
@@ -202,7 +202,7 @@ fn lanes_request<'a>(
     ensures none { IfOk result (λ request. IfNone request (NamesNothing (Some (codes "lanes", rows_of (found_of matches.now))))) }
 {
     let broken = flag_of(matches, "broken");
-    explain_request(alloc, matches, Asked::Lanes { broken })
+    explain_request(alloc, matches, Subject::Lanes { broken })
 }
 
 /// The request that the words of the command `client` are.
@@ -219,7 +219,7 @@ fn client_request<'a>(
     let Some(around) = number_of(matches, "around") else {
         return Ok(None);
     };
-    explain_request(alloc, matches, Asked::Client { lane, around })
+    explain_request(alloc, matches, Subject::Client { lane, around })
 }
 
 /// The request that the words of the command `faults` are.

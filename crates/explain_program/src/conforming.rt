@@ -1,4 +1,4 @@
-//! What is told of captures that conform.
+//! The account of captures that conform.
 
 use explain_clients::count_answered;
 use explain_story::Printer;

@@ -104,7 +104,7 @@ fn clients_of(
     }
 }
 
-/// The account of a verdict, when the first frame was seen, and the clients: what is told by
+/// The account of a verdict, when the first frame was seen, and the clients: all that needs
 /// frames, which one pass over the captures looks up.
 fn by_frames<S: Source>(
     alloc: Global,

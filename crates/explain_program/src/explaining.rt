@@ -1,4 +1,4 @@
-//! Every command: the verdict, and what is asked of it.
+//! Every command: the verdict, and what is requested of it.
 
 ghost use Rattle.std.specs.Prelude.{◌≡◌, [], ℕ, IfNone, IfOk, IfSome, List, Some};
 ghost use Rattle.std.specs.List.{AllZip};
@@ -7,7 +7,7 @@ ghost use Rattle.audit_model.specs.declared.certificate.Certificate.{Certificate
 ghost use Rattle.explain_program.specs.Explained.{IsExplained, IsStatus, expected_by};
 
 use crate::client::rest_of_client;
-use crate::command_line::Asked;
+use crate::command_line::Subject;
 use crate::digesting::{Digesting, unread};
 use crate::head::{head, put_answer};
 use crate::host::{Explaining, check_captures};
@@ -42,15 +42,17 @@ fn rest_of<S: Source>(
     case: Case<'_>,
     verdict: &Verdict,
     is_searched: bool,
-    asked: Asked,
+    subject: Subject,
 ) -> Result<String, RunError> {
     let length = head(alloc, verdict)?.len();
-    match asked {
-        Asked::Verdict { .. } => {
+    match subject {
+        Subject::Verdict { .. } => {
             Ok(rest_of_verdict(alloc, source, case, verdict, is_searched, length)?)
         }
-        Asked::Lanes { broken } => Ok(rest_of_lanes(alloc, source, case, verdict, broken, length)?),
-        Asked::Client { lane, around } => {
+        Subject::Lanes { broken } => Ok(rest_of_lanes(
+            alloc, source, case, verdict, broken, length,
+        )?),
+        Subject::Client { lane, around } => {
             rest_of_client(alloc, source, case, lane, around, length)
         }
     }
@@ -67,12 +69,12 @@ pub fn status(verdict: &Verdict) -> u8
 }
 
 /// The percentage that a command expects.
-pub fn expected_by(asked: Asked) -> Option<u32>
-    ensures { result ≡ expected_by asked }
+pub fn expected_by(subject: Subject) -> Option<u32>
+    ensures { result ≡ expected_by subject }
 {
-    match asked {
-        Asked::Verdict { expected } => expected,
-        Asked::Lanes { .. } | Asked::Client { .. } => None,
+    match subject {
+        Subject::Verdict { expected } => expected,
+        Subject::Lanes { .. } | Subject::Client { .. } => None,
     }
 }
 
@@ -110,14 +112,14 @@ pub fn explain<R: Threads + Wait + Sync, F: CertificateFinder, S: Explaining, O:
     certificate: Option<&str>,
     captures: &[&str],
     workers: Workers,
-    asked: Asked,
+    subject: Subject,
     out: &mut O,
 ) -> Result<u8, RunError>
     ensures { (policy_text users_text : List ℕ) (texts : List (List ℕ)) →
         S.holds source.old.inner policy.now ≡ Some policy_text →
         IfSome users.entry (λ name. S.holds source.old.inner name.now ≡ Some users_text) → IfNone users.entry (users_text ≡ []) →
         AllZip (λ name text. S.holds source.old.inner name.now ≡ Some text) captures.now texts →
-        IfOk result (λ status. (by : Found) × IsExplained (expected_by asked) policy_text users_text texts by (O.taken out.old) (O.taken out.new) status) }
+        IfOk result (λ status. (by : Found) × IsExplained (expected_by subject) policy_text users_text texts by (O.taken out.old) (O.taken out.new) status) }
 {
     check_captures(alloc, source, captures)?;
     source.watch(unread(alloc, policy, users, certificate, captures)?);
@@ -134,12 +136,12 @@ pub fn explain<R: Threads + Wait + Sync, F: CertificateFinder, S: Explaining, O:
     )?;
     let case = case_of(&judged, captures);
     let is_searched = certificate.is_none();
-    let rest = rest_of(alloc, source, case, &judged.verdict, is_searched, asked)?;
+    let rest = rest_of(alloc, source, case, &judged.verdict, is_searched, subject)?;
     if source.changed().is_some() {
         return Err(RunError::Stopped(Stop::Read));
     }
     put_answer(alloc, &judged.verdict, rest.as_str(), out)?;
-    let expected = expected_by(asked);
+    let expected = expected_by(subject);
     let status = expected_status(alloc, &judged.files.intake, &judged.verdict, expected)?;
     Ok(status)
 }

@@ -23,7 +23,7 @@ pub fn head(alloc: Global, verdict: &Verdict) -> Result<String, AllocError>
     }
 }
 
-/// Writes the verdict in a few words, and what is told behind it.
+/// Writes the verdict in a few words, and what is printed after it.
 pub fn put_answer<O: Sink>(
     alloc: Global,
     verdict: &Verdict,

@@ -1,6 +1,6 @@
-//! What is asked of a verdict, as JSON.
+//! What is requested of a verdict, as JSON.
 
-use crate::command_line::Asked;
+use crate::command_line::Subject;
 use crate::lanes::breach_of;
 use crate::last_lines::{fault_name, interfaces};
 use crate::run_error::RunError;
@@ -21,7 +21,7 @@ use explain_story::{
 };
 use std::alloc::{AllocError, Global};
 
-/// Looks up the frames that are asked for, and that of the verdict's breach.
+/// Looks up the frames that are needed, and that of the verdict's breach.
 fn look_up_all<S: Source>(
     alloc: Global,
     source: &mut S,
@@ -168,7 +168,7 @@ fn finding_in<'j, 'a>(
     }
 }
 
-/// The events of a lane, whose frames are asked for; none where no lane is judged.
+/// The events of a lane, whose frames are needed; none where no lane is judged.
 fn rungs_in(
     alloc: Global,
     case: Case<'_>,
@@ -215,25 +215,25 @@ fn write_client<S: Source>(
     Ok(())
 }
 
-/// Adds what is asked of a verdict.
+/// Adds what is requested of a verdict.
 pub fn write_answer<S: Source>(
     alloc: Global,
     source: &mut S,
     case: Case<'_>,
     verdict: &Verdict,
-    asked: Asked,
+    subject: Subject,
     answer: &mut Object,
 ) -> Result<(), RunError> {
-    match asked {
-        Asked::Verdict { .. } => {
+    match subject {
+        Subject::Verdict { .. } => {
             answer.text("command", "verdict")?;
             Ok(write_verdict(alloc, source, case, verdict, answer)?)
         }
-        Asked::Lanes { broken } => {
+        Subject::Lanes { broken } => {
             answer.text("command", "lanes")?;
             Ok(write_all_lanes(alloc, source, case, verdict, broken, answer)?)
         }
-        Asked::Client { lane, around } => {
+        Subject::Client { lane, around } => {
             answer.text("command", "client")?;
             write_client(alloc, source, case, verdict, lane, around, answer)
         }

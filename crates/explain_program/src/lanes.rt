@@ -37,7 +37,7 @@ fn lines(
     Ok(text)
 }
 
-/// What is told behind a head of so many bytes.
+/// What is printed after a head of this length in bytes.
 pub fn rest_of_lanes<S: Source>(
     alloc: Global,
     source: &mut S,

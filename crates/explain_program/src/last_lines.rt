@@ -104,7 +104,7 @@ fn numbers_in(
     Ok(numbers)
 }
 
-/// How to look at the frames of a capture; nothing where none of its frames is told.
+/// How to look at the frames of a capture; nothing if none of its frames is printed.
 fn look_line(
     alloc: Global,
     printer: &Printer<'_>,

@@ -34,7 +34,7 @@ mod usage;
 mod verdict;
 
 pub use as_json::explain_as_json;
-pub use command_line::Asked;
+pub use command_line::Subject;
 pub use digesting::Digesting;
 pub use explaining::explain;
 pub use host::{Explaining, PageFile, Trouble};

@@ -3,7 +3,7 @@
 use audit_files::Source;
 use std::alloc::{AllocError, Global};
 
-/// How many bytes are asked for at once.
+/// How many bytes are read at once.
 const PIECE: usize = 65_536;
 
 /// So many bytes of a line are kept.

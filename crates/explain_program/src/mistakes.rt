@@ -54,7 +54,7 @@ fn is_text_of(front: &[u8]) -> Option<Kind> {
     None
 }
 
-/// Whether it is of a kind where another was asked for.
+/// Whether a file of another kind was expected.
 fn exchanged(kind: Kind, found: &LineOfText) -> Option<&'static str> {
     let front = found.front.as_slice();
     if begins(front, b"turnaudit-report") {

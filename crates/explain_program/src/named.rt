@@ -1,4 +1,4 @@
-//! Names and texts out of files, told plainly.
+//! Names and texts out of files, in plain characters.
 
 use crate::command_line::Inputs;
 use crate::digesting::Digesting;
@@ -8,7 +8,7 @@ use explain_page::{Digests, Role};
 use explain_text::Quoted;
 use std::alloc::{AllocError, Global};
 
-/// A file that was read, with its name told plainly.
+/// A file that was read, with its name in plain characters.
 #[derive(Drop)]
 pub struct NamedFile {
     pub role: Role,
@@ -17,14 +17,14 @@ pub struct NamedFile {
     pub digests: Option<Digests>,
 }
 
-/// A user's name and realm, told plainly.
+/// A user's name and realm, in plain characters.
 #[derive(Drop)]
 pub struct NamedUser {
     pub name: String,
     pub realm: String,
 }
 
-/// Bytes told plainly.
+/// Bytes in plain characters.
 fn plain(alloc: Global, bytes: &[u8]) -> Result<String, AllocError> {
     let quoted = Quoted { bytes };
     format!(in alloc; "{quoted}")
@@ -85,16 +85,16 @@ pub fn named_files<S: Source>(
     Ok(files)
 }
 
-/// The lines of a text, each told plainly.
+/// The lines of a text, each in plain characters.
 pub fn plain_lines(alloc: Global, text: &[u8]) -> Result<String, AllocError> {
-    let mut told = String::new(alloc);
+    let mut printed = String::new(alloc);
     for line in text.split(|byte| *byte == b'\n') {
         if !line.is_empty() {
-            told.push_str(plain(alloc, line)?.as_str())?;
-            told.push_str("\n")?;
+            printed.push_str(plain(alloc, line)?.as_str())?;
+            printed.push_str("\n")?;
         }
     }
-    Ok(told)
+    Ok(printed)
 }
 
 /// The users that a text of credentials names: of each line the name and the realm, and not the password.

@@ -6,7 +6,7 @@ use crate::reading::CaptureFacts;
 use explain_page::{Bar, BarKind, CaptureRow, ClientRow, CommentRow, FileRow, Picture, UserRow};
 use std::alloc::{AllocError, Global};
 
-/// The clients' lines, and what is told of all.
+/// The clients' lines, and the notes on all.
 #[derive(Drop)]
 pub struct Clients {
     pub lines: Vec<String>,

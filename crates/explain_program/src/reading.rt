@@ -7,7 +7,7 @@ use explain_page::{CaptureRow, Digests, Hashing};
 use prep_blocks::{Block, BlockSplitter};
 use std::alloc::{AllocError, Global};
 
-/// How many bytes are asked for at once.
+/// How many bytes are read at once.
 const PIECE: usize = 65_536;
 
 /// The digests of a file; none if it can't be read.

@@ -62,7 +62,7 @@ fn in_brackets(alloc: Global, kind: Kind, found: &LineOfText) -> Result<String, 
     }
 }
 
-/// The line of a refused text, as it is told. Of users what may be a password is hidden.
+/// The line of a refused text, as it is printed. Of users what may be a password is hidden.
 fn shown_line(alloc: Global, kind: Kind, found: &LineOfText) -> Result<String, AllocError> {
     if kind == Kind::Users {
         let shape = Shape {
@@ -89,7 +89,7 @@ fn refused_once(alloc: Global, code: &'static str, spot: Spot<'_>) -> Result<Str
     format!(in alloc; "{name} line {line}: {reason}, {code}")
 }
 
-/// What is told of a refused text or capture. It is read once more.
+/// The lines about a refused text or capture. It is read once more.
 fn words_of_refused<S: Source>(
     alloc: Global,
     source: &mut S,
@@ -110,7 +110,7 @@ fn words_of_refused<S: Source>(
     format!(in alloc; "{name} line {line}: {reason}, {code}: \"{shown}\"{likely}")
 }
 
-/// What is told of a file that can't be read.
+/// The lines about a file that can't be read.
 fn words_of_trouble(alloc: Global, name: &str, trouble: Trouble) -> Result<String, AllocError> {
     let name = Quoted {
         bytes: name.as_bytes(),

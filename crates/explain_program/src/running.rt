@@ -76,7 +76,7 @@ fn run_request<
         (record { before = O.taken out.old; after = O.taken out.new; said_before = E.taken err.old; said_after = E.taken err.new }) request.now result }
 {
     match request {
-        Request::Explain { inputs, asked } => explain(
+        Request::Explain { inputs, subject } => explain(
             rt,
             alloc,
             finder,
@@ -86,10 +86,10 @@ fn run_request<
             inputs.certificate,
             &inputs.captures,
             inputs.workers,
-            *asked,
+            *subject,
             out,
         ),
-        Request::AsJson { inputs, asked } => explain_as_json(
+        Request::AsJson { inputs, subject } => explain_as_json(
             rt,
             alloc,
             finder,
@@ -99,7 +99,7 @@ fn run_request<
             inputs.certificate,
             &inputs.captures,
             inputs.workers,
-            *asked,
+            *subject,
             out,
         ),
         Request::Faults { inputs } => faults(

@@ -3,8 +3,8 @@
 use std::fmt;
 
 /// A line of users: its first word as it is, and of what follows the TABs, the spaces and the CRs,
-/// as `cat -A` shows them. Other bytes behind the first word are told as `*`, since a password may
-/// be among them; a line of one word is told so from its first byte.
+/// as `cat -A` shows them. Other bytes after the first word are shown as `*`, since a password may
+/// be among them; a line of one word is shown so from its first byte.
 #[derive(Clone, Copy)]
 pub struct Shape<'a> {
     pub line: &'a [u8],

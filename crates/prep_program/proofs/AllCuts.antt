@@ -22,14 +22,14 @@ use Rattle.prep_program.proofs.Captures.{followed_twice}
 use Rattle.prep_program.specs.Making.{FileMade, Making, emptied, files_of, opened_by, with_files}
 
 -- the captures that are cut
-pub record AreCut (totals : List Totals) (tallies : Tallies) (plan : Plan) (asked : List ToCut) (texts : List (List ℕ)) (before after : Option (List FileMade)) : Type 0 where
+pub record AreCut (totals : List Totals) (tallies : Tallies) (plan : Plan) (to_cut : List ToCut) (texts : List (List ℕ)) (before after : Option (List FileMade)) : Type 0 where
   pub done : List (List Block)
-  pub len : length done ≡ length asked
+  pub len : length done ≡ length to_cut
   pub spelled : map bytes_of done ≡ texts
   pub wholes : AllByRecursion (λ blocks. IsWhole (bytes_of blocks) blocks) done
-  pub totals_are : totals ≡ map (totals_of plan) (marks_of plan asked done)
-  pub tallies_are : AreTallies plan (all_marks (marks_of plan asked done)) tallies
-  pub files : after ≡ with_files before (files_cut plan asked (marks_of plan asked done))
+  pub totals_are : totals ≡ map (totals_of plan) (marks_of plan to_cut done)
+  pub tallies_are : AreTallies plan (all_marks (marks_of plan to_cut done)) tallies
+  pub files : after ≡ with_files before (files_cut plan to_cut (marks_of plan to_cut done))
 
 no_files : (before : Option (List FileMade)) → before ≡ with_files before []
 no_files None = refl
@@ -50,20 +50,20 @@ all_marks-one : (marks : List (List Marked)) (last : List Marked) → all_marks 
 all_marks-one [] last = append-nil last
 all_marks-one (first ∷ others) last = ap (λ (t : List Marked). first ++ t) (all_marks-one others last) ∙ sym (append_assoc first (all_marks others) last)
 
-marks-one : (plan : Plan) (asked : List ToCut) (one : ToCut) (done : List (List Block)) (blocks : List Block) → length done ≡ length asked
-    → marks_of plan (asked ++ one ∷ []) (done ++ blocks ∷ []) ≡ marks_of plan asked done ++ marked plan one.proposals.items blocks ∷ []
+marks-one : (plan : Plan) (to_cut : List ToCut) (one : ToCut) (done : List (List Block)) (blocks : List Block) → length done ≡ length to_cut
+    → marks_of plan (to_cut ++ one ∷ []) (done ++ blocks ∷ []) ≡ marks_of plan to_cut done ++ marked plan one.proposals.items blocks ∷ []
 marks-one plan [] one [] blocks e = refl
 marks-one plan [] one (b ∷ done) blocks e = absurd (omega (arith, e))
-marks-one plan (a ∷ asked) one [] blocks e = absurd (omega (arith, e))
-marks-one plan (a ∷ asked) one (b ∷ done) blocks e = ap (λ (t : List (List Marked)). marked plan a.proposals.items b ∷ t) (marks-one plan asked one done blocks (omega (arith, e)))
+marks-one plan (a ∷ to_cut) one [] blocks e = absurd (omega (arith, e))
+marks-one plan (a ∷ to_cut) one (b ∷ done) blocks e = ap (λ (t : List (List Marked)). marked plan a.proposals.items b ∷ t) (marks-one plan to_cut one done blocks (omega (arith, e)))
 
-files-one : (plan : Plan) (asked : List ToCut) (one : ToCut) (done : List (List Block)) (last : List Marked) → length done ≡ length asked
-    → files_cut plan (asked ++ one ∷ []) (marks_of plan asked done ++ last ∷ []) ≡ files_cut plan asked (marks_of plan asked done) ++ record { name = string_bytes one.file; bytes = file_of plan last } ∷ []
+files-one : (plan : Plan) (to_cut : List ToCut) (one : ToCut) (done : List (List Block)) (last : List Marked) → length done ≡ length to_cut
+    → files_cut plan (to_cut ++ one ∷ []) (marks_of plan to_cut done ++ last ∷ []) ≡ files_cut plan to_cut (marks_of plan to_cut done) ++ record { name = string_bytes one.file; bytes = file_of plan last } ∷ []
 files-one plan [] one [] last e = refl
 files-one plan [] one (b ∷ done) last e = absurd (omega (arith, e))
-files-one plan (a ∷ asked) one [] last e = absurd (omega (arith, e))
-files-one plan (a ∷ asked) one (b ∷ done) last e =
-    ap (λ (t : List FileMade). record { name = string_bytes a.file; bytes = file_of plan (marked plan a.proposals.items b) } ∷ t) (files-one plan asked one done last (omega (arith, e)))
+files-one plan (a ∷ to_cut) one [] last e = absurd (omega (arith, e))
+files-one plan (a ∷ to_cut) one (b ∷ done) last e =
+    ap (λ (t : List FileMade). record { name = string_bytes a.file; bytes = file_of plan (marked plan a.proposals.items b) } ∷ t) (files-one plan to_cut one done last (omega (arith, e)))
 
 all_then : (P : List Block → Type 0) (xs : List (List Block)) (x : List Block) → AllByRecursion P xs → P x → AllByRecursion P (xs ++ x ∷ [])
 all_then P [] x all one = (one, tt)
@@ -103,20 +103,20 @@ commented plan proposals blocks totals text digest e f g =
     rw (e, g) (ap (λ (bytes : List ℕ). comment_of_cut (totals_of plan (marked plan proposals blocks)) (sha256 bytes)) (f ∙ ap bytes_of (sym (blocks_same plan proposals blocks))))
 
 -- a capture more
-pub one_cut : (totals : List Totals) (tallies : Tallies) (plan : Plan) (asked : List ToCut) (texts : List (List ℕ)) (before middle after : Option (List FileMade)) (one : ToCut) (text : List ℕ) (cut : WasCut)
-    (digest : List ℕ) (first last end : Option (List ℕ)) → (d : AreCut totals tallies plan asked texts before middle)
-    → Cuts cut plan one.proposals.items (all_marks (marks_of plan asked d.done)) text first last
+pub one_cut : (totals : List Totals) (tallies : Tallies) (plan : Plan) (to_cut : List ToCut) (texts : List (List ℕ)) (before middle after : Option (List FileMade)) (one : ToCut) (text : List ℕ) (cut : WasCut)
+    (digest : List ℕ) (first last end : Option (List ℕ)) → (d : AreCut totals tallies plan to_cut texts before middle)
+    → Cuts cut plan one.proposals.items (all_marks (marks_of plan to_cut d.done)) text first last
     → digest ≡ sha256 text → end ≡ followed_by last (comment_of_cut cut.totals digest)
     → ((bytes : List ℕ) → end ≡ followed_by first bytes → after ≡ with_files middle (record { name = string_bytes one.file; bytes = bytes } ∷ []))
-    → AreCut (totals ++ cut.totals ∷ []) cut.tallies plan (asked ++ one ∷ []) (texts ++ text ∷ []) before after
-one_cut totals tallies plan asked texts before middle after one text cut digest first last end d c hashed put made =
+    → AreCut (totals ++ cut.totals ∷ []) cut.tallies plan (to_cut ++ one ∷ []) (texts ++ text ∷ []) before after
+one_cut totals tallies plan to_cut texts before middle after one text cut digest first last end d c hashed put made =
     let new = marked plan one.proposals.items c.current in
-    let marks = marks_of plan asked d.done in
-    let longer : marks_of plan (asked ++ one ∷ []) (d.done ++ c.current ∷ []) ≡ marks ++ new ∷ [] = marks-one plan asked one d.done c.current d.len in
+    let marks = marks_of plan to_cut d.done in
+    let longer : marks_of plan (to_cut ++ one ∷ []) (d.done ++ c.current ∷ []) ≡ marks ++ new ∷ [] = marks-one plan to_cut one d.done c.current d.len in
     let all : all_marks (marks ++ new ∷ []) ≡ all_marks marks ++ new = all_marks-one marks new in
     record {
       done = d.done ++ c.current ∷ [];
-      len = length_one d.done c.current ∙ ap suc d.len ∙ sym (length_one asked one);
+      len = length_one d.done c.current ∙ ap suc d.len ∙ sym (length_one to_cut one);
       spelled = map-append bytes_of d.done (c.current ∷ []) ∙ ap (λ (t : List (List ℕ)). t ++ bytes_of c.current ∷ []) d.spelled ∙ ap (λ (t : List ℕ). texts ++ t ∷ []) (sym c.ended.whole.spelled);
       wholes = all_then (λ blocks. IsWhole (bytes_of blocks) blocks) d.done c.current d.wholes (subst (λ (t : List ℕ). IsWhole t c.current) c.ended.whole.spelled c.ended.whole);
       totals_are = ap (λ (t : List Totals). t ++ cut.totals ∷ []) d.totals_are ∙ ap (λ (t : Totals). map (totals_of plan) marks ++ t ∷ []) c.ended.totals
@@ -126,6 +126,6 @@ one_cut totals tallies plan asked texts before middle after one text cut digest 
           (put ∙ ap (λ (l : Option (List ℕ)). followed_by l (comment_of_cut cut.totals digest)) c.added ∙ followed_twice first (written_of new) (comment_of_cut cut.totals digest)
           ∙ ap (λ (said : List ℕ). followed_by first (written_of new ++ said)) (commented plan one.proposals.items c.current cut.totals text digest c.ended.totals c.ended.whole.spelled hashed))
           ∙ ap (λ (m : Option (List FileMade)). with_files m (record { name = string_bytes one.file; bytes = file_of plan new } ∷ [])) d.files
-          ∙ files_twice before (files_cut plan asked marks) (record { name = string_bytes one.file; bytes = file_of plan new } ∷ [])
-          ∙ ap (with_files before) (sym (files-one plan asked one d.done new d.len) ∙ ap (files_cut plan (asked ++ one ∷ [])) (sym longer));
+          ∙ files_twice before (files_cut plan to_cut marks) (record { name = string_bytes one.file; bytes = file_of plan new } ∷ [])
+          ∙ ap (with_files before) (sym (files-one plan to_cut one d.done new d.len) ∙ ap (files_cut plan (to_cut ++ one ∷ [])) (sym longer));
     }

@@ -10,23 +10,23 @@ use Rattle.prep_program.specs.declared.command_line.Request.TheVariants.{Join, P
 use Rattle.prep_cut.specs.declared.stated.Stated.{Stated}
 use Rattle.prep_program.specs.declared.ready.PolicySource.{PolicySource}
 use Rattle.prep_program.specs.declared.users.UsersSource.{UsersSource}
-use Rattle.prep_program.specs.Requests.{Asks, HasAddresses, HasCaptures, HasPolicySource, HasSource, IsStated, Names, NamesNothing, Requests, Says, all_read, command_of, number_given, values_of}
+use Rattle.prep_program.specs.Requests.{IsRequested, HasAddresses, HasCaptures, HasPolicySource, HasSource, IsStated, Names, NamesNothing, Requests, Says, all_read, command_of, number_named, values_of}
 use Rattle.prep_translate.specs.Words.{pair_of}
 use Rattle.prep_translate.specs.declared.translation.Translation.{Translation}
 
 -- what a command's own arguments are is what all of the arguments ask for
-pub requested_is_asked : (named : Option (Text × List Row)) (kinds : Kinds) (request : Request) → Requests named request → Asks named kinds request
-requested_is_asked named kinds (Join captures file) is = is
-requested_is_asked named kinds (Policy file listening relaying translated) is = is
-requested_is_asked named kinds (Look request) is = is
-requested_is_asked named kinds (Cut request) is = is
-requested_is_asked named kinds (Translate request) is = is
-requested_is_asked named kinds (Reassemble request) is = is
-requested_is_asked named kinds (Users request) is = is
-requested_is_asked named kinds (Ready request) is = is
-requested_is_asked named kinds (Help page) is = absurd is
-requested_is_asked named kinds Release is = absurd is
-requested_is_asked named kinds (Usage text) is = inr is
+pub named_is_requested : (named : Option (Text × List Row)) (kinds : Kinds) (request : Request) → Requests named request → IsRequested named kinds request
+named_is_requested named kinds (Join captures file) is = is
+named_is_requested named kinds (Policy file listening relaying translated) is = is
+named_is_requested named kinds (Look request) is = is
+named_is_requested named kinds (Cut request) is = is
+named_is_requested named kinds (Translate request) is = is
+named_is_requested named kinds (Reassemble request) is = is
+named_is_requested named kinds (Users request) is = is
+named_is_requested named kinds (Ready request) is = is
+named_is_requested named kinds (Help page) is = absurd is
+named_is_requested named kinds Release is = absurd is
+named_is_requested named kinds (Usage text) is = inr is
 
 abbrev name_in : Text → Option (Text × List Row) → Text
 name_in other None = other
@@ -83,7 +83,7 @@ pub no_policy : (rows : List Row) → ((file : Text) (listening relaying : List 
 no_policy rows lacks = none_of (codes "policy") rows (only_policy rows lacks)
 
 -- what `look` needs isn't there
-only_look : (rows : List Row) → ((names : List Text) (lifetime : ℕ) → HasCaptures rows names → option_map (λ given. unwrap_or given 3600) (number_given 1000000000 (codes "lifetime") rows) ≡ Some lifetime → ⊥) → (request : Request) → codes "look" ≡ command_of request → Says rows request → ⊥
+only_look : (rows : List Row) → ((names : List Text) (lifetime : ℕ) → HasCaptures rows names → option_map (λ stated. unwrap_or stated 3600) (number_named 1000000000 (codes "lifetime") rows) ≡ Some lifetime → ⊥) → (request : Request) → codes "look" ≡ command_of request → Says rows request → ⊥
 only_look rows lacks (Join captures file) is says = absurd (omega (arith, ap letter is))
 only_look rows lacks (Policy file listening relaying translated) is says = absurd (omega (arith, ap letter is))
 only_look rows lacks (Look request) is says = lacks (map (λ name. name.now) request.captures.items) request.lifetime says.0 says.2
@@ -96,7 +96,7 @@ only_look rows lacks (Help page) is says = says
 only_look rows lacks Release is says = says
 only_look rows lacks (Usage text) is says = says
 
-pub no_look : (rows : List Row) → ((names : List Text) (lifetime : ℕ) → HasCaptures rows names → option_map (λ given. unwrap_or given 3600) (number_given 1000000000 (codes "lifetime") rows) ≡ Some lifetime → ⊥) → NamesNothing (Some (codes "look", rows))
+pub no_look : (rows : List Row) → ((names : List Text) (lifetime : ℕ) → HasCaptures rows names → option_map (λ stated. unwrap_or stated 3600) (number_named 1000000000 (codes "lifetime") rows) ≡ Some lifetime → ⊥) → NamesNothing (Some (codes "look", rows))
 no_look rows lacks = none_of (codes "look") rows (only_look rows lacks)
 
 -- what `cut` needs isn't there

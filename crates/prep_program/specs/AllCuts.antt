@@ -35,13 +35,13 @@ files_cut plan (one ∷ others) (blocks ∷ marks) = record { name = string_byte
 -- The texts are whole captures, each of which was cut to its file. The tallies are those of all of
 -- them. Of the departures that need one, these have an arrival of their own, and those packets that
 -- may have carried their data.
-pub record CutsAll (all : AllCut) (plan : Plan) (asked : List ToCut) (texts : List (List ℕ)) (before after : Option (List FileMade)) : Type 0 where
+pub record CutsAll (all : AllCut) (plan : Plan) (to_cut : List ToCut) (texts : List (List ℕ)) (before after : Option (List FileMade)) : Type 0 where
   pub captures : List (List Block)
   pub spelled : map bytes_of captures ≡ texts
   pub wholes : AllByRecursion (λ blocks. IsWhole (bytes_of blocks) blocks) captures
-  pub totals : all.totals.items ≡ map (totals_of plan) (marks_of plan asked captures)
-  pub tallies : AreTallies plan (all_marks (marks_of plan asked captures)) all.tallies
-  pub paired : ArePaired plan (all_marks (marks_of plan asked captures)) (pairs_in all.tallies.causes.slots.items)
-  pub carried : AreCarried plan (all_marks (marks_of plan asked captures)) (carried_of all.tallies)
-  pub owing : all.tallies.owing ≡ owing_of plan (all_marks (marks_of plan asked captures))
-  pub files : after ≡ with_files before (files_cut plan asked (marks_of plan asked captures))
+  pub totals : all.totals.items ≡ map (totals_of plan) (marks_of plan to_cut captures)
+  pub tallies : AreTallies plan (all_marks (marks_of plan to_cut captures)) all.tallies
+  pub paired : ArePaired plan (all_marks (marks_of plan to_cut captures)) (pairs_in all.tallies.causes.slots.items)
+  pub carried : AreCarried plan (all_marks (marks_of plan to_cut captures)) (carried_of all.tallies)
+  pub owing : all.tallies.owing ≡ owing_of plan (all_marks (marks_of plan to_cut captures))
+  pub files : after ≡ with_files before (files_cut plan to_cut (marks_of plan to_cut captures))

@@ -8,7 +8,7 @@ use Rattle.prep_program.specs.declared.command_line.Request.TheVariants.{Join, P
 use Rattle.prep_program.specs.declared.stop.Stop.{Stop}
 use Rattle.prep_program.specs.CutStatus.{EndsByKept}
 use Rattle.prep_program.specs.Pages.{page_text, release_text}
-use Rattle.prep_program.specs.Requests.{Asks}
+use Rattle.prep_program.specs.Requests.{IsRequested}
 use Rattle.prep_program.specs.Stops.{status_of_stop}
 use Rattle.prep_program.specs.Words.{turnprep}
 
@@ -50,14 +50,14 @@ Answers streams Release done = IsSilent streams × IfOk done (λ status. (status
 Answers streams (Usage text) done = (streams.after ≡ streams.before) × IfOk done (λ status. (status ≡ 5) × (streams.said_after ≡ followed_by streams.said_before (string_bytes text)))
 
 -- the exit status of an answer, or of what stopped it
-abbrev pub status_given : Result ℕ Stop → ℕ
-status_given (Ok status) = status
-status_given (Err stop) = status_of_stop stop
+abbrev pub status_of_run : Result ℕ Stop → ℕ
+status_of_run (Ok status) = status
+status_of_run (Err stop) = status_of_stop stop
 
 -- The request is what the arguments are, and was answered; a line about what stopped it may follow
 -- on standard error. Or there was no memory for the arguments.
 abbrev pub IsRun : List Text → Streams → ℕ → Type 0
 IsRun words streams status =
-    ((request : Request) × Asks (subcommand_of turnprep words) (fault_of turnprep words) request × (done : Result ℕ Stop) × (said : Option (List ℕ)) × Answers (record streams { said_after = said }) request done
-    × (status ≡ status_given done) × OnOk done (streams.said_after ≡ said))
+    ((request : Request) × IsRequested (subcommand_of turnprep words) (fault_of turnprep words) request × (done : Result ℕ Stop) × (said : Option (List ℕ)) × Answers (record streams { said_after = said }) request done
+    × (status ≡ status_of_run done) × OnOk done (streams.said_after ≡ said))
     ⊎ ((streams.after ≡ streams.before) × (status ≡ 3))

@@ -6,7 +6,7 @@ use Rattle.prep_cut.specs.declared.plan.Plan.{Plan}
 use Rattle.prep_cut.specs.declared.stated.Stated.{Stated}
 use Rattle.prep_program.specs.declared.cutting.AllCut.{AllCut}
 use Rattle.prep_program.specs.declared.cutting.ToCut.{ToCut}
-use Rattle.prep_program.specs.declared.list_totals.Told.{Told}
+use Rattle.prep_program.specs.declared.list_totals.Notes.{Notes}
 use Rattle.prep_program.specs.declared.set_aside.CutRequest.{CutRequest}
 use Rattle.prep_program.specs.AllCuts.{CutsAll}
 use Rattle.prep_program.specs.CutStatus.{EndsByKept}
@@ -26,13 +26,13 @@ pub record IsPlanOf (plan : Plan) (stated : Stated) (policy : List ℕ) (capture
 -- written and printed. The status says whether a datagram of the service was written
 pub record IsCutRun (request : CutRequest) (policy : List ℕ) (captures : List (List ℕ)) (before after : Option (List FileMade)) (unprinted printed unsaid said : Option (List ℕ)) (status : ℕ) : Type 0 where
   pub plan : Plan
-  pub says : Told
+  pub says : Notes
   pub all : AllCut
-  pub asked : List ToCut
+  pub to_cut : List ToCut
   pub middle : Option (List FileMade)
   pub planned : IsPlanOf plan request.stated policy captures
-  pub names : map (λ (one : ToCut). one.name.now) asked ≡ map (λ name. name.now) request.captures.items
-  pub cuts : CutsAll all plan asked captures before middle
+  pub names : map (λ (one : ToCut). one.name.now) to_cut ≡ map (λ name. name.now) request.captures.items
+  pub cuts : CutsAll all plan to_cut captures before middle
   pub listed : after ≡ with_files middle (list_file request.folder.now (list_text plan says all))
   pub printed_is : printed ≡ followed_by unprinted (list_text plan says all)
   pub ends : EndsByKept (kept_of all.totals.items) status unsaid said

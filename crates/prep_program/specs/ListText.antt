@@ -16,7 +16,7 @@ use Rattle.prep_cut.specs.Tallied.{capped, counted_both, is_counted, no_count}
 use Rattle.prep_program.specs.declared.cutting.AllCut.{AllCut}
 use Rattle.prep_program.specs.declared.list_totals.Departures.{Departures}
 use Rattle.prep_program.specs.declared.list_totals.Sums.{Sums}
-use Rattle.prep_program.specs.declared.list_totals.Told.{Told}
+use Rattle.prep_program.specs.declared.list_totals.Notes.{Notes}
 
 -- `WORD MOMENT`, where one is stated
 abbrev pub moment_line : List ℕ → Option ℕ → List ℕ
@@ -29,9 +29,9 @@ number_line word false number = []
 number_line word true number = word ++ (codes " " ++ (decimal number ++ codes "\n"))
 
 -- the line, if it is printed
-abbrev pub told_line : Bool → List ℕ → List ℕ
-told_line false line = []
-told_line true line = line
+abbrev pub printed_line : Bool → List ℕ → List ℕ
+printed_line false line = []
+printed_line true line = line
 
 -- `begin MOMENT`, and the moments that are stated
 abbrev pub moments_text : Stated → ℕ → List ℕ
@@ -42,11 +42,11 @@ moments_text stated begin =
 abbrev pub head_text : Stated → ℕ → List ℕ
 head_text stated begin =
     ((((moments_text stated begin
-    ++ told_line stated.is_from_start (codes "from-start\n"))
-    ++ told_line stated.has_no_tcp (codes "no-tcp\n"))
+    ++ printed_line stated.is_from_start (codes "from-start\n"))
+    ++ printed_line stated.has_no_tcp (codes "no-tcp\n"))
     ++ number_line (codes "lifetime") (not (stated.lifetime == 3600)) stated.lifetime)
     ++ number_line (codes "released-ms") (nat_lt 0 stated.released_ms) stated.released_ms)
-    ++ told_line stated.keeps_inner (codes "keep-inner\n")
+    ++ printed_line stated.keeps_inner (codes "keep-inner\n")
 
 -- ` in DATAGRAMS BYTES out DATAGRAMS BYTES`
 abbrev pub counts_text : Count → Count → List ℕ
@@ -116,9 +116,9 @@ abbrev pub kept_of : List Totals → ℕ
 kept_of totals = kept_with 0 totals
 
 -- what isn't in a lane, and what is kept
-abbrev pub kept_text : Told → ℕ → List ℕ
-kept_text told kept =
-    codes "beyond " ++ (decimal told.beyond ++ (codes "\nkept " ++ (decimal kept ++ (codes " datagrams " ++ (decimal told.lanes ++ codes " lanes\n")))))
+abbrev pub kept_text : Notes → ℕ → List ℕ
+kept_text notes kept =
+    codes "beyond " ++ (decimal notes.beyond ++ (codes "\nkept " ++ (decimal kept ++ (codes " datagrams " ++ (decimal notes.lanes ++ codes " lanes\n")))))
 
 -- in percent, rounded up
 abbrev pub share_of : ℕ → ℕ → ℕ
@@ -159,12 +159,12 @@ abbrev pub excluded_text : Sums → ℕ → Departures → List ℕ
 excluded_text sums all departures = share_text (excluded_of sums) all ++ departures_text sums.left.datagrams departures
 
 -- the lines of all of them together
-abbrev pub totals_text : Told → Sums → ℕ → Departures → List ℕ
-totals_text told sums kept departures = (sums_text sums ++ excluded_text sums (capped (excluded_of sums + kept)) departures) ++ kept_text told kept
+abbrev pub totals_text : Notes → Sums → ℕ → Departures → List ℕ
+totals_text notes sums kept departures = (sums_text sums ++ excluded_text sums (capped (excluded_of sums + kept)) departures) ++ kept_text notes kept
 
 -- the whole list of a plan, whose captures were cut
-abbrev pub list_text : Plan → Told → AllCut → List ℕ
-list_text plan told all =
-    ((head_text plan.stated told.begin ++ lines_text plan.lines all.tallies.lines.items)
+abbrev pub list_text : Plan → Notes → AllCut → List ℕ
+list_text plan notes all =
+    ((head_text plan.stated notes.begin ++ lines_text plan.lines all.tallies.lines.items)
     ++ captures_text 0 all.totals.items)
-    ++ totals_text told (sums_of all.tallies.lines.items) (kept_of all.totals.items) (departures_of plan.lines all.tallies)
+    ++ totals_text notes (sums_of all.tallies.lines.items) (kept_of all.totals.items) (departures_of plan.lines all.tallies)

@@ -21,19 +21,19 @@ HasFlag name rows true = (one_of name rows ≢ None) × (one_of name rows ≢ So
 HasFlag name rows false = one_of name rows ≢ Some (codes "true")
 
 -- the number that is read, as one that is given
-abbrev pub given_number : Result ℕ TokenFault → Option (Option ℕ)
-given_number (Ok number) = Some (Some number)
-given_number (Err fault) = None
+abbrev pub read_number : Result ℕ TokenFault → Option (Option ℕ)
+read_number (Ok number) = Some (Some number)
+read_number (Err fault) = None
 
 -- the number that a value is, none without a value, and nothing where a value is no number of
 -- digits up to `most`
 abbrev pub number_in : ℕ → Option Text → Option (Option ℕ)
 number_in most None = Some None
-number_in most (Some text) = given_number (number_of most text)
+number_in most (Some text) = read_number (number_of most text)
 
 -- the number that an option is given
-abbrev pub number_given : ℕ → Text → List Row → Option (Option ℕ)
-number_given most name rows = number_in most (first_of name rows)
+abbrev pub number_named : ℕ → Text → List Row → Option (Option ℕ)
+number_named most name rows = number_in most (first_of name rows)
 
 abbrev pub one_more : {A : Type 0} → Result A TokenFault → Option (List A) → Option (List A)
 one_more (Ok one) (Some more) = Some (one ∷ more)
@@ -66,11 +66,11 @@ are_ordered (Some since) (Some until) = nat_le since until
 -- what an operator states for `cut`: moments in nanoseconds since 1970, seconds of a lifetime,
 -- milliseconds after a Refresh with LIFETIME 0
 pub record IsStated (rows : List Row) (stated : Stated) : Type 0 where
-  pub since' : number_given 18446744073709551615 (codes "since") rows ≡ Some stated.since
-  pub until' : number_given 18446744073709551615 (codes "until") rows ≡ Some stated.until
+  pub since' : number_named 18446744073709551615 (codes "since") rows ≡ Some stated.since
+  pub until' : number_named 18446744073709551615 (codes "until") rows ≡ Some stated.until
   pub ordered : are_ordered stated.since stated.until ≡ true
-  pub lifetime' : option_map (λ given. unwrap_or given 3600) (number_given 1000000000 (codes "lifetime") rows) ≡ Some stated.lifetime
-  pub released' : option_map (λ given. unwrap_or given 0) (number_given 60000 (codes "released-ms") rows) ≡ Some stated.released_ms
+  pub lifetime' : option_map (λ stated. unwrap_or stated 3600) (number_named 1000000000 (codes "lifetime") rows) ≡ Some stated.lifetime
+  pub released' : option_map (λ stated. unwrap_or stated 0) (number_named 60000 (codes "released-ms") rows) ≡ Some stated.released_ms
   pub from_start' : HasFlag (codes "from-start") rows stated.is_from_start
   pub no_tcp' : HasFlag (codes "no-tcp") rows stated.has_no_tcp
   pub keep_inner' : HasFlag (codes "keep-inner") rows stated.keeps_inner
@@ -106,7 +106,7 @@ Says rows (Policy file listening relaying translated) =
     (first_of (codes "turnserver-conf") rows ≡ Some file.now) × HasAddresses (codes "listening-ip") rows listening.items × HasAddresses (codes "relay-ip") rows relaying.items × HasFlag (codes "translated") rows translated
 Says rows (Look request) =
     HasCaptures rows (map (λ name. name.now) request.captures.items) × (first_of (codes "policy") rows ≡ option_map (λ name. name.now) request.policy)
-    × (option_map (λ given. unwrap_or given 3600) (number_given 1000000000 (codes "lifetime") rows) ≡ Some request.lifetime)
+    × (option_map (λ stated. unwrap_or stated 3600) (number_named 1000000000 (codes "lifetime") rows) ≡ Some request.lifetime)
 Says rows (Cut request) =
     HasCaptures rows (map (λ name. name.now) request.captures.items) × (first_of (codes "policy") rows ≡ Some request.policy.now) × (first_of (codes "out") rows ≡ Some request.folder.now)
     × IsStated rows request.stated
@@ -152,15 +152,15 @@ Requests named (Ready request) = Names named (Ready request)
 -- A command is requested by its name, and help and the release by what stands for them. Arguments
 -- are no request where `clap` refuses them for one of these kinds, or they name no command with all
 -- that it needs.
-abbrev pub Asks : Option (Text × List Row) → Kinds → Request → Type 0
-Asks named kinds (Help page) = IsAmong kind.DisplayHelp kinds
-Asks named kinds Release = IsAmong kind.DisplayVersion kinds
-Asks named kinds (Usage text) = IsRefused kinds ⊎ NamesNothing named
-Asks named kinds (Join captures file) = Names named (Join captures file)
-Asks named kinds (Policy file listening relaying translated) = Names named (Policy file listening relaying translated)
-Asks named kinds (Look request) = Names named (Look request)
-Asks named kinds (Cut request) = Names named (Cut request)
-Asks named kinds (Translate request) = Names named (Translate request)
-Asks named kinds (Reassemble request) = Names named (Reassemble request)
-Asks named kinds (Users request) = Names named (Users request)
-Asks named kinds (Ready request) = Names named (Ready request)
+abbrev pub IsRequested : Option (Text × List Row) → Kinds → Request → Type 0
+IsRequested named kinds (Help page) = IsAmong kind.DisplayHelp kinds
+IsRequested named kinds Release = IsAmong kind.DisplayVersion kinds
+IsRequested named kinds (Usage text) = IsRefused kinds ⊎ NamesNothing named
+IsRequested named kinds (Join captures file) = Names named (Join captures file)
+IsRequested named kinds (Policy file listening relaying translated) = Names named (Policy file listening relaying translated)
+IsRequested named kinds (Look request) = Names named (Look request)
+IsRequested named kinds (Cut request) = Names named (Cut request)
+IsRequested named kinds (Translate request) = Names named (Translate request)
+IsRequested named kinds (Reassemble request) = Names named (Reassemble request)
+IsRequested named kinds (Users request) = Names named (Users request)
+IsRequested named kinds (Ready request) = Names named (Ready request)

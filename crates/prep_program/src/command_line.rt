@@ -3,7 +3,7 @@
 
 ghost use Rattle.std.specs.Prelude.{◌≡◌, IfNone, IfOk, IfSome, List, Option, Some, codes, map};
 ghost use Rattle.clap.specs.Words.{HasKind, Kinds, Row, Text, fault_of, found_of, rows_of, subcommand_of, subcommand_rows_of};
-ghost use Rattle.prep_program.specs.Requests.{Asks, NamesNothing, Requests};
+ghost use Rattle.prep_program.specs.Requests.{IsRequested, NamesNothing, Requests};
 ghost use Rattle.prep_program.specs.Words.{turnprep};
 
 mod commands;
@@ -90,7 +90,7 @@ fn refused<'a, N: AsStr>(
     error: Error,
     words: &[N],
 ) -> Result<Request<'a>, AllocError>
-    ensures { (named : Option (Text × List Row)) (kinds : Kinds) → HasKind kinds error → IfOk result (Asks named kinds) }
+    ensures { (named : Option (Text × List Row)) (kinds : Kinds) → HasKind kinds error → IfOk result (IsRequested named kinds) }
 {
     let text = format!(in alloc; "{error}")?;
     if error.kind() == ErrorKind::OutOfMemory {
@@ -170,7 +170,7 @@ fn request_of<'a>(
 
 /// Reads the arguments, the first of which is the program's name.
 pub fn read<'a, N: AsStr>(alloc: Global, words: &'a [N]) -> Result<Request<'a>, AllocError>
-    ensures { IfOk result (Asks (subcommand_of turnprep (map N.text words.now)) (fault_of turnprep (map N.text words.now))) }
+    ensures { IfOk result (IsRequested (subcommand_of turnprep (map N.text words.now)) (fault_of turnprep (map N.text words.now))) }
 {
     let matches = match command(alloc)?.try_get_matches_from(words) {
         Ok(matches) => matches,

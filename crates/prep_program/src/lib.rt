@@ -1,5 +1,5 @@
-//! The whole program as a function: words in, files by a source, new files by a maker, what is told
-//! by two sinks, and the exit status.
+//! The whole program as a function: words in, files by a source, new files by a maker, output
+//! to two sinks, and the exit status.
 #![tactic(auto)]
 
 mod collected;

@@ -8,7 +8,7 @@ ghost use Rattle.prep_program.specs.ListText.{longest_text, line_text, counted_l
 use crate::cutting::AllCut;
 use crate::list_head::head_of;
 use crate::list_totals::{
-    Told, add_up, departures_in, kept_in, lines_of_totals, text_of_counts, text_of_others,
+    Notes, add_up, departures_in, kept_in, lines_of_totals, text_of_counts, text_of_others,
 };
 use prep_cut::{Plan, Reason, Tally, Totals};
 use std::alloc::{AllocError, Global};
@@ -97,17 +97,22 @@ fn lines_of_captures(alloc: Global, totals: &[Totals]) -> Result<String, AllocEr
 }
 
 /// The text of the list.
-pub fn list_of(alloc: Global, plan: &Plan, told: &Told, all: &AllCut) -> Result<String, AllocError>
-    ensures { IfOk result (λ list. string_bytes list ≡ list_text plan.now told.now all.now) }
+pub fn list_of(
+    alloc: Global,
+    plan: &Plan,
+    notes: &Notes,
+    all: &AllCut,
+) -> Result<String, AllocError>
+    ensures { IfOk result (λ list. string_bytes list ≡ list_text plan.now notes.now all.now) }
 {
     let lines = plan.lines.as_slice();
     let tallies = all.tallies.as_slice();
     let sums = add_up(tallies);
     let kept = kept_in(&all.totals);
     let departures = departures_in(lines, &all.tallies);
-    let mut list = head_of(alloc, &plan.stated, told.begin)?;
+    let mut list = head_of(alloc, &plan.stated, notes.begin)?;
     list.push_str(lines_of(alloc, lines, tallies)?.as_str())?;
     list.push_str(lines_of_captures(alloc, &all.totals)?.as_str())?;
-    list.push_str(lines_of_totals(alloc, told, &sums, kept, &departures)?.as_str())?;
+    list.push_str(lines_of_totals(alloc, notes, &sums, kept, &departures)?.as_str())?;
     Ok(list)
 }

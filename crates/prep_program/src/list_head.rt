@@ -1,7 +1,7 @@
 //! The head of the list of what is set aside.
 
 ghost use Rattle.std.specs.Prelude.{◌≡◌, IfOk, string_bytes};
-ghost use Rattle.prep_program.specs.ListText.{moment_line, number_line, told_line, moments_text, head_text};
+ghost use Rattle.prep_program.specs.ListText.{moment_line, number_line, printed_line, moments_text, head_text};
 
 use prep_cut::Stated;
 use std::alloc::{AllocError, Global};
@@ -24,12 +24,12 @@ fn line_of_moment(alloc: Global, word: &str, moment: Option<u64>) -> Result<Stri
 fn line_of_number(
     alloc: Global,
     word: &str,
-    is_told: bool,
+    is_printed: bool,
     number: u64,
 ) -> Result<String, AllocError>
-    ensures { IfOk result (λ line. string_bytes line ≡ number_line word.now is_told number) }
+    ensures { IfOk result (λ line. string_bytes line ≡ number_line word.now is_printed number) }
 {
-    if is_told {
+    if is_printed {
         format!(in alloc; "{word} {number}\n")
     } else {
         Ok(String::new(alloc))
@@ -37,10 +37,10 @@ fn line_of_number(
 }
 
 /// The line, if it is printed.
-fn line_if(is_told: bool, line: &str) -> &str
-    ensures { result.now ≡ told_line is_told line.now }
+fn line_if(is_printed: bool, line: &str) -> &str
+    ensures { result.now ≡ printed_line is_printed line.now }
 {
-    if is_told { line } else { "" }
+    if is_printed { line } else { "" }
 }
 
 /// The first lines, with the moments that are stated.

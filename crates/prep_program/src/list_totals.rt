@@ -8,7 +8,7 @@ use std::alloc::{AllocError, Global};
 
 /// What the list has in addition to counts.
 #[derive(Clone, Copy)]
-pub struct Told {
+pub struct Notes {
     pub begin: u64,
     pub beyond: u64,
     pub lanes: u64,
@@ -47,10 +47,10 @@ pub fn text_of_counts(alloc: Global, arrived: Count, left: Count) -> Result<Stri
 }
 
 /// Packets that are no datagrams of the service, where there are any.
-pub fn text_of_others(alloc: Global, is_told: bool, others: u64) -> Result<String, AllocError>
-    ensures { IfOk result (λ text. string_bytes text ≡ others_text is_told others) }
+pub fn text_of_others(alloc: Global, is_printed: bool, others: u64) -> Result<String, AllocError>
+    ensures { IfOk result (λ text. string_bytes text ≡ others_text is_printed others) }
 {
-    if is_told {
+    if is_printed {
         format!(in alloc; " other {others}")
     } else {
         Ok(String::new(alloc))
@@ -99,11 +99,11 @@ pub fn kept_in(totals: &[Totals]) -> u64
 }
 
 /// The lines of what is kept.
-fn lines_of_kept(alloc: Global, told: &Told, kept: u64) -> Result<String, AllocError>
-    ensures { IfOk result (λ lines. string_bytes lines ≡ kept_text told.now kept) }
+fn lines_of_kept(alloc: Global, notes: &Notes, kept: u64) -> Result<String, AllocError>
+    ensures { IfOk result (λ lines. string_bytes lines ≡ kept_text notes.now kept) }
 {
-    let beyond = told.beyond;
-    let lanes = told.lanes;
+    let beyond = notes.beyond;
+    let lanes = notes.lanes;
     format!(in alloc; "beyond {beyond}\nkept {kept} datagrams {lanes} lanes\n")
 }
 
@@ -205,16 +205,16 @@ fn excluded_in(sums: &Sums) -> u64
 /// The last lines of the list, of all lines together.
 pub fn lines_of_totals(
     alloc: Global,
-    told: &Told,
+    notes: &Notes,
     sums: &Sums,
     kept: u64,
     departures: &Departures,
 ) -> Result<String, AllocError>
-    ensures { IfOk result (λ lines. string_bytes lines ≡ totals_text told.now sums.now kept departures.now) }
+    ensures { IfOk result (λ lines. string_bytes lines ≡ totals_text notes.now sums.now kept departures.now) }
 {
     let all = excluded_in(sums).saturating_add(kept);
     let mut lines = line_of_sums(alloc, sums)?;
     lines.push_str(line_of_excluded(alloc, sums, all, departures)?.as_str())?;
-    lines.push_str(lines_of_kept(alloc, told, kept)?.as_str())?;
+    lines.push_str(lines_of_kept(alloc, notes, kept)?.as_str())?;
     Ok(lines)
 }

@@ -13,7 +13,7 @@ use prep_look::{Guess, Survey, guess_policy, page_of};
 use prep_reasons::sort_out;
 use std::alloc::Global;
 
-/// What the command `look` is asked.
+/// The arguments of the command `look`.
 #[derive(Drop)]
 pub struct LookRequest<'a> {
     /// Without one a policy is guessed.

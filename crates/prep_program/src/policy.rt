@@ -9,7 +9,7 @@ use audit_model::{Sink, put_all};
 use prep_coturn::{Asked, prepare};
 use std::alloc::Global;
 
-/// Writes the policy that a configuration comes to, and what is told of it besides.
+/// Writes the policy that a configuration results in, and the notes on it.
 pub fn run_policy<S: Source, O: Sink, E: Sink>(
     alloc: Global,
     file: &str,

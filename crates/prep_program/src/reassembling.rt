@@ -15,7 +15,7 @@ use audit_pcapng::CaptureFault;
 use prep_fragments::{ReassembleFault, Reassembled, Reassembler, Refused};
 use std::alloc::Global;
 
-/// What the command `reassemble` is asked.
+/// The arguments of the command `reassemble`.
 #[derive(Drop)]
 pub struct ReassembleRequest<'a> {
     /// A folder that is there.

@@ -169,11 +169,11 @@ fn run_request<R: Threads + AllocGlobal, S: Source, M: Maker, F: Folders, O: Sin
             };
             run_policy(alloc, file, &asked, source, out, err)
         }
-        Request::Look(asked) => look(alloc, asked, source, out),
+        Request::Look(request) => look(alloc, request, source, out),
         Request::Cut(words) => cut_and_publish(rt, words, source, maker, out, err),
-        Request::Translate(asked) => run_translate(alloc, asked, source, maker, out, err),
-        Request::Reassemble(asked) => run_reassemble(alloc, asked, source, maker, out),
-        Request::Users(asked) => run_users(alloc, asked, source, out, err),
+        Request::Translate(request) => run_translate(alloc, request, source, maker, out, err),
+        Request::Reassemble(request) => run_reassemble(alloc, request, source, maker, out),
+        Request::Users(request) => run_users(alloc, request, source, out, err),
         Request::Ready(words) => run_ready(rt, words, source, maker, folders, out, err),
         Request::Help(page) => {
             put_text(out, page.text())?;

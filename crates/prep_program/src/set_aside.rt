@@ -11,7 +11,7 @@ ghost use Rattle.prep_program.specs.CutStatus.{EndsByKept};
 use crate::cutting::{ToCut, cut_captures};
 use crate::folder::{check_parts, last_part, path_in};
 use crate::list::list_of;
-use crate::list_totals::{Told, kept_in};
+use crate::list_totals::{Notes, kept_in};
 use crate::maker::{Maker, append_all};
 use crate::recording::record_captures;
 use crate::source::Source;
@@ -44,7 +44,7 @@ const NOTHING_KEPT: &str = "turnprep: kept 0 datagrams\n";
 #[derive(Drop)]
 struct Planned {
     plan: Plan,
-    told: Told,
+    notes: Notes,
     /// What is proposed for the packets of each capture.
     proposals: Vec<Vec<Proposal>>,
     /// How many groups of what isn't read these have.
@@ -71,13 +71,13 @@ pub fn run_cut<R: Threads + AllocGlobal, S: Source, M: Maker, O: Sink, E: Sink>(
     check_parts(&request.captures)?;
     let Planned {
         plan,
-        told,
+        notes,
         proposals,
         groups,
     } = plan_of(alloc, request, source)?;
     let captures = captures_of(alloc, request, proposals)?;
     let all = cut_captures(rt, source, &captures, &plan, groups, maker)?;
-    let list = list_of(alloc, &plan, &told, &all)?;
+    let list = list_of(alloc, &plan, &notes, &all)?;
     write_list(alloc, request.folder, list.as_str(), maker, out)?;
     let kept = kept_in(&all.totals);
     let status = end_cut(kept, err)?;
@@ -129,7 +129,7 @@ fn plan_of<S: Source>(
             pairs: causes,
             lines: Listed::from(lines),
         },
-        told: Told {
+        notes: Notes {
             begin,
             beyond,
             lanes,
@@ -149,7 +149,7 @@ fn write_list<M: Maker, O: Sink>(
 ) -> Result<(), Stop>
     ensures made { OnOk result (files_of (M.making maker.new) (M.taken maker.new)
         ≡ with_files (files_of (M.making maker.old) (M.taken maker.old)) (list_file folder.now list.now)) }
-    ensures told { OnOk result (O.taken out.new ≡ followed_by (O.taken out.old) list.now) }
+    ensures printed { OnOk result (O.taken out.new ≡ followed_by (O.taken out.old) list.now) }
 {
     let file = path_in(alloc, folder, LIST)?;
     maker.make(file.as_str())?;

@@ -7,7 +7,7 @@ use crate::stop::Stop;
 use host_files::Failure;
 use std::alloc::Global;
 
-/// How many bytes are asked for at once.
+/// How many bytes are read at once.
 pub const PIECE: usize = 65_536;
 
 /// A file could not be read.

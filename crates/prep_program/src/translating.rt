@@ -20,7 +20,7 @@ use prep_translate::{
 use std::alloc::{AllocError, Global};
 use std::fmt::Write;
 
-/// What the command `translate` is asked.
+/// The arguments of the command `translate`.
 #[derive(Drop)]
 pub struct TranslateRequest<'a> {
     pub policy: &'a str,

@@ -20,7 +20,7 @@ pub enum UsersSource<'a> {
     Secret(&'a str),
 }
 
-/// What the command `users` is asked.
+/// The arguments of the command `users`.
 #[derive(Drop)]
 pub struct UsersRequest<'a> {
     pub source: UsersSource<'a>,
@@ -61,7 +61,7 @@ fn scan_capture<S: Source>(
 }
 
 /// Writes the users of captures whose requests are signed by passwords made of these secrets, and
-/// what is told of the others.
+/// notes on the others.
 fn write_signed<S: Source, O: Sink, E: Sink>(
     alloc: Global,
     mut roll: Roll,
@@ -87,7 +87,7 @@ fn write_signed<S: Source, O: Sink, E: Sink>(
     Ok(0)
 }
 
-/// Writes a line of a credentials text for each user that is asked for.
+/// Writes a line of a credentials text for each user that is named.
 pub fn run_users<S: Source, O: Sink, E: Sink>(
     alloc: Global,
     request: &UsersRequest<'_>,

@@ -18,11 +18,11 @@ captures_of (one ∷ others) (blocks ∷ captures) = record { text = bytes_of bl
 
 -- what the files that were made of them contain
 abbrev pub texts_cut : Plan → List ToCut → List (List Block) → List (List ℕ)
-texts_cut plan asked captures = map (λ (file : FileMade). file.bytes) (files_cut plan asked (marks_of plan asked captures))
+texts_cut plan to_cut captures = map (λ (file : FileMade). file.bytes) (files_cut plan to_cut (marks_of plan to_cut captures))
 
 -- By the policy of the call, one run of the server explains every datagram of the service in the texts of its captures, except those of packets
 -- that a line of its list excludes.
-pub record ExplainsTheCall (plan : Plan) (asked : List ToCut) (captures : List (List Block)) (texts : List (List ℕ)) (policy users : List ℕ) (certificate : Certificate) : Type 0 where
-  pub rest : ExplainsTheRest plan (captures_of asked captures) policy users certificate
+pub record ExplainsTheCall (plan : Plan) (to_cut : List ToCut) (captures : List (List Block)) (texts : List (List ℕ)) (policy users : List ℕ) (certificate : Certificate) : Type 0 where
+  pub rest : ExplainsTheRest plan (captures_of to_cut captures) policy users certificate
   pub policy_is : rest.taken.policy ≡ plan.policy
-  pub texts_are : map (λ (capture : Capture). capture.text) (captures_of asked captures) ≡ texts
+  pub texts_are : map (λ (capture : Capture). capture.text) (captures_of to_cut captures) ≡ texts

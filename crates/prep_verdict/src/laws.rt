@@ -41,6 +41,6 @@ pub fn the_call_is_explained()
     ensures { (request : CutRequest) (policy users : List ℕ) (texts : List (List ℕ)) (files made : Option (List FileMade)) (unprinted printed unsaid said : Option (List ℕ)) (status : ℕ) (certificate : Certificate) (before after : Option (List ℕ)) →
         length request.captures.items ≡ length texts →
         (call : IsCutRun request policy texts files made unprinted printed unsaid said status) →
-        IsAudited policy users (texts_cut call.plan call.asked call.cuts.captures) certificate before after 0 →
-        ExplainsTheCall call.plan call.asked call.cuts.captures texts policy users certificate }
+        IsAudited policy users (texts_cut call.plan call.to_cut call.cuts.captures) certificate before after 0 →
+        ExplainsTheCall call.plan call.to_cut call.cuts.captures texts policy users certificate }
 {}

@@ -2,7 +2,7 @@
 
 ghost use Rattle.std.specs.Prelude.{◌≡◌, IfNone, IfOk, IfSome, List, length, map, option_map};
 ghost use Rattle.clap.specs.Words.{Text, all_of, first_of, found_of, rows_of};
-ghost use Rattle.prep_program.specs.Requests.{HasCaptures, HasFlag, number_given, values_of};
+ghost use Rattle.prep_program.specs.Requests.{HasCaptures, HasFlag, number_named, values_of};
 
 use audit_text::number;
 use clap::ArgMatches;
@@ -50,7 +50,7 @@ pub fn flag_of(matches: &ArgMatches<'_>, name: &str) -> bool
 /// The number of an option, if it is there; nothing where its value is no number of digits up to
 /// `most`.
 pub fn number_of(matches: &ArgMatches<'_>, name: &str, most: u64) -> Option<Option<u64>>
-    ensures { result ≡ number_given most name.now (rows_of (found_of matches.now)) }
+    ensures { result ≡ number_named most name.now (rows_of (found_of matches.now)) }
 {
     let Some(word) = value_of(matches, name) else {
         return Some(None);

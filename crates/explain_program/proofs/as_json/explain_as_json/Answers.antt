@@ -14,6 +14,6 @@ returns g c = λ policy_text users_text texts policy users none captures.
         verdict = judged.verdict;
         judges = c.in_ok-judged.ensures.by;
         written = c.in_ok-put_json.ensures;
-        told = rw (sym c.expected_by-expected.ensures) c.in_ok-status.ensures;
+        status_is = rw (sym c.expected_by-expected.ensures) c.in_ok-status.ensures;
       },
     )

@@ -14,6 +14,6 @@ returns g c = λ policy_text users_text texts policy users none captures.
         judges = c.in_ok-judged.ensures.by;
         rest = _;
         written = c.in_ok-put_answer.ensures;
-        told = c.status.ensures;
+        status_is = c.status.ensures;
       },
     )

@@ -15,6 +15,6 @@ returns g c = λ policy_text users_text texts policy users none captures.
         judges = c.in_ok-judged.ensures.by;
         rest = _;
         written = c.in_ok-put_answer.ensures;
-        told = rw (sym c.expected_by-expected.ensures) c.in_ok-status.ensures;
+        status_is = rw (sym c.expected_by-expected.ensures) c.in_ok-status.ensures;
       },
     )

@@ -3,7 +3,7 @@ use Rattle.clap.proofs.OnLiterals.{clap_on_literals}
 use Rattle.clap.specs.Words.{App, fault_of, is_simple, is_simple_and_free, subcommand_of, subcommand_rows_of, HasKind}
 use Rattle.prep_program.specs.Requests.{NamesNothing, Requests}
 use Rattle.prep_program.specs.Words.{turnprep}
-use Rattle.prep_program.proofs.Naming.{requested_is_asked}
+use Rattle.prep_program.proofs.Naming.{named_is_requested}
 use Rattle.prep_program.proofs.command_line.read.Goals as goal
 
 is_simple_turnprep : is_simple turnprep ≡ true
@@ -26,15 +26,15 @@ returns-in-Some g c =
     let words = map g.N.AsStr.text c.args.words.now in
     let command = c.in_ok-command.ensures in
     let matches = c.in-Ok.matches in
-    let asked : subcommand_rows_of matches ≡ subcommand_of turnprep words = (c.in-Ok.ensures.matches (ap is_simple command ∙ is_simple_turnprep)).1 ∙ ap (λ (a : App). subcommand_of a words) command in
+    let same : subcommand_rows_of matches ≡ subcommand_of turnprep words = (c.in-Ok.ensures.matches (ap is_simple command ∙ is_simple_turnprep)).1 ∙ ap (λ (a : App). subcommand_of a words) command in
     let request = subst (λ request. IfSome request (Requests (subcommand_rows_of matches))) c.in-Some.is c.in_ok-request.ensures.some in
-    requested_is_asked (subcommand_of turnprep words) (fault_of turnprep words) c.in-Some.request (subst (λ asked. Requests asked c.in-Some.request) asked request)
+    named_is_requested (subcommand_of turnprep words) (fault_of turnprep words) c.in-Some.request (subst (λ same. Requests same c.in-Some.request) same request)
 
 pub returns : goal.returns
 returns g c =
     let words = map g.N.AsStr.text c.args.words.now in
     let command = c.in_ok-command.ensures in
     let matches = c.in-Ok.matches in
-    let asked : subcommand_rows_of matches ≡ subcommand_of turnprep words = (c.in-Ok.ensures.matches (ap is_simple command ∙ is_simple_turnprep)).1 ∙ ap (λ (a : App). subcommand_of a words) command in
+    let same : subcommand_rows_of matches ≡ subcommand_of turnprep words = (c.in-Ok.ensures.matches (ap is_simple command ∙ is_simple_turnprep)).1 ∙ ap (λ (a : App). subcommand_of a words) command in
     let none = subst (λ request. IfNone request (NamesNothing (subcommand_rows_of matches))) c.in-None.is c.in_ok-request.ensures.none in
-    inr (subst (λ asked. NamesNothing asked) asked none)
+    inr (subst (λ same. NamesNothing same) same none)

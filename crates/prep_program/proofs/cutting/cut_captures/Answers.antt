@@ -30,7 +30,7 @@ loop-one-preserved g c = record {
       let index = c.loop-one.one-index in
       let plan = c.args.plan.now in
       let one : ToCut = c.one-item.result in
-      let asked = c.args.captures.now in
+      let to_cut = c.args.captures.now in
       let m0 = g.M.Maker.making c.loop-one.made in
       let t0 = g.M.Sink.taken c.loop-one.made in
       let m1 = g.M.Maker.making c.make.new.self in
@@ -41,12 +41,12 @@ loop-one-preserved g c = record {
       let t3 = g.M.Sink.taken c.append_all.new.maker in
       let first = files_of (g.M.Maker.making c.args.made.now) (g.M.Sink.taken c.args.made.now) in
       let before = c.loop-one.invariant.fed texts all in
-      let at = zip_at (λ (each : ToCut) (text : List ℕ). g.S.Source.holds c.args.source.now each.name.now ≡ Some text) asked texts index one [] all c.loop-one-test.true in
+      let at = zip_at (λ (each : ToCut) (text : List ℕ). g.S.Source.holds c.args.source.now each.name.now ≡ Some text) to_cut texts index one [] all c.loop-one-test.true in
       let text : List ℕ = get_or texts index [] in
-      let e : get_or asked index one ≡ one = sym c.one-item.is in
+      let e : get_or to_cut index one ≡ one = sym c.one-item.is in
       let holds : g.S.Source.holds c.loop-one.source one.name.now ≡ Some text =
       ap (λ (h : List ℕ → Option (List ℕ)). h one.name.now) c.loop-one.invariant.same ∙ subst (λ (each : ToCut). g.S.Source.holds c.args.source.now each.name.now ≡ Some text) e at.1 in
-      let earlier = all_marks (marks_of plan (take index asked) before.done) in
+      let earlier = all_marks (marks_of plan (take index to_cut) before.done) in
       let cutting = subst (λ (ps : List Proposal). IsCutting c.new-cutter.result plan ps earlier [] []) c.deref.ensures.value (c.new-cutter.ensures earlier before.tallies_are) in
       let cuts = c.in_ok-cut.ensures.cuts text plan one.proposals.items earlier holds cutting in
       let opened : m1 ≡ opened_by (string_bytes one.file) (files_of m0 t0) = c.in_ok-make.ensures.opened ∙ ap (λ (n : List ℕ). opened_by n (files_of m0 t0)) c.as_str.ensures.value in
@@ -54,12 +54,12 @@ loop-one-preserved g c = record {
       let hashed : digest ≡ sha256 text = c.finalize.ensures text (c.in_ok-cut.ensures.hashes text holds c.new-hasher.ensures) in
       let put : t3 ≡ followed_by t2 (comment_of_cut c.in_ok-cut.cut.totals digest) =
       c.in_ok-append_all.ensures.ok ∙ ap (λ (s : List ℕ). followed_by t2 s) (c.as_slice.ensures.value ∙ c.in_ok-section.ensures) in
-      let more = one_cut c.loop-one.totals.items c.loop-one.tallies plan (take index asked) (take index texts) first (files_of m0 t0) (files_of m3 t3) one text c.in_ok-cut.cut digest t1 t2 t3 before cuts hashed put
+      let more = one_cut c.loop-one.totals.items c.loop-one.tallies plan (take index to_cut) (take index texts) first (files_of m0 t0) (files_of m3 t3) one text c.in_ok-cut.cut digest t1 t2 t3 before cuts hashed put
       (λ bytes took. file_made m0 m1 m3 t0 t1 t3 (string_bytes one.file) bytes opened c.in_ok-make.ensures.empty (c.append_all.ensures.others ∙ c.cut_capture.ensures.others) took) in
-      let whole : take (index + 1) asked ≡ take index asked ++ one ∷ [] = (take_at_read asked index one c.loop-one-test.true).1 ∙ ap (λ (each : ToCut). take index asked ++ each ∷ []) e in
-      subst (λ (t : List (List ℕ)). AreCut c.push.new.self.items c.in_ok-cut.cut.tallies plan (take (index + 1) asked) t first (files_of m3 t3)) (sym (take_at_read texts index [] at.0).1)
+      let whole : take (index + 1) to_cut ≡ take index to_cut ++ one ∷ [] = (take_at_read to_cut index one c.loop-one-test.true).1 ∙ ap (λ (each : ToCut). take index to_cut ++ each ∷ []) e in
+      subst (λ (t : List (List ℕ)). AreCut c.push.new.self.items c.in_ok-cut.cut.tallies plan (take (index + 1) to_cut) t first (files_of m3 t3)) (sym (take_at_read texts index [] at.0).1)
       (subst (λ (a : List ToCut). AreCut c.push.new.self.items c.in_ok-cut.cut.tallies plan a (take index texts ++ text ∷ []) first (files_of m3 t3)) (sym whole)
-      (subst (λ (t : List Totals). AreCut t c.in_ok-cut.cut.tallies plan (take index asked ++ one ∷ []) (take index texts ++ text ∷ []) first (files_of m3 t3)) (sym c.in_ok-push.ensures.items) more));
+      (subst (λ (t : List Totals). AreCut t c.in_ok-cut.cut.tallies plan (take index to_cut ++ one ∷ []) (take index texts ++ text ∷ []) first (files_of m3 t3)) (sym c.in_ok-push.ensures.items) more));
 }
 
 pub returns : goal.returns

@@ -1,5 +1,5 @@
 use Rattle.std.proofs.Common.{◌≡◌, ◌∙◌, OnOk, ap, inl, refl, subst, sym}
-use Rattle.prep_program.specs.Answered.{status_given}
+use Rattle.prep_program.specs.Answered.{status_of_run}
 use Rattle.prep_program.proofs.running.run.Goals as goal
 
 pub returns-in-Ok-run_request : goal.returns-in-Ok-run_request
@@ -11,7 +11,7 @@ returns-in-Ok-run_request g c =
       c.run_request.result,
       said,
       c.run_request.ensures,
-      sym (ap status_given c.in-Ok-run_request.is),
+      sym (ap status_of_run c.in-Ok-run_request.is),
       subst (λ done. OnOk done (said ≡ said)) (sym c.in-Ok-run_request.is) refl,
     )
 
@@ -24,6 +24,6 @@ returns g c =
       c.run_request.result,
       said,
       c.run_request.ensures,
-      c.status-in-Err-run_request.ensures ∙ sym (ap status_given c.in-Err-run_request.is),
+      c.status-in-Err-run_request.ensures ∙ sym (ap status_of_run c.in-Err-run_request.is),
       subst (λ done. OnOk done (g.E.Sink.taken c.put_stop.new.err ≡ said)) (sym c.in-Err-run_request.is) tt,
     )

@@ -14,27 +14,27 @@ use Rattle.prep_program.proofs.set_aside.run_cut.Goals as goal
 pub returns-clause-cuts : goal.returns-clause-cuts
 returns-clause-cuts g c = λ policy captures holds texts.
     let plan = c.in_ok-plan.field-0.plan in
-    let told = c.in_ok-plan.field-0.told in
-    let asked = c.deref-2.result.now in
+    let notes = c.in_ok-plan.field-0.notes in
+    let to_cut = c.deref-2.result.now in
     let planned : IsPlanOf plan c.args.request.now.stated policy captures = c.in_ok-plan.ensures.planned policy captures holds texts in
-    let names : map (λ (one : ToCut). one.name.now) asked ≡ map (λ name. name.now) c.args.request.now.captures.items =
+    let names : map (λ (one : ToCut). one.name.now) to_cut ≡ map (λ name. name.now) c.args.request.now.captures.items =
     ap (λ (all : List ToCut). map (λ (one : ToCut). one.name.now) all) c.deref-2.ensures.value ∙ c.in_ok-captures.ensures in
     let later = subst (λ (h : List ℕ → Option (List ℕ)). AllZip (λ (name : Bor (List ℕ)) (text : List ℕ). h name.now ≡ Some text) c.args.request.now.captures.items captures)
     (sym c.plan_of.ensures.kept) texts in
-    let cuts = c.in_ok-all.ensures captures (texts_of (g.S.Source.holds c.plan_of.new.source) asked c.args.request.now.captures.items captures names later) in
+    let cuts = c.in_ok-all.ensures captures (texts_of (g.S.Source.holds c.plan_of.new.source) to_cut c.args.request.now.captures.items captures names later) in
     let middle = files_of (g.M.Maker.making c.cut_captures.new.made) (g.M.Sink.taken c.cut_captures.new.made) in
-    let text : c.as_str.result.now ≡ list_text plan told c.in_ok-all.all = c.as_str.ensures.value ∙ c.in_ok-list.ensures in
+    let text : c.as_str.result.now ≡ list_text plan notes c.in_ok-all.all = c.as_str.ensures.value ∙ c.in_ok-list.ensures in
     record {
       plan = plan;
-      says = told;
+      says = notes;
       all = c.in_ok-all.all;
-      asked = asked;
+      to_cut = to_cut;
       middle = middle;
       planned = planned;
       names = names;
       cuts = cuts;
       listed = c.in_ok-write_list.ensures.made ∙ ap (λ (t : List ℕ). with_files middle (list_file c.args.request.now.folder.now t)) text;
-      printed_is = c.in_ok-write_list.ensures.told ∙ ap (λ (t : List ℕ). followed_by (g.O.Sink.taken c.args.out.now) t) text;
+      printed_is = c.in_ok-write_list.ensures.printed ∙ ap (λ (t : List ℕ). followed_by (g.O.Sink.taken c.args.out.now) t) text;
       ends = subst (λ (kept : ℕ). EndsByKept kept c.in_ok-status.status (g.E.Sink.taken c.args.err.now) (g.E.Sink.taken c.end_cut.new.err)) (c.kept_in-kept.ensures ∙ ap kept_of c.deref-3.ensures.value) c.in_ok-status.ensures;
     }
 

@@ -14,4 +14,4 @@ pub returns-in_default-number_of-clause-some : goal.returns-in_default-number_of
 returns-in_default-number_of-clause-some c =
     let rows = rows_of (found_of c.args.matches.now) in
     c.usage-in_default-number_of.ensures.some (Some (codes "look", rows)) (no_look rows (λ names lifetime captures is_lifetime.
-    absurd (let bad : None ≡ Some lifetime = ap (option_map (λ (given : Option ℕ). unwrap_or given 3600)) c.in_default-number_of.ensures ∙ is_lifetime in cc)))
+    absurd (let bad : None ≡ Some lifetime = ap (option_map (λ (stated : Option ℕ). unwrap_or stated 3600)) c.in_default-number_of.ensures ∙ is_lifetime in cc)))
