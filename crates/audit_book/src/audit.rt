@@ -1,4 +1,4 @@
-//! What a book's ledger names.
+//! The ledger of a book.
 
 ghost use Rattle.std.specs.Prelude.{List, []};
 ghost use Rattle.audit_lane.specs.Content.{Content};
@@ -6,7 +6,7 @@ ghost use Rattle.audit_lane.specs.Content.{Content};
 use std::marker::Brand;
 use std::sync::ledger::Ledger;
 
-/// The ledger of a book's entries, which names the job that the book is of.
+/// The ledger of a book's entries, which names the book's job.
 pub trait Audit: Ledger {
     ghost inputs: { List Content };
 }

@@ -8,21 +8,22 @@ use crate::seat::Receipt;
 use audit_lane::Finding;
 use std::marker::PhantomData;
 
-/// The history of a closed book. Only `Book::close` makes one.
+/// The history of a closed book. Only `Book::close` creates one.
 #[derive(Drop)]
 pub struct Closed<'a> {
     /// In the order in which they were entered.
     pub entries: Vec<Finding<'a>>,
-    /// Of each entry the number of the seat that entered it.
+    /// For each entry, the number of the seat that entered it.
     pub seats: Vec<u32>,
-    /// Of each claimed lane the number of the seat that claimed it.
+    /// For each claimed lane, the number of the seat that claimed it.
     pub claimants: Vec<u32>,
     pub(crate) made: PhantomData<()>,
     ghost paired: { vec_len seats ≡ vec_len entries },
 }
 
 impl<'a> Closed<'a> {
-    /// The entry of a receipt, or none where the entry at its place has another lane or another seat. It takes constant time.
+    /// The entry of a receipt, or none if the entry at its place has another lane or another seat.
+    /// It takes constant time.
     pub fn at(&self, receipt: &Receipt) -> Option<&Finding<'a>>
         ensures { MatchOption result ((f : Found) → IsAt self.now.entries.items self.now.seats.items receipt.now f → ⊥) (λ f. IsAt self.now.entries.items self.now.seats.items receipt.now f.now) }
     {

@@ -8,7 +8,7 @@ pub enum BookFault {
     /// O1: there are not 1 to 256 seats.
     #[error("O1 seats")]
     Seats,
-    /// O2: there was no memory.
+    /// O2: memory ran out.
     #[error("O2 memory")]
     Memory,
 }
@@ -22,7 +22,7 @@ pub enum EnterFault {
     /// E1: the lane has an entry, at this place.
     #[error("E1 taken at {0}")]
     Taken(u32),
-    /// E4: there was no memory.
+    /// E4: memory ran out.
     #[error("E4 memory")]
     Memory,
 }
@@ -30,10 +30,10 @@ pub enum EnterFault {
 /// Why a book isn't closed.
 #[derive(Clone, Copy, PartialEq, Eq, Debug, Error)]
 pub enum CloseFault {
-    /// L2: a seat of the book isn't among those given.
+    /// L2: a seat of the book isn't among those passed.
     #[error("L2 seat missing")]
     SeatMissing,
-    /// L1: the history of a seat isn't what the seat keeps.
+    /// L1: the history of a seat differs from the seat's receipts.
     #[error("L1 astray")]
     Astray,
 }

@@ -1,4 +1,4 @@
-//! What the history has of one seat.
+//! The part of the history that is of one seat.
 
 ghost use Rattle.std.specs.Prelude.{◌≡◌, length};
 ghost use Rattle.audit_book.specs.Seats.{claims_of, is_receipt, matches};
@@ -6,7 +6,8 @@ ghost use Rattle.audit_book.specs.Seats.{claims_of, is_receipt, matches};
 use crate::seat::Receipt;
 use audit_lane::Finding;
 
-/// Whether the receipts are, in order, those that the history has of the seat. It takes time in the entries.
+/// Whether the receipts are, in order, those that the history has of the seat. It takes time in the
+/// entries.
 pub fn agrees(findings: &[Finding<'_>], seats: &[u32], seat: u32, receipts: &[Receipt]) -> bool
     requires { length seats.now ≡ length findings.now }
     ensures { result ≡ matches seat 0 seats.now findings.now receipts.now }
@@ -30,7 +31,7 @@ fn says(receipt: Receipt, lane: u32, place: usize, seat: u32) -> bool
     receipt.lane == lane && receipt.place as usize == place && receipt.seat == seat
 }
 
-/// How often a seat claimed. It takes time in the claims.
+/// The number of a seat's claims. It takes time in the claims.
 pub fn count_claims(claimants: &[u32], seat: u32) -> usize
     ensures { result ≡ claims_of seat claimants.now }
 {

@@ -1,4 +1,4 @@
-//! What one thread has of a book.
+//! The seat of one thread in a book.
 
 ghost use Rattle.std.specs.List.{sum_by};
 ghost use Rattle.std.specs.Prelude.{◌≡◌, ◌-◌, ◌<◌, ◌≤◌, ◌^◌, ℕ, IfOk, Some, length, slice_get};
@@ -9,7 +9,7 @@ use std::alloc::{AllocError, Global};
 use std::marker::Model;
 use std::sync::ledger::Share;
 
-/// Where an entry stands: its lane, its place among the entries, and the seat that entered it.
+/// The place of an entry: its lane, its place among the entries, and the seat that entered it.
 #[derive(Clone, Copy, PartialEq, Eq, Debug)]
 pub struct Receipt {
     pub lane: u32,
@@ -17,11 +17,12 @@ pub struct Receipt {
     pub seat: u32,
 }
 
-/// What one thread has of a book: its number, and the receipts of its entries. Only `Book::open` makes one.
+/// The seat of one thread in a book: its number, and the receipts of its entries. Only `Book::open`
+/// creates one.
 #[derive(Drop)]
 pub struct Seat<E: Audit> {
     pub(crate) number: u32,
-    /// How many lanes it claimed.
+    /// The number of lanes that it claimed.
     pub(crate) claims: u32,
     pub(crate) receipts: Vec<Receipt>,
     /// Its share of the ledger: as much as it has receipts.
@@ -74,7 +75,7 @@ impl<E: Audit> Seat<E> {
         self.share
     }
 
-    /// The whole ledger, out of the shares of all seats.
+    /// The whole ledger, from the shares of all seats.
     pub(crate) fn join(seats: Vec<Seat<E>>) -> Share<E>
         requires { 0 < length seats.items }
         ensures parts { result.parts ≡ length seats.items }
@@ -89,7 +90,7 @@ impl<E: Audit> Seat<E> {
         whole
     }
 
-    /// As many seats, each with its share of the ledger.
+    /// This number of seats, each with its share of the ledger.
     pub(crate) fn cut(
         alloc: Global,
         seats: u32,

@@ -1,4 +1,4 @@
-//! The value behind the lock.
+//! The value under the lock.
 
 ghost use Rattle.std.specs.Prelude.{◌≡◌, ◌≢◌, ◌<◌, ◌≤◌, ℕ, IfErr, IfOk, IsTrue, None, OnOk, Some, length, slice_get, vec_capacity, vec_len};
 ghost use Rattle.audit_model.specs.declared.certificate.TheConstants.{MAX_LANES};
@@ -19,28 +19,29 @@ use std::marker::{Model, PhantomData};
 use std::sync::ledger;
 use std::sync::ledger::Share;
 
-/// What a look shows.
+/// The result of a look.
 #[derive(Clone, Copy, PartialEq, Eq, Debug)]
 pub struct View {
-    /// How many findings were entered.
+    /// The number of findings that were entered.
     pub entered: u32,
-    /// How many of them by the seat that looks.
+    /// The number of them by the seat that looks.
     pub mine: u32,
-    /// How many of them are of broken lanes.
+    /// The number of them of broken lanes.
     pub breaches: u32,
-    /// The breach of these that is told.
+    /// The breach of these that is reported.
     pub least: Option<Breach>,
 }
 
-/// The history of a book: who claimed each lane, and what was entered by whom, after how many claims. It stands behind the lock.
+/// The history of a book: the claimant of each lane, and each entry with its seat and the number of
+/// claims before it. It is under the lock.
 #[derive(Drop)]
 pub struct BookState<'a, E: Audit> {
     lanes: u32,
-    /// Of each lane the place of its entry, so that it is found in constant time.
+    /// For each lane the place of its entry, so that it is found in constant time.
     places: Vec<Option<u32>>,
-    /// Of each claimed lane its seat, with room for all lanes.
+    /// For each claimed lane its seat, with capacity for all lanes.
     claimants: Vec<u32>,
-    /// Of each entry its seat, its finding, and how many claims came before it.
+    /// For each entry its seat, its finding, and the number of claims before it.
     seats: Vec<u32>,
     findings: Vec<Finding<'a>>,
     befores: Vec<u32>,
@@ -84,7 +85,8 @@ impl<'a, E: Audit> BookState<'a, E> {
         })
     }
 
-    /// Enters a finding of the job where its lane has no entry: the event `enter`, or `refused` without memory. It takes constant time.
+    /// Enters a finding of the job if its lane has no entry: the event `enter`, or `refused` if
+    /// memory runs out. It takes constant time.
     pub fn enter(
         &mut self,
         seat: &mut Seat<E>,
@@ -124,7 +126,8 @@ impl<'a, E: Audit> BookState<'a, E> {
         Ok(receipt)
     }
 
-    /// What the entries show: the event `look`. It takes time in the entries, and no memory.
+    /// The view of the entries: the event `look`. It takes time in the entries, and allocates no
+    /// memory.
     pub fn look(&self, seat: &Seat<E>) -> Result<View, Astray>
         ensures kept { IsState E.inputs E.parts self.now }
         ensures ok { IfOk result (λ v. (seat.now.receipts ≡ receipts_of seat.now.number self.now.entries) × IsSeen seat.now.number self.now.entries v) }
@@ -146,7 +149,8 @@ impl<'a, E: Audit> BookState<'a, E> {
         })
     }
 
-    /// Whether the history has just the receipts and the claims of the seat. It takes time in the entries and claims.
+    /// Whether the history has exactly the receipts and the claims of the seat. It takes time in
+    /// the entries and claims.
     pub(crate) fn has(&self, seat: &Seat<E>) -> bool
         ensures { IsTrue result → IsTold self.now seat.now }
     {
@@ -158,7 +162,7 @@ impl<'a, E: Audit> BookState<'a, E> {
         ) && count_claims(self.claimants.as_slice(), seat.number) == seat.claims as usize
     }
 
-    /// The same of all these seats.
+    /// Whether the history has exactly the receipts and the claims of each of these seats.
     pub(crate) fn has_all(&self, seats: &[Seat<E>]) -> bool
         ensures { IsTrue result → (i : ℕ) (p : Place) → slice_get seats.now i ≡ Some p → IsTold self.now p }
     {
@@ -195,7 +199,8 @@ impl<'a, E: Audit> BookState<'a, E> {
         }
     }
 
-    /// The next lane that no seat claimed: the event `claim`. It takes constant time, and no memory.
+    /// The next lane that no seat claimed: the event `claim`. It takes constant time, and allocates
+    /// no memory.
     pub fn claim(&mut self, seat: u32) -> Option<u32>
         requires { seat < E.parts }
         ensures state { self.new ≡ after_claim E.inputs self.old seat }
@@ -212,7 +217,7 @@ impl<'a, E: Audit> BookState<'a, E> {
     }
 }
 
-// Makes room for one more of each.
+// Reserves memory for one more of each.
 fn room(
     findings: &mut Vec<Finding<'_>>,
     seats: &mut Vec<u32>,

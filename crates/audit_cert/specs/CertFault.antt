@@ -1,4 +1,4 @@
--- The fault of a certificate line that a word of it has.
+-- The fault of a certificate line, by the fault of one of its words.
 use Rattle.std.specs.Prelude.{ℕ, Bool, true, false, List, Result, Ok, Err, codes}
 use Rattle.audit_text.specs.declared.token.TokenFault.{TokenFault}
 use Rattle.audit_text.specs.declared.token.TokenFault.TheVariants as token
@@ -20,7 +20,7 @@ abbrev pub cert_fault_of : TokenFault → CertFaultKind
 cert_fault_of token.Shape = Line
 cert_fault_of token.Number = Number
 
--- what goes on as a line's reading, where a word's did
+-- the result of a line, by that of its word
 abbrev pub of_word : {A : Type 0} → Result A TokenFault → Result A CertFaultKind
 of_word (Ok x) = Ok x
 of_word (Err fault) = Err (cert_fault_of fault)

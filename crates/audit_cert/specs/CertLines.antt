@@ -1,4 +1,4 @@
--- What one line of a certificate says (after the heading): a word, a space and more words.
+-- One line of a certificate after the heading: a word, a space and more words.
 use Rattle.std.specs.Prelude.{ℕ, ◌+◌, Bool, true, ◌&&◌, ◌==◌, if◌then◌else◌, List, [], ◌∷◌, ◌++◌, length, nat_lt, nat_le, Result, Ok, Err, codes}
 use Rattle.std.specs.Str.{bytes_eq}
 use Rattle.audit_text.specs.Token.{◌>>=◌, halves_of, both_of}
@@ -14,13 +14,13 @@ use Rattle.audit_cert.specs.CertFault.{of_word}
 use Rattle.audit_cert.specs.DraftView.{Drafted}
 use Rattle.audit_cert.specs.EventLine.{placed_of, cert_skew_of, event_of}
 
--- the lanes with one event more in the last of them
+-- the lanes with one more event in the last of them
 abbrev pub with_event : Event → List CertLane → List CertLane
 with_event event [] = []
 with_event event (lane ∷ []) = record lane { events = lane.events ++ event ∷ [] } ∷ []
 with_event event (lane ∷ next ∷ more) = lane ∷ with_event event (next ∷ more)
 
--- how many events and drops there are
+-- the number of events and drops
 abbrev pub said_count : Drafted → ℕ
 said_count said = event_count said.lanes + length said.drops
 
@@ -55,7 +55,7 @@ is_after_skews [] iface = true
 is_after_skews (skew ∷ []) iface = nat_lt skew.iface iface
 is_after_skews (skew ∷ next ∷ more) iface = is_after_skews (next ∷ more) iface
 
--- the skew of one interface more
+-- the skew of one more interface
 unfoldable pub after_skew : Drafted → List ℕ → Result Drafted CertFaultKind
 after_skew said words = do
   skew ← of_word (cert_skew_of words)
@@ -63,7 +63,7 @@ after_skew said words = do
       then (if nat_le 1024 (length said.skews) then Err Limit else Ok (record said { skews = said.skews ++ skew ∷ [] }))
       else Err SkewOrder
 
--- what is said with one line more, or the line's fault
+-- the content with one more line, or the line's fault
 unfoldable pub after_line : Drafted → List ℕ → Result Drafted CertFaultKind
 after_line said line = do
   halves ← of_word (halves_of 32 line)

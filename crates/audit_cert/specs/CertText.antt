@@ -1,4 +1,5 @@
--- A certificate text: a heading, lines of skews in version 2, lines of lanes and drops, and `end`, each ended by an LF.
+-- A certificate text: a heading, lines of skews in version 2, lines of lanes and drops, and `end`,
+-- each ended by an LF.
 use Rattle.std.specs.Prelude.{◌≡◌, ℕ, ◌==◌, if◌then◌else◌, List, length, Option, Some, None, Result, Ok, Err, codes}
 use Rattle.std.specs.Str.{bytes_eq}
 use Rattle.audit_text.specs.declared.line_fault.LineFault.{LineFault}
@@ -34,7 +35,7 @@ after_other said line =
 abbrev pub after_skews : Drafted → List ℕ → Result Progress CertFaultKind
 after_skews said line = if length said.skews == 0 then Err Line else after_other said line
 
--- as long as the skews go on, with the line's first word and what stands behind it
+-- while the skews go on, with the line's first word and the rest after it
 abbrev pub among_skews : Result (List ℕ × List ℕ) TokenFault → Drafted → List ℕ → Result Progress CertFaultKind
 among_skews (Ok halves) said line =
     if bytes_eq halves.0 (codes "skew") then (do
@@ -43,7 +44,7 @@ among_skews (Ok halves) said line =
     else after_skews said line
 among_skews (Err fault) said line = after_skews said line
 
--- the heading comes first, and after `end` the text is over
+-- the heading comes first, and no line follows `end`
 abbrev pub after_in : Stage → Drafted → List ℕ → Result Progress CertFaultKind
 after_in stage.Heading said line = after_heading said line
 after_in stage.Skews said line = among_skews (halves_of 32 line) said line
@@ -63,11 +64,11 @@ unended_in stage.Ended = Line
 abbrev pub unended : Progress → List ℕ → CertFaultKind
 unended progress rest = unended_in progress.stage
 
--- and so is a line of too many bytes
+-- a line of too many bytes has the same fault
 abbrev pub overlong : Progress → CertFaultKind
 overlong progress = unended_in progress.stage
 
--- the heading and `end` have to be there
+-- the heading and `end` are required
 abbrev pub lacks_in : Stage → Option CertFaultKind
 lacks_in stage.Heading = Some Heading
 lacks_in stage.Skews = Some EndMissing
@@ -77,7 +78,7 @@ lacks_in stage.Ended = None
 abbrev pub lacks : Progress → Option CertFaultKind
 lacks progress = lacks_in progress.stage
 
--- what took in the lines is what they said
+-- the reader has the content of its lines
 abbrev pub Says : Progress → Progress → Type 0
 Says lines progress = lines ≡ progress
 
@@ -89,6 +90,6 @@ abbrev pub said_in : Result Progress (LineFault CertFaultKind) → Result Drafte
 said_in (Ok progress) = Ok progress.said
 said_in (Err fault) = Err fault
 
--- what a text says, or its first fault
+-- the content of a text, or its first fault
 unfoldable pub cert_of : List ℕ → Result Drafted (LineFault CertFaultKind)
 cert_of text = said_in (read_text overlong after unended lacks begun text)

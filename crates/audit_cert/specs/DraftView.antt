@@ -1,4 +1,4 @@
--- What the lines of a certificate said so far.
+-- The content of the lines of a certificate so far.
 use Rattle.std.specs.Prelude.{List, []}
 use Rattle.audit_model.specs.declared.certificate.CertLane.{CertLane}
 use Rattle.audit_model.specs.declared.certificate.CertDrop.{CertDrop}
@@ -13,7 +13,7 @@ pub record Drafted : Type 0 where
 abbrev pub nothing_said : Drafted
 nothing_said = record { lanes = []; drops = []; skews = [] }
 
--- how far a text has been read, and what its lines said
+-- how far a text has been read, and the content of its lines
 pub record Progress : Type 0 where
   pub stage : Stage
   pub said : Drafted

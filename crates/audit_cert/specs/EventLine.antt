@@ -50,7 +50,7 @@ act_of words = do
   halves ← halves_of 32 words
   both_of (sight_id_of halves.0) (placed_of halves.1)
 
--- the first word of an event line says what happens
+-- the first word of an event line is its kind
 unfoldable pub event_of : List ℕ → List ℕ → Result Event TokenFault
 event_of word words =
     if bytes_eq word (codes "in") then (do

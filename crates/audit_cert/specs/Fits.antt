@@ -1,4 +1,5 @@
--- What has a spelling: a certificate whose numbers are of their types, within the limits, with no two lanes of one pair and skews in rising order.
+-- The certificates that have a spelling: their numbers fit their types and the limits, no two lanes
+-- have one pair, and skews are in rising order.
 use Rattle.std.specs.Prelude.{◌≡◌, ◌≤◌, ◌<◌, ◌^◌, true, length}
 use Rattle.std.specs.List.{AllByRecursion, IsDistinct}
 use Rattle.audit_model.specs.Fits.{AddrFits}

@@ -53,6 +53,6 @@ abbrev pub spelling : Drafted → List ℕ
 spelling said =
     front said.skews ++ (flat_map lane_lines said.lanes ++ (flat_map drop_line said.drops ++ codes "end\n"))
 
--- what a certificate says
+-- the content of a certificate
 abbrev pub said_by : Certificate → Drafted
 said_by certificate = record { lanes = certificate.lanes; drops = certificate.drops; skews = certificate.skews }

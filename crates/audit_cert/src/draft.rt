@@ -15,7 +15,7 @@ use audit_text::{both, halves};
 use std::alloc::{AllocFailed, Global};
 use std::marker::Model;
 
-/// What the lines so far say.
+/// The content of the lines so far.
 #[derive(Drop)]
 pub struct CertificateDraft {
     alloc: Global,
@@ -24,7 +24,7 @@ pub struct CertificateDraft {
     skews: Listed<CertSkew>,
     /// The client and the listen address of each lane.
     pairs: LanePairs,
-    /// How many events and drops there are.
+    /// The number of events and drops.
     events: usize,
 }
 
@@ -110,7 +110,7 @@ impl CertificateDraft {
         if self.pairs.contains(client, listen) {
             return Err(CertFaultKind::LaneDouble);
         }
-        // Room comes first, so that no pair is kept without its lane.
+        // Memory is reserved first, so that no pair is kept without its lane.
         self.lanes.reserve(1)?;
         self.pairs.insert(client, listen)?;
         let lane = CertLane {
@@ -155,7 +155,7 @@ impl CertificateDraft {
         Ok(())
     }
 
-    /// Whether a skew was said.
+    /// Whether there is a skew.
     pub fn has_skews(&self) -> bool
         ensures { result ≡ not (length self.now.skews == 0) }
     {
@@ -179,7 +179,7 @@ impl CertificateDraft {
         Ok(())
     }
 
-    /// Takes in what one line of a lane or a drop says.
+    /// Adds one line of a lane or a drop.
     #[tactic(auto, unfolding(crate::specs::CertLines::after_line))]
     pub fn add_line(&mut self, line: &[u8]) -> Result<(), CertFaultKind>
         ensures { MatchResult result (λ _. after_line self.old line.now ≡ Ok self.new)
@@ -195,7 +195,7 @@ impl CertificateDraft {
         }
     }
 
-    /// What the lines said.
+    /// The certificate of the lines.
     pub fn certificate(self) -> Certificate
         ensures lanes { result.lanes ≡ self.lanes }
         ensures drops { result.drops ≡ self.drops }

@@ -1,4 +1,4 @@
-//! The words of a line.
+//! Parses the words of a line.
 
 ghost use Rattle.std.specs.Prelude.{◌≡◌};
 ghost use Rattle.audit_cert.specs.EventLine.{word32_of, word64_of, sight_id_of, event_key_of, cert_skew_of, placed_of, act_of, event_of};
@@ -6,7 +6,7 @@ ghost use Rattle.audit_cert.specs.EventLine.{word32_of, word64_of, sight_id_of, 
 use audit_model::{CertSkew, Event, Key, SightId};
 use audit_text::{TokenFault, both, halves, number};
 
-/// A number of 32 bits.
+/// Parses a number of 32 bits.
 fn read_u32(word: &[u8]) -> Result<u32, TokenFault>
     ensures { result ≡ word32_of word.now }
 {
@@ -16,14 +16,14 @@ fn read_u32(word: &[u8]) -> Result<u32, TokenFault>
     }
 }
 
-/// A number of 64 bits.
+/// Parses a number of 64 bits.
 fn read_u64(word: &[u8]) -> Result<u64, TokenFault>
     ensures { result ≡ word64_of word.now }
 {
     number(word, 18_446_744_073_709_551_615)
 }
 
-/// A sighting, as `64.0`.
+/// Parses a sighting, as `64.0`.
 #[tactic(auto, unfolding(crate::specs::EventLine::sight_id_of))]
 fn read_sight(word: &[u8]) -> Result<SightId, TokenFault>
     ensures { result ≡ sight_id_of word.now }
@@ -33,7 +33,7 @@ fn read_sight(word: &[u8]) -> Result<SightId, TokenFault>
     Ok(SightId { iface, index })
 }
 
-/// A moment and a tie, as `1500000 0`.
+/// Parses a moment and a tie, as `1500000 0`.
 #[tactic(auto, unfolding(crate::specs::EventLine::event_key_of))]
 fn read_key(words: &[u8]) -> Result<Key, TokenFault>
     ensures { result ≡ event_key_of words.now }
@@ -43,7 +43,7 @@ fn read_key(words: &[u8]) -> Result<Key, TokenFault>
     Ok(Key { moment, tie })
 }
 
-/// The skew of an interface, as `64 400`.
+/// Parses the skew of an interface, as `64 400`.
 #[tactic(auto, unfolding(crate::specs::EventLine::cert_skew_of))]
 pub fn read_skew(words: &[u8]) -> Result<CertSkew, TokenFault>
     ensures { result ≡ cert_skew_of words.now }
@@ -56,7 +56,7 @@ pub fn read_skew(words: &[u8]) -> Result<CertSkew, TokenFault>
     })
 }
 
-/// A sighting and its key, as `0.1 1500000 0`.
+/// Parses a sighting and its key, as `0.1 1500000 0`.
 #[tactic(auto, unfolding(crate::specs::EventLine::placed_of))]
 pub fn read_placed(words: &[u8]) -> Result<(SightId, Key), TokenFault>
     ensures { result ≡ placed_of words.now }
@@ -65,7 +65,7 @@ pub fn read_placed(words: &[u8]) -> Result<(SightId, Key), TokenFault>
     both(read_sight(sight), read_key(key))
 }
 
-/// An arrival, a departure and a key, as `0.0 0.1 1000000 1`.
+/// Parses an arrival, a departure and a key, as `0.0 0.1 1000000 1`.
 #[tactic(auto, unfolding(crate::specs::EventLine::act_of))]
 fn read_act(words: &[u8]) -> Result<(SightId, (SightId, Key)), TokenFault>
     ensures { result ≡ act_of words.now }
@@ -74,7 +74,7 @@ fn read_act(words: &[u8]) -> Result<(SightId, (SightId, Key)), TokenFault>
     both(read_sight(sight), read_placed(rest))
 }
 
-/// The event of a line that begins with this word.
+/// Parses the event of a line that begins with this word.
 #[tactic(auto, unfolding(crate::specs::EventLine::event_of))]
 pub fn read_event(word: &[u8], words: &[u8]) -> Result<Event, TokenFault>
     ensures { result ≡ event_of word.now words.now }

@@ -14,8 +14,8 @@ pub enum CertFaultKind {
     /// T1: another heading than `turnaudit-certificate 1` or `turnaudit-certificate 2`.
     #[error("T1 heading")]
     Heading,
-    /// T2: another shape, an event before any lane, a lane or an event after a drop, a skew after a lane or a drop, none
-    /// behind the second heading, bytes after `end`, or no LF.
+    /// T2: another syntax, an event before any lane, a lane or an event after a drop, a skew after
+    /// a lane or a drop, none after the second heading, bytes after `end`, or no LF.
     #[error("T2 line")]
     Line,
     /// T3: a number with a leading zero or past its greatest value.
@@ -30,7 +30,7 @@ pub enum CertFaultKind {
     /// T6: the text ends before its `end` line.
     #[error("T6 end missing")]
     EndMissing,
-    /// T7: there was no memory.
+    /// T7: memory ran out.
     #[error("T7 memory")]
     Memory,
     /// T8: a skew whose interface isn't greater than that of the skew before.
@@ -58,7 +58,7 @@ impl CertFaultKind {
     }
 }
 
-/// A certificate text was refused.
+/// Why a certificate text was refused, with the line.
 pub type CertFault = LineFault<CertFaultKind>;
 
 impl From<TokenFault> for CertFaultKind {

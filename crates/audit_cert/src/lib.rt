@@ -1,4 +1,4 @@
-//! Certificate texts.
+//! Reads and writes certificate texts.
 #![tactic(auto)]
 
 mod draft;

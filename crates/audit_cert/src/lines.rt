@@ -13,7 +13,7 @@ use std::marker::Model;
 
 const HEADING: &[u8; 23] = b"turnaudit-certificate 1";
 
-/// Skews stand behind it.
+/// The heading of version 2, after which skews follow.
 const SECOND_HEADING: &[u8; 23] = b"turnaudit-certificate 2";
 
 /// Which line comes next.
@@ -21,15 +21,15 @@ const SECOND_HEADING: &[u8; 23] = b"turnaudit-certificate 2";
 pub enum Stage {
     /// The heading.
     Heading,
-    /// A skew, or once one was there also a line as below.
+    /// A skew, or if there was one also a line of `Lines`.
     Skews,
-    /// One of a lane or a drop, or `end`.
+    /// A line of a lane or a drop, or `end`.
     Lines,
     /// None: `end` was there.
     Ended,
 }
 
-/// What the lines of a certificate text say so far.
+/// The content of the lines of a certificate text so far.
 #[derive(Drop)]
 pub struct CertificateLines {
     draft: CertificateDraft,
@@ -47,7 +47,7 @@ impl Model for CertificateLines {
 impl CertificateLines {
     ghost use Rattle.audit_cert.specs.CertText.{begun, after, after_heading, after_other, after_skews, among_skews};
 
-    /// No line yet. It takes no memory.
+    /// No line yet. Allocates no memory.
     pub fn new(alloc: Global) -> CertificateLines
         ensures { result ≡ begun }
     {
@@ -71,7 +71,7 @@ impl CertificateLines {
         Ok(())
     }
 
-    /// Takes in a line of a lane or a drop, or `end`.
+    /// Adds a line of a lane or a drop, or `end`.
     fn add_other(&mut self, line: &[u8]) -> Result<(), CertFaultKind>
         ensures { MatchResult result (λ _. after_other self.old.said line.now ≡ Ok self.new)
             (λ fault. UnlessMemory is_memory fault (after_other self.old.said line.now)) }
@@ -85,7 +85,7 @@ impl CertificateLines {
         Ok(())
     }
 
-    /// Takes in the first line that is no skew.
+    /// Adds the first line that is no skew.
     fn add_behind_skews(&mut self, line: &[u8]) -> Result<(), CertFaultKind>
         ensures { MatchResult result (λ _. after_skews self.old.said line.now ≡ Ok self.new)
             (λ fault. UnlessMemory is_memory fault (after_skews self.old.said line.now)) }
@@ -96,7 +96,7 @@ impl CertificateLines {
         self.add_other(line)
     }
 
-    /// Takes in a skew, or what stands behind the last of them.
+    /// Adds a skew, or the line after the last of them.
     fn add_among_skews(&mut self, line: &[u8]) -> Result<(), CertFaultKind>
         ensures { MatchResult result (λ _. among_skews (halves_of 32 line.now) self.old.said line.now ≡ Ok self.new)
             (λ fault. UnlessMemory is_memory fault (among_skews (halves_of 32 line.now) self.old.said line.now)) }
@@ -112,7 +112,7 @@ impl CertificateLines {
         Ok(())
     }
 
-    /// Takes in a line: the heading first, and none after `end`.
+    /// Adds a line: the heading first, and none after `end`.
     #[tactic(auto, unfolding(crate::specs::CertText::after))]
     fn add(&mut self, line: &[u8]) -> Result<(), CertFaultKind>
         ensures { MatchResult result (λ _. after self.old line.now ≡ Ok self.new)
@@ -126,7 +126,7 @@ impl CertificateLines {
         }
     }
 
-    /// What the lines said.
+    /// The content of the lines.
     pub fn into_draft(self) -> CertificateDraft
         ensures { result ≡ self.said }
     {

@@ -1,4 +1,4 @@
-//! A certificate written to a sink, its lanes' lines made by many threads.
+//! Writes a certificate to a sink, with its lanes' lines formatted by many threads.
 
 ghost use Rattle.std.specs.Prelude.{◌≡◌, ◌≤◌, ◌<◌, ◌++◌, codes, length, IfOk, OnOk, OnErr, IfErr};
 ghost use Rattle.std.specs.List.{flat_map};
@@ -15,10 +15,11 @@ use audit_model::{CertLane, Certificate, Sink, WriteFault};
 use std::alloc::{AllocError, Global};
 use std::thread::Threads;
 
-/// Lines of so many events for each thread are made before they go out.
+/// How many events' lines are formatted for each thread before they are written.
 const EVENTS: usize = 16384;
 
-/// How many pieces fill the room, or all of them. A piece takes a place for each event, and one more.
+/// How many pieces fill the room, or all of them. A piece takes a place for each event, and one
+/// more.
 fn fitting(pieces: &[Piece<'_>], room: usize) -> usize
     ensures within { result ≤ length pieces.now }
     ensures some { 0 < length pieces.now → 0 < result }
@@ -34,7 +35,7 @@ fn fitting(pieces: &[Piece<'_>], room: usize) -> usize
     pieces.len()
 }
 
-/// Puts pieces, of which all threads make the lines before any goes out.
+/// Writes pieces, of which all threads format the lines before any is written.
 fn put_block<R: Threads + Sync, W: Sink>(
     rt: &R,
     alloc: Global,
@@ -48,7 +49,7 @@ fn put_block<R: Threads + Sync, W: Sink>(
     put(text.as_slice(), out)
 }
 
-/// Puts pieces, block by block, so that no more lines are held than one block's.
+/// Writes pieces, block by block, so that only one block's lines are in memory.
 fn put_pieces<R: Threads + Sync, W: Sink>(
     rt: &R,
     alloc: Global,
@@ -67,7 +68,7 @@ fn put_pieces<R: Threads + Sync, W: Sink>(
     Ok(())
 }
 
-/// Puts the lanes' lines.
+/// Writes the lanes' lines.
 fn put_lanes<R: Threads + Sync, W: Sink>(
     rt: &R,
     alloc: Global,
@@ -81,7 +82,7 @@ fn put_lanes<R: Threads + Sync, W: Sink>(
     put_pieces(rt, alloc, pieces.as_slice(), workers, out)
 }
 
-/// Puts the lanes' lines, and what stands after them.
+/// Writes the lanes' lines, and those after them.
 fn put_lanes_on<R: Threads + Sync, W: Sink>(
     rt: &R,
     alloc: Global,
@@ -95,7 +96,7 @@ fn put_lanes_on<R: Threads + Sync, W: Sink>(
     put_drops_on(alloc, certificate.drops.as_slice(), out)
 }
 
-/// Whether a certificate has no more lines of events and drops than are made before they go out.
+/// Whether a certificate has at most as many lines of events and drops as are formatted at once.
 fn has_few_lines(certificate: &Certificate) -> bool {
     let mut lines = certificate.drops.len();
     'lanes: for lane in certificate.lanes.as_slice() {
@@ -132,7 +133,7 @@ fn text_of_certificate<R: Threads + Sync>(
     joined(front, joined(lanes, end)?)
 }
 
-/// Puts a certificate of few lines, all of which are made before any goes out.
+/// Writes a certificate of few lines, all of which are formatted before any is written.
 fn put_together<R: Threads + Sync, W: Sink>(
     rt: &R,
     alloc: Global,
@@ -146,7 +147,7 @@ fn put_together<R: Threads + Sync, W: Sink>(
     put(text.as_slice(), out)
 }
 
-/// Puts a certificate's lines block by block.
+/// Writes a certificate's lines block by block.
 fn put_in_blocks<R: Threads + Sync, W: Sink>(
     rt: &R,
     alloc: Global,
@@ -160,9 +161,10 @@ fn put_in_blocks<R: Threads + Sync, W: Sink>(
     put_lanes_on(rt, alloc, certificate, workers, out)
 }
 
-/// Writes as `write` does, with the lines of the lanes made by so many threads at the most, and put some 16,384 for each of them at a time,
-/// so that a sink need gather nothing. Of a certificate with up to 16,384 events and drops nothing has gone out where there was no memory.
-/// It holds these lines, and 24 bytes for each lane and for each 1,024 events.
+/// Writes as `write` does, with the lines of the lanes formatted by at most `workers` threads, and
+/// about 16,384 for each of them written at a time, so that a sink needs no buffer. If memory runs
+/// out, nothing has been written of a certificate with up to 16,384 events and drops. It holds
+/// these lines, and 24 bytes for each lane and for each 1,024 events.
 pub fn write_parallel<R: Threads + Sync, W: Sink>(
     rt: &R,
     alloc: Global,

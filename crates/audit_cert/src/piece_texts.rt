@@ -1,4 +1,4 @@
-//! The text of pieces, made by many threads.
+//! Formats the text of pieces, by many threads.
 
 ghost use Rattle.std.specs.Prelude.{◌≡◌, ◌++◌, IfOk, OnOk};
 ghost use Rattle.std.specs.List.{flat_map};
@@ -12,10 +12,10 @@ use audit_model::Event;
 use std::alloc::{AllocError, Global};
 use std::thread::{Threads, join};
 
-/// So many pieces are too few for two threads.
+/// The number of pieces up to which one thread is used.
 const FEW: usize = 4;
 
-/// Adds the first line of a lane where a piece opens one.
+/// Adds the first line of a lane if a piece opens one.
 fn add_opening(alloc: Global, text: &mut Vec<u8>, piece: &Piece<'_>) -> Result<(), AllocError>
     ensures { OnOk result (text.new.items ≡ text.old.items ++ opening piece.now.opens) }
 {
@@ -46,7 +46,7 @@ fn add_piece(alloc: Global, text: &mut Vec<u8>, piece: &Piece<'_>) -> Result<(),
     add_events(text, piece.events)
 }
 
-/// The text of pieces, made by one thread.
+/// The text of pieces, formatted by one thread.
 fn text_in_turn(alloc: Global, pieces: &[Piece<'_>]) -> Result<Vec<u8>, AllocError>
     ensures { IfOk result (λ text. text.items ≡ flat_map piece_text pieces.now) }
 {
@@ -57,7 +57,7 @@ fn text_in_turn(alloc: Global, pieces: &[Piece<'_>]) -> Result<Vec<u8>, AllocErr
     Ok(text)
 }
 
-/// One text, and another behind it.
+/// One text, and another after it.
 pub fn joined(text: Vec<u8>, more: Vec<u8>) -> Result<Vec<u8>, AllocError>
     ensures { IfOk result (λ whole. whole.items ≡ text.items ++ more.items) }
 {
@@ -67,7 +67,7 @@ pub fn joined(text: Vec<u8>, more: Vec<u8>) -> Result<Vec<u8>, AllocError>
     Ok(text)
 }
 
-/// The text of pieces, made by so many threads at the most: each half by half of them.
+/// The text of pieces, formatted by at most `threads` threads: each half by half of them.
 #[cycle(halves)]
 pub fn text_of<R: Threads + Sync>(
     rt: &R,

@@ -1,4 +1,4 @@
-//! The lanes of a certificate in pieces, whose lines are made one by one.
+//! The lanes of a certificate in pieces, whose lines are formatted piece by piece.
 
 ghost use Rattle.std.specs.Prelude.{◌≡◌, ◌<◌, ◌++◌, length, IfOk, OnOk};
 ghost use Rattle.std.specs.List.{flat_map};
@@ -8,17 +8,17 @@ ghost use Rattle.audit_cert.specs.Pieces.{piece_text};
 use audit_model::{CertLane, Event};
 use std::alloc::{AllocError, Global};
 
-/// How many events a piece has at the most.
+/// The most events of a piece.
 const PIECE: usize = 1024;
 
-/// Some events of a lane, behind its first line where they are its first ones.
+/// Some events of a lane, after its first line if they are its first ones.
 #[derive(Clone, Copy)]
 pub struct Piece<'a> {
     pub opens: Option<&'a CertLane>,
     pub events: &'a [Event],
 }
 
-/// The first events, no more than a piece has, and those behind them.
+/// The first events, at most `PIECE`, and those after them.
 fn parted(events: &[Event]) -> (&[Event], &[Event])
     ensures whole { events.now ≡ result.0.now ++ result.1.now }
     ensures shorter { 0 < length events.now → length result.1.now < length events.now }
@@ -29,7 +29,7 @@ fn parted(events: &[Event]) -> (&[Event], &[Event])
     events.split_at(PIECE)
 }
 
-/// Adds pieces of events that stand behind others of their lane.
+/// Adds pieces of events that follow others of their lane.
 fn add_events<'a>(pieces: &mut Vec<Piece<'a>>, events: &'a [Event]) -> Result<(), AllocError>
     ensures { OnOk result (flat_map piece_text pieces.new.items ≡ flat_map piece_text pieces.old.items ++ flat_map event_line events.now) }
 {

@@ -1,4 +1,4 @@
-//! Reading a certificate text.
+//! Reads a certificate text.
 
 ghost use Rattle.std.specs.Prelude.{◌≡◌, ◌++◌, [], ℕ, List, true, false, IfOk, IfErr, MatchResult, Ok, Err};
 ghost use Rattle.audit_text.specs.Reading.{UnlessMemory};
@@ -15,7 +15,7 @@ use audit_text::TextReader;
 use std::alloc::Global;
 use std::marker::Model;
 
-/// Reads a certificate text that comes in pieces, cut anywhere.
+/// Reads a certificate text that comes in pieces, split anywhere.
 #[derive(Drop)]
 pub struct CertificateReader {
     reader: TextReader<CertificateLines>,
@@ -31,7 +31,7 @@ impl Model for CertificateReader {
 }
 
 impl CertificateReader {
-    /// A reader of no bytes. It takes no memory.
+    /// A reader of no bytes. Allocates no memory.
     pub fn new(alloc: Global) -> CertificateReader
         ensures { StandsFor result [] }
     {
@@ -40,8 +40,9 @@ impl CertificateReader {
         }
     }
 
-    /// Takes the next piece of the text, or reports the first fault of the text so far. Every text that continues these bytes has the
-    /// same fault, however it is cut. After a fault the reader is consumed.
+    /// Reads the next piece of the text, or returns the first fault of the text so far. Every text
+    /// that continues these bytes has the same fault, however it is split. After a fault the reader
+    /// is consumed.
     #[tactic(auto, unfolding(crate::specs::CertText::cert_of))]
     pub fn feed(self, piece: &[u8]) -> Result<CertificateReader, CertFault>
         ensures ok { (text : List ℕ) → StandsFor self text → IfOk result (λ fed. StandsFor fed (text ++ piece.now)) }
@@ -53,7 +54,7 @@ impl CertificateReader {
         })
     }
 
-    /// The certificate that the text spells which ends here, or its first fault. It takes no memory.
+    /// The certificate of the text that ends here, or its first fault. Allocates no memory.
     #[tactic(auto, unfolding(crate::specs::CertText::cert_of))]
     pub fn finish(self) -> Result<Certificate, CertFault>
         ensures { (text : List ℕ) → StandsFor self text → MatchResult result (λ cert. cert_of text ≡ Ok (said_by cert)) (λ fault. cert_of text ≡ Err fault) }
@@ -65,7 +66,7 @@ impl CertificateReader {
     }
 }
 
-/// What the text says, line by line.
+/// The content of the text, line by line.
 fn read_text(alloc: Global, text: &[u8]) -> Result<Certificate, CertFault>
     ensures { MatchResult result (λ cert. cert_of text.now ≡ Ok (said_by cert))
         (λ fault. UnlessMemory (λ f. is_memory f.kind) fault (cert_of text.now)) }
@@ -73,13 +74,14 @@ fn read_text(alloc: Global, text: &[u8]) -> Result<Certificate, CertFault>
     CertificateReader::new(alloc).feed(text)?.finish()
 }
 
-/// The certificate that a text spells, or its first fault: the kind, and the line from 1. One pass, n log n in the lanes.
+/// The certificate of a text, or its first fault: the kind, and the line from 1. It reads the text
+/// once, and takes n log n time in the lanes.
 pub fn read(alloc: Global, text: &[u8]) -> Result<Certificate, CertFault>
     ensures exact { MatchResult result (λ cert. cert_of text.now ≡ Ok (said_by cert))
         (λ fault. UnlessMemory (λ f. is_memory f.kind) fault (cert_of text.now)) }
-    // What is read is spelled so.
+    // The text is the spelling of the certificate that is read.
     ensures found { IfOk result (λ cert. text.now ≡ spelling (said_by cert)) }
-    // What is spelled so is read, unless memory runs out.
+    // A certificate is read from its spelling, unless memory runs out.
     ensures only { (said : Drafted) → IsCertificate said → text.now ≡ spelling said
         → MatchResult result (λ cert. said_by cert ≡ said) (λ fault. is_memory fault.kind ≡ true) }
 {

@@ -1,4 +1,4 @@
-//! The lines of a certificate text.
+//! Formats the lines of a certificate text.
 
 ghost use Rattle.std.specs.Prelude.{◌≡◌, ◌++◌, codes, decimal, IfOk, OnOk};
 ghost use Rattle.std.specs.String.{string_bytes};

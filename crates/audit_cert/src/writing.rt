@@ -1,4 +1,4 @@
-//! A certificate written to a sink, line by line.
+//! Writes a certificate to a sink, line by line.
 
 ghost use Rattle.std.specs.Prelude.{◌≡◌, ◌++◌, codes, IfOk, OnOk, OnErr, IfErr};
 ghost use Rattle.std.specs.List.{flat_map};
@@ -17,10 +17,10 @@ const SECOND_HEADING_LINE: &[u8; 24] = b"turnaudit-certificate 2\n";
 
 const END_LINE: &[u8; 4] = b"end\n";
 
-/// So many lines of drops are made before they go out.
+/// How many lines of drops are formatted before they are written.
 const LINES: usize = 16_384;
 
-/// Puts the bytes, all of them where it answers Ok.
+/// Writes all of the bytes if it returns Ok.
 pub fn put<W: Sink>(bytes: &[u8], out: &mut W) -> Result<(), WriteFault>
     ensures { Puts bytes.now result (record { taken = W.taken out.old; taken_now = W.taken out.new; failures = W.failures out.old; failures_now = W.failures out.new }) }
 {
@@ -28,7 +28,7 @@ pub fn put<W: Sink>(bytes: &[u8], out: &mut W) -> Result<(), WriteFault>
     Ok(())
 }
 
-/// Puts an event's line, which is made in the room of the one before.
+/// Writes an event's line, which is formatted in the memory of the one before.
 fn put_event<W: Sink>(line: &mut Vec<u8>, event: &Event, out: &mut W) -> Result<(), WriteFault>
     ensures { Puts (event_line event.now) result (record { taken = W.taken out.old; taken_now = W.taken out.new; failures = W.failures out.old; failures_now = W.failures out.new }) }
 {
@@ -54,7 +54,7 @@ fn put_lane_line<W: Sink>(alloc: Global, lane: &CertLane, out: &mut W) -> Result
     put(line.as_bytes(), out)
 }
 
-/// Puts a lane's line, and then its events'.
+/// Writes a lane's line, and then its events'.
 fn put_lane<W: Sink>(alloc: Global, lane: &CertLane, out: &mut W) -> Result<(), WriteFault>
     ensures { Puts (lane_lines lane.now) result (record { taken = W.taken out.old; taken_now = W.taken out.new; failures = W.failures out.old; failures_now = W.failures out.new }) }
 {
@@ -82,7 +82,7 @@ fn text_of_drops(alloc: Global, drops: &[CertDrop]) -> Result<Vec<u8>, AllocErro
     Ok(text)
 }
 
-/// Puts drops' lines, which are made before any goes out.
+/// Writes drops' lines, which are formatted before any is written.
 fn put_drops_together<W: Sink>(
     alloc: Global,
     drops: &[CertDrop],
@@ -94,7 +94,7 @@ fn put_drops_together<W: Sink>(
     put(text.as_slice(), out)
 }
 
-/// Puts drops' lines, so many at a time that a million of them aren't a million calls.
+/// Writes drops' lines, `LINES` at a time, so that a million of them aren't a million calls.
 fn put_drops<W: Sink>(alloc: Global, drops: &[CertDrop], out: &mut W) -> Result<(), WriteFault>
     ensures { Puts (flat_map drop_line drops.now) result (record { taken = W.taken out.old; taken_now = W.taken out.new; failures = W.failures out.old; failures_now = W.failures out.new }) }
 {
@@ -116,7 +116,7 @@ pub fn text_of_end(alloc: Global, drops: &[CertDrop]) -> Result<Vec<u8>, AllocEr
     Ok(text)
 }
 
-/// Puts the drops' lines and the last line.
+/// Writes the drops' lines and the last line.
 pub fn put_drops_on<W: Sink>(
     alloc: Global,
     drops: &[CertDrop],
@@ -128,7 +128,7 @@ pub fn put_drops_on<W: Sink>(
     put(END_LINE, out)
 }
 
-/// Puts the lanes' lines, and what stands after them.
+/// Writes the lanes' lines, and those after them.
 fn put_lanes_on<W: Sink>(
     alloc: Global,
     certificate: &Certificate,
@@ -150,7 +150,7 @@ fn add_skews(text: &mut Vec<u8>, skews: &[CertSkew]) -> Result<(), AllocError>
     Ok(())
 }
 
-/// The heading, of version 2 where there are skews, and their lines.
+/// The heading, of version 2 if there are skews, and their lines.
 pub fn text_of_front(alloc: Global, skews: &[CertSkew]) -> Result<Vec<u8>, AllocError>
     ensures { IfOk result (λ text. text.items ≡ front skews.now) }
 {
@@ -164,7 +164,7 @@ pub fn text_of_front(alloc: Global, skews: &[CertSkew]) -> Result<Vec<u8>, Alloc
     Ok(text)
 }
 
-/// Puts the heading and the skews' lines.
+/// Writes the heading and the skews' lines.
 pub fn put_front<W: Sink>(alloc: Global, skews: &[CertSkew], out: &mut W) -> Result<(), WriteFault>
     ensures { Puts (front skews.now) result (record { taken = W.taken out.old; taken_now = W.taken out.new; failures = W.failures out.old; failures_now = W.failures out.new }) }
 {
@@ -183,8 +183,8 @@ fn put_certificate<W: Sink>(
     put_lanes_on(alloc, certificate, out)
 }
 
-/// Writes the certificate's one spelling. After an error a front of it may have gone out: `Device` where the sink
-/// failed, `Memory` where there was no room for a line.
+/// Writes the certificate's one spelling. After an error a prefix of it may have been written:
+/// `Device` if the sink failed, `Memory` if memory ran out for a line.
 pub fn write<W: Sink>(
     alloc: Global,
     certificate: &Certificate,

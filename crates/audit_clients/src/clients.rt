@@ -16,7 +16,7 @@ use std::hash::RandomState;
 #[derive(Drop)]
 pub struct Clients {
     pub pairs: Pairs,
-    /// How many sightings of each interface were looked at.
+    /// How many sightings of each interface were read.
     pub looked: Vec<usize>,
 }
 
@@ -30,7 +30,7 @@ fn arrives_at_listen(policy: &Policy, sighting: &Sighting) -> bool
     }
 }
 
-/// Takes in the pairs of sightings, in order.
+/// Adds the pairs of sightings, in order.
 fn join(pairs: &mut Pairs, policy: &Policy, row: &[Sighting]) -> Result<(), AllocError>
     ensures { OnOk result (pairs.new ≡ joined pairs.old (pairs_of policy.now row.now)) }
 {
@@ -42,7 +42,7 @@ fn join(pairs: &mut Pairs, policy: &Policy, row: &[Sighting]) -> Result<(), Allo
     Ok(())
 }
 
-/// The sightings of an interface behind those that were looked at.
+/// The sightings of an interface that weren't read yet.
 fn behind<'a>(intake: &'a Intake, looked: &[usize], iface: u32) -> &'a [Sighting]
     ensures { result.now ≡ drop (slice_index_or looked.now iface 0) (interface_at (taken intake.now) iface) }
 {
@@ -50,7 +50,7 @@ fn behind<'a>(intake: &'a Intake, looked: &[usize], iface: u32) -> &'a [Sighting
     intake.interface(iface).get(from..).unwrap_or(&[])
 }
 
-/// Takes in the pairs of the sightings that weren't looked at, interface by interface.
+/// Adds the pairs of the sightings that weren't read yet, interface by interface.
 fn join_unseen(pairs: &mut Pairs, looked: &[usize], intake: &Intake) -> Result<(), AllocError>
     ensures { OnOk result (pairs.new ≡ with_new looked.now (taken intake.now) pairs.old) }
 {
@@ -60,7 +60,7 @@ fn join_unseen(pairs: &mut Pairs, looked: &[usize], intake: &Intake) -> Result<(
     Ok(())
 }
 
-/// How many sightings each interface has.
+/// The number of sightings of each interface.
 fn lengths(alloc: Global, intake: &Intake) -> Result<Vec<usize>, AllocError>
     ensures { IfOk result (λ lengths. lengths.items ≡ row_lengths (taken intake.now)) }
 {
@@ -82,7 +82,7 @@ fn with_lanes(pairs: &[(Addr, Addr)]) -> &[(Addr, Addr)]
     }
 }
 
-/// The pairs from one of them on.
+/// The pairs from an index on.
 fn from(pairs: &[(Addr, Addr)], first: usize) -> &[(Addr, Addr)]
     ensures { result.now ≡ drop first pairs.now }
 {
@@ -90,7 +90,8 @@ fn from(pairs: &[(Addr, Addr)], first: usize) -> &[(Addr, Addr)]
 }
 
 impl Clients {
-    /// No clients. It takes no memory. The seed is one that those who send to the server don't know.
+    /// No clients. It takes no memory. The senders of datagrams to the server must not know the
+    /// seed.
     pub fn new(alloc: Global, seed: RandomState) -> Clients
         ensures pairs { result.pairs ≡ [] }
         ensures looked { result.looked.items ≡ [] }
@@ -101,7 +102,7 @@ impl Clients {
         }
     }
 
-    /// How many there are.
+    /// The number of clients.
     pub fn len(&self) -> usize
         ensures { result ≡ length self.now.pairs }
     {
@@ -120,7 +121,7 @@ impl Clients {
         Some(place as u32)
     }
 
-    /// The client and the listen address of each lane, from one of them on.
+    /// The client and the listen address of each lane, from a number on.
     pub fn lanes_from(&self, first: usize) -> &[(Addr, Addr)]
         ensures which { result.now ≡ drop first (take MAX_LANES self.now.pairs) }
         ensures apart { IsDistinct same result.now }
@@ -138,7 +139,7 @@ impl Clients {
         self.lanes_from(0)
     }
 
-    /// Takes in the clients of the sightings that the intake has gained.
+    /// Adds the clients of the sightings that are new in the intake.
     pub fn take_in(&mut self, alloc: Global, intake: &Intake) -> Result<(), AllocError>
         ensures pairs { OnOk result (self.new.pairs ≡ with_new self.old.looked.items (taken intake.now) self.old.pairs) }
         ensures looked { OnOk result (self.new.looked.items ≡ row_lengths (taken intake.now)) }

@@ -1,4 +1,4 @@
-//! The clients that captures show, in the order in which they are first seen: those that have lanes.
+//! The clients in captures, in the order in which they are first seen, and their lanes.
 #![tactic(auto)]
 
 mod clients;

@@ -1,4 +1,4 @@
-//! Pairs of addresses, each once, in the order in which they came.
+//! Pairs of addresses, each once, in the order in which they are added.
 
 ghost use Rattle.std.specs.Prelude.{◌≡◌, [], position, OnOk, OnErr};
 ghost use Rattle.std.specs.List.{IsDistinct};
@@ -11,9 +11,10 @@ use std::alloc::{AllocError, Global};
 use std::hash::RandomState;
 use std::marker::Model;
 
-/// Pairs of a client and a listen address, each once, in the order in which they came.
+/// Pairs of a client and a listen address, each once, in the order in which they are added.
 ///
-/// Whoever sends to the server chooses the client's address. Without the seed nobody can choose some whose hashes meet.
+/// Senders of datagrams choose the client's address. Without the seed, nobody can choose addresses
+/// whose hashes collide.
 #[derive(Drop)]
 pub struct Pairs {
     set: IndexSet<(Addr, Addr), RandomState>,
@@ -29,7 +30,7 @@ impl Model for Pairs {
 }
 
 impl Pairs {
-    /// No pair. It takes no memory.
+    /// No pairs. It takes no memory.
     pub fn new(alloc: Global, seed: RandomState) -> Pairs
         ensures { result ≡ [] }
     {
@@ -46,14 +47,16 @@ impl Pairs {
         self.set.as_slice()
     }
 
-    /// The place of a pair, if it is there. The cost doesn't depend on their number, by a seed that nobody knew before.
+    /// The index of a pair, if it is there. The cost is independent of the number of pairs, with a
+    /// seed that nobody knew before.
     pub fn place_of(&self, client: Addr, listen: Addr) -> Option<usize>
         ensures { result ≡ position (same (client, listen)) self.now }
     {
         self.set.get_index_of(&(client, listen))
     }
 
-    /// Puts a pair behind the others unless it is there, at the cost of `place_of`. Without memory nothing is changed.
+    /// Appends a pair unless it is there, at the cost of `place_of`. Without memory nothing is
+    /// changed.
     pub fn insert(&mut self, client: Addr, listen: Addr) -> Result<(), AllocError>
         ensures ok { OnOk result (self.new ≡ insert_key same self.old (client, listen)) }
         ensures err { OnErr result (self.new ≡ self.old) }

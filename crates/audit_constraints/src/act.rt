@@ -5,7 +5,7 @@ ghost use Rattle.std.specs.Prelude.{◌≡◌};
 use audit_search_state::Turn;
 use audit_seen::{LaneNumber, SeenNumber, Slot};
 
-/// An act of a lane. They are by their slots; those of one slot by their lanes, and then by their turns.
+/// An act of a lane. Acts are ordered by slot, then by lane, then by turn.
 #[derive(Clone, Copy, Debug, PartialEq, Eq, PartialOrd, Ord)]
 pub struct Act {
     slot: Slot,
@@ -16,7 +16,7 @@ pub struct Act {
 }
 
 impl Act {
-    /// The act of a lane at a slot, by its turn there, that gives a departure for an arrival.
+    /// An act of a lane in a slot: its turn there, the arrival, and the departure sent for it.
     pub fn new(
         slot: Slot,
         lane: LaneNumber,
@@ -33,14 +33,14 @@ impl Act {
         }
     }
 
-    /// Where it stands.
+    /// The slot of the act.
     pub fn slot(&self) -> Slot
         ensures { result ≡ self.now.slot }
     {
         self.slot
     }
 
-    /// Whose it is.
+    /// The lane of the act.
     pub fn lane(&self) -> LaneNumber
         ensures { result ≡ self.now.lane }
     {
@@ -54,7 +54,7 @@ impl Act {
         self.arrival
     }
 
-    /// The departure that it gives.
+    /// The departure that it sends.
     pub fn departure(&self) -> SeenNumber
         ensures { result ≡ self.now.departure }
     {

@@ -1,4 +1,4 @@
-//! What the first keys tell: about when each sighting was.
+//! The first estimate of the moments of all sightings.
 
 use crate::reading::Reading;
 use audit_known::{Known, Matches, Pools, Tenancies, Times};
@@ -6,7 +6,8 @@ use audit_matching::{Edges, lows, match_up, places};
 use audit_seen::{PoolNumber, SeenNumber};
 use std::alloc::AllocError;
 
-/// What the first keys tell: about when each sighting was, the arrivals of each pool by that, and which departure answers which.
+/// The first estimate: a key of each sighting's moment, the arrivals of each pool in the order of
+/// their keys, and the arrival that each departure answers.
 #[derive(Drop)]
 pub struct FirstKeys {
     times: Times,
@@ -15,7 +16,8 @@ pub struct FirstKeys {
 }
 
 impl FirstKeys {
-    /// The keys of matches by stamps alone, where the sightings of each interface stand so far behind the starts of their windows.
+    /// Computes the keys from stamps alone. `shifts` has, for each interface, how far after the
+    /// starts of their windows its sightings are.
     pub fn of(reading: &Reading<'_>, shifts: &[u64]) -> Result<FirstKeys, AllocError> {
         let alloc = reading.alloc();
         let contents = reading.contents();
@@ -38,12 +40,12 @@ impl FirstKeys {
         })
     }
 
-    /// About when each sighting was.
+    /// The estimated moment of each sighting.
     pub fn times(&self) -> &Times {
         &self.times
     }
 
-    /// Which departure answers which arrival.
+    /// The arrival that each departure answers.
     pub fn matches(&self) -> &Matches {
         &self.matches
     }
@@ -53,7 +55,7 @@ impl FirstKeys {
         self.pools.get(pool)
     }
 
-    /// Which client had which relayed address when, by these keys.
+    /// Which client had which relayed address at which time, by these keys.
     pub fn tenancies(&self, reading: &Reading<'_>) -> Result<Tenancies, AllocError> {
         let grace = reading.policy().grace;
         let matches = self.matches.as_slice();
@@ -66,7 +68,7 @@ impl FirstKeys {
         )
     }
 
-    /// What departures are matched by.
+    /// The facts by which departures are matched.
     pub fn known<'a>(&'a self, reading: &'a Reading<'_>, tenancies: &'a Tenancies) -> Known<'a> {
         let hold = reading.policy().hold;
         let contents = reading.contents();

@@ -5,17 +5,18 @@ ghost use Rattle.std.specs.Prelude.{◌≡◌};
 use audit_search_state::{Constraint, Fault};
 use audit_seen::LaneNumber;
 
-/// A lane that can't act on a departure in any order that was tried, and what it would need.
+/// A lane that can't act on a departure in any order that was tried, and what it needs.
 #[derive(Drop)]
 pub struct LaneFault {
     lane: LaneNumber,
     fault: Fault,
-    /// The likeliest first.
+    /// The constraints that may help, the likeliest first.
     constraints: Vec<Constraint>,
 }
 
 impl LaneFault {
-    /// A lane, the first departure that it can't act on, and what it would need, the likeliest first.
+    /// A lane, the first departure that it can't act on, and the constraints that may help, the
+    /// likeliest first.
     pub fn new(lane: LaneNumber, fault: Fault, constraints: Vec<Constraint>) -> LaneFault {
         LaneFault {
             lane,
@@ -38,7 +39,7 @@ impl LaneFault {
         self.fault
     }
 
-    /// What it would need, the likeliest first.
+    /// The constraints that may help, the likeliest first.
     pub fn constraints(&self) -> &[Constraint] {
         self.constraints.as_slice()
     }

@@ -1,7 +1,9 @@
-//! What rounds of searches are asked for beside what the sightings say, as constraints on where arrivals stand, what departures answer, and when acts are.
+//! Constraints of the search for a certificate, in addition to the captures: where arrivals are
+//! placed, which arrivals departures answer, and when acts occur.
 //!
-//! `LaneSoFar::constraints` is what a lane would need to act on a departure. `Settling` keeps of all lanes' constraints those that got lanes further, and tells the next ones; `Prepared` is
-//! what a round's searches go by under them, and `Round` what they found. Nothing rests on any of it.
+//! `LaneSoFar::constraints` returns what a lane needs to act on a departure. `Settling` keeps the
+//! constraints that got lanes further, and tries the next ones. `Prepared` is the input of a
+//! round's searches under them, and `Round` the result. No verdict depends on any of it.
 #![tactic(auto)]
 
 mod act;

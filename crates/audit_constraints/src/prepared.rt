@@ -1,4 +1,4 @@
-//! What the searches of one round go by: the matches, the keys, and an order of all sightings.
+//! The input of one round's searches: the matches, the keys, and an order of all sightings.
 
 use crate::first_keys::FirstKeys;
 use crate::reading::Reading;
@@ -12,7 +12,7 @@ use audit_search_input::{Deadlines, SearchInput, Shared, Viewed, Views};
 use audit_search_state::{Constraint, Constraints};
 use std::alloc::{AllocError, Global};
 
-/// What the searches of one round go by.
+/// The input of one round's searches.
 #[derive(Drop)]
 pub struct Prepared {
     tenancies: Tenancies,
@@ -24,7 +24,7 @@ pub struct Prepared {
 }
 
 impl Prepared {
-    /// What a round goes by that has what is asked for. It takes n log n.
+    /// Prepares a round under the constraints. It takes n log n.
     pub(crate) fn of(
         reading: &Reading<'_>,
         first: &FirstKeys,
@@ -71,7 +71,7 @@ impl Prepared {
         })
     }
 
-    /// What the search of each lane reads.
+    /// The input of each lane's search.
     pub(crate) fn input<'a>(
         &'a self,
         reading: &'a Reading<'_>,
@@ -97,7 +97,7 @@ impl Prepared {
     }
 }
 
-/// The matches, with the answers and the arrivals before departures that are asked for.
+/// The matches, with the answers and the orders of arrivals and departures that are constrained.
 fn edges_of(
     known: &Known<'_>,
     relayed: &RelayedLanes,

@@ -1,4 +1,4 @@
-//! What is read once.
+//! The contents of the captures, read once.
 
 use audit_finding::Windows;
 use audit_keys::Credentials;
@@ -9,7 +9,7 @@ use audit_seen::Sights;
 use audit_sightings::Intake;
 use std::alloc::{AllocError, Global};
 
-/// What is read once of captures.
+/// The contents of the captures, read once.
 #[derive(Drop)]
 pub struct Reading<'a> {
     captured: Captured<'a>,
@@ -18,8 +18,9 @@ pub struct Reading<'a> {
 }
 
 impl<'a> Reading<'a> {
-    /// Reads each sighting, which may stand in so much of its window. `pairs` has the client and the listen address of each lane. It takes
-    /// n log n, and for each sighting as many steps as it has bytes.
+    /// Reads each sighting. `windows` limits the moments that a sighting may have. `pairs` has the
+    /// client and the listen address of each lane. It takes n log n, and for each sighting as many
+    /// steps as it has bytes.
     pub fn new(
         alloc: Global,
         intake: &'a Intake,
@@ -34,7 +35,7 @@ impl<'a> Reading<'a> {
         })
     }
 
-    /// The memory of the search.
+    /// The allocator of the search.
     pub fn alloc(&self) -> Global {
         self.alloc
     }
@@ -49,12 +50,12 @@ impl<'a> Reading<'a> {
         self.captured.policy()
     }
 
-    /// How many lanes there are.
+    /// The number of lanes.
     pub fn lanes(&self) -> usize {
         self.captured.pairs().len()
     }
 
-    /// What the sightings say.
+    /// The contents of the sightings.
     pub fn contents(&self) -> &Contents {
         &self.contents
     }

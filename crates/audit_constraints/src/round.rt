@@ -1,4 +1,4 @@
-//! What one round found.
+//! The result of one round.
 
 ghost use Rattle.std.specs.Prelude.{◌≡◌};
 
@@ -43,7 +43,7 @@ impl Double {
     }
 }
 
-/// An act by its arrival, of one arrival by its slot.
+/// An act, ordered by arrival, then by slot.
 #[derive(Clone, Copy, PartialEq, Eq, PartialOrd, Ord)]
 struct ByArrival {
     arrival: SeenNumber,
@@ -51,7 +51,7 @@ struct ByArrival {
     lane: LaneNumber,
 }
 
-/// What one round found.
+/// The result of one round.
 #[derive(Drop)]
 pub struct Round {
     placed: Placed,
@@ -62,8 +62,8 @@ pub struct Round {
 }
 
 impl Round {
-    /// Where each sighting stands, the lane of each departure from a relayed address, the matches, the acts of all lanes, in order, and the lanes that
-    /// fail, in order.
+    /// The placement of the sightings, the lane of each departure from a relayed address, the
+    /// matches, and the acts of all lanes and the lanes that fail, both in order.
     pub(crate) fn new(
         placed: Placed,
         relayed: RelayedLanes,
@@ -80,7 +80,7 @@ impl Round {
         }
     }
 
-    /// Where each sighting stands.
+    /// The placement of the sightings.
     pub fn placed(&self) -> &Placed {
         &self.placed
     }
@@ -90,7 +90,7 @@ impl Round {
         &self.relayed
     }
 
-    /// The matches, and the arrivals that are asked to stand before departures.
+    /// The matches, and the arrivals that constraints place before departures.
     pub(crate) fn edges(&self) -> &Edges {
         &self.edges
     }
@@ -105,7 +105,7 @@ impl Round {
         self.faults.as_slice()
     }
 
-    /// The arrivals that two lanes act on. It takes n log n.
+    /// The arrivals on which two lanes act. It takes n log n.
     pub fn doubles(&self, alloc: Global) -> Result<Vec<Double>, AllocError> {
         let mut by_arrival: Vec<ByArrival> = Vec::with_capacity(alloc, self.acts.len())?;
         for act in &self.acts {

@@ -1,4 +1,4 @@
-//! What was found of each lane, kept as long as all that its search goes by stays.
+//! The results of the lanes' searches, each kept until the input of its search changes.
 
 ghost use Rattle.std.specs.Prelude.{◌≡◌};
 
@@ -10,21 +10,21 @@ use audit_search_state::{Constraint, Fault, Found, Turn};
 use audit_seen::{LaneNumber, SeenNumber, Slot};
 use std::alloc::{AllocError, Global};
 
-/// An act at a sighting, wherever that stands in the order of all.
+/// An act at a sighting, independent of that sighting's rank in the order.
 #[derive(Clone, Copy)]
 struct Anchored {
     anchor: SeenNumber,
-    /// Which of the slots round the sighting.
+    /// Which of the slots around the sighting.
     part: u32,
     turn: Turn,
     arrival: SeenNumber,
     departure: SeenNumber,
 }
 
-/// What was found of a lane.
+/// The result of a lane's search.
 #[derive(Drop)]
 pub struct Searched {
-    /// Of what the search went by.
+    /// A digest of the input of the search.
     fingerprint: u64,
     acts: Vec<Anchored>,
     fault: Option<Fault>,
@@ -32,7 +32,7 @@ pub struct Searched {
 }
 
 impl Searched {
-    /// What the search of a lane found.
+    /// The result of a lane's search.
     pub fn of(
         input: &SearchInput<'_>,
         lane: LaneNumber,
@@ -46,7 +46,7 @@ impl Searched {
         })
     }
 
-    /// A digest of what the search went by.
+    /// A digest of the input of the search.
     pub fn fingerprint(&self) -> u64
         ensures { result ≡ self.now.fingerprint }
     {
@@ -85,15 +85,15 @@ fn acts_of(input: &SearchInput<'_>, found: &Found) -> Result<Vec<Anchored>, Allo
     Ok(acts)
 }
 
-/// What was found of all lanes.
+/// The results of all lanes' searches.
 #[derive(Drop)]
 pub struct AllSearched {
-    /// None of a lane that wasn't searched yet, or for which there was no memory.
+    /// None for a lane that wasn't searched yet, or whose search had no memory.
     lanes: Vec<Option<Searched>>,
 }
 
 impl AllSearched {
-    /// Nothing was searched.
+    /// No results.
     pub fn new(alloc: Global) -> AllSearched {
         AllSearched {
             lanes: Vec::new(alloc),
@@ -113,7 +113,7 @@ impl AllSearched {
         self.lanes.as_mut_slice()
     }
 
-    /// No memory, where there was none for a lane.
+    /// Fails with `AllocError` if the search of a lane had no memory.
     pub fn all_are_there(&self) -> Result<(), AllocError> {
         if self.lanes.iter().any(|place| place.is_none()) {
             return Err(AllocError);
@@ -121,7 +121,7 @@ impl AllSearched {
         Ok(())
     }
 
-    /// Forgets what was found.
+    /// Forgets the results.
     pub fn clear(&mut self) {
         self.lanes.clear();
     }
@@ -138,7 +138,7 @@ impl AllSearched {
         Ok(acts)
     }
 
-    /// The lanes that can't act on a departure, in order, and what they would need.
+    /// The lanes that can't act on a departure, in order, and the constraints that may help them.
     pub fn faults(&self, alloc: Global) -> Result<Vec<LaneFault>, AllocError> {
         let mut faults = Vec::new(alloc);
         for (number, place) in self.lanes.iter().enumerate() {

@@ -1,4 +1,4 @@
-//! Which constraints of lanes are kept, taken back and tried next.
+//! Which constraints of the lanes are kept, withdrawn and tried next.
 
 mod clocks;
 mod lane_constraints;
@@ -18,7 +18,7 @@ use std::collections::{BTreeMap, BTreeSet};
 /// How many constraints of a lane are looked at in one round.
 const LOOKED_AT: u32 = 1024;
 
-/// What is asked of the next round, and what became of it so far.
+/// The constraints of the next round, and the results of the earlier ones.
 #[derive(Drop)]
 pub struct Settling<'a> {
     reading: &'a Reading<'a>,
@@ -26,14 +26,14 @@ pub struct Settling<'a> {
     constraints: Constraints,
     lanes: BTreeMap<LaneNumber, LaneConstraints>,
     tried: BTreeSet<(LaneNumber, Constraint, u64)>,
-    /// Arrivals that were asked to stand before departures, and helped.
+    /// Arrivals that were placed before departures by constraints that helped.
     helped: BTreeSet<(SeenNumber, SeenNumber)>,
-    /// The lanes that had faults in the round before.
+    /// The lanes that had faults in the previous round.
     faulty: BTreeSet<LaneNumber>,
 }
 
 impl<'a> Settling<'a> {
-    /// Nothing is asked for.
+    /// No constraints.
     pub fn new(reading: &'a Reading<'a>) -> Result<Settling<'a>, AllocError> {
         let alloc = reading.alloc();
         let shifts: Vec<u64> = vec![in alloc; 0; reading.sights().interfaces()]?;
@@ -48,22 +48,22 @@ impl<'a> Settling<'a> {
         })
     }
 
-    /// What the next round's searches go by.
+    /// The input of the next round's searches.
     pub fn prepared(&self) -> Result<Prepared, AllocError> {
         Prepared::of(self.reading, &self.first, &self.constraints)
     }
 
-    /// What the search of each lane reads.
+    /// The input of each lane's search.
     pub fn input<'b>(&'b self, prepared: &'b Prepared) -> SearchInput<'b> {
         prepared.input(self.reading, &self.first, &self.constraints)
     }
 
-    /// Whether acts that make or keep an allocation are asked to stand at their requests.
+    /// Sets whether acts that make or keep an allocation are placed at their requests.
     pub fn set_early(&mut self, is_early: bool) {
         self.constraints.set_early(is_early);
     }
 
-    /// Forgets what is asked for, and tells the keys anew.
+    /// Forgets the constraints, and computes the keys again.
     pub fn start_again(&mut self) -> Result<(), AllocError> {
         self.constraints.clear();
         self.lanes.clear();
@@ -73,7 +73,7 @@ impl<'a> Settling<'a> {
         Ok(())
     }
 
-    /// Keeps the constraints that got their lanes further, and takes the others back.
+    /// Keeps the constraints that got their lanes further, and withdraws the others.
     pub fn settle(&mut self, round: &Round) -> Result<(), AllocError> {
         let is_new = round
             .faults()
@@ -104,7 +104,7 @@ impl<'a> Settling<'a> {
         Ok(())
     }
 
-    /// Asks for what the lanes need; tells whether there was anything new.
+    /// Adds the constraints that the lanes need; returns whether any of them is new.
     pub fn ask(&mut self, round: &Round) -> Result<bool, AllocError> {
         self.faulty.clear();
         for failed in round.faults() {
@@ -122,7 +122,8 @@ impl<'a> Settling<'a> {
         Ok(is_more)
     }
 
-    /// Asks that of two lanes that act on one arrival the later one does without it, or else the earlier one.
+    /// Adds, for two lanes that act on one arrival, a constraint by which the later lane doesn't
+    /// act on it, or else the earlier one.
     fn ask_doubles(&mut self, round: &Round) -> Result<bool, AllocError> {
         let mut is_more = false;
         for double in round.doubles(self.reading.alloc())? {
@@ -145,8 +146,9 @@ impl<'a> Settling<'a> {
         Ok(is_more)
     }
 
-    /// Asks of two lanes that hold an address at a time that the lease of the first one begins and ends as early as it may, or else that
-    /// the second one had it before; tells whether one of that is new.
+    /// Adds, for two lanes that have an address at the same time, a constraint by which the lease
+    /// of the first one begins and ends as early as possible, or else by which one had it before
+    /// the other; returns whether any of them is new.
     fn ask_overlaps(&mut self, round: &Round) -> Result<bool, AllocError> {
         let mut is_more = false;
         for overlap in round.overlaps(self.reading)? {
@@ -177,7 +179,7 @@ impl<'a> Settling<'a> {
         Ok(is_more)
     }
 
-    /// Asks for the next constraint of a lane; tells whether there was one.
+    /// Adds the next constraint of a lane; returns whether there was one.
     fn ask_lane(&mut self, failed: &LaneFault) -> Result<bool, AllocError> {
         let alloc = self.reading.alloc();
         let lane = failed.lane();

@@ -1,4 +1,4 @@
--- What a datagram says, by what its bytes are.
+-- The contents of a datagram, by its bytes.
 use Rattle.std.specs.Prelude.{◌≡◌, ⊤, ℕ, List, [], ◌∷◌, Option, Some, None}
 use Rattle.std.specs.Int.{w16, w32, from_be_bytes}
 use Rattle.audit_model.specs.declared.address.Addr.{Addr}
@@ -19,7 +19,7 @@ use Rattle.audit_content.specs.declared.given.Given.TheVariants as given
 use Rattle.audit_content.specs.declared.given.Success.{Success}
 use Rattle.audit_content.specs.declared.given.Success.TheVariants as success
 
--- the first attribute of a type says that address
+-- the first attribute of a type has that address
 abbrev pub HasAddress : ℕ → Parts → Addr → Type 0
 HasAddress kind parts address = (value : List ℕ) × (first_of kind parts.attributes ≡ Some value) × (address_of value ≡ Some address)
 
@@ -27,7 +27,7 @@ HasAddress kind parts address = (value : List ℕ) × (first_of kind parts.attri
 abbrev pub HasData : Parts → Addr → List ℕ → Type 0
 HasData parts peer bytes = HasAddress attribute.XOR_PEER_ADDRESS parts peer × (first_of attribute.DATA parts.attributes ≡ Some bytes)
 
--- a client's datagram asks for that
+-- the contents of a client's datagram
 abbrev pub IsAsked : List ℕ → Asked → Type 0
 IsAsked payload (asked.Request number id) = IsMessage payload (parts_of payload) × ((parts_of payload).class ≡ class.Request) × ((parts_of payload).method ≡ number) × ((parts_of payload).tid ≡ id)
 IsAsked payload (asked.Send peer bytes) = IsMessage payload (parts_of payload) × ((parts_of payload).class ≡ class.Indication) × ((parts_of payload).method ≡ method.SEND) × HasData (parts_of payload) peer bytes.now
@@ -52,7 +52,7 @@ unfoldable pub code_in : Option (List ℕ) → Option ℕ
 code_in (Some value) = error_code_of value
 code_in None = None
 
--- a success says that; of `Other` nothing is said here
+-- the contents of a success response; `Other` has none
 abbrev pub IsSuccess : Parts → Success → Type 0
 IsSuccess parts (success.Allocated relayed seconds) = (parts.method ≡ method.ALLOCATE) × HasAddress attribute.XOR_RELAYED_ADDRESS parts relayed × (seconds ≡ seconds_in (first_of attribute.LIFETIME parts.attributes))
 IsSuccess parts (success.Refreshed seconds) = (parts.method ≡ method.REFRESH) × (seconds ≡ seconds_in (first_of attribute.LIFETIME parts.attributes))
@@ -61,7 +61,7 @@ IsSuccess parts success.Permitted = parts.method ≡ method.CREATE_PERMISSION
 IsSuccess parts success.Bound = parts.method ≡ method.CHANNEL_BIND
 IsSuccess parts success.Other = ⊤
 
--- a client is given that by a datagram
+-- the contents of a datagram to a client
 abbrev pub IsGiven : List ℕ → Given → Type 0
 IsGiven payload (given.Success number id success) = IsMessage payload (parts_of payload) × ((parts_of payload).class ≡ class.Success) × ((parts_of payload).method ≡ number) × ((parts_of payload).tid ≡ id) × IsSuccess (parts_of payload) success
 IsGiven payload (given.Error number id code) = IsMessage payload (parts_of payload) × ((parts_of payload).class ≡ class.Error) × ((parts_of payload).method ≡ number) × ((parts_of payload).tid ≡ id)

@@ -1,4 +1,4 @@
-//! What a client's datagram asks for.
+//! The request or the data in a client's datagram.
 
 ghost use Rattle.std.specs.Prelude.{IfSome};
 ghost use Rattle.audit_content.specs.Says.{IsAsked};
@@ -9,10 +9,10 @@ use audit_stun::numbers::attribute::DATA;
 use audit_stun::numbers::method;
 use audit_stun::{Class, channel_data, message};
 
-/// What a client's datagram asks for.
+/// The request or the data in a client's datagram.
 #[derive(Clone, Copy, Debug)]
 pub enum Asked<'a> {
-    /// A request of that method and transaction id (RFC 8489, section 5).
+    /// A request with this method and transaction id (RFC 8489, section 5).
     Request { method: u16, id: [u8; 12] },
     /// A Send indication (RFC 8656, section 11).
     Send { peer: Addr, data: &'a [u8] },
@@ -20,7 +20,7 @@ pub enum Asked<'a> {
     Channel { number: u16, data: &'a [u8] },
 }
 
-/// What a client's datagram asks for, if anything is answered to it.
+/// The request or the data in a client's datagram, if the server may answer or relay it.
 pub fn asked_by_client(payload: &[u8]) -> Option<Asked<'_>>
     ensures { IfSome result (λ asked. IsAsked payload.now asked) }
 {

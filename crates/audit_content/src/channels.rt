@@ -1,4 +1,4 @@
-//! The channel that a ChannelBind asks for.
+//! The channel that a ChannelBind requests.
 
 ghost use Rattle.std.specs.Prelude.{◌≡◌, IfSome};
 ghost use Rattle.audit_stun.specs.declared.numbers.method.TheConstants as methods;
@@ -37,7 +37,7 @@ impl Channel {
     }
 }
 
-/// The channel that a ChannelBind asks for.
+/// The channel that a ChannelBind requests.
 pub fn asked_channel(payload: &[u8]) -> Option<Channel>
     ensures method { IfSome result (λ _. (parts_of payload.now).method ≡ methods.CHANNEL_BIND) }
     ensures named { IfSome result (λ channel. HasChannel (parts_of payload.now) channel) }
@@ -50,7 +50,7 @@ pub fn asked_channel(payload: &[u8]) -> Option<Channel>
     }
 }
 
-/// The channel that a message names, of whatever method.
+/// The channel that a message of any method names.
 pub fn named_channel(payload: &[u8]) -> Option<Channel>
     ensures { IfSome result (λ channel. HasChannel (parts_of payload.now) channel) }
 {

@@ -1,4 +1,4 @@
-//! What a client is given.
+//! The response or the data in a datagram to a client.
 
 ghost use Rattle.std.specs.Prelude.{◌≡◌, IfSome};
 ghost use Rattle.audit_stun.specs.Parts.{parts_of};
@@ -11,16 +11,17 @@ use audit_stun::numbers::attribute::{DATA, ERROR_CODE, LIFETIME, XOR_RELAYED_ADD
 use audit_stun::numbers::method;
 use audit_stun::{Class, Message, address, channel_data, error_code, message};
 
-/// What a client is given.
+/// The response or the data in a datagram to a client.
 #[derive(Clone, Copy, Debug)]
 pub enum Given<'a> {
-    /// A success to a request of that method and transaction id (RFC 8489, section 5).
+    /// A success response to a request with this method and transaction id (RFC 8489, section 5).
     Success {
         method: u16,
         id: [u8; 12],
         success: Success,
     },
-    /// An error to such a request, with its code if one can be read (RFC 8489, section 14.8).
+    /// An error response to such a request, with its code if it can be parsed (RFC 8489, section
+    /// 14.8).
     Error {
         method: u16,
         id: [u8; 12],
@@ -38,24 +39,25 @@ pub enum Given<'a> {
     },
 }
 
-/// What a success says.
+/// The contents of a success response.
 #[derive(Clone, Copy, Debug)]
 pub enum Success {
-    /// There is an allocation of that relayed address (RFC 8656, section 7.2), for so many seconds.
+    /// An allocation of that relayed address (RFC 8656, section 7.2), with its lifetime in seconds.
     Allocated { relayed: Addr, seconds: Option<u32> },
-    /// The allocation is there for so many seconds (RFC 8656, section 8.2).
+    /// The allocation is refreshed, with its lifetime in seconds (RFC 8656, section 8.2).
     Refreshed { seconds: Option<u32> },
-    /// The allocation is deleted: a success to a Refresh, of no seconds (RFC 8656, section 8.2).
+    /// The allocation is deleted: a Refresh success response with LIFETIME 0 (RFC 8656, section
+    /// 8.2).
     Deleted,
-    /// A success to a CreatePermission (RFC 8656, section 10).
+    /// A CreatePermission success response (RFC 8656, section 10).
     Permitted,
-    /// A success to a ChannelBind (RFC 8656, section 12).
+    /// A ChannelBind success response (RFC 8656, section 12).
     Bound,
-    /// Another success.
+    /// Another success response.
     Other,
 }
 
-/// What a datagram to a client gives it, if that can be read.
+/// The response or the data in a datagram to a client, if it can be parsed.
 pub fn given_to_client(payload: &[u8]) -> Option<Given<'_>>
     ensures { IfSome result (λ given. IsGiven payload.now given) }
 {

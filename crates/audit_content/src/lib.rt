@@ -1,6 +1,7 @@
-//! What datagrams of clients ask for and what clients are given, as their bytes say.
+//! The contents of datagrams from and to clients, parsed for the finders.
 //!
-//! The finders go by it, and nothing rests on it: what they find is judged. The data is borrowed, and nothing takes memory.
+//! No verdict depends on it: the finders' results are judged. The data is borrowed, and nothing
+//! takes memory.
 #![tactic(auto)]
 
 mod asked;

@@ -15,7 +15,7 @@ pub(crate) fn peer_in(message: &Message<'_>) -> Option<Addr>
     address(message.first(XOR_PEER_ADDRESS)?)
 }
 
-/// Whether a request names a peer of that IP (RFC 8656, section 18.3).
+/// Whether a request names a peer with that IP address (RFC 8656, section 18.3).
 pub fn names_peer(payload: &[u8], ip: u32) -> bool {
     match message(payload) {
         Some(request) => request.peers().any(|value| match address(value) {

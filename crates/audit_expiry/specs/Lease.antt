@@ -1,5 +1,5 @@
--- When a lease that ends at a moment may be used, and when it is over (RFC 8656, sections 6, 9 and 12). Between its end and its
--- end plus the grace it is both.
+-- When a lease that ends at a moment may be used, and when it is gone (RFC 8656, sections 6, 9 and
+-- 12). Between its end and its end plus the grace it is both.
 use Rattle.std.specs.Prelude.{ℕ, Bool, ◌≤◌, ◌<◌, nat_le, nat_lt}
 use Rattle.audit_model.specs.Window.{later}
 
@@ -9,7 +9,7 @@ IsUsable until moment grace = moment ≤ later until grace
 abbrev pub IsGone : ℕ → ℕ → Type 0
 IsGone until moment = until < moment
 
--- the same as tests
+-- the two definitions above as tests
 abbrev pub is_usable : ℕ → ℕ → ℕ → Bool
 is_usable until moment grace = nat_le moment (later until grace)
 

@@ -1,4 +1,4 @@
-//! Leases by their keys.
+//! A table of leases by key.
 
 ghost use Rattle.std.specs.Prelude.{◌≡◌, List, [], true, false, IsTrue, IsSome, IfOk, OnOk, OnErr, None};
 ghost use Rattle.std.specs.List.{AllZip};
@@ -11,7 +11,7 @@ use std::alloc::{AllocError, Global};
 use std::collections::BTreeMap;
 use std::marker::Model;
 
-/// Keys whose order says of two that they are the same only where they are equal.
+/// Keys of which two compare as the same only if they are equal.
 pub trait ExactKey: Ord + Copy {
     ghost exact: { (one other : Self) → Self.cmp one other ≡ Equal → one ≡ other };
 }
@@ -28,8 +28,8 @@ impl ExactKey for u32 {
     ghost exact = { exact_unsigned };
 }
 
-/// What each key has: a lease, or a value that holds one. Contracts see the list of its entries, in the
-/// order of the keys, so that two tables are equal where they have the same at each key.
+/// A lease of each key, or a value with a lease. Contracts see the list of its entries, in the
+/// order of the keys, so that two tables are equal if they have the same at each key.
 #[derive(Debug, Drop)]
 pub struct Leases<K: Ord, V = Lease> {
     values: BTreeMap<K, V>,
@@ -45,7 +45,7 @@ impl<K: Ord, V> Model for Leases<K, V> {
 }
 
 impl<K: Ord + Copy, V: Copy> Leases<K, V> {
-    /// No keys. It takes no memory.
+    /// No keys. Allocates no memory.
     pub fn new(alloc: Global) -> Self
         ensures { result ≡ [] }
     {
@@ -55,15 +55,15 @@ impl<K: Ord + Copy, V: Copy> Leases<K, V> {
         }
     }
 
-    /// What the key has. It takes logarithmic time.
+    /// The value of the key. It takes logarithmic time.
     pub fn get(&self, key: K) -> Option<V>
         ensures { result ≡ value_at K.cmp self.now key }
     {
         self.values.get(&key).copied()
     }
 
-    /// Gives the key this value in place of any other; a key that has one already takes no memory. Where
-    /// memory is refused, nothing changes. It takes logarithmic time.
+    /// Sets the value of the key, in place of any other; a key that has one already needs no
+    /// memory. If memory is refused, nothing changes. It takes logarithmic time.
     pub fn put(&mut self, key: K, value: V) -> Result<(), AllocError>
         ensures ok { OnOk result (Puts K.cmp self.old self.new key value) }
         ensures err { OnErr result (self.new ≡ self.old) }
@@ -73,7 +73,7 @@ impl<K: Ord + Copy, V: Copy> Leases<K, V> {
         Ok(())
     }
 
-    /// The same table once more. It takes time and memory in proportion to the number of keys.
+    /// Copies the table. It takes time and memory in proportion to the number of keys.
     pub fn copied(&self) -> Result<Self, AllocError>
         ensures { IfOk result (λ same. AllZip (λ one other. K.is_clone one.0 other.0 × V.is_clone one.1 other.1) self.now same) }
     {
@@ -83,7 +83,7 @@ impl<K: Ord + Copy, V: Copy> Leases<K, V> {
         })
     }
 
-    /// Takes the key out. It takes logarithmic time.
+    /// Removes the key. It takes logarithmic time.
     pub fn remove(&mut self, key: K)
         ensures { Removes K.cmp self.old self.new key }
     {
@@ -91,10 +91,10 @@ impl<K: Ord + Copy, V: Copy> Leases<K, V> {
     }
 }
 
-/// Several keys at once.
+/// Operations on several keys at once.
 impl<K: Ord + Copy, V: Copy> Leases<K, V> {
-    /// Gives each of the keys this value, as `put` does. Where memory is refused for any of them, nothing
-    /// changes. It takes logarithmic time for each key, and notes the keys that are new.
+    /// Sets the value of each of the keys, as `put` does. If memory is refused for any of them,
+    /// nothing changes. It takes logarithmic time for each key, and notes the keys that are new.
     pub fn put_all(&mut self, keys: &[K], value: V) -> Result<(), AllocError>
         ensures ok { OnOk result (PutsAll K.cmp self.old self.new keys.now value) }
         ensures err { OnErr result (self.new ≡ self.old) }
@@ -120,7 +120,7 @@ impl<K: Ord + Copy, V: Copy> Leases<K, V> {
         Ok(())
     }
 
-    // Gives keys that are there another value, which takes no memory.
+    // Sets the value of keys that are there, which needs no memory.
     fn overwrite(&mut self, keys: &[K], value: V)
         requires { HasEach K.cmp self.old keys.now }
         ensures { PutsAll K.cmp self.old self.new keys.now value }
@@ -130,7 +130,7 @@ impl<K: Ord + Copy, V: Copy> Leases<K, V> {
         }
     }
 
-    // Adds the key where it isn't there yet, and notes it then.
+    // Adds the key if it isn't there yet, and then notes it.
     fn add(&mut self, key: K, value: V, added: &mut Vec<K>) -> Result<(), AllocError>
         ensures ok { OnOk result (Adds K.cmp self.old self.new key value added.old.items added.new.items) }
         ensures err { OnErr result (self.new ≡ self.old) }
@@ -147,7 +147,7 @@ impl<K: Ord + Copy, V: Copy> Leases<K, V> {
         Ok(())
     }
 
-    // Takes out what was added, the last first.
+    // Removes the keys that were added, the last first.
     fn take_out(&mut self, mut added: Vec<K>)
         ensures { (before : List (K × V)) → (value : V) → Grew K.cmp value before added.items self.old → self.new ≡ before }
     {
@@ -158,7 +158,8 @@ impl<K: Ord + Copy, V: Copy> Leases<K, V> {
 }
 
 impl<K: ExactKey, V: Copy> Leases<K, V> {
-    /// Whether the test holds of some key and what it has. It takes time in proportion to the number of keys.
+    /// Whether the test holds for some key and its value. It takes time in proportion to the number
+    /// of keys.
     pub fn any<F: Fn(K, V) -> bool>(&self, test: F) -> bool
     where
         F: Drop,

@@ -1,4 +1,5 @@
--- Keys by which what asked for a departure is found: of the transaction id of a request, and of data.
+-- Keys by which the arrival that may have caused a departure is found: of the transaction id of a
+-- request, and of data.
 use Rattle.std.specs.Prelude.{◌≡◌, ◌⊎◌, ℕ, IsTrue, List, Some}
 use Rattle.audit_model.specs.declared.policy.Policy.{Policy}
 use Rattle.audit_model.specs.declared.sighting.Sighting.{Sighting}
@@ -30,12 +31,12 @@ HasMessageKey payload key = IsMessage payload (parts_of payload) × ((bytes : Li
 abbrev pub HasChannelKey : List ℕ → ℕ → Type 0
 HasChannelKey payload key = (number : ℕ) × (bytes : List ℕ) × (past : ℕ) × (channel_data_of payload ≡ Some (number, bytes, past)) × (key ≡ digest_of bytes)
 
--- What arrived asks for what has the key: a client's message or ChannelData, or a peer's datagram.
+-- An arrival that has the key: a client's message or ChannelData, or a peer's datagram.
 abbrev pub IsAskedBy : Policy → ℕ → Sighting → Type 0
 IsAskedBy policy key s =
     (s.side ≡ Arrives)
     × ((IsTrue (listens policy s.to) × (HasMessageKey s.payload key ⊎ HasChannelKey s.payload key)) ⊎ (IsTrue (relays policy s.to) × (key ≡ digest_of s.payload)))
 
--- what arrived stands by what it asks for
+-- each arrival is listed under the keys of what it requests
 abbrev pub IsAsking : Taken → ByKey → Type 0
 IsAsking taken asking = IsKeyed taken (IsAskedBy taken.policy) asking.places.now asking.width

@@ -1,4 +1,6 @@
--- Whether the captures show that a client which asked for a departure was ever granted the leases that it needs. Here no lease ends, and one from before the captures is none.
+-- Whether the captures show that a client whose datagram may have caused a departure was ever
+-- granted the leases that it needs. Here no lease expires, and one from before the captures doesn't
+-- count.
 use Rattle.std.specs.Prelude.{◌≡◌, ◌⊎◌, ◌≤◌, ℕ}
 use Rattle.audit_model.specs.declared.address.Addr.{Addr}
 use Rattle.audit_model.specs.declared.sighting.Sighting.{Sighting}
@@ -16,7 +18,8 @@ use Rattle.audit_faults.specs.Asks.{SentOn, SentInChannel, Told, ToldInChannel, 
 use Rattle.audit_faults.specs.Explains.{IsWanted}
 use Rattle.audit_faults.specs.Grants.{IsCaptured, AsksFor, TellsOf}
 
--- A request of the client for the lease that may have come by then, and its success, which left no earlier. How long the lease lasts isn't asked.
+-- A request of the client for the lease that may have come by then, and its success response, which
+-- left no earlier. How long the lease lasts isn't checked.
 pub record IsGrantedBy (until : ℕ) (grant : Grant) (request success : Sighting) : Type 0 where
   pub arrives : request.side ≡ Arrives
   pub from : request.from ≡ grant.client
@@ -37,7 +40,7 @@ module _ (taken : Taken) where
   WasGranted until grant = (request : Sighting) × IsCaptured taken request × ((success : Sighting) × IsCaptured taken success × IsGrantedBy until grant request success)
 
   module _ (fault : Fault) (until : ℕ) where
-    -- the client was granted the lease, where the fault asks about it
+    -- the client was granted the lease, if the fault's check includes it
     abbrev pub WasWanted : Addr → Addr → Lease → Type 0
     WasWanted client listen lease = IsWanted fault lease (WasGranted until (record { client = client; listen = listen; lease = lease }))
 
@@ -56,13 +59,16 @@ module _ (taken : Taken) where
         (number : ℕ) × ToldInChannel taken.policy number asked given × WasWanted given.to given.from (Allocation asked.to) × WasWanted given.to given.from (Permission asked.from.ip)
         × WasWanted given.to given.from (Channel number asked.from)
 
-    -- it arrived, in time, and asked for the departure for a client that was granted those leases by then
+    -- the arrival came in time, and may have caused the departure, for a client that was granted
+    -- those leases by then
     abbrev pub Begins : Sighting → Sighting → Type 0
     Begins given asked = (asked.side ≡ Arrives) × InReach taken.policy.hold asked given × (SentOnOnce asked given ⊎ SentInChannelOnce asked given ⊎ ToldOnce asked given ⊎ ToldInChannelOnce asked given)
 
     abbrev pub WasBegun : Sighting → Type 0
     WasBegun given = (asked : Sighting) × IsCaptured taken asked × Begins given asked
 
-  -- the allocation's beginning was captured: an Allocate success response granted that relayed address to a client whose datagram requires the departure, and its request may precede the departure
+  -- the allocation's beginning was captured: an Allocate success response granted that relayed
+  -- address to a client whose datagram may have caused the departure, and its request may precede
+  -- the departure
   abbrev pub HasBeginning : Sighting → Type 0
   HasBeginning given = WasBegun Unallocated given.hi given

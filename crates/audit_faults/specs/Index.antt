@@ -1,4 +1,4 @@
--- What an index leaves out can explain nothing.
+-- A sighting that an index excludes explains nothing.
 use Rattle.std.specs.Prelude.{IfSome}
 use Rattle.audit_sightings.specs.Intake.{Taken}
 use Rattle.audit_faults.specs.declared.index.Index.{Index}
@@ -9,13 +9,13 @@ use Rattle.audit_faults.specs.RepeatBlocks.{AreBlocks}
 use Rattle.audit_faults.specs.Repeats.{AreRepeats}
 use Rattle.audit_faults.specs.declared.repeats.Asking.{Asking}
 
--- what arrived stands by what it asks for, and what is said to come again does
+-- the arrivals are listed by what they request, and those marked as repeats are repeats
 pub record AreAsked (taken : Taken) (asking : Asking) : Type 0 where
   pub keyed : IsAsking taken asking.by_key
   pub repeats : AreRepeats taken asking.by_key.places.now asking.repeats.now
   pub blocks : AreBlocks taken asking.by_key.places.now asking.blocks.now
 
--- what it says of moments, of leases and of what was asked for is so
+-- its moments, leases and arrivals are right
 pub record IsIndex (taken : Taken) (index : Index) : Type 0 where
   pub reach : AreExtents taken index.extents.now
   pub leases : IfSome index.leases (AreLeases taken)

@@ -1,4 +1,5 @@
--- Sightings by numbers of what they say, each with its first moment, so that those of one number and of some moments stand together.
+-- Sightings by key, which is a digest of their content, each with its first moment, so that those
+-- of one key and a range of moments are contiguous.
 use Rattle.std.specs.Prelude.{◌≡◌, ℕ, ◌+◌, ◌*◌, ◌<◌, ◌≤◌, List, Some, length, slice_index_or, Contains}
 use Rattle.std.specs.List.Sorted.{IsNonDecreasingBy}
 use Rattle.std.specs.Hash.DefaultHasher as sip
@@ -8,7 +9,7 @@ use Rattle.audit_sightings.specs.Intake.{Taken, sighting_at}
 use Rattle.audit_faults.specs.declared.keyed.Keyed.{Keyed}
 use Rattle.audit_faults.specs.Shown.{IsBefore}
 
--- a number for bytes: equal ones have the same
+-- a digest: equal bytes have the same
 abbrev pub digest_of : List ℕ → ℕ
 digest_of bytes = sip.finish (sip.write sip.initial bytes)
 
@@ -32,11 +33,12 @@ abbrev pub IsNarrow : ℕ → Sighting → Type 0
 IsNarrow width s = (s.hi ≤ s.lo + width) × (s.lo ≤ 18446744073709551615)
 
 module _ (taken : Taken) (Has : ℕ → Sighting → Type 0) where
-  -- A sighting stands by each key that it has.
+  -- A sighting is listed under each key that it has.
   abbrev pub Stands : List Keyed → ℕ → ℕ → SightId → Sighting → Type 0
   Stands keyed width key sight s = Contains keyed (placed_as key sight s) × IsNarrow width s
 
-  -- Each of those that were captured has its places, and these are sorted: a sighting that doesn't stand by a key doesn't have it.
+  -- Each captured sighting has its places, and these are sorted: a sighting that isn't listed under
+  -- a key doesn't have it.
   pub record IsKeyed (keyed : List Keyed) (width : ℕ) : Type 0 where
     pub sorted : IsNonDecreasingBy number_of keyed
     pub all : (key : ℕ) (sight : SightId) (s : Sighting) → sighting_at taken sight ≡ Some s → Has key s → Stands keyed width key sight s

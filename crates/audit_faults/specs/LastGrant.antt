@@ -16,7 +16,8 @@ use Rattle.audit_faults.specs.Asks.{SentOn, SentInChannel, Told, ToldInChannel, 
 use Rattle.audit_faults.specs.Beginning.{IsGrantedBy}
 use Rattle.audit_faults.specs.Grants.{IsCaptured}
 
--- how long the lease lasts that the departure lacked: a permission, or a channel (RFC 8656, sections 9 and 12)
+-- how long the lease lasts that the departure lacked: a permission, or a channel (RFC 8656,
+-- sections 9 and 12)
 abbrev pub seconds_of : Fault → ℕ
 seconds_of Unasked = 0
 seconds_of Unallocated = 0
@@ -26,7 +27,8 @@ seconds_of Unfit = 0
 seconds_of Unauthentic = 0
 
 module _ (policy : Policy) where
-  -- the permission that a departure requires if it was sent for an arrival: for the peer's IP, of the client that sent the data or receives it (RFC 8656, section 9)
+  -- the permission that a departure requires if it was sent for an arrival: for the peer's IP, of
+  -- the client that sent the data or receives it (RFC 8656, section 9)
   abbrev pub NeedsPermission : Sighting → Sighting → Grant → Type 0
   NeedsPermission asked given grant =
       (SentOn policy asked given × (grant ≡ record { client = asked.from; listen = asked.to; lease = Permission given.to.ip }))
@@ -46,12 +48,14 @@ module _ (policy : Policy) where
   Needs Unfit asked given grant = ⊥
   Needs Unauthentic asked given grant = ⊥
 
-  -- the arrival is later by this time than the end of what the success response granted, grace included
+  -- the arrival is later by this time than the end of the lease that the success response granted,
+  -- grace included
   abbrev pub IsOver : Fault → Sighting → Sighting → ℕ → Type 0
   IsOver fault asked success time = (later (seconds_after success.hi (seconds_of fault)) policy.grace + time ≡ asked.lo) × (0 < time)
 
--- The departure may have been sent for a captured arrival, and a captured success response granted the lease that it then requires, by a
--- request that may precede the departure. That lease had expired by this time before the arrival, grace included.
+-- The departure may have been sent for a captured arrival, and a captured success response granted
+-- the lease that it then requires, by a request that may precede the departure. That lease had
+-- expired by this time before the arrival, grace included.
 pub record IsTooEarly (taken : Taken) (fault : Fault) (sight : SightId) (last : LastGrant) : Type 0 where
   pub given : Sighting
   pub left : sighting_at taken sight ≡ Some given

@@ -1,4 +1,5 @@
--- Keys by which requests for leases and their successes are found: by client, and by what they can grant.
+-- Keys of requests for leases and of their success responses: by client, and by what they can
+-- grant.
 use Rattle.std.specs.Prelude.{◌≡◌, ◌⊎◌, ℕ, ◌+◌, ◌*◌, List}
 use Rattle.std.specs.List.{fold}
 use Rattle.std.specs.Hash as fed
@@ -21,22 +22,23 @@ use Rattle.audit_faults.specs.declared.leased.Leases.{Leases}
 use Rattle.audit_faults.specs.Grants.{IsCaptured, AsksFor}
 use Rattle.audit_faults.specs.Keyed.{digest_of, IsKeyed}
 
--- a success of this method grants a lease
+-- a success response of this method grants a lease
 abbrev pub IsLeaseMethod : ℕ → Type 0
 IsLeaseMethod method = (method ≡ ALLOCATE) ⊎ (method ≡ CREATE_PERMISSION) ⊎ (method ≡ CHANNEL_BIND)
 
 abbrev pub IsLeaseMessage : Class → List ℕ → Type 0
 IsLeaseMessage class payload = IsMessage payload (parts_of payload) × ((parts_of payload).class ≡ class) × IsLeaseMethod (parts_of payload).method
 
--- a number for two
+-- a digest of two numbers
 abbrev pub mixed_of : ℕ → ℕ → ℕ
 mixed_of one other = sip.finish (fold sip.write (fold sip.write sip.initial (fed.u64 one)) (fed.u64 other))
 
 abbrev pub address_number : Addr → ℕ
 address_number addr = addr.ip * 65536 + addr.port
 
--- what is of a kind and of a client, and a third number: a success by its transaction, an Allocate request likewise, an Allocate success by the address
--- that it tells, any of a client, and a request for a permission or a channel
+-- a kind, a client and a third number: for a success response its transaction, for an Allocate
+-- request likewise, for an Allocate success response its address, or nothing; and what a request
+-- for a permission or a channel names
 abbrev pub lease_key : ℕ → Addr → ℕ → ℕ
 lease_key kind client rest = mixed_of (mixed_of kind (address_number client)) rest
 
@@ -58,7 +60,8 @@ permission_key client ip = lease_key 65539 client ip
 abbrev pub channel_key : Addr → ℕ → Addr → ℕ
 channel_key client number peer = lease_key (131072 + number) client (address_number peer)
 
--- a success has the key of its transaction, and one to an Allocate those of its client and of the address that it tells
+-- a success response has the key of its transaction, and an Allocate one also those of its client
+-- and of its relayed address
 abbrev pub HasSuccessKey : Addr → List ℕ → ℕ → Type 0
 HasSuccessKey client payload key =
     (key ≡ answer_key (parts_of payload).method client (parts_of payload).tid)
@@ -67,21 +70,21 @@ HasSuccessKey client payload key =
 abbrev pub IsAnswerBy : ℕ → Sighting → Type 0
 IsAnswerBy key s = (s.side ≡ Leaves) × IsLeaseMessage Success s.payload × HasSuccessKey s.to s.payload key
 
--- a request has the keys of what it asks for; of an allocation that of its transaction
+-- a request has the keys of the leases that it is for; for an allocation, that of its transaction
 abbrev pub HasRequestKey : Addr → List ℕ → ℕ → Type 0
 HasRequestKey client payload key =
     (IsOf payload Request ALLOCATE × (key ≡ ask_key client (parts_of payload).tid)) ⊎ ((ip : ℕ) × AsksFor (Permission ip) payload × (key ≡ permission_key client ip))
     ⊎ ((number : ℕ) × (peer : Addr) × AsksFor (Channel number peer) payload × (key ≡ channel_key client number peer))
 
--- a success to the client, of the request's method and transaction
+-- a success response to the client, of the request's method and transaction
 abbrev pub Answers : Addr → List ℕ → Sighting → Type 0
 Answers client request s = (s.side ≡ Leaves) × (s.to ≡ client) × IsOf s.payload Success (parts_of request).method × ((parts_of s.payload).tid ≡ (parts_of request).tid)
 
--- a request that has none grants nothing
+-- a request without a success response grants nothing
 abbrev pub IsRequestBy : Taken → ℕ → Sighting → Type 0
 IsRequestBy taken key s = (s.side ≡ Arrives) × HasRequestKey s.from s.payload key × ((success : Sighting) × IsCaptured taken success × Answers s.from s.payload success)
 
--- the successes stand by what they grant, and the requests by what they ask for
+-- the success responses are listed by what they grant, and the requests by what they request
 abbrev pub AreAnswers : Taken → ByKey → Type 0
 AreAnswers taken answers = IsKeyed taken IsAnswerBy answers.places.now answers.width
 

@@ -8,7 +8,8 @@ use Rattle.audit_faults.specs.declared.repeat_blocks.RepeatBlock.{RepeatBlock}
 use Rattle.audit_faults.specs.Repeats.{IsRepeated}
 
 module _ (taken : Taken) (places : List Keyed) where
-  -- a place repeats a datagram that is at no place before `since`, and whose window ends no earlier than `end`
+  -- a place repeats a datagram that is at no place before `since`, and whose window ends no earlier
+  -- than `end`
   abbrev pub IsRepeatedSince : ℕ → ℕ → ℕ → Type 0
   IsRepeatedSince since end place = (before : ℕ) × (since ≤ before) × ((repeated : IsRepeated taken places before place) × (end ≤ repeated.earlier.hi))
 
@@ -17,12 +18,12 @@ module _ (taken : Taken) (places : List Keyed) where
     pub inside : block.first ≤ place
     pub all : 0 < block.end → (k : ℕ) → block.first ≤ k → k ≤ place → IsRepeatedSince block.since block.end k
 
-  -- each block is so at its place
+  -- each block is right at its place
   abbrev pub AreBlocks : List RepeatBlock → Type 0
   AreBlocks blocks = (place : ℕ) (block : RepeatBlock) → slice_get blocks place ≡ Some block → IsBlock place block
 
-  -- each place from `low` to before `past` repeats a datagram that is at no place before the first, and whose window
-  -- ends at most `hold` before that of the departure begins
+  -- each place from `low` to before `past` repeats a datagram that is at no place before the first,
+  -- and whose window ends at most `hold` before that of the departure begins
   abbrev pub AreRepeatedInReach : Sighting → ℕ → ℕ → ℕ → Type 0
   AreRepeatedInReach given first low past =
       (k : ℕ) → low ≤ k → k < past → (before : ℕ) × (first ≤ before) × ((repeated : IsRepeated taken places before k) × (given.lo ≤ later repeated.earlier.hi taken.policy.hold))

@@ -1,4 +1,5 @@
--- Datagrams that arrived again: the same, or the same data by another Send indication, from and to the same addresses.
+-- Repeats of arrivals: the same datagram, or the same data in another Send indication, from and to
+-- the same addresses.
 use Rattle.std.specs.Prelude.{◌≡◌, ◌⊎◌, ℕ, ◌<◌, ◌≤◌, IsFalse, List, Option, None, Some, slice_get}
 use Rattle.audit_model.specs.declared.policy.Policy.{Policy}
 use Rattle.audit_model.specs.declared.sighting.Sighting.{Sighting}
@@ -26,7 +27,7 @@ pub record AreSameSend (earlier later : List ℕ) : Type 0 where
   pub peer : address_named XOR_PEER_ADDRESS (parts_of earlier) ≡ address_named XOR_PEER_ADDRESS (parts_of later)
   pub content : first_of DATA (parts_of earlier).attributes ≡ first_of DATA (parts_of later).attributes
 
--- a client sent the same data to the same peer by another Send indication
+-- a client sent the same data to the same peer in another Send indication
 pub record IsSentAgain (policy : Policy) (earlier later : Sighting) : Type 0 where
   pub side : earlier.side ≡ later.side
   pub from : earlier.from ≡ later.from
@@ -34,17 +35,17 @@ pub record IsSentAgain (policy : Policy) (earlier later : Sighting) : Type 0 whe
   pub to_server : IsFalse (relays policy later.to)
   pub payload : AreSameSend earlier.payload later.payload
 
--- the later one says no more than the earlier one, which may have come first
+-- the later one requests no more than the earlier one, which may have come first
 pub record IsRepeat (policy : Policy) (earlier later : Sighting) : Type 0 where
   pub first : earlier.lo ≤ later.lo
   pub same : AreSame earlier later ⊎ IsSentAgain policy earlier later
 
 module _ (taken : Taken) (places : List Keyed) where
-  -- the sighting stands at this place
+  -- the sighting is at this place
   abbrev pub IsPlaced : ℕ → Sighting → Type 0
   IsPlaced place s = (one : Keyed) × (slice_get places place ≡ Some one) × (sighting_at taken one.sight ≡ Some s)
 
-  -- what stands at a place repeats what stands at one before it
+  -- the sighting at a place repeats the one at a place before it
   pub record IsRepeated (before place : ℕ) : Type 0 where
     pub ahead : before < place
     pub earlier : Sighting
@@ -53,10 +54,10 @@ module _ (taken : Taken) (places : List Keyed) where
     pub here : IsPlaced place later
     pub repeats : IsRepeat taken.policy earlier later
 
-  -- each place that is said to repeat another does
+  -- each place that is marked as a repeat is one
   abbrev pub AreRepeats : List (Option ℕ) → Type 0
   AreRepeats repeats = (place before : ℕ) → slice_get repeats place ≡ Some (Some before) → IsRepeated before place
 
-  -- a place before this one, and no earlier than the first, has a sighting with the fact
+  -- a place before this one, and no earlier than the first, has a sighting with the property
   abbrev pub HasBefore : (Sighting → Type 0) → ℕ → ℕ → Type 0
   HasBefore P first place = (before : ℕ) × (first ≤ before) × (before < place) × ((s : Sighting) × IsPlaced before s × P s)

@@ -18,7 +18,7 @@ use Rattle.audit_faults.specs.LastGrant.{IsTooEarly}
 abbrev pub IsBefore : SightId → SightId → Type 0
 IsBefore one other = (one.iface < other.iface) ⊎ ((one.iface ≡ other.iface) × (one.index < other.index))
 
--- what it lacked is a lease
+-- the departure lacked a lease
 abbrev pub IsOfLease : Fault → Type 0
 IsOfLease Unasked = ⊥
 IsOfLease Unallocated = Unit {0}
@@ -27,11 +27,13 @@ IsOfLease Unbound = Unit {0}
 IsOfLease Unfit = ⊥
 IsOfLease Unauthentic = ⊥
 
--- the departure lacked a lease, and no captured Allocate granted its relayed address before it to a client that requires it: the captures began too late for that address
+-- the departure lacked a lease, and no captured Allocate success response granted its relayed
+-- address before it to a client whose datagram may have caused it: the captures began too late
 abbrev pub MayPredate : Taken → Fault → SightId → Type 0
 MayPredate taken fault sight = IsOfLease fault × ((given : Sighting) → sighting_at taken sight ≡ Some given → HasBeginning taken given → ⊥)
 
--- when a client that asked for it was granted what it lacked: never in what was captured; by no request that may have come before it; by one that may have
+-- when a client whose datagram may have caused it was granted what it lacked: never in the
+-- captures; only by a request after the departure; by one that may have come before it
 abbrev pub IsWhen : Taken → Fault → Sighting → Granted → Type 0
 IsWhen taken fault given Never = WasBegun taken fault 18446744073709551615 given → ⊥
 IsWhen taken fault given Later = WasBegun taken fault 18446744073709551615 given × (WasBegun taken fault given.hi given → ⊥)
@@ -43,18 +45,20 @@ TellsWhen taken fault sight None = IsOfLease fault → ⊥
 TellsWhen taken fault sight (Some granted) = IsOfLease fault × ((given : Sighting) → sighting_at taken sight ≡ Some given → IsWhen taken fault given granted)
 
 module _ (taken : Taken) (key_for : KeyFor) where
-  -- the departure shows this fault and none that ranks before it; the record says whether the captures began too late, and when the missing lease was granted; a success response that it names granted that lease, which had expired
+  -- the departure shows this fault and none that ranks before it; the record says whether the
+  -- captures began too late, and when the missing lease was granted; if it names a success
+  -- response, that one granted the lease, which had expired
   abbrev pub IsFirstFault : ShownFault → Type 0
   IsFirstFault shown = IsFault taken key_for shown.fault shown.sight × NoneBefore (λ earlier. IsFault taken key_for earlier shown.sight) shown.fault × (IsTrue shown.may_predate ↔ MayPredate taken shown.fault shown.sight)
       × TellsWhen taken shown.fault shown.sight shown.granted × IfSome shown.last (IsTooEarly taken shown.fault shown.sight)
 
-  -- All shown faults: of each departure that shows one the first, in rising order, and so once.
+  -- All shown faults: for each departure that shows one the first, in rising order, and so once.
   pub record AreFaults (faults : List ShownFault) : Type 0 where
     pub each : All IsFirstFault faults
     pub every : (fault : Fault) (sight : SightId) → IsFault taken key_for fault sight → Any (λ shown. shown.sight ≡ sight) faults
     pub rising : AllPairs (λ one other. IsBefore one.sight other.sight) faults
 
-  -- The same of the sightings before one.
+  -- The shown faults of the sightings before one.
   pub record AreFaultsBefore (bound : SightId) (faults : List ShownFault) : Type 0 where
     pub each : All IsFirstFault faults
     pub every : (fault : Fault) (sight : SightId) → IsBefore sight bound → IsFault taken key_for fault sight → Any (λ shown. shown.sight ≡ sight) faults

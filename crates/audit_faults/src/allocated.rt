@@ -1,4 +1,4 @@
-//! Whether the address of an allocation may have been granted, by the keys of what grants it.
+//! Whether the address of an allocation may have been granted, searched by key.
 
 ghost use Rattle.std.specs.Prelude.{◌≡◌, ◌↔◌, ◌≤◌, ℕ, IsTrue, Some};
 ghost use Rattle.audit_model.specs.declared.sighting.Sighting.{Sighting as OneSighting};
@@ -18,7 +18,8 @@ use audit_sightings::Intake;
 use audit_stun::Class;
 use audit_stun::numbers::method::ALLOCATE;
 
-/// Whether the sighting of that name is the request to which that success may have granted the lease.
+/// Whether the sighting of that id is the request for which that success response may have granted
+/// the lease.
 fn is_asked_at(
     intake: &Intake,
     sight: SightId,
@@ -39,14 +40,15 @@ fn is_asked_at(
         && succeeds(intake.policy(), grant, asked, request, success)
 }
 
-/// The last moment at which a request of both may begin.
+/// The last moment at which the window of such a request may begin: it precedes both datagrams.
 fn last_of(given: &Sighting, success: &Sighting) -> u64
     ensures { (lo : ℕ) → lo ≤ given.now.hi → lo ≤ success.now.hi → lo ≤ result }
 {
     given.hi.min(success.hi)
 }
 
-/// Whether a request to which that success may have granted the address was captured, the last one before it first.
+/// Whether a request was captured for which that success response may have granted the address. The
+/// last one before the response is tried first.
 fn allocated_by(
     intake: &Intake,
     asks: ByKey<'_>,
@@ -86,7 +88,7 @@ fn allocated_by(
     false
 }
 
-/// Whether the sighting of that name is a success by which the address may have been granted.
+/// Whether the sighting of that id is a success response that may have granted the address.
 fn is_allocated_by(
     intake: &Intake,
     asks: ByKey<'_>,
@@ -108,7 +110,8 @@ fn is_allocated_by(
     allocated_by(intake, asks, relayed, grant, asked, given, success)
 }
 
-/// Whether the address was granted, the first success first: an allocation may have been refreshed since.
+/// Whether the address was granted. The first success response is tried first, since later requests
+/// may have refreshed the allocation.
 pub fn has_allocation(
     intake: &Intake,
     listed: Leases<'_>,

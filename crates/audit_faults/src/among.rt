@@ -1,4 +1,4 @@
-//! Whether one of some departures shows a fault, as far as that is soon known.
+//! Finds a departure among some that shows a fault, in bounded time.
 
 ghost use Rattle.std.specs.Prelude.{List, Contains, IfOk, IfSome};
 ghost use Rattle.audit_model.specs.declared.certificate.Certificate.{Certificate};
@@ -25,18 +25,19 @@ use audit_model::{SightId, Sighting};
 use audit_sightings::Intake;
 use std::alloc::{AllocError, Global};
 
-/// What is soon known takes no more steps than so many for each sighting, and so many beside.
+/// The search for a departure's fault may take up to this number of steps for each sighting, plus a
+/// constant.
 const STEPS_A_SIGHTING: u64 = 16;
 
 const STEPS_BESIDE: u64 = 4_000_000;
 
-/// How often what is in reach of a departure is gone through: once for each fault, and once before.
+/// How often the sightings in reach of a departure are read: once for each fault, and once before.
 const TIMES: u64 = 6;
 
-/// How many leases a departure needs at the most.
+/// The most leases that a departure needs.
 const LEASES: u64 = 3;
 
-/// The most places that one key has. The places of each key stand together.
+/// The greatest number of places of one key. The places of each key are contiguous.
 fn most_places(keyed: &[Keyed]) -> u64 {
     let mut most = 0u64;
     let mut count = 0u64;
@@ -53,7 +54,7 @@ fn most_places(keyed: &[Keyed]) -> u64 {
     most
 }
 
-/// How many steps it takes at the most to know whether a departure shows a fault, where each key has so many places at the most.
+/// The most steps of the search for a departure's fault, if each key has up to `most` places.
 fn steps_for(
     intake: &Intake,
     index: &Index<'_>,
@@ -81,7 +82,7 @@ fn steps_for(
         .saturating_mul(TIMES)
 }
 
-/// The first fault of the sighting, where it shows one and that is soon known.
+/// The first fault of the sighting, if it shows one that is found in bounded time.
 fn soon_known(
     intake: &Intake,
     index: &Index<'_>,
@@ -103,16 +104,17 @@ fn soon_known(
     first_fault(intake, index, credentials, sight)
 }
 
-/// The first of these departures that is known to show a fault. Those are passed over of which it would take long to know: so it takes
-/// n log n in the sightings and linear time for each departure, memory for two numbers a sighting and the places of requests for leases
-/// and their successes, and fails only where there is none.
+/// The first of these departures that shows a fault. It skips those whose search would take long.
+/// It takes n log n time in the sightings, plus linear time for each departure, and memory for two
+/// numbers a sighting and for the places of requests for leases and their success responses. It
+/// fails only if memory is exhausted.
 pub fn fault_among(
     alloc: Global,
     intake: &Intake,
     credentials: &Credentials,
     sights: &[SightId],
 ) -> Result<Option<SightId>, AllocError>
-    // Nothing that was captured explains it.
+    // No captured datagram explains it.
     ensures shown { IfOk result (λ found. IfSome found (λ sight. Contains sights.now sight
         × ((fault : FaultKind) × IsFault (taken intake.now) (key_for credentials.now) fault sight))) }
     // So no list of moves is a run of the server that explains the captures,

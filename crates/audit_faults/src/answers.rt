@@ -1,4 +1,4 @@
-//! Successes that may grant leases, by keys.
+//! Success responses that may grant leases, by key.
 
 ghost use Rattle.std.specs.Prelude.{◌≡◌, ◌+◌, ℕ, IfOk, OnOk, Contains, length};
 ghost use Rattle.audit_model.specs.declared.address.Addr.{Addr as OneAddr};
@@ -22,7 +22,7 @@ use audit_stun::numbers::method::ALLOCATE;
 use audit_stun::{Class, Message};
 use std::alloc::{AllocError, Global};
 
-/// Adds the place of a success by its transaction.
+/// Adds the place of a success response by its transaction.
 fn add_answer(
     success: &Message<'_>,
     sighting: &Sighting,
@@ -37,7 +37,7 @@ fn add_answer(
     Ok(())
 }
 
-/// Adds the place of an Allocate success by the address that it tells.
+/// Adds the place of an Allocate success response by its relayed address.
 fn add_relayed(
     success: &Message<'_>,
     sighting: &Sighting,
@@ -53,7 +53,7 @@ fn add_relayed(
     Ok(())
 }
 
-/// Adds the places of an Allocate success, by its client and by the address that it tells.
+/// Adds the places of an Allocate success response, by its client and by its relayed address.
 fn add_allocated(
     success: &Message<'_>,
     sighting: &Sighting,
@@ -74,7 +74,7 @@ fn add_allocated(
     Ok(())
 }
 
-/// Adds the places of a success that may grant a lease.
+/// Adds the places of a success response that may grant a lease.
 fn add_success(sighting: &Sighting, keyed: &mut Vec<Keyed>) -> Result<(), AllocError>
     ensures here { OnOk result ((key : ℕ) → IsAnswerBy key sighting.now → Contains keyed.new.items (placed_as key sighting.now.id sighting.now)) }
     ensures kept { OnOk result ((one : OneKeyed) → Contains keyed.old.items one → Contains keyed.new.items one) }
@@ -90,7 +90,7 @@ fn add_success(sighting: &Sighting, keyed: &mut Vec<Keyed>) -> Result<(), AllocE
     Ok(())
 }
 
-/// Adds the places of an interface, and gives how wide the windows are.
+/// Adds the places of an interface, and returns the width of the widest window.
 fn add_row(
     intake: &Intake,
     iface: u32,
@@ -108,7 +108,7 @@ fn add_row(
     Ok(widest)
 }
 
-/// Adds the places of all interfaces, and gives how wide the windows are.
+/// Adds the places of all interfaces, and returns the width of the widest window.
 fn add_rows(intake: &Intake, keyed: &mut Vec<Keyed>) -> Result<u64, AllocError>
     ensures { IfOk result (λ width. AreKeyedBefore (taken intake.now) IsAnswerBy
         (record { iface = length (taken intake.now).interfaces; index = 0 }) keyed.new.items width) }
@@ -120,7 +120,7 @@ fn add_rows(intake: &Intake, keyed: &mut Vec<Keyed>) -> Result<u64, AllocError>
     Ok(width)
 }
 
-/// The successes that may grant leases, by what they grant. It takes n log n time.
+/// The success responses that may grant leases, by what they grant. It takes n log n time.
 pub fn answers_of(alloc: Global, intake: &Intake) -> Result<KeyedList, AllocError>
     ensures { IfOk result (λ answers. IsKeyed (taken intake.now) IsAnswerBy answers.places.items answers.width) }
 {

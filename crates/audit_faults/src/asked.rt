@@ -1,4 +1,4 @@
-//! What arrived, by what it asks for.
+//! Arrivals by key: by what they request.
 
 ghost use Rattle.std.specs.Prelude.{◌≡◌, ◌⊎◌, ◌+◌, ℕ, List, IsTrue, MatchOption, IfOk, OnOk, Contains, length};
 ghost use Rattle.audit_model.specs.Policy.{listens, relays};
@@ -18,7 +18,7 @@ use audit_stun::numbers::attribute::DATA;
 use audit_stun::{Class, Message, channel_data};
 use std::alloc::{AllocError, Global};
 
-/// The key of an indication: of its data.
+/// The key of an indication: that of its data.
 fn data_key(said: &Message<'_>) -> Option<u64>
     ensures { MatchOption result ((bytes : List ℕ) → Has attributes.DATA (parts_of said.now) bytes → ⊥)
         (λ key. (bytes : List ℕ) × Has attributes.DATA (parts_of said.now) bytes × (key ≡ digest_of bytes)) }
@@ -27,7 +27,7 @@ fn data_key(said: &Message<'_>) -> Option<u64>
     Some(digest(data))
 }
 
-/// The key of what a message tells: of its transaction id, and of the data of an indication.
+/// The key of a message's content: of its transaction id, or of the data of an indication.
 fn told_key(said: &Message<'_>) -> Option<u64>
     ensures { MatchOption result ((bytes : List ℕ) → Tells (parts_of said.now).class (parts_of said.now) bytes → ⊥)
         (λ key. (bytes : List ℕ) × Tells (parts_of said.now).class (parts_of said.now) bytes × (key ≡ digest_of bytes)) }
@@ -51,7 +51,7 @@ pub fn message_key(payload: &[u8]) -> Option<u64>
     told_key(&said)
 }
 
-/// The key of ChannelData: of its data.
+/// The key of ChannelData: that of its data.
 pub fn channel_key(payload: &[u8]) -> Option<u64>
     ensures { MatchOption result ((key : ℕ) → HasChannelKey payload.now key → ⊥)
         (λ key. HasChannelKey payload.now key × ((other : ℕ) → HasChannelKey payload.now other → other ≡ key)) }
@@ -82,7 +82,7 @@ fn add_channel(sighting: &Sighting, keyed: &mut Vec<Keyed>) -> Result<(), AllocE
     Ok(())
 }
 
-/// Adds the places of what a client may have sent.
+/// Adds the places of a datagram that a client may have sent.
 fn add_of_client(
     policy: &Policy,
     sighting: &Sighting,
@@ -100,7 +100,7 @@ fn add_of_client(
     Ok(())
 }
 
-/// Adds the place of what a peer may have sent.
+/// Adds the place of a datagram that a peer may have sent.
 fn add_of_peer(
     policy: &Policy,
     sighting: &Sighting,
@@ -117,7 +117,7 @@ fn add_of_peer(
     Ok(())
 }
 
-/// Adds the places of what arrived.
+/// Adds the places of an arrival.
 fn add_asked(policy: &Policy, sighting: &Sighting, keyed: &mut Vec<Keyed>) -> Result<(), AllocError>
     ensures here { OnOk result ((key : ℕ) → IsAskedBy policy.now key sighting.now → Contains keyed.new.items (placed_as key sighting.now.id sighting.now)) }
     ensures kept { OnOk result ((one : OneKeyed) → Contains keyed.old.items one → Contains keyed.new.items one) }
@@ -130,7 +130,7 @@ fn add_asked(policy: &Policy, sighting: &Sighting, keyed: &mut Vec<Keyed>) -> Re
     Ok(())
 }
 
-/// Adds the places of an interface, and gives how wide the windows are.
+/// Adds the places of an interface, and returns the width of the widest window.
 fn add_row(
     intake: &Intake,
     iface: u32,
@@ -148,7 +148,7 @@ fn add_row(
     Ok(widest)
 }
 
-/// Adds the places of all interfaces, and gives how wide the windows are.
+/// Adds the places of all interfaces, and returns the width of the widest window.
 fn add_rows(intake: &Intake, keyed: &mut Vec<Keyed>) -> Result<u64, AllocError>
     ensures { IfOk result (λ width. AreKeyedBefore (taken intake.now) (IsAskedBy (taken intake.now).policy)
         (record { iface = length (taken intake.now).interfaces; index = 0 }) keyed.new.items width) }
@@ -160,7 +160,7 @@ fn add_rows(intake: &Intake, keyed: &mut Vec<Keyed>) -> Result<u64, AllocError>
     Ok(width)
 }
 
-/// What arrived, by what it asks for. It takes n log n time, and memory for three numbers of each.
+/// The arrivals by key. It takes n log n time, and memory for three numbers of each.
 pub fn asking_of(alloc: Global, intake: &Intake) -> Result<KeyedList, AllocError>
     ensures { IfOk result (λ asking. IsKeyed (taken intake.now) (IsAskedBy (taken intake.now).policy) asking.places.items asking.width) }
 {

@@ -1,4 +1,5 @@
-//! Whether a lease that a departure lacked was ever granted to a client that asked for it, in time or not.
+//! Whether a lease that a departure lacked was ever granted to a client whose datagram may have
+//! caused it, whether the lease had expired or not.
 
 ghost use Rattle.std.specs.Prelude.{◌≡◌, ◌↔◌, IsTrue};
 ghost use Rattle.audit_sightings.specs.Intake.{taken};
@@ -12,8 +13,8 @@ use crate::index::Index;
 use audit_model::{Addr, Side, Sighting};
 use audit_sightings::Intake;
 
-/// Whether the lease was granted, by a request that may have come no later than that departure left. By the first moment of all no
-/// lease is over.
+/// Whether the lease was granted, by a request that may have come no later than that departure
+/// left. `always` begins at moment 0, at which no lease has expired.
 fn was_granted(
     intake: &Intake,
     index: &Index<'_>,
@@ -28,7 +29,7 @@ fn was_granted(
     has_grant(intake, index, grant, always, left)
 }
 
-/// Whether the client was granted the lease, where the fault asks about it.
+/// Whether the client was granted the lease, if the fault's check includes it.
 fn was_wanted(
     intake: &Intake,
     index: &Index<'_>,
@@ -57,7 +58,7 @@ fn was_wanted(
     }
 }
 
-/// A Send indication's data, of a client that was once granted an allocation and a permission.
+/// A Send indication's data, from a client that was ever granted an allocation and a permission.
 fn sent_on_once(
     intake: &Intake,
     index: &Index<'_>,
@@ -84,7 +85,7 @@ fn sent_on_once(
         )
 }
 
-/// ChannelData of a client that was once granted an allocation and the channel.
+/// ChannelData from a client that was ever granted an allocation and the channel.
 fn sent_in_channel_once(
     intake: &Intake,
     index: &Index<'_>,
@@ -115,7 +116,7 @@ fn sent_in_channel_once(
     )
 }
 
-/// A Data indication for a client that was once granted an allocation and a permission.
+/// A Data indication to a client that was ever granted an allocation and a permission.
 fn told_once(
     intake: &Intake,
     index: &Index<'_>,
@@ -140,7 +141,7 @@ fn told_once(
         )
 }
 
-/// ChannelData to a client that was once granted an allocation, a permission and the channel.
+/// ChannelData to a client that was ever granted an allocation, a permission and the channel.
 fn told_in_channel_once(
     intake: &Intake,
     index: &Index<'_>,
@@ -172,8 +173,8 @@ fn told_in_channel_once(
     )
 }
 
-/// Whether it asked for the departure in time, for a client that was granted the leases that the fault asks about by a request which may
-/// have come no later than another departure left.
+/// Whether the arrival may have caused the departure in time, for a client that was granted the
+/// leases of the fault's check by a request which may have come no later than `left` left.
 pub fn begins(
     intake: &Intake,
     index: &Index<'_>,

@@ -1,4 +1,5 @@
-//! Whether a client that asked for a departure was ever granted the leases that it needs, by what arrived with a key of it.
+//! Whether a client whose datagram may have caused a departure was ever granted the leases that it
+//! needs, searched among the arrivals with the departure's key.
 
 ghost use Rattle.std.specs.Prelude.{◌≡◌, ◌↔◌, ℕ, IsFalse, IsTrue, Some};
 ghost use Rattle.audit_model.specs.Policy.{relays};
@@ -23,7 +24,8 @@ use crate::sought::earliest;
 use audit_model::{SightId, Sighting};
 use audit_sightings::Intake;
 
-/// Whether the sighting of that name asked for the departure, for a client that was granted the leases by then.
+/// Whether the sighting of that id may have caused the departure, for a client that was granted the
+/// leases by then.
 fn begins_at(
     intake: &Intake,
     index: &Index<'_>,
@@ -44,7 +46,7 @@ fn begins_at(
     begins(intake, index, fault, always, left, asked, given)
 }
 
-/// Whether what stands at a place did.
+/// Whether the sighting at a place did.
 fn begins_from(
     intake: &Intake,
     asking: Asking<'_>,
@@ -68,7 +70,7 @@ fn begins_from(
     begins_at(intake, index, fault, always, left, one.sight, given)
 }
 
-/// Whether what stands at the last of these places did. Mostly it did.
+/// Whether the sighting at the last of these places did. Mostly it did.
 fn begins_last(
     intake: &Intake,
     asking: Asking<'_>,
@@ -93,7 +95,7 @@ fn begins_last(
     begins_at(intake, index, fault, always, left, one.sight, given)
 }
 
-/// Whether something did that arrived with the key, the last one first.
+/// Whether an arrival with the key did. The last one is tried first.
 fn begun_by(
     intake: &Intake,
     asking: Asking<'_>,
@@ -127,7 +129,7 @@ fn begun_by(
     false
 }
 
-/// The same of what may have been relayed to a peer.
+/// Whether an arrival did, for data that may have been relayed to a peer.
 fn begun_by_all_of_it(
     intake: &Intake,
     asking: Asking<'_>,
@@ -152,7 +154,7 @@ fn begun_by_all_of_it(
     begun_by(intake, asking, index, fault, always, left, key, given)
 }
 
-/// The same of a message to a client.
+/// Whether an arrival did, for a message to a client.
 fn begun_by_message(
     intake: &Intake,
     asking: Asking<'_>,
@@ -176,7 +178,7 @@ fn begun_by_message(
     begun_by(intake, asking, index, fault, always, left, key, given)
 }
 
-/// The same of ChannelData to a client.
+/// Whether an arrival did, for ChannelData to a client.
 fn begun_by_channel(
     intake: &Intake,
     asking: Asking<'_>,
@@ -200,7 +202,7 @@ fn begun_by_channel(
     begun_by(intake, asking, index, fault, always, left, key, given)
 }
 
-/// Whether something that was captured did: it arrived with a key of the departure.
+/// Whether a captured arrival did: it has a key of the departure.
 pub fn was_begun(
     intake: &Intake,
     asking: Asking<'_>,

@@ -45,7 +45,8 @@ fn is_of_lease(fault: Fault) -> bool
     }
 }
 
-/// Whether the beginning of the allocation of no client that asked for the departure was captured.
+/// Whether the captures have no beginning of an allocation of any client whose datagram may have
+/// caused the departure.
 fn lacks_beginning(
     intake: &Intake,
     index: &Index<'_>,
@@ -94,7 +95,7 @@ fn may_predate(
     is_of_lease(fault) && lacks_beginning(intake, index, asking, always, sight)
 }
 
-/// When a client that asked for the departure was granted what it lacked.
+/// When a client whose datagram may have caused the departure was granted what it lacked.
 fn when(
     intake: &Intake,
     index: &Index<'_>,
@@ -118,7 +119,7 @@ fn when(
     Granted::Never
 }
 
-/// The same, where it lacked a lease.
+/// When a client was granted the lease that the departure lacked; None if it lacked no lease.
 fn granted_when(
     intake: &Intake,
     index: &Index<'_>,
@@ -143,7 +144,7 @@ fn granted_when(
     None
 }
 
-/// A sighting of all moments: no lease is over at its first, and nothing comes after its last.
+/// A sighting of all moments: no lease has expired at its first, and nothing comes after its last.
 fn of_all_moments(alloc: Global) -> Result<Sighting, AllocError>
     ensures first { IfOk result (λ always. always.lo ≡ 0) }
     ensures last { IfOk result (λ always. always.hi ≡ 18446744073709551615) }
@@ -162,7 +163,7 @@ fn of_all_moments(alloc: Global) -> Result<Sighting, AllocError>
     })
 }
 
-/// Adds the first fault of the sighting, where it shows one.
+/// Adds the first fault of the sighting, if it shows one.
 fn add_of_sighting(
     intake: &Intake,
     index: &Index<'_>,
@@ -227,15 +228,16 @@ fn add_of_interface(
     Ok(())
 }
 
-/// The first fault of each departure that shows one, in order of interface and index. For each departure it looks at the
-/// arrivals that are in reach, and for each lease at the client's requests for leases and their successes. It takes memory for two
-/// numbers a sighting, the places of these and the faults, and fails only where there is none.
+/// The first fault of each departure that shows one, in order of interface and index. For each
+/// departure it reads the arrivals in reach, and for each lease the client's requests for leases
+/// and their success responses. It takes memory for two numbers a sighting, the places of these and
+/// the faults. It fails only if memory is exhausted.
 pub fn shown_faults(
     alloc: Global,
     intake: &Intake,
     credentials: &Credentials,
 ) -> Result<Vec<ShownFault>, AllocError>
-    // Of each departure that shows a fault the first, and no others.
+    // For each departure that shows a fault the first one, and no others.
     ensures exact { IfOk result (λ faults. AreFaults (taken intake.now) (key_for credentials.now) faults.items) }
     // With any of them no list of moves is a run of the server that explains the captures,
     ensures no_run { IfOk result (λ faults. All (λ shown. (steps : List Step) →

@@ -1,4 +1,4 @@
-//! Whether what was captured explains a departure, as far as a fault says.
+//! Whether an arrival explains a departure, by the reasons that a fault's check includes.
 
 ghost use Rattle.std.specs.Prelude.{◌⊎◌, ◌↔◌, IsTrue, Some};
 ghost use Rattle.audit_model.specs.declared.sighting.Sighting.{Sighting};
@@ -22,7 +22,7 @@ use audit_sightings::Intake;
 use audit_stun::Class;
 use audit_stun::numbers::method::BINDING;
 
-/// Whether the client has the lease, where the fault asks about it.
+/// Whether the client has the lease, if the fault's check includes it.
 pub fn holds(
     intake: &Intake,
     index: &Index<'_>,
@@ -153,7 +153,7 @@ fn told_in_channel_held(
     )
 }
 
-/// Whether a response may answer anybody, or its request is a user's.
+/// Whether the response is one that anybody may get, or its request is authentic by a user.
 fn is_proved(credentials: &Credentials, asked: &[u8], given: &[u8]) -> bool
     requires asked { IsMessage asked.now (parts_of asked.now) }
     requires given { IsMessage given.now (parts_of given.now) }
@@ -171,7 +171,8 @@ fn is_proved(credentials: &Credentials, asked: &[u8], given: &[u8]) -> bool
     is_by_user(credentials, &request)
 }
 
-/// A response to a request, which it fits and which is a user's, where the fault asks about that.
+/// A response to a request: if the fault's check includes it, the response fits the request, and
+/// the request is authentic by a user.
 fn responds_held(
     policy: &Policy,
     credentials: &Credentials,
@@ -201,7 +202,8 @@ fn responds_held(
     }
 }
 
-/// Whether it arrived, in time, and asked for the departure with all reasons that the fault asks about.
+/// Whether the datagram arrived in time, and caused the departure with all reasons that the fault's
+/// check includes.
 pub fn explains(
     intake: &Intake,
     index: &Index<'_>,

@@ -1,4 +1,4 @@
-//! Whether what a response says fits its request, as far as the two tell it.
+//! Whether a response's content fits its request.
 
 ghost use Rattle.std.specs.Prelude.{◌≡◌, ◌⊎◌, ◌↔◌, IsTrue};
 ghost use Rattle.audit_model.specs.declared.sighting.Sighting.{Sighting as OneSighting};
@@ -19,19 +19,19 @@ use audit_stun::{Class, Message};
 /// The protocol number of UDP in REQUESTED-TRANSPORT (RFC 8656, section 18.8).
 const UDP: u8 = 17;
 
-/// The numbers of channels (RFC 8656, section 12).
+/// The range of channel numbers (RFC 8656, section 12).
 const LEAST_CHANNEL: u16 = 0x4000;
 
 const GREATEST_CHANNEL: u16 = 0x4FFF;
 
-/// Whether a success tells the client its own address.
+/// Whether a success response has the client's own address.
 fn tells_client(response: &Message<'_>, client: Addr) -> bool
     ensures { IsTrue result ↔ TellsClient response.now client }
 {
     address_in(response, XOR_MAPPED_ADDRESS) == Some(client)
 }
 
-/// Whether a Refresh success tells a lifetime, which is 0 just where the request asks for 0.
+/// Whether a Refresh success response has a lifetime, which is 0 exactly if the request's is 0.
 fn tells_lifetime(request: &Message<'_>, response: &Message<'_>) -> bool
     ensures { IsTrue result ↔ TellsLifetime request.now response.now }
 {
@@ -45,7 +45,7 @@ fn tells_lifetime(request: &Message<'_>, response: &Message<'_>) -> bool
     }
 }
 
-/// Whether a request has the number of a channel, and a peer.
+/// Whether a request has a channel number and a peer.
 fn asks_channel(request: &Message<'_>) -> bool
     ensures { IsTrue result ↔ AsksChannel request.now }
 {
@@ -58,7 +58,7 @@ fn asks_channel(request: &Message<'_>) -> bool
     LEAST_CHANNEL <= number && number <= GREATEST_CHANNEL
 }
 
-/// Whether a success fits its request.
+/// Whether a success response fits its request.
 fn success_fits(request: &Message<'_>, response: &Message<'_>, client: Addr) -> bool
     ensures { IsTrue result ↔ SuccessFits (parts_of response.now).method client request.now response.now }
 {
@@ -75,7 +75,7 @@ fn success_fits(request: &Message<'_>, response: &Message<'_>, client: Addr) -> 
     method == CREATE_PERMISSION
 }
 
-/// Whether an error names the realm and a nonce.
+/// Whether an error response has the realm and a nonce.
 fn challenges(response: &Message<'_>) -> bool
     ensures { IsTrue result ↔ Challenges response.now }
 {
@@ -92,7 +92,7 @@ fn asks_other(request: &Message<'_>) -> bool
     request.method() == ALLOCATE && protocol != UDP
 }
 
-/// Whether an error fits its request.
+/// Whether an error response fits its request.
 fn error_fits(request: &Message<'_>, response: &Message<'_>) -> bool
     ensures { IsTrue result ↔ ErrorFits request.now response.now }
 {

@@ -1,4 +1,4 @@
-//! Whether a lease that lasted may have been granted, by the keys of what grants leases.
+//! Whether a lease that lasted may have been granted, searched by key.
 
 ghost use Rattle.std.specs.Prelude.{◌≡◌, ◌↔◌, ◌+◌, ◌≤◌, ℕ, IsTrue, Some};
 ghost use Rattle.audit_model.specs.declared.sighting.Sighting.{Sighting as OneSighting};
@@ -17,7 +17,7 @@ use crate::values::message_in;
 use audit_model::{Addr, SightId, Sighting};
 use audit_sightings::Intake;
 
-/// The key of a success to the client's request.
+/// The key of a success response to the client's request.
 fn answer_key_to(client: Addr, request: &[u8]) -> u64
     requires { IsMessage request.now (parts_of request.now) }
     ensures { result ≡ key_of_answer (parts_of request.now).method client (parts_of request.now).tid }
@@ -28,14 +28,15 @@ fn answer_key_to(client: Addr, request: &[u8]) -> u64
     answer_key(client, &said)
 }
 
-/// The least first moment of a window that is no wider than this, and ends no earlier than a moment.
+/// The least first moment of a window that is no wider than `width`, and ends no earlier than a
+/// moment.
 fn narrowly_before(moment: u64, width: u64) -> u64
     ensures { (lo hi : ℕ) → moment ≤ hi → hi ≤ lo + width → result ≤ lo }
 {
     moment.saturating_sub(width)
 }
 
-/// Whether the sighting of that name is the success of the request.
+/// Whether the sighting of that id is the success response to the request.
 fn is_success_at(
     intake: &Intake,
     sight: SightId,
@@ -53,7 +54,7 @@ fn is_success_at(
     succeeds(intake.policy(), grant, asked, request, success)
 }
 
-/// Whether the success of the request was captured, the last one first.
+/// Whether the success response to the request was captured. The last one is tried first.
 fn is_succeeded(
     intake: &Intake,
     answers: ByKey<'_>,
@@ -80,7 +81,7 @@ fn is_succeeded(
     false
 }
 
-/// Whether the request asks for the lease, and its success was captured.
+/// Whether the request is for the lease, and its success response was captured.
 fn is_granted(
     intake: &Intake,
     answers: ByKey<'_>,
@@ -97,7 +98,7 @@ fn is_granted(
         && is_succeeded(intake, answers, grant, asked, request)
 }
 
-/// Whether the sighting of that name is such a request.
+/// Whether the sighting of that id is such a request.
 fn is_granted_at(
     intake: &Intake,
     answers: ByKey<'_>,
@@ -116,7 +117,7 @@ fn is_granted_at(
     is_granted(intake, answers, grant, asked, given, request)
 }
 
-/// Whether such a request was captured with the key, the last one first.
+/// Whether such a request with the key was captured. The last one is tried first.
 pub fn granted_by(
     intake: &Intake,
     listed: Leases<'_>,

@@ -52,7 +52,7 @@ fn has_channel(
     granted_by(intake, listed, key, grant, asked, given)
 }
 
-/// Whether the lease was granted, by the keys.
+/// Whether the lease was granted, searched by key.
 fn has_grant_by_keys(
     intake: &Intake,
     listed: Leases<'_>,

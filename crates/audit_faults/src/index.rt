@@ -1,4 +1,4 @@
-//! Where to look in what was captured.
+//! An index of the sightings.
 
 ghost use Rattle.std.specs.Prelude.{◌≤◌, length, IfOk};
 ghost use Rattle.audit_sightings.specs.Intake.{taken, interface_at};
@@ -12,14 +12,14 @@ use audit_model::Sighting;
 use audit_sightings::Intake;
 use std::alloc::{AllocError, Global};
 
-/// What is known of what was captured. Where nothing is known, all is looked at.
+/// An index of the sightings. Without its parts, all sightings are searched.
 #[derive(Clone, Copy)]
 pub struct Index<'a> {
-    /// Of each interface, by its number.
+    /// The moments of each interface, by its number.
     pub extents: &'a [Extents],
-    /// Of the requests for leases and their successes.
+    /// The requests for leases and their success responses.
     pub leases: Option<Leases<'a>>,
-    /// Of all that arrived, by what it asks for.
+    /// All arrivals, by what they request.
     pub asking: Option<Asking<'a>>,
 }
 
@@ -34,7 +34,8 @@ pub fn extents_by_interface(alloc: Global, intake: &Intake) -> Result<Vec<Extent
     Ok(extents)
 }
 
-/// The places of the interface outside of which nothing is in reach of the departure. It takes logarithmic time.
+/// The span of the interface outside of which no sighting is in reach of the departure. It takes
+/// logarithmic time.
 pub fn span_in(intake: &Intake, index: &Index<'_>, iface: u32, given: &Sighting) -> Span
     requires { IsIndex (taken intake.now) index.now }
     ensures past { result.past ≤ length (interface_at (taken intake.now) iface) }

@@ -1,4 +1,4 @@
-//! Sightings by numbers of what they say, and by their first moments.
+//! Sightings by key, which is a digest of their content, and by first moment.
 
 ghost use Rattle.std.specs.Prelude.{◌≡◌, ◌-◌, ◌+◌, ◌<◌, ◌≤◌, OnOk, Contains, length, slice_index_or};
 ghost use Rattle.std.specs.List.Sorted.{IsNonDecreasingBy, IsPermutation};
@@ -12,7 +12,7 @@ use audit_stun::Message;
 use std::alloc::AllocError;
 use std::hash::{DefaultHasher, Hasher};
 
-/// The name of a sighting, by a number of what it says and by its first moment.
+/// A place in an index: the id of a sighting, with its key and its first moment.
 #[derive(Clone, Copy)]
 pub struct Keyed {
     pub key: u64,
@@ -20,14 +20,14 @@ pub struct Keyed {
     pub sight: SightId,
 }
 
-/// Places, sorted by their keys and moments, and how wide the windows are at the most.
+/// Places, sorted by their keys and moments, and the width of the widest window.
 #[derive(Drop)]
 pub struct KeyedList {
     pub places: Vec<Keyed>,
     pub width: u64,
 }
 
-/// The same, as it is looked up in.
+/// A view of such a list for look-ups.
 #[derive(Clone, Copy)]
 pub struct ByKey<'a> {
     pub places: &'a [Keyed],
@@ -46,7 +46,7 @@ impl KeyedList {
     }
 }
 
-/// A number for bytes, by which equal ones are found. Others may have it too, which costs time alone.
+/// A digest by which equal bytes are found. Others may have the same, which only costs time.
 pub fn digest(bytes: &[u8]) -> u64
     ensures { result ≡ digest_of bytes.now }
 {
@@ -55,14 +55,14 @@ pub fn digest(bytes: &[u8]) -> u64
     hasher.finish()
 }
 
-/// A number for the transaction id of a message.
+/// The key of a message's transaction id.
 pub fn transaction_key(said: &Message<'_>) -> u64
     ensures { result ≡ digest_of (parts_of said.now).tid }
 {
     digest(&said.tid())
 }
 
-/// A number that is as wide as the window of the sighting, and no less than the one before.
+/// The greater of a width and that of the sighting's window.
 pub fn wider(width: u64, sighting: &Sighting) -> u64
     ensures kept { width ≤ result }
     ensures narrow { IsNarrow result sighting.now }
@@ -99,7 +99,7 @@ pub fn sort_keyed(keyed: &mut Vec<Keyed>) -> Result<(), AllocError>
     Ok(())
 }
 
-/// How many places are below a number.
+/// The count of places below a number.
 fn places_below(keyed: &[Keyed], bound: u128) -> usize
     ensures bound { result ≤ length keyed.now }
     ensures below { (one : OneKeyed) → 0 < result → number_of (slice_index_or keyed.now (result - 1) one) < bound }
@@ -117,7 +117,7 @@ fn places_below(keyed: &[Keyed], bound: u128) -> usize
     low
 }
 
-/// How many places are not past a number.
+/// The count of places up to a number.
 fn places_through(keyed: &[Keyed], bound: u128) -> usize
     ensures bound { result ≤ length keyed.now }
     ensures above { (one : OneKeyed) → result < length keyed.now → bound < number_of (slice_index_or keyed.now result one) }
@@ -135,7 +135,7 @@ fn places_through(keyed: &[Keyed], bound: u128) -> usize
     low
 }
 
-/// The places of a key, of the moments from one to another. It takes logarithmic time.
+/// The places of a key, with moments in a range. It takes logarithmic time.
 pub fn span_of_key(keyed: &[Keyed], key: u64, low: u64, high: u64) -> Span
     ensures past { result.past ≤ length keyed.now }
     ensures has { IsNonDecreasingBy number_of keyed.now → HasKeyed keyed.now key low high result.first result.past }

@@ -1,5 +1,5 @@
-//! The last success response that granted the lease which a departure lacked, and by how much that had expired. No clause says that it is
-//! the last one.
+//! Finds the last success response that granted the lease which a departure lacked, and by how much
+//! that had expired. It is not proved to be the last one.
 
 ghost use Rattle.std.specs.Prelude.{◌≡◌, ◌↔◌, ◌*◌, IsTrue, IfSome};
 ghost use Rattle.audit_model.specs.declared.sighting.Side.TheVariants as sides;
@@ -27,7 +27,7 @@ use audit_model::{Policy, Side, SightId, Sighting};
 use audit_sightings::Intake;
 use audit_stun::Class;
 
-/// How many arrivals are looked at that may have asked for the departure, the last ones.
+/// How many arrivals that may have caused the departure are tried, the last ones.
 const MOST: usize = 64;
 
 /// How long the lease lasts that the departure lacked, in nanoseconds.
@@ -41,7 +41,8 @@ fn time_of(fault: Fault) -> u64
     }
 }
 
-/// Whether the request may precede the departure and requests the lease, and the success response granted it.
+/// Whether the request may precede the departure and requests the lease, and the success response
+/// granted it.
 fn granted(
     policy: &Policy,
     grant: &Grant,
@@ -57,7 +58,8 @@ fn granted(
         && succeeds(policy, grant, always, request, success)
 }
 
-/// By how much the lease that the success response granted had expired when the arrival came, grace included; none if it may have lasted.
+/// By how much the lease that the success response granted had expired when the arrival came, grace
+/// included; none if it may have lasted.
 fn too_early(policy: &Policy, fault: Fault, asked: &Sighting, success: &Sighting) -> Option<u64>
     ensures { IfSome result (IsOver policy.now fault asked.now success.now) }
 {
@@ -71,7 +73,7 @@ fn too_early(policy: &Policy, fault: Fault, asked: &Sighting, success: &Sighting
     Some(asked.lo - end)
 }
 
-/// The fault before it, whose reasons an arrival had that asked for the departure.
+/// The fault before it. The arrival has all reasons of that one's check.
 fn fault_before(fault: Fault) -> Option<Fault> {
     match fault {
         Fault::Unpermitted => Some(Fault::Unallocated),
@@ -80,7 +82,7 @@ fn fault_before(fault: Fault) -> Option<Fault> {
     }
 }
 
-/// The key by which arrivals stand that may have asked for the departure.
+/// The key of the arrivals that may have caused the departure.
 fn key_of(policy: &Policy, given: &Sighting) -> Option<u64> {
     let payload = given.payload.as_slice();
     if policy.relays(given.from) {
@@ -99,7 +101,7 @@ fn is_in_time(policy: &Policy, asked: &Sighting, given: &Sighting) -> bool
     asked.side == Side::Arrives && in_reach(policy.hold, asked, given)
 }
 
-/// The last arrival that asked for the departure, and had all reasons but those of the fault.
+/// The last arrival that may have caused the departure, and has all reasons except the fault's own.
 fn last_asked(
     intake: &Intake,
     index: &Index<'_>,
@@ -219,8 +221,9 @@ fn last_request(
     Some(one.sight)
 }
 
-/// The last success response that granted the lease which the departure lacked, if it had expired. It takes logarithmic time, and that
-/// of some arrivals with the departure's data.
+/// The last success response that granted the lease which the departure lacked, if it had expired.
+/// It takes logarithmic time, plus the time to read up to `MOST` arrivals with the departure's
+/// data.
 pub fn last_grant(
     intake: &Intake,
     index: &Index<'_>,

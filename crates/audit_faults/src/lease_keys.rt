@@ -1,4 +1,4 @@
-//! The keys by which requests for leases and their successes are found.
+//! The keys of requests for leases and of their success responses.
 
 ghost use Rattle.std.specs.Prelude.{◌≡◌};
 ghost use Rattle.audit_stun.specs.Parts.{parts_of};
@@ -9,7 +9,7 @@ use audit_model::Addr;
 use audit_stun::Message;
 use std::hash::{DefaultHasher, Hasher};
 
-/// Kinds of keys; below them are methods, and above them numbers of channels.
+/// Kinds of keys. The numbers below them are methods, and above them channel numbers.
 const ASKED: u64 = 65_536;
 
 const RELAYED: u64 = 65_537;
@@ -20,7 +20,7 @@ const PERMITTED: u64 = 65_539;
 
 const BOUND: u64 = 131_072;
 
-/// A number for two.
+/// A digest of two numbers.
 pub fn mixed(one: u64, other: u64) -> u64
     ensures { result ≡ mixed_of one other }
 {
@@ -37,35 +37,36 @@ pub fn address_number(addr: Addr) -> u64
     u64::from(addr.ip) * 65_536 + u64::from(addr.port)
 }
 
-/// A number for what is of a kind and of a client, and for a third number.
+/// The key of a kind, a client and a third number.
 fn of_client(kind: u64, client: Addr, rest: u64) -> u64
     ensures { result ≡ lease_key kind client rest }
 {
     mixed(mixed(kind, address_number(client)), rest)
 }
 
-/// The key of a success to the client, by the method and the transaction of it or of its request.
+/// The key of a success response to the client: its method, and the transaction that it shares with
+/// its request.
 pub fn answer_key(client: Addr, said: &Message<'_>) -> u64
     ensures { result ≡ key_of_answer (parts_of said.now).method client (parts_of said.now).tid }
 {
     of_client(u64::from(said.method()), client, transaction_key(said))
 }
 
-/// The key of an Allocate request of the client, by the transaction of it or of its success.
+/// The key of an Allocate request of the client: the transaction that it shares with its response.
 pub fn ask_key(client: Addr, said: &Message<'_>) -> u64
     ensures { result ≡ key_of_ask client (parts_of said.now).tid }
 {
     of_client(ASKED, client, transaction_key(said))
 }
 
-/// The key of an Allocate success, by the address that it tells.
+/// The key of an Allocate success response: its relayed address.
 pub fn relayed_key(client: Addr, relayed: Addr) -> u64
     ensures { result ≡ key_of_relayed client relayed }
 {
     of_client(RELAYED, client, address_number(relayed))
 }
 
-/// The key of each Allocate success to a client.
+/// The key of each Allocate success response to a client.
 pub fn beginning_key(client: Addr) -> u64
     ensures { result ≡ key_of_beginning client }
 {

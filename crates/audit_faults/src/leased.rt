@@ -1,4 +1,4 @@
-//! Messages that ask for leases or grant them, by keys.
+//! Messages that request leases or grant them, by key.
 
 ghost use Rattle.std.specs.Prelude.{◌≡◌, ◌↔◌, IsTrue, MatchOption};
 ghost use Rattle.audit_faults.specs.Leased.{IsLeaseMethod, IsLeaseMessage};
@@ -8,14 +8,14 @@ use crate::values::message_in;
 use audit_stun::numbers::method::{ALLOCATE, CHANNEL_BIND, CREATE_PERMISSION};
 use audit_stun::{Class, Message};
 
-/// Whether a success of the method grants a lease.
+/// Whether a success response of the method grants a lease.
 fn grants(method: u16) -> bool
     ensures { IsTrue result ↔ IsLeaseMethod method }
 {
     method == ALLOCATE || method == CREATE_PERMISSION || method == CHANNEL_BIND
 }
 
-/// The message that the payload is, where it is of the class, and of a method that grants a lease.
+/// The message of a payload, if it is of the class, and of a method that grants a lease.
 pub fn lease_message(payload: &[u8], class: Class) -> Option<Message<'_>>
     ensures { MatchOption result (IsLeaseMessage class payload.now → ⊥)
         (λ found. (found ≡ payload.now) × IsLeaseMessage class payload.now) }
@@ -28,7 +28,7 @@ pub fn lease_message(payload: &[u8], class: Class) -> Option<Message<'_>>
     }
 }
 
-/// The successes that may grant leases, and the requests that have one.
+/// The success responses that may grant leases, and the requests that have one.
 #[derive(Clone, Copy)]
 pub struct Leases<'a> {
     pub answers: ByKey<'a>,

@@ -1,4 +1,4 @@
-//! Whether a departure is explained by what came just before it.
+//! Whether a departure is explained by one of the last arrivals before it.
 
 ghost use Rattle.std.specs.Prelude.{IsTrue, Any};
 ghost use Rattle.audit_model.specs.declared.sighting.Sighting.{Sighting};
@@ -15,7 +15,7 @@ use audit_keys::Credentials;
 use audit_model::Sighting;
 use audit_sightings::Intake;
 
-/// How many sightings of each interface are looked at before all that are in reach.
+/// How many sightings of each interface are tried before all that are in reach.
 const FEW: usize = 64;
 
 /// Whether one of the last few sightings of the interface that are in reach explains the departure.
@@ -43,7 +43,8 @@ fn explained_just_before(
     false
 }
 
-/// Whether one of the last few sightings of any interface does. What asked for a departure mostly came just before it.
+/// Whether one of the last few sightings of any interface does. The arrival that caused a departure
+/// mostly came just before it.
 pub fn is_explained_just_before(
     intake: &Intake,
     index: &Index<'_>,

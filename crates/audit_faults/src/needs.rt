@@ -1,5 +1,5 @@
-//! Whether the leases are there that a departure would need, whatever an arrival carries: of long arrivals this is asked first, since
-//! whoever sends them chooses how long it takes to read them.
+//! Whether a departure has the leases that it needs, whatever the arrival contains. For long
+//! arrivals this is checked first, since their senders choose how long it takes to read them.
 
 ghost use Rattle.std.specs.Prelude.{IsTrue};
 ghost use Rattle.audit_rules.specs.Keys.{KeyFor};
@@ -15,7 +15,7 @@ use audit_model::Sighting;
 use audit_sightings::Intake;
 use audit_stun::channel_data;
 
-/// Whether there is an allocation and a permission for what a client sent by an indication.
+/// Whether there is an allocation and a permission for the data of a client's Send indication.
 fn may_be_sent_on(
     intake: &Intake,
     index: &Index<'_>,
@@ -37,7 +37,7 @@ fn may_be_sent_on(
     ) && message_in(asked.payload.as_slice()).is_some()
 }
 
-/// Whether there is an allocation and the channel for what a client sent by a channel.
+/// Whether there is an allocation and the channel for the data of a client's ChannelData.
 fn may_be_sent_in_channel(
     intake: &Intake,
     index: &Index<'_>,
@@ -65,7 +65,7 @@ fn may_be_sent_in_channel(
     )
 }
 
-/// Whether there is an allocation and a permission for what a peer sent, told by an indication.
+/// Whether there is an allocation and a permission for a peer's data in a Data indication.
 fn may_be_told(
     intake: &Intake,
     index: &Index<'_>,
@@ -85,7 +85,7 @@ fn may_be_told(
     ) && message_in(given.payload.as_slice()).is_some()
 }
 
-/// Whether there is an allocation and the channel for what a peer sent, told by a channel.
+/// Whether there is an allocation and the channel for a peer's data in ChannelData.
 fn may_be_told_in_channel(
     intake: &Intake,
     index: &Index<'_>,
@@ -111,8 +111,8 @@ fn may_be_told_in_channel(
     )
 }
 
-/// Whether the departure responds on the path of the arrival, or has the leases that it needs to be relayed for it. Where it hasn't, the
-/// arrival doesn't explain it.
+/// Whether the departure is a response on the path of the arrival, or has the leases that it needs
+/// to be relayed for it. If not, the arrival doesn't explain it.
 pub fn has_needed_leases(
     intake: &Intake,
     index: &Index<'_>,

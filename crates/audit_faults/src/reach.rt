@@ -1,4 +1,4 @@
-//! Where in an interface something may be in reach of a departure.
+//! The places of an interface that may be in reach of a departure.
 
 ghost use Rattle.std.specs.Prelude.{◌<◌, ◌≤◌, ◌-◌, List, length, slice_index_or, IfOk};
 ghost use Rattle.audit_model.specs.declared.sighting.Sighting.{Sighting};
@@ -61,7 +61,7 @@ pub fn extents_of(alloc: Global, row: &[Sighting]) -> Result<Extents, AllocError
     })
 }
 
-/// How many places are too early for a departure that left no earlier than this.
+/// The count of places that are too early for a departure that left no earlier than a moment.
 fn too_early(latest: &[u64], hold: u64, moment: u64) -> usize
     ensures bound { result ≤ length latest.now }
     ensures out { 0 < result → later (slice_index_or latest.now (result - 1) 0) hold < moment }
@@ -79,7 +79,8 @@ fn too_early(latest: &[u64], hold: u64, moment: u64) -> usize
     low
 }
 
-/// How many places, from the last one back, are too late for a departure that left no later than this.
+/// The count of places, from the last one back, that are too late for a departure that left no
+/// later than a moment.
 fn too_late(earliest: &[u64], moment: u64) -> usize
     ensures bound { result ≤ length earliest.now }
     ensures out { 0 < result → moment < slice_index_or earliest.now (result - 1) 0 }
@@ -97,7 +98,8 @@ fn too_late(earliest: &[u64], moment: u64) -> usize
     low
 }
 
-/// The places of an interface outside of which nothing is in reach of the departure. It takes logarithmic time.
+/// The places of an interface outside of which no sighting is in reach of the departure. It takes
+/// logarithmic time.
 pub fn span_of(extents: &Extents, hold: u64, given: &Sighting) -> Span
     ensures past { (row : List Sighting) → AreLatest row extents.now.latest.items → result.past ≤ length row }
     ensures out { (row : List Sighting) → AreLatest row extents.now.latest.items → AreEarliest row extents.now.earliest.items →

@@ -1,4 +1,5 @@
-//! Blocks of places that repeat datagrams: a search for what explains a departure passes over a block in one step.
+//! Blocks of places that repeat datagrams. A search for the arrival that explains a departure skips
+//! a block in one step.
 
 ghost use Rattle.std.specs.Prelude.{◌≡◌, ◌+◌, ◌-◌, ◌<◌, ◌≤◌, ℕ, List, IfOk, IfSome, IsTrue, MatchOption};
 ghost use Rattle.audit_model.specs.Window.{later};
@@ -13,13 +14,14 @@ use audit_model::Sighting;
 use audit_sightings::Intake;
 use std::alloc::{AllocError, Global};
 
-/// The places from one to that at which the block is listed. Each of them repeats a datagram, unless `end` is 0.
+/// The places from `first` to that at which the block is listed. Each of them repeats a datagram,
+/// unless `end` is 0.
 #[derive(Clone, Copy)]
 pub struct RepeatBlock {
     pub first: u32,
     /// No datagram that they repeat is at an earlier place.
     pub since: u32,
-    /// The window of none that they repeat ends earlier.
+    /// No window of a datagram that they repeat ends earlier.
     pub end: u64,
 }
 
@@ -49,7 +51,7 @@ fn block_at(intake: &Intake, places: &[Keyed], repeats: &[Option<u32>], place: u
     }
 }
 
-/// A block and that of the places just before it as one.
+/// Joins a block with that of the places just before it.
 fn joined(before: RepeatBlock, block: RepeatBlock) -> RepeatBlock
     ensures first { result.first ≡ before.first }
     ensures joined { (taken : Taken) (places : List OneKeyed) (place : ℕ) → 0 < block.first → IsBlock taken places (block.first - 1) before →
@@ -62,8 +64,8 @@ fn joined(before: RepeatBlock, block: RepeatBlock) -> RepeatBlock
     }
 }
 
-/// The block that is listed at a place. Its size is the greatest power of two that divides the number of places up to
-/// it, so that a search takes logarithmic time.
+/// The block that is listed at a place. Its size is the greatest power of two that divides the
+/// number of places up to it, so that a search takes logarithmic time.
 fn block_of(
     intake: &Intake,
     places: &[Keyed],
@@ -107,16 +109,16 @@ pub fn blocks_of(
     Ok(blocks)
 }
 
-/// Whether each place of the block repeats a datagram that is at the first place or after it, and in reach of the
-/// departure if the place's own datagram is.
+/// Whether each place of the block repeats a datagram that is at the first place or after it, and
+/// in reach of the departure if the place's own datagram is.
 fn is_in_reach(hold: u64, block: &RepeatBlock, first: usize, given: &Sighting) -> bool
     ensures { IsTrue result → (0 < block.now.end) × (first ≤ block.now.since) × (given.now.lo ≤ later block.now.end hold) }
 {
     0 < block.end && first <= block.since as usize && given.lo <= block.end.saturating_add(hold)
 }
 
-/// The last place from the first to before `past` that repeats none of these places which is in reach of the departure;
-/// none if each does. It takes logarithmic time.
+/// The last place from the first to before `past` that doesn't repeat one of these places which is
+/// in reach of the departure; none if each does. It takes logarithmic time.
 pub fn last_unrepeated(
     intake: &Intake,
     asking: Asking<'_>,

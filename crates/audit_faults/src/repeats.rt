@@ -1,4 +1,5 @@
-//! Datagrams that arrived again: the same, or the same data by another Send indication, from and to the same addresses.
+//! Repeats of arrivals: the same datagram, or the same data in another Send indication, from and to
+//! the same addresses.
 
 ghost use Rattle.std.specs.Prelude.{◌≡◌, IfOk, IfSome, IsTrue};
 ghost use Rattle.audit_sightings.specs.Intake.{taken};
@@ -16,17 +17,17 @@ use audit_stun::{Class, channel_data};
 use std::alloc::{AllocError, Global};
 use std::collections::BTreeMap;
 
-/// What arrived, by what it asks for.
+/// The arrivals, by what they request.
 #[derive(Clone, Copy)]
 pub struct Asking<'a> {
     pub by_key: ByKey<'a>,
-    /// Of each place that of the same datagram which came last before it, if there is one.
+    /// For each place, the last place before it of the same datagram, if there is one.
     pub repeats: &'a [Option<u32>],
-    /// Of each place the block that ends there.
+    /// For each place, the block that ends there.
     pub blocks: &'a [RepeatBlock],
 }
 
-/// Whether two datagrams were captured on their way between the same addresses.
+/// Whether two datagrams have the same direction and the same addresses.
 fn have_same_path(earlier: &Sighting, later: &Sighting) -> bool
     ensures { IsTrue result → (earlier.now.side ≡ later.now.side) × (earlier.now.from ≡ later.now.from) × (earlier.now.to ≡ later.now.to) }
 {
@@ -40,8 +41,8 @@ fn are_same(earlier: &Sighting, later: &Sighting) -> bool
     have_same_path(earlier, later) && earlier.payload.as_slice() == later.payload.as_slice()
 }
 
-/// Whether two payloads are Send indications with the same data for the same peer. Each has a transaction id of its own
-/// (RFC 8656, section 11.1).
+/// Whether two payloads are Send indications with the same data for the same peer. Each has a
+/// transaction id of its own (RFC 8656, section 11.1).
 fn are_same_send(earlier: &[u8], later: &[u8]) -> bool
     ensures { IsTrue result → AreSameSend earlier.now later.now }
 {
@@ -58,7 +59,7 @@ fn are_same_send(earlier: &[u8], later: &[u8]) -> bool
         && one.first(DATA) == other.first(DATA)
 }
 
-/// Whether a client sent the same data to the same peer by another Send indication.
+/// Whether a client sent the same data to the same peer in another Send indication.
 fn is_sent_again(policy: &Policy, earlier: &Sighting, later: &Sighting) -> bool
     ensures { IsTrue result → IsSentAgain policy.now earlier.now later.now }
 {
@@ -74,7 +75,8 @@ fn is_repeat(policy: &Policy, earlier: &Sighting, later: &Sighting) -> bool
     earlier.lo <= later.lo && (are_same(earlier, later) || is_sent_again(policy, earlier, later))
 }
 
-/// A number for what a payload says: repeats have the same. Of a Send indication the data has the key.
+/// A number for the content of a payload: repeats have the same. The data of a Send indication is
+/// already in the key.
 fn content_number(payload: &[u8]) -> u64 {
     if let Some(indication) = message_of(payload, Class::Indication, SEND) {
         if let Some(peer) = address_in(&indication, XOR_PEER_ADDRESS) {
@@ -92,7 +94,7 @@ fn number_at(intake: &Intake, place: &Keyed) -> Option<u64> {
     Some(mixed(mixed(place.key, ends), content))
 }
 
-/// The place before, where that at this place repeats it.
+/// Returns `before`, if the datagram at this place repeats the one there.
 fn repeated(intake: &Intake, places: &[Keyed], before: u32, place: usize) -> Option<u32>
     ensures { IfSome result (λ before. IsRepeated (taken intake.now) places.now before place) }
 {
@@ -109,7 +111,8 @@ fn repeated(intake: &Intake, places: &[Keyed], before: u32, place: usize) -> Opt
     Some(before)
 }
 
-/// The place of the same datagram that came last before, by the last places of all numbers, among which this one is noted.
+/// The last place before it of the same datagram. `last` has the last place of each number, and
+/// gets this one.
 fn last_before(
     intake: &Intake,
     places: &[Keyed],
@@ -130,7 +133,7 @@ fn last_before(
     }
 }
 
-/// Of each place that of the same datagram which came last before it. It takes n log n time.
+/// For each place, the last place before it of the same datagram. It takes n log n time.
 pub fn repeats_of(
     alloc: Global,
     intake: &Intake,

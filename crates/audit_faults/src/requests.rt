@@ -1,4 +1,4 @@
-//! Requests for leases that have a success, by keys.
+//! Requests for leases that have a success response, by key.
 
 ghost use Rattle.std.specs.Prelude.{◌≡◌, ◌↔◌, ◌+◌, ℕ, IsTrue, IfOk, OnOk, Contains, Some, length};
 ghost use Rattle.audit_model.specs.declared.sighting.Sighting.{Sighting as OneSighting};
@@ -24,7 +24,8 @@ use audit_stun::numbers::method::ALLOCATE;
 use audit_stun::{Class, Message, address};
 use std::alloc::{AllocError, Global};
 
-/// Whether the sighting of that name is a success to the client, of the request's method and transaction.
+/// Whether the sighting of that id is a success response to the client, of the request's method and
+/// transaction.
 pub fn is_answer_at(intake: &Intake, sight: SightId, client: Addr, request: &Message<'_>) -> bool
     ensures { IsTrue result ↔ ((success : OneSighting) × (sighting_at (taken intake.now) sight ≡ Some success) × Answers client request.now success) }
 {
@@ -41,7 +42,7 @@ pub fn is_answer_at(intake: &Intake, sight: SightId, client: Addr, request: &Mes
     same_id(&answer, request)
 }
 
-/// Whether a request for a lease has a success.
+/// Whether a request for a lease has a success response.
 fn is_answered(intake: &Intake, answers: ByKey<'_>, client: Addr, request: &Message<'_>) -> bool
     requires answers { AreAnswers (taken intake.now) answers }
     requires method { IsLeaseMethod (parts_of request.now).method }
@@ -113,7 +114,7 @@ fn add_channel(
     Ok(())
 }
 
-/// Adds the places of a request for a channel: a success to it grants a permission too.
+/// Adds the places of a request for a channel. A success response to it grants a permission too.
 fn add_bound(
     request: &Message<'_>,
     sighting: &Sighting,
@@ -134,7 +135,7 @@ fn add_bound(
     Ok(())
 }
 
-/// Adds the places of a request for a lease that has a success.
+/// Adds the places of a request for a lease that has a success response.
 fn add_request(
     intake: &Intake,
     answers: ByKey<'_>,
@@ -160,7 +161,7 @@ fn add_request(
     Ok(())
 }
 
-/// Adds the places of an interface, and gives how wide the windows are.
+/// Adds the places of an interface, and returns the width of the widest window.
 fn add_row(
     intake: &Intake,
     answers: ByKey<'_>,
@@ -180,7 +181,7 @@ fn add_row(
     Ok(widest)
 }
 
-/// Adds the places of all interfaces, and gives how wide the windows are.
+/// Adds the places of all interfaces, and returns the width of the widest window.
 fn add_rows(intake: &Intake, answers: ByKey<'_>, keyed: &mut Vec<Keyed>) -> Result<u64, AllocError>
     requires { AreAnswers (taken intake.now) answers }
     ensures { IfOk result (λ width. AreKeyedBefore (taken intake.now) (IsRequestBy (taken intake.now))
@@ -193,7 +194,8 @@ fn add_rows(intake: &Intake, answers: ByKey<'_>, keyed: &mut Vec<Keyed>) -> Resu
     Ok(width)
 }
 
-/// The requests for leases that have a success, by what they ask for. It takes n log n time.
+/// The requests for leases that have a success response, by what they request. It takes n log n
+/// time.
 pub fn requests_of(
     alloc: Global,
     intake: &Intake,

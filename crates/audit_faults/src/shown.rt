@@ -20,11 +20,12 @@ use audit_keys::Credentials;
 use audit_model::SightId;
 use audit_sightings::Intake;
 
-/// The first fault that the captures show of a departure. It goes over all sightings some times, and takes no memory.
+/// The first fault that the captures show of a departure. It reads all sightings several times, and
+/// allocates no memory.
 pub fn shown_fault(intake: &Intake, credentials: &Credentials, sight: SightId) -> Option<Fault>
-    // Nothing that was captured explains the departure.
+    // No captured datagram explains the departure.
     ensures shown { IfSome result (λ fault. IsFault (taken intake.now) (key_for credentials.now) fault sight) }
-    // It is the first of them that the departure shows.
+    // It is the first of the faults that the departure shows.
     ensures first { IfSome result (NoneBefore (λ earlier. IsFault (taken intake.now) (key_for credentials.now) earlier sight)) }
     // So no list of moves is a run of the server that explains the captures,
     ensures no_run { IfSome result (λ fault. (steps : List Step) →
@@ -32,7 +33,7 @@ pub fn shown_fault(intake: &Intake, credentials: &Credentials, sight: SightId) -
     // and no certificate conforms.
     ensures no_certificate { IfSome result (λ fault. (certificate : Certificate) →
         Conforms (taken intake.now) (rules_for (taken intake.now) (key_for credentials.now)) certificate → ⊥) }
-    // But for an unauthentic request, that is so whoever the users are.
+    // Except for an unauthentic request, that is so whoever the users are.
     ensures whoever { IfSome result (λ fault. fault ≢ faults.Unauthentic → (users : KeyFor) (steps : List Step) →
         IsCaptureRun (taken intake.now) (rules_for (taken intake.now) users) steps → ⊥) }
     // It misses none of these faults.

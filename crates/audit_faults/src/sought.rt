@@ -1,4 +1,4 @@
-//! Whether a departure is explained by what arrived with a key of it.
+//! Whether a departure is explained by an arrival with one of its keys.
 
 ghost use Rattle.std.specs.Prelude.{◌≡◌, ◌↔◌, ◌+◌, ◌≤◌, ℕ, IsFalse, IsTrue, Some};
 ghost use Rattle.audit_model.specs.Policy.{relays};
@@ -26,17 +26,19 @@ use audit_keys::Credentials;
 use audit_model::{SightId, Sighting};
 use audit_sightings::Intake;
 
-/// Arrivals of more bytes are read only where the leases are there: it would cost more to read them.
+/// Arrivals of more bytes than this are read only if the leases are there, since reading them costs
+/// more.
 const LONG: usize = 2048;
 
-/// The earliest that something in reach of the departure may begin, where no window is wider than this.
+/// The earliest first moment of an arrival in reach of the departure, if no window is wider than
+/// `width`.
 pub fn earliest(given: &Sighting, hold: u64, width: u64) -> u64
     ensures { (lo hi : ℕ) → given.now.lo ≤ later hi hold → hi ≤ lo + width → result ≤ lo }
 {
     given.lo.saturating_sub(hold).saturating_sub(width)
 }
 
-/// Whether what arrived explains the departure. Of a long one the leases are looked at first.
+/// Whether an arrival explains the departure. For a long one the leases are checked first.
 fn explains_by_leases(
     intake: &Intake,
     index: &Index<'_>,
@@ -56,7 +58,7 @@ fn explains_by_leases(
     explains(intake, index, credentials, fault, asked, given)
 }
 
-/// Whether the sighting of that name explains the departure.
+/// Whether the sighting of that id explains the departure.
 fn explains_at(
     intake: &Intake,
     index: &Index<'_>,
@@ -75,7 +77,7 @@ fn explains_at(
     explains_by_leases(intake, index, credentials, fault, asked, given)
 }
 
-/// Whether what stands at a place explains the departure.
+/// Whether the sighting at a place explains the departure.
 fn explains_from(
     intake: &Intake,
     index: &Index<'_>,
@@ -97,7 +99,7 @@ fn explains_from(
     explains_at(intake, index, credentials, fault, one.sight, given)
 }
 
-/// Whether what stands at the last of these places explains the departure. Mostly it does.
+/// Whether the sighting at the last of these places explains the departure. Mostly it does.
 fn explains_last(
     intake: &Intake,
     index: &Index<'_>,
@@ -120,9 +122,9 @@ fn explains_last(
     explains_at(intake, index, credentials, fault, one.sight, given)
 }
 
-/// Whether something explains the departure that arrived with the key, the last one first. Of equal datagrams the first
-/// in reach alone is checked, since it explains what any of them does: if a client repeats one datagram, each search
-/// takes logarithmic time.
+/// Whether an arrival with the key explains the departure. The last one is tried first. Of equal
+/// datagrams only the first in reach is checked, since it explains what any of them does: if a
+/// client repeats one datagram, each search takes logarithmic time.
 fn explained_by(
     intake: &Intake,
     index: &Index<'_>,
@@ -154,7 +156,7 @@ fn explained_by(
     false
 }
 
-/// The same of what may have been relayed to a peer.
+/// Whether an arrival explains data that may have been relayed to a peer.
 fn explained_by_all_of_it(
     intake: &Intake,
     index: &Index<'_>,
@@ -177,7 +179,7 @@ fn explained_by_all_of_it(
     explained_by(intake, index, asking, credentials, fault, key, given)
 }
 
-/// The same of a message to a client.
+/// Whether an arrival explains a message to a client.
 fn explained_by_message(
     intake: &Intake,
     index: &Index<'_>,
@@ -199,7 +201,7 @@ fn explained_by_message(
     explained_by(intake, index, asking, credentials, fault, key, given)
 }
 
-/// The same of ChannelData to a client.
+/// Whether an arrival explains ChannelData to a client.
 fn explained_by_channel(
     intake: &Intake,
     index: &Index<'_>,
@@ -221,7 +223,7 @@ fn explained_by_channel(
     explained_by(intake, index, asking, credentials, fault, key, given)
 }
 
-/// Whether something explains the departure that arrived with a key of it: what explains it has one.
+/// Whether an arrival with a key of the departure explains it. Each that explains it has one.
 pub fn is_explained_by_keys(
     intake: &Intake,
     index: &Index<'_>,

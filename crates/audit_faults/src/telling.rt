@@ -19,8 +19,8 @@ use audit_keys::Credentials;
 use audit_model::{Side, SightId, Sighting};
 use audit_sightings::Intake;
 
-/// Whether a sighting of the interface explains the departure. It looks where something is in reach, the last place first,
-/// since what asked for a departure mostly came just before it.
+/// Whether a sighting of the interface explains the departure. It searches those in reach from the
+/// last one back, since the arrival that caused a departure mostly came just before it.
 fn explained_among(
     intake: &Intake,
     index: &Index<'_>,
@@ -44,7 +44,7 @@ fn explained_among(
     false
 }
 
-/// Whether something that was captured explains the departure, where something is in reach.
+/// Whether a captured arrival in reach explains the departure.
 fn is_explained_somewhere(
     intake: &Intake,
     index: &Index<'_>,
@@ -63,7 +63,7 @@ fn is_explained_somewhere(
     false
 }
 
-/// Whether something that was captured explains the departure.
+/// Whether a captured arrival explains the departure.
 fn is_explained(
     intake: &Intake,
     index: &Index<'_>,
@@ -83,7 +83,7 @@ fn is_explained(
     }
 }
 
-/// Whether the departure of that name shows the fault.
+/// Whether the departure of that id shows the fault.
 fn is_fault(
     intake: &Intake,
     index: &Index<'_>,
@@ -100,7 +100,7 @@ fn is_fault(
     !is_explained(intake, index, credentials, fault, given)
 }
 
-/// The first fault that a departure shows; none where there is no departure of that name.
+/// The first fault that a departure shows; none if there is no departure of that id.
 pub fn first_fault(
     intake: &Intake,
     index: &Index<'_>,
@@ -116,7 +116,7 @@ pub fn first_fault(
     if given.side != Side::Leaves {
         return None;
     }
-    // What is explained with all reasons shows none of the faults.
+    // If it is explained with all reasons, it shows none of the faults.
     if !is_fault(intake, index, credentials, Fault::Unauthentic, sight, given) {
         return None;
     }

@@ -1,4 +1,4 @@
--- Which fault of the captures is the first, in their order.
+-- The first fault of the captures, in their order.
 use Rattle.std.specs.Prelude.{◌≡◌, ◌⊎◌, ◌+◌, ◌<◌, [], ℕ, Bool, List, Some, Err, Option, IfNone, IfSome, length, map, take, slice_get, slice_index_or}
 use Rattle.std.proofs.Common.{Bor}
 use Rattle.audit_model.specs.declared.policy.Policy.{Policy}
@@ -22,19 +22,20 @@ use Rattle.audit_files.specs.Stops.{EndsByIntake}
 abbrev pub text_at : List (List ℕ) → ℕ → List ℕ
 text_at texts file = slice_index_or texts file []
 
--- a text begins with blocks that give these packets, none of which is refused
+-- a text begins with blocks that have these packets, none of which is refused
 pub record IsFront (policy : Policy) (text : List ℕ) (packets : List Packet) : Type 0 where
   pub begins : BeginsWith text packets
   pub sound : AreSound policy packets
 
--- An intake that had the sightings of other captures was fed a capture of this text: it has those of the packets up to some place, too.
+-- An intake that had the sightings of other captures was fed a capture of this text: it also has
+-- those of the packets up to some place.
 pub record HasFront (policy : Policy) (others : ℕ → List Packet) (file : ℕ) (text : List ℕ) (interfaces : List (List Sighting)) : Type 0 where
   pub packets : List Packet
   pub front : IsFront policy text packets
   pub sightings : AreSightings policy interfaces (more_of others file packets)
 
--- A capture's first fault: after these packets comes a fault of the next block or of the packet that it gives, or the 16,777,217th sighting
--- of these packets and the others'.
+-- A capture's first fault: after these packets comes a fault of the next block or of its packet, or
+-- the 16,777,217th sighting of these packets and the others'.
 pub record HasFault (policy : Policy) (others : ℕ → List Packet) (file : ℕ) (text : List ℕ) (kind : IntakeFaultKind) : Type 0 where
   pub interfaces : List (List Sighting)
   pub front : HasFront policy others file text interfaces
@@ -54,7 +55,8 @@ pub record IsRefused (policy : Policy) (texts : List (List ℕ)) (fault : Intake
   pub counted : ((file : ℕ) → others file ≡ packets_of before file) ⊎ ((file : ℕ) → others file ≡ [])
   pub has : HasFault policy others fault.file (text_at texts fault.file) fault.kind
 
--- the captures before this one, and this one up to its own first fault, have over 16,777,216 sightings together
+-- the captures before this one, and this one up to its own first fault, have over 16,777,216
+-- sightings together
 pub record AreTooMany (policy : Policy) (texts : List (List ℕ)) (fault : IntakeFault) : Type 0 where
   pub limit : fault.kind ≡ Limit
   pub before : List Fed
@@ -87,7 +89,7 @@ IsFirstFault policy texts fault = IsRefused policy texts fault ⊎ (AreTooMany p
 abbrev pub RefusesCaptures : Policy → List (List ℕ) → Stop → Type 0
 RefusesCaptures policy texts stop = (fault : IntakeFault) × EndsByIntake fault stop × ((IsMemory fault.kind → ⊥) → IsFirstFault policy texts fault)
 
--- a capture can't be read to its end, and those before it were taken in
+-- a capture can't be read to its end, and those before it were read
 pub record IsUnreadCapture (may_fail : List ℕ → Bool) (names : List (Bor (List ℕ))) (policy : Policy) (texts : List (List ℕ)) (stop : Stop) : Type 0 where
   pub file : ℕ
   pub name : Bor (List ℕ)
@@ -96,7 +98,8 @@ pub record IsUnreadCapture (may_fail : List ℕ → Bool) (names : List (Bor (Li
   pub come : ComeBefore policy texts file before
   pub unread : IsUnread (may_fail name.now) (text_at texts file) stop
 
--- what ends the reading of the captures: want of memory, one that can't be read, or their first fault
+-- what ends the reading of the captures: exhausted memory, one that can't be read, or their first
+-- fault
 abbrev pub EndsCaptures : (List ℕ → Bool) → List (Bor (List ℕ)) → Policy → List (List ℕ) → Stop → Type 0
 EndsCaptures may_fail names policy texts stop = (stop ≡ Memory) ⊎ (IsUnreadCapture may_fail names policy texts stop ⊎ RefusesCaptures policy texts stop)
 
@@ -105,7 +108,7 @@ abbrev pub EndsCapture : Bool → Policy → (ℕ → List Packet) → ℕ → L
 EndsCapture may_fail policy others file text =
     EndsReading may_fail text (λ stop. (fault : IntakeFault) × EndsByIntake fault stop × (fault.file ≡ file) × ((IsMemory fault.kind → ⊥) → HasFault policy others file text fault.kind))
 
--- and of one capture more: there is no room for a 17th, or its reading ends so
+-- and of one more capture: there is no room for a 17th, or its reading ends so
 abbrev pub EndsTaking : Bool → Policy → List Fed → List ℕ → Stop → Type 0
 EndsTaking may_fail policy files text stop =
     ((length files ≡ 16) × EndsByIntake (record { kind = Limit; file = 16 }) stop) ⊎ EndsCapture may_fail policy (packets_of files) (length files) text stop

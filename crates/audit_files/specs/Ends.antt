@@ -1,5 +1,5 @@
--- What ends a run before its answer: the first of its files that can't be read or is refused, in the order in which they are read, or what
--- takes the report.
+-- What ends a run before its answer: the first of its files that can't be read or is refused, in
+-- the order in which they are read, or the sink of the report.
 use Rattle.std.specs.Prelude.{◌≡◌, ◌⊎◌, ℕ, Bool, List, Option, Ok}
 use Rattle.std.proofs.Common.{Bor}
 use Rattle.audit_cert.specs.CertText.{cert_of}
@@ -22,7 +22,8 @@ EndsBoth may_fail certificate_name certificate_text names policy texts stop =
     ⊎ ((written : Certificate) × (cert_of certificate_text ≡ Ok (said_by written)) × EndsCaptures may_fail names policy texts stop)
 
 module _ (may_fail : List ℕ → Bool) (policy_name : List ℕ) (policy_text : List ℕ) (users_name : Option (Bor (List ℕ))) (users_text : List ℕ) where
-  -- the policy ends it; or it was read, and the users do; or they were read, too, and what comes then does
+  -- the policy ends it; or it was read, and the users do; or they were also read, and the next file
+  -- does
   abbrev pub EndsBy : (Policy → Stop → Type 0) → Stop → Type 0
   EndsBy Then stop = EndsReading (may_fail policy_name) policy_text (RefusesPolicy policy_text) stop
       ⊎ ((policy : Policy) × (policy_of policy_text ≡ Ok policy) × (EndsReading (may_fail_of may_fail users_name) users_text (RefusesCredentials users_text) stop
@@ -36,6 +37,6 @@ module _ (may_fail : List ℕ → Bool) (policy_name : List ℕ) (policy_text : 
   abbrev pub EndsCheck : List ℕ → List ℕ → List (Bor (List ℕ)) → List (List ℕ) → Stop → Type 0
   EndsCheck certificate_name certificate_text names texts stop = EndsBy (λ policy s. EndsBoth may_fail certificate_name certificate_text names policy texts s) stop
 
--- what ends the writing: want of memory, or a sink that failed, which it has counted
+-- what ends the writing: exhausted memory, or a sink that failed, which it has counted
 abbrev pub EndsWriting : Option ℕ → Option ℕ → Stop → Type 0
 EndsWriting before after stop = (stop ≡ Memory) ⊎ ((stop ≡ Write) × (after ≡ raised_by before 1))

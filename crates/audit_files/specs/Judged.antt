@@ -1,4 +1,4 @@
--- What a run comes to, from the bytes of its files to its report.
+-- The result of a run, from the bytes of its files to its report.
 use Rattle.std.specs.Prelude.{◌≡◌, ◌↔◌, ℕ, List, Option, Ok}
 use Rattle.audit_model.specs.declared.certificate.Certificate.{Certificate}
 use Rattle.audit_model.specs.declared.verdict.Verdict.{Verdict}
@@ -21,8 +21,8 @@ abbrev pub status_of : Verdict → ℕ
 status_of (Conforming datagrams lanes) = 0
 status_of (NotShown breach) = 1
 
--- It is the certificate's verdict. It conforms exactly where the certificate explains the sightings by one run of the server, and then the
--- headline holds.
+-- It is the certificate's verdict. It conforms exactly if the certificate explains the sightings by
+-- one run of the server, and then the headline holds.
 pub record Judges (taken : Taken) (key_for : KeyFor) (certificate : Certificate) (verdict : Verdict) : Type 0 where
   pub is : IsVerdict taken key_for certificate verdict
   pub conforming : IsConforming verdict ↔ Conforms taken (rules_for taken key_for) certificate
@@ -32,8 +32,9 @@ pub record Judges (taken : Taken) (key_for : KeyFor) (certificate : Certificate)
 abbrev pub IsTold : Taken → Verdict → Option (List ℕ) → Option (List ℕ) → ℕ → Type 0
 IsTold taken verdict before after status = (after ≡ followed_by before (report_text verdict taken)) × (status ≡ status_of verdict)
 
--- The report of the certificate's verdict was written, which the status repeats. It conforms exactly where the certificate explains the sightings by
--- one run of the server, and then the headline holds.
+-- The report of the certificate's verdict was written, which the status repeats. It conforms
+-- exactly if the certificate explains the sightings by one run of the server, and then the headline
+-- holds.
 pub record IsJudged (taken : Taken) (key_for : KeyFor) (certificate : Certificate) (before after : Option (List ℕ)) (status : ℕ) : Type 0 where
   pub verdict : Verdict
   pub is : IsVerdict taken key_for certificate verdict
@@ -54,7 +55,7 @@ pub record AreRead (policy users : List ℕ) (captures : List (List ℕ)) (taken
   pub users' : AreUsers users key_for
   pub captures' : AreTakenIn captures taken
 
--- the verdict by the certificate on what these files' bytes say
+-- the verdict by the certificate on these files' bytes
 pub record IsAudited (policy users : List ℕ) (captures : List (List ℕ)) (certificate : Certificate) (before after : Option (List ℕ)) (status : ℕ) : Type 0 where
   pub taken : Taken
   pub key_for : KeyFor

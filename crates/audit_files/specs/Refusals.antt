@@ -28,15 +28,17 @@ RefusesCredentials text stop = (fault : LineFault CredFaultKind) × EndsByCreden
 abbrev pub RefusesCertificate : List ℕ → Stop → Type 0
 RefusesCertificate text stop = (fault : LineFault CertFaultKind) × EndsByCertificate fault stop × UnlessMemory (λ f. certificate.is_memory f.kind) fault (cert_of text)
 
--- whether reading a file may fail that is named, or is none
+-- whether reading a file may fail, if one is named
 abbrev pub may_fail_of : (List ℕ → Bool) → Option (Bor (List ℕ)) → Bool
 may_fail_of may_fail None = false
 may_fail_of may_fail (Some name) = may_fail name.now
 
--- a file that can't be read to its end: its source may fail, or it has more bytes than can be counted
+-- a file that can't be read to its end: its source may fail, or it has more bytes than can be
+-- counted
 abbrev pub IsUnread : Bool → List ℕ → Stop → Type 0
 IsUnread may_fail bytes stop = (stop ≡ Read) × ((may_fail ≡ true) ⊎ (2 ^ 64 - 1 ≤ length bytes))
 
--- what ends the reading of a file of these bytes: want of memory, a file that can't be read, or a refusal
+-- what ends the reading of a file of these bytes: exhausted memory, a file that can't be read, or a
+-- refusal
 abbrev pub EndsReading : Bool → List ℕ → (Stop → Type 0) → Stop → Type 0
 EndsReading may_fail bytes Refuses stop = (stop ≡ Memory) ⊎ (IsUnread may_fail bytes stop ⊎ Refuses stop)

@@ -1,4 +1,4 @@
--- What ends a run before its answer, and how it says so.
+-- What ends a run before its answer, and how that is reported.
 use Rattle.std.specs.Prelude.{◌≡◌, ℕ, List, true}
 use Rattle.audit_text.specs.declared.line_fault.LineFault.{LineFault}
 use Rattle.audit_model.specs.declared.policy_fault.PolicyFaultKind.{PolicyFaultKind}
@@ -23,7 +23,7 @@ status_of_stop Memory = 3
 status_of_stop Read = 4
 status_of_stop Write = 4
 
--- a fault ends a run by its code and its place, or by want of memory if it is that
+-- a fault ends a run by its code and its place, or by exhausted memory if it is that
 abbrev pub EndsBy : Type 0 → List ℕ → Place → Stop → Type 0
 EndsBy Lacks code place (Refused said at) = (Lacks → ⊥) × (said.now ≡ code) × (at ≡ place)
 EndsBy Lacks code place Memory = Lacks

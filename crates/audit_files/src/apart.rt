@@ -1,4 +1,4 @@
-//! Captures that are read side by side, each by one thread.
+//! Reads captures in parallel, each by one thread.
 
 ghost use Rattle.std.specs.Prelude.{◌≡◌, ◌<◌, ◌≤◌, ◌+◌, ◌++◌, ◌∷◌, [], ℕ, Bool, All, IfErr, IfNone, IfOk, IfSome, List, Some, length, map, replicate, slice_get, slice_index_or, vec_len};
 ghost use Rattle.std.specs.List.{AllZip};
@@ -23,7 +23,7 @@ use std::thread::Threads;
 struct Reading<'n, S> {
     name: &'n str,
     source: S,
-    /// Its files before this one aren't fed, and stand for those of the captures before.
+    /// Its intake. The files before this one aren't fed, in place of those of the captures before.
     intake: Intake,
     /// Why the capture is refused.
     stop: Option<Stop>,
@@ -49,7 +49,7 @@ impl<'n, S: Source> Reading<'n, S> {
     }
 }
 
-/// An intake of so many files that aren't fed, by the same policy.
+/// An intake of this number of files that aren't fed, by the same policy.
 fn with_files(intake: &Intake, count: u32) -> Result<Intake, Stop>
     ensures policy { IfOk result (λ made. made.policy ≡ intake.now.policy) }
     ensures stands { IfOk result (λ made. StandsFor made (replicate count not_fed)) }
@@ -62,7 +62,7 @@ fn with_files(intake: &Intake, count: u32) -> Result<Intake, Stop>
     Ok(made)
 }
 
-/// What will read each capture, behind so many files of the intake.
+/// The readers of the captures, after this number of files of the intake.
 fn readings_of<'n, S: Source>(
     alloc: Global,
     source: &S,
@@ -92,7 +92,8 @@ fn readings_of<'n, S: Source>(
     Ok(readings)
 }
 
-/// The files that the readings took in, behind those of the intake, or why the first that is refused is.
+/// Joins the files of the readings after those of the intake, or returns why the first refused one
+/// is refused.
 fn all_joined<S: Source>(intake: Intake, readings: Vec<Reading<'_, S>>) -> Result<Intake, Stop>
     requires { All (λ reading. reading.intake.policy ≡ intake.policy) readings.items }
     ensures policy { IfOk result (λ done. done.policy ≡ intake.policy) }
@@ -114,7 +115,7 @@ fn all_joined<S: Source>(intake: Intake, readings: Vec<Reading<'_, S>>) -> Resul
     Ok(whole)
 }
 
-/// Reads each capture, by so many threads at the most.
+/// Reads each capture, by at most `workers` threads.
 fn read_all<R: Threads + Sync, S: Source>(
     rt: &R,
     alloc: Global,
@@ -140,7 +141,8 @@ fn read_all<R: Threads + Sync, S: Source>(
     );
 }
 
-/// Takes in the captures side by side, each by one thread, of which there are as many as workers at the most.
+/// Reads the captures in parallel into the intake, each by one thread, by at most as many threads
+/// as workers.
 pub fn take_apart<R: Threads + Sync, S: Source>(
     rt: &R,
     alloc: Global,

@@ -1,4 +1,4 @@
-//! The captures of a run, read piece by piece.
+//! Reads the captures of a run, piece by piece.
 
 ghost use Rattle.std.specs.Prelude.{◌≡◌, ◌<◌, ◌++◌, ◌∷◌, [], ℕ, IfErr, IfOk, List, OnOk, Some, length, vec_len};
 ghost use Rattle.std.specs.List.{AllZip};
@@ -51,7 +51,7 @@ fn feed_capture<S: Source>(
     Err(Stop::Read)
 }
 
-/// Takes in a capture more.
+/// Reads one more capture into the intake.
 pub fn take_capture<S: Source>(
     alloc: Global,
     source: &mut S,
@@ -72,7 +72,7 @@ pub fn take_capture<S: Source>(
     feed_capture(alloc, source, name, intake, file)
 }
 
-/// Takes in the captures one after the other.
+/// Reads the captures into the intake, one after the other.
 fn take_in_turn<S: Source>(
     alloc: Global,
     source: &mut S,
@@ -93,7 +93,8 @@ fn take_in_turn<S: Source>(
     Ok(intake)
 }
 
-/// Takes in the captures, with more than one worker side by side. Where they are too many files, the first that is refused is told.
+/// Reads the captures into the intake, with more than one worker in parallel. If there are too many
+/// files, the first refused one is reported.
 fn take_all<R: Threads + Sync, S: Source>(
     rt: &R,
     alloc: Global,
@@ -117,8 +118,9 @@ fn take_all<R: Threads + Sync, S: Source>(
     take_in_turn(alloc, source, names, intake)
 }
 
-/// The captures, each fed from its first byte to its last, and then asked for its end. Any number of workers takes in the same, and tells
-/// the same of what is refused: with more than one the captures are read side by side, each by one thread.
+/// Feeds each capture from its first byte to its last, and then checks how each of them ends. The
+/// result and the refusal are the same for any number of workers: with more than one the captures
+/// are read in parallel, each by one thread.
 pub fn take_in<R: Threads + Sync, S: Source>(
     rt: &R,
     alloc: Global,

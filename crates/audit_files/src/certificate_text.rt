@@ -12,10 +12,10 @@ use audit_cert::CertificateReader;
 use audit_model::Certificate;
 use std::alloc::Global;
 
-/// The most bytes that are kept, so that a text without an end doesn't take all memory.
+/// The most bytes that are kept, so that an endless text doesn't use all memory.
 const KEPT: usize = 1 << 30;
 
-/// The text of a certificate: what the reader was fed, and the rest.
+/// The text of a certificate: the part that was read, and the rest.
 #[derive(Drop)]
 pub struct CertificateText {
     pub reader: CertificateReader,
@@ -25,7 +25,7 @@ pub struct CertificateText {
 }
 
 impl CertificateText {
-    /// A text of no bytes. It takes no memory.
+    /// A text of no bytes. Allocates no memory.
     pub fn new(alloc: Global) -> CertificateText
         ensures { HasText result [] }
     {
@@ -36,7 +36,7 @@ impl CertificateText {
         }
     }
 
-    /// The certificate that the text spells, or its first fault. One pass over the rest, which is freed then.
+    /// The certificate of the text, or its first fault. It reads the rest once, and frees it.
     pub fn read(self) -> Result<Certificate, Stop>
         ensures ok { (text : List ℕ) → HasText self text → IfOk result (λ certificate. cert_of text ≡ Ok (said_by certificate)) }
         ensures err { (text : List ℕ) → HasText self text → IfErr result (RefusesCertificate text) }
@@ -58,7 +58,8 @@ impl TextReading for CertificateText {
 
     ghost refuses = { RefusesCertificate };
 
-    /// Keeps the piece. The first one is read at once, so that a wrong file is refused at its beginning, and what is kept where it is too much.
+    /// Keeps the piece. The first one is read at once, so that a wrong file is refused at its
+    /// beginning, and the kept bytes are read if they exceed `KEPT`.
     fn feed(self, piece: &[u8]) -> Result<Self, Stop> {
         let CertificateText {
             reader,

@@ -1,4 +1,4 @@
-//! The verdict on what the files of a run hold.
+//! The verdict on the files of a run.
 
 ghost use Rattle.std.specs.Prelude.{◌≡◌, ◌⊎◌, ◌↔◌, [], ℕ, IfErr, IfNone, IfOk, IfSome, List, Ok, Some};
 ghost use Rattle.std.specs.List.{AllZip};
@@ -38,7 +38,7 @@ use std::alloc::{AllocError, Global};
 use std::sync::Wait;
 use std::thread::{Threads, join};
 
-/// The policy that a file has.
+/// The policy of a file.
 pub fn read_policy<S: Source>(alloc: Global, source: &mut S, name: &str) -> Result<Policy, Stop>
     ensures kept { S.holds source.new ≡ S.holds source.old }
     ensures says { (text : List ℕ) → S.holds source.old name.now ≡ Some text → IfOk result (λ policy. policy_of text ≡ Ok policy) }
@@ -49,7 +49,7 @@ pub fn read_policy<S: Source>(alloc: Global, source: &mut S, name: &str) -> Resu
     read_text(alloc, source, name, PolicyReader::new(alloc))
 }
 
-/// The users that a file has; none where no file is named.
+/// The users of a file; none if no file is named.
 pub fn read_users<S: Source>(
     alloc: Global,
     source: &mut S,
@@ -68,15 +68,16 @@ pub fn read_users<S: Source>(
     }
 }
 
-/// What every command reads but a certificate.
+/// The files that every command reads, without the certificate.
 #[derive(Drop)]
 pub struct Files {
     pub intake: Intake,
     pub users: Credentials,
 }
 
-/// The users and the captures of a run, by its policy. Files are read in this order: policy, users, captures; each is judged before the
-/// next is read. Any number of workers reads the same.
+/// Reads the users and the captures of a run, by its policy. Files are read in this order: policy,
+/// users, captures; each is checked before the next is read. The result is the same for any number
+/// of workers.
 pub fn read_files<R: Threads + Sync, S: Source>(
     rt: &R,
     alloc: Global,
@@ -104,7 +105,7 @@ pub fn read_files<R: Threads + Sync, S: Source>(
     Ok(Files { intake, users })
 }
 
-/// The verdict on the captures by the certificate, whatever the number of workers.
+/// The verdict on the captures by the certificate, the same for any number of workers.
 pub fn verdict_of<R: Threads + Wait + Sync>(
     rt: &R,
     alloc: Global,
@@ -124,7 +125,8 @@ pub fn verdict_of<R: Threads + Wait + Sync>(
     Ok(judged.verdict)
 }
 
-/// Writes the report of a verdict on the captures. It gives 0 where they conform, and 1 where that isn't shown.
+/// Writes the report of a verdict on the captures. It returns 0 if they conform, and 1 if that
+/// isn't shown.
 pub fn tell<O: Sink>(
     alloc: Global,
     verdict: &Verdict,
@@ -141,8 +143,8 @@ pub fn tell<O: Sink>(
     }
 }
 
-/// Judges the captures by the certificate, and writes the report. It gives 0 where they conform, and 1 where that isn't shown, whatever
-/// the number of workers.
+/// Judges the captures by the certificate, and writes the report. It returns 0 if they conform, and
+/// 1 if that isn't shown, for any number of workers.
 pub fn judge<R: Threads + Wait + Sync, O: Sink>(
     rt: &R,
     alloc: Global,
@@ -159,9 +161,10 @@ pub fn judge<R: Threads + Wait + Sync, O: Sink>(
     tell(alloc, &verdict, intake, out)
 }
 
-/// The certificate of a file, and the captures. One worker reads them in this order, and judges the certificate before it reads a capture.
-/// Of more workers one reads the certificate's lines while the others take in the captures; its text takes memory until then. What is
-/// wrong with the certificate is told before what is wrong with a capture.
+/// The certificate of a file, and the captures. One worker reads them in this order, and checks the
+/// certificate before it reads a capture. With more workers one reads the certificate's lines while
+/// the others read the captures; its text is in memory until then. A fault of the certificate is
+/// reported before a fault of a capture.
 fn read_both<R: Threads + Sync, S: Source>(
     rt: &R,
     alloc: Global,
@@ -200,9 +203,10 @@ fn read_both<R: Threads + Sync, S: Source>(
     Ok((certificate?, intake?))
 }
 
-/// Judges captures by the certificate of a file, and writes the report. Files are read in this order: policy, credentials, certificate,
-/// captures; each is judged before the next is read, but for the certificate where there is more than one worker. It gives 0 where they
-/// conform, and 1 where that isn't shown. The memory of the captures isn't freed then.
+/// Judges captures by the certificate of a file, and writes the report. Files are read in this
+/// order: policy, credentials, certificate, captures; each is checked before the next is read,
+/// except the certificate if there is more than one worker. It returns 0 if they conform, and 1 if
+/// that isn't shown. The memory of the captures isn't freed then.
 pub fn check_files<R: Threads + Wait + Sync, S: Source, O: Sink>(
     rt: &R,
     alloc: Global,

@@ -12,7 +12,7 @@ use audit_sightings::IntakeFault;
 use std::alloc::{AllocError, AllocFailed};
 use std::fmt;
 
-/// The input that is at fault, and where.
+/// The input with the fault, and the place in it.
 #[derive(Clone, Copy, Debug, PartialEq, Eq)]
 pub enum Place {
     Policy { line: u64 },
@@ -21,12 +21,12 @@ pub enum Place {
     Capture { file: u32 },
 }
 
-/// What ended a run.
+/// Why a run ended.
 #[derive(Clone, Copy, Debug)]
 pub enum Stop {
     /// The input was refused.
     Refused { code: &'static str, place: Place },
-    /// There was no memory.
+    /// Memory ran out.
     Memory,
     /// A file could not be read.
     Read,
@@ -35,7 +35,7 @@ pub enum Stop {
 }
 
 impl Stop {
-    /// The exit status that says so.
+    /// The exit status.
     pub fn status(&self) -> u8
         ensures { result ≡ status_of_stop self.now }
     {

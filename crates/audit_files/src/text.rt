@@ -1,4 +1,4 @@
-//! The texts of a run, read piece by piece.
+//! Reads the texts of a run, piece by piece.
 
 ghost use Rattle.std.specs.Prelude.{◌≡◌, ◌⊎◌, ◌++◌, ℕ, [], IfErr, IfOk, List, Some};
 ghost use Rattle.audit_files.specs.Refusals.{EndsReading};
@@ -10,24 +10,24 @@ use audit_keys::{Credentials, CredentialsReader};
 use audit_model::{Certificate, Policy, PolicyReader};
 use std::alloc::Global;
 
-/// What a text is read by.
+/// A reader of a text.
 pub trait TextReading: Drop + Sized {
     ghost use Rattle.std.specs.Prelude.{ℕ, List};
     ghost use Rattle.audit_files.specs.declared.stop.Stop.{Stop};
 
-    /// What the text says.
+    /// The content of the text.
     type Whole;
 
     /// It was fed this text, which has no fault so far.
     ghost stands: { Self → List ℕ → Type 0 };
 
-    /// The text that ends here says this.
+    /// The text that ends here has this content.
     ghost says: { List ℕ → Self.Whole → Type 0 };
 
     /// The text is refused for this reason.
     ghost refuses: { List ℕ → Stop → Type 0 };
 
-    /// Takes the next piece of the text. If it is refused, so is each text that continues it.
+    /// Reads the next piece of the text. If it is refused, so is each text that continues it.
     fn feed(self, piece: &[u8]) -> Result<Self, Stop>
         ensures ok { (text : List ℕ) → stands self text → IfOk result (λ fed. stands fed (text ++ piece.now)) }
         ensures err { (text : List ℕ) → stands self text → (more : List ℕ) → IfErr result (refuses (text ++ piece.now ++ more)) };
@@ -39,7 +39,7 @@ pub trait TextReading: Drop + Sized {
         stop
     }
 
-    /// What the text says that ends here.
+    /// The content of the text that ends here.
     fn finish(self) -> Result<Self::Whole, Stop>
         ensures ok { (text : List ℕ) → stands self text → IfOk result (says text) }
         ensures err { (text : List ℕ) → stands self text → IfErr result (refuses text) };
@@ -114,7 +114,7 @@ impl TextReading for CertificateReader {
     }
 }
 
-/// What the text of a file says. It is read to its end, or to the piece in which it is refused.
+/// The content of a file's text. It is read to its end, or to the piece in which it is refused.
 pub fn read_text<S: Source, R: TextReading>(
     alloc: Global,
     source: &mut S,

@@ -1,8 +1,8 @@
-//! How many threads judge lanes.
+//! The number of threads that judge lanes.
 
 ghost use Rattle.std.specs.Prelude.{◌≡◌, ◌<◌, ◌≤◌, IfNone, IfSome};
 
-/// How many workers judge the lanes, 1 to 256.
+/// The number of workers that judge the lanes, 1 to 256.
 #[derive(Clone, Copy, Debug)]
 pub struct Workers {
     pub count: u32,
@@ -11,7 +11,7 @@ pub struct Workers {
 }
 
 impl Workers {
-    /// So many workers, where they are 1 to 256.
+    /// This number of workers, if it is 1 to 256.
     pub fn of(count: u32) -> Option<Workers>
         ensures some { IfSome result (λ workers. workers.count ≡ count) }
         ensures none { IfNone result ((0 < count) × (count ≤ 256) → ⊥) }
@@ -22,7 +22,7 @@ impl Workers {
         Some(Workers { count })
     }
 
-    /// Those that are left where one does something else, at least one.
+    /// The number that is left if one does something else, at least one.
     pub fn others(self) -> Workers {
         Workers {
             count: (self.count - 1).max(1),

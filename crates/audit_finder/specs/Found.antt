@@ -1,4 +1,4 @@
--- Certificates that are found.
+-- The certificates of the finder.
 use Rattle.std.specs.Prelude.{◌≡◌, List, [], All, map}
 use Rattle.std.specs.List.Sorted.{IsSortedByKey}
 use Rattle.audit_model.specs.Breach.{key_cmp}
@@ -19,7 +19,7 @@ pair_of lane = (lane.client, lane.listen)
 abbrev pub empty_lane : Addr × Addr → CertLane
 empty_lane pair = record { events = []; client = pair.0; listen = pair.1 }
 
--- each event of each lane names what is there
+-- each event of each lane names existing sightings
 abbrev pub AllNamed : Taken → List CertLane → Type 0
 AllNamed taken lanes = All (λ lane. All (NamesWhatIsThere taken) lane.events) lanes
 
@@ -27,11 +27,12 @@ AllNamed taken lanes = All (λ lane. All (NamesWhatIsThere taken) lane.events) l
 abbrev pub KeysRise : CertLane → Type 0
 KeysRise lane = IsSortedByKey key_of key_cmp lane.events
 
--- each drop names an arrival that is there
+-- each drop names an existing arrival
 abbrev pub AreThere : Taken → List CertDrop → Type 0
 AreThere taken drops = All (λ dropped. IsThere taken Arrives dropped.sight) drops
 
--- what holds of each certificate that is found: its lanes are the clients that the captures show, and its events and drops name what is there
+-- the property of each certificate of the finder: its lanes are the clients that the captures show,
+-- and its events and drops name existing sightings
 abbrev pub IsFound : Taken → Certificate → Type 0
 IsFound taken certificate =
     (map pair_of certificate.lanes ≡ clients_of taken) × AllNamed taken certificate.lanes × AreThere taken certificate.drops

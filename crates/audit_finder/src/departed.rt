@@ -1,4 +1,4 @@
-//! Which departures have their event.
+//! Records which departures have their event.
 
 ghost use Rattle.std.specs.Prelude.{◌≡◌, ◌+◌, ◌≤◌, ℕ, IsTrue, false};
 ghost use Rattle.audit_model.specs.Sames.{same_sight};
@@ -9,15 +9,15 @@ use audit_sightings::Intake;
 use std::alloc::{AllocError, Global};
 use std::mem;
 
-/// Which sightings leave by the events that were added so far.
+/// The sightings that leave by the events that were added so far.
 #[derive(Drop)]
 pub(crate) struct Departed {
-    /// Of each interface, whether each of its sightings does.
+    /// For each interface, whether each of its sightings does.
     rows: Vec<Vec<bool>>,
 }
 
 impl Departed {
-    /// None does yet. It takes a byte for each sighting.
+    /// None does yet. It takes one byte for each sighting.
     pub(crate) fn new(alloc: Global, intake: &Intake) -> Result<Departed, AllocError> {
         let interfaces = intake.interfaces();
         let mut rows = Vec::with_capacity(alloc, interfaces as usize)?;
@@ -27,7 +27,7 @@ impl Departed {
         Ok(Departed { rows })
     }
 
-    /// Notes that a sighting leaves, and tells whether it is there and didn't leave before.
+    /// Records that a sighting leaves, and returns whether it exists and didn't leave before.
     fn note(&mut self, sight: SightId) -> bool
         ensures free { IsTrue result → has_left self.old.rows.items sight ≡ false }
         ensures noted { (s : SightId) → has_left self.new.rows.items s ≡ false
@@ -42,8 +42,8 @@ impl Departed {
         !mem::replace(left, true)
     }
 
-    /// Notes what an event says, and tells whether it may be added: each but one by which a sighting that isn't there would leave, or
-    /// one would leave once more.
+    /// Records an event, and returns whether it may be added. Only an event by which a missing
+    /// sighting would leave, or one would leave again, may not.
     pub(crate) fn admits(&mut self, event: Event) -> bool
         ensures free { IsTrue result → (s : SightId) → (n : ℕ) → n ≤ 1 → (has_left self.old.rows.items s ≡ false → n ≡ 0) → n + out_of s event ≤ 1 }
         ensures noted { (s : SightId) → has_left self.new.rows.items s ≡ false

@@ -12,7 +12,7 @@ use audit_model::{Addr, CertLane, Event, Listed, MAX_EVENTS, Side, SightId};
 use audit_sightings::Intake;
 use std::alloc::{AllocError, Global};
 
-/// Whether a sighting of that name is there, and goes that way.
+/// Whether a sighting with that name exists, and goes in that direction.
 pub(crate) fn is_there(intake: &Intake, side: Side, sight: SightId) -> bool
     ensures { IsTrue result ↔ IsThere (taken intake.now) side sight }
 {
@@ -22,7 +22,7 @@ pub(crate) fn is_there(intake: &Intake, side: Side, sight: SightId) -> bool
     }
 }
 
-/// Whether all that the event names is there.
+/// Whether all sightings that the event names exist.
 pub(crate) fn names_what_is_there(intake: &Intake, event: Event) -> bool
     ensures { IsTrue result ↔ NamesWhatIsThere (taken intake.now) event }
 {
@@ -35,7 +35,7 @@ pub(crate) fn names_what_is_there(intake: &Intake, event: Event) -> bool
     }
 }
 
-/// The events that name what is there.
+/// The events whose sightings exist.
 pub(crate) fn named(intake: &Intake, mut events: Vec<(u32, Event)>) -> Vec<(u32, Event)>
     ensures { All (λ e. NamesWhatIsThere (taken intake.now) e.1) result.items }
 {
@@ -58,7 +58,7 @@ fn empty_lanes(alloc: Global, pairs: &[(Addr, Addr)]) -> Result<Vec<CertLane>, A
     Ok(lanes)
 }
 
-/// Adds an event behind the others of its lane.
+/// Adds an event after the others of its lane.
 #[tactic(auto, using(crate::proofs::LaneEvents::pairs_set, crate::proofs::LaneEvents::count_set, crate::proofs::LaneEvents::outs_set, crate::proofs::LaneEvents::named_set, crate::proofs::LaneEvents::named_at))]
 fn add(lanes: &mut Vec<CertLane>, lane: u32, event: Event) -> Result<(), AllocError>
     requires { lane < length lanes.old.items }
@@ -75,7 +75,7 @@ fn add(lanes: &mut Vec<CertLane>, lane: u32, event: Event) -> Result<(), AllocEr
 #[derive(Drop)]
 pub(crate) struct Filled {
     lanes: Vec<CertLane>,
-    /// How many events more may be added.
+    /// How many more events may be added.
     room: usize,
     departed: Departed,
 }
@@ -100,7 +100,8 @@ impl Filled {
         })
     }
 
-    /// Adds an event to its lane where there is one, there is room for it, and no sighting leaves twice.
+    /// Adds an event to its lane if the lane exists, there is room for it, and no sighting leaves
+    /// twice.
     fn add_within(&mut self, lane: u32, event: Event) -> Result<(), AllocError>
         ensures pairs { map pair_of self.new.lanes.items ≡ map pair_of self.old.lanes.items }
         ensures room { IfOk result (λ u. event_count self.new.lanes.items + self.new.room ≤ event_count self.old.lanes.items + self.old.room) }
@@ -130,7 +131,7 @@ impl Filled {
         Ok(())
     }
 
-    /// Adds the events that name what is there to their lanes.
+    /// Adds the events whose sightings exist to their lanes.
     pub(crate) fn add_all(
         &mut self,
         intake: &Intake,
@@ -146,7 +147,8 @@ impl Filled {
         self.distribute(events.as_slice())
     }
 
-    /// The lanes with the last events that name what is there, too, and how many events more might be added.
+    /// The lanes, with the last events whose sightings exist, and how many more events might be
+    /// added.
     pub(crate) fn finish(
         self,
         intake: &Intake,

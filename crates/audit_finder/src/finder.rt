@@ -1,4 +1,4 @@
-//! The finder.
+//! The finder for captures that grow.
 
 ghost use Rattle.std.specs.Prelude.{◌≡◌, ◌≤◌, [], take, drop, length, All, IfOk, OnOk};
 ghost use Rattle.std.specs.List.{IsDistinct};
@@ -19,7 +19,7 @@ use audit_walk::{Ahead, Judge, Search};
 use std::alloc::{AllocError, Global};
 use std::hash::RandomState;
 
-/// What was found so far of captures that grow.
+/// The finder's state for captures that grow.
 #[derive(Drop)]
 pub struct Finder {
     clients: Clients,
@@ -29,7 +29,7 @@ pub struct Finder {
 }
 
 impl Finder {
-    /// Nothing was found yet. It takes no memory. The table of clients hashes by the seed.
+    /// Nothing was found yet. It takes no memory. The seed is for the hash table of clients.
     pub fn new(alloc: Global, seed: RandomState) -> Finder
         ensures clients { result.clients.pairs ≡ [] }
         ensures looked { result.clients.looked.items ≡ [] }
@@ -43,11 +43,12 @@ impl Finder {
         }
     }
 
-    /// Gives each sighting that has no event yet, and has a moment up to the horizon, its event.
+    /// Makes the event of each sighting that has none yet and has a moment up to the horizon.
     ///
-    /// What the intake has gained since the last call is placed past the horizon of that call. The new lanes are the clients
-    /// whose first arrivals are among that, in the order of interface and place; there are 65,536 lanes at the most. Once it has
-    /// failed for want of memory a finder can't go on. It takes n log n in the sightings that are new.
+    /// Sightings that are new since the last call are placed after the horizon of that call. The
+    /// new lanes are the clients whose first arrivals are among these, in the order of interface
+    /// and index; there are at most 65,536 lanes. After an `AllocError` a finder can't continue. It
+    /// takes n log n in the new sightings.
     pub fn extend(
         &mut self,
         intake: &Intake,
@@ -62,9 +63,9 @@ impl Finder {
         ensures drops { IfOk result (λ found. AreThere (taken intake.now) found.drops) }
         ensures clients { OnOk result (self.new.clients.pairs ≡ with_new self.old.clients.looked.items (taken intake.now) self.old.clients.pairs) }
         ensures looked { OnOk result (self.new.clients.looked.items ≡ row_lengths (taken intake.now)) }
-        // All of it stands past the last horizon, and no later than this one.
+        // All of it is after the last horizon, and no later than this one.
         ensures inside { IfOk result (StandInside self.old.search.given_to horizon) }
-        // The next call gives events past this horizon.
+        // The next call returns events after this horizon.
         ensures horizon { OnOk result (self.new.search.given_to ≡ Some horizon) }
     {
         let known = self.clients.len();

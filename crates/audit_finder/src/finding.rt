@@ -1,4 +1,4 @@
-//! Certificates, out of what is found.
+//! Certificates, made from the results of the searches.
 
 ghost use Rattle.std.specs.Prelude.{◌≡◌, ◌+◌, ◌≤◌, All, [], map, length, IfOk};
 ghost use Rattle.std.specs.List.{IsDistinct};
@@ -25,7 +25,8 @@ use std::alloc::{AllocError, Global};
 use std::hash::RandomState;
 use std::thread::Threads;
 
-/// The lanes that are new, with the events and the drops of a portion that name what is there and stand inside the turn.
+/// The new lanes, with the events and the drops of a portion whose sightings exist and whose
+/// moments are in the turn.
 pub(crate) fn extension(
     alloc: Global,
     intake: &Intake,
@@ -46,7 +47,7 @@ pub(crate) fn extension(
     })
 }
 
-/// The drops that name arrivals that are there.
+/// The drops of existing arrivals.
 fn there(intake: &Intake, mut drops: Vec<CertDrop>) -> Vec<CertDrop>
     ensures { AreThere (taken intake.now) result.items }
 {
@@ -91,7 +92,8 @@ fn all_sorted(alloc: Global, lanes: Vec<CertLane>) -> Result<Vec<CertLane>, Allo
     Ok(all)
 }
 
-/// The certificate with these lanes, and with the last events and the drops that name what is there, as long as there is room.
+/// The certificate with these lanes, and with the last events and the drops whose sightings exist,
+/// as long as there is room.
 pub(crate) fn certificate_of(
     alloc: Global,
     intake: &Intake,
@@ -122,7 +124,8 @@ pub(crate) fn certificate_of(
     })
 }
 
-/// The certificate with lanes for these pairs, and with the events and the drops of all captures that name what is there.
+/// The certificate with lanes for these pairs, and with the events and the drops of all captures
+/// whose sightings exist.
 fn certificate_with(
     alloc: Global,
     intake: &Intake,
@@ -142,7 +145,7 @@ fn certificate_with(
     certificate_of(alloc, intake, filled, portion)
 }
 
-/// What the best of the rounds comes to, with lanes for these pairs.
+/// The certificate of the best round, with lanes for these pairs.
 fn found_in_rounds(
     alloc: Global,
     intake: &Intake,
@@ -164,7 +167,7 @@ fn found_in_rounds(
     Ok(FoundCertificate::new(certificate, best.is_whole()))
 }
 
-/// The clients of all captures, in a table that hashes by the seed.
+/// The clients of all captures, in a table that hashes with the seed.
 pub(crate) fn clients_in(
     alloc: Global,
     seed: RandomState,
@@ -177,11 +180,11 @@ pub(crate) fn clients_in(
     Ok(clients)
 }
 
-/// Finds a certificate: an order in which the server kept to its rules, where it finds one; else one that shows where it did
-/// not.
+/// Makes a certificate: an order in which the server kept to its rules, if it finds one; else an
+/// order that shows where it did not.
 ///
-/// Its lanes are the clients in the order of interface and place of their first arrivals, 65,536 of them at the most. It takes n log n
-/// in the sightings, by a seed that those who sent them didn't know.
+/// Its lanes are the clients in the order of interface and index of their first arrivals, at most
+/// 65,536 of them. It takes n log n in the sightings, with a seed that their senders didn't know.
 pub fn find(
     alloc: Global,
     seed: RandomState,
@@ -203,7 +206,8 @@ pub fn find(
     found_in_rounds(alloc, intake, lanes, &reading, &best)
 }
 
-/// Finds the certificate that `find` finds, by so many threads at the most: each searches lanes of its own.
+/// Makes the same certificate as `find`, with at most this number of threads: each searches
+/// different lanes.
 pub fn find_parallel<R: Threads + Sync>(
     rt: &R,
     alloc: Global,

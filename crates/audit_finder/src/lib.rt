@@ -1,6 +1,6 @@
-//! Finds a certificate: an order of what was captured in which the server kept to its rules.
+//! Makes a certificate: an order of the captured datagrams in which the server kept to its rules.
 //!
-//! Nothing rests on it. Whatever it finds is checked.
+//! No verdict depends on it. The certificate is checked.
 #![tactic(auto)]
 
 mod departed;

@@ -1,4 +1,4 @@
-//! What one turn of captures that grow may give.
+//! The events of one turn of captures that grow.
 
 ghost use Rattle.std.specs.Prelude.{◌≡◌, ◌↔◌, All, IsTrue};
 ghost use Rattle.audit_model.specs.Event.{key_of};
@@ -13,14 +13,14 @@ use audit_sightings::Intake;
 /// The moments of a turn.
 #[derive(Clone, Copy, Debug)]
 pub(crate) struct Turn {
-    /// The horizon of the turn before. All moments of this one are past it.
+    /// The horizon of the previous turn. All moments of this one are after it.
     last: Option<u64>,
-    /// Up to here.
+    /// The last moment of this turn.
     horizon: u64,
 }
 
 impl Turn {
-    /// The turn past the last horizon, if there was one, up to this one.
+    /// The turn after the last horizon, if there was one, up to this one.
     pub(crate) fn new(last: Option<u64>, horizon: u64) -> Turn
         ensures last { result.last ≡ last }
         ensures horizon { result.horizon ≡ horizon }
@@ -37,7 +37,7 @@ impl Turn {
         }
     }
 
-    /// The events that name what is there, and stand inside the turn.
+    /// The events in the turn whose sightings exist.
     pub(crate) fn events(self, intake: &Intake, mut events: Vec<(u32, Event)>) -> Vec<(u32, Event)>
         ensures named { All (λ e. NamesWhatIsThere (taken intake.now) e.1) result.items }
         ensures inside { All (λ e. IsInside self.last self.horizon (key_of e.1).moment) result.items }
@@ -48,7 +48,7 @@ impl Turn {
         events
     }
 
-    /// The drops that name arrivals that are there, and stand inside the turn.
+    /// The drops of existing arrivals in the turn.
     pub(crate) fn drops(self, intake: &Intake, mut drops: Vec<CertDrop>) -> Vec<CertDrop>
         ensures there { AreThere (taken intake.now) result.items }
         ensures inside { All (λ d. IsInside self.last self.horizon d.key.moment) result.items }

@@ -13,14 +13,15 @@ use std::alloc::{AllocError, Global};
 use std::hash::RandomState;
 use std::thread::Threads;
 
-/// Finds certificates by one walk over the sightings, or in passes over all of them.
+/// Makes certificates by one walk over the sightings, or in passes over all of them.
 #[derive(Clone, Copy, Debug)]
 pub struct WalkAndPasses {
     seed: RandomState,
 }
 
 impl WalkAndPasses {
-    /// The finder whose tables of clients hash by this seed: clients choose their addresses, and mustn't know it before.
+    /// The finder whose tables of clients hash with this seed: clients choose their addresses, and
+    /// may not know the seed before.
     pub fn new(seed: RandomState) -> WalkAndPasses
         ensures { result.seed ≡ seed }
     {
@@ -54,7 +55,7 @@ impl CertificateFinder for WalkAndPasses {
         Ok(find_late(alloc, self.seed, intake, credentials)?.into_certificate())
     }
 
-    /// With one worker on the caller's thread alone.
+    /// With one worker it runs on the caller's thread alone.
     fn find<R: Threads + Sync>(
         &self,
         rt: &R,

@@ -18,7 +18,7 @@ use audit_walk::{Ahead, Judge, Search};
 use std::alloc::{AllocError, Global};
 use std::hash::RandomState;
 
-/// A lane for each pair, with the events that a walk gives but for the last ones.
+/// A lane for each pair, with all events of a walk except the last ones.
 fn walked(
     alloc: Global,
     intake: &Intake,
@@ -36,7 +36,7 @@ fn walked(
     ahead.begin(judge)?;
     search.begin(judge)?;
     let (_, sightings) = intake.counts();
-    // Each stretch has one at the least.
+    // Each stretch has at least one.
     'steps: for _ in 0..sightings {
         let Some(stretch) = ahead.next(judge)? else {
             break;
@@ -47,7 +47,7 @@ fn walked(
     Ok(filled)
 }
 
-/// What a walk finds that has found nothing yet.
+/// The certificate of a walk from its start.
 fn found_by(
     alloc: Global,
     seed: RandomState,
@@ -73,8 +73,8 @@ fn found_by(
     Ok(FoundCertificate::new(certificate, search.seems_conforming()))
 }
 
-/// Finds a certificate as `find` does, with the same lanes, but by one walk over the sightings in which nothing is taken back: it takes less
-/// time, and finds an order for fewer captures.
+/// Makes a certificate like `find`, with the same lanes, but by one walk over the sightings without
+/// backtracking: it takes less time, and finds an order for fewer captures.
 pub fn find_once(
     alloc: Global,
     seed: RandomState,
@@ -99,7 +99,8 @@ pub fn find_once(
     )
 }
 
-/// Finds a certificate as `find_once` does, but acts on requests as their answers leave, so that leases last as long as they may.
+/// Makes a certificate like `find_once`, but acts on requests as their responses leave, so that
+/// leases last as long as possible.
 pub fn find_late(
     alloc: Global,
     seed: RandomState,

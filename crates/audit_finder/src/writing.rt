@@ -1,4 +1,4 @@
-//! The events of what was found in passes, in the order of their keys.
+//! The events of the passes, in the order of their keys.
 
 use audit_model::{Event, Key};
 use audit_search::{Act, Reading, Round};
@@ -15,12 +15,13 @@ struct Writing<'a> {
     written: usize,
     /// The key of the next event.
     key: Key,
-    /// The lane of each arrival that is acted on.
+    /// The lane that acts on each arrival.
     acted: Vec<Option<LaneNumber>>,
     portion: Portion,
 }
 
-/// The events of a round: of each moment in the order of the sightings, with the acts right before and behind these.
+/// The events of a round: at each moment in the order of the sightings, with the acts right before
+/// and after these.
 pub(crate) fn written(
     alloc: Global,
     reading: &Reading<'_>,
@@ -40,7 +41,7 @@ pub(crate) fn written(
     Ok(writing.portion)
 }
 
-/// The lane of each arrival that is acted on: of two that act on it the one whose act comes first.
+/// The lane that acts on each arrival; if two do, the one whose act comes first.
 fn acted(
     alloc: Global,
     reading: &Reading<'_>,
@@ -59,7 +60,7 @@ fn acted(
 }
 
 impl Writing<'_> {
-    /// Writes a sighting, and the acts right before it and right behind it.
+    /// Writes a sighting, and the acts right before it and right after it.
     fn write(&mut self, number: SeenNumber) -> Result<(), AllocError> {
         let round = self.round;
         self.go_to(round.placed().at(number));
@@ -69,7 +70,7 @@ impl Writing<'_> {
         self.write_acts(Slot::first(rank.saturating_add(1)))
     }
 
-    /// Goes on to a moment, unless it is past.
+    /// Advances to a moment, unless it is past.
     fn go_to(&mut self, moment: u64) {
         if moment > self.key.moment {
             self.key = Key { moment, tie: 0 };

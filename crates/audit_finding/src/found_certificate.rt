@@ -1,14 +1,15 @@
-//! A certificate that was found.
+//! A certificate of a finder.
 
 ghost use Rattle.std.specs.Prelude.{◌≡◌};
 
 use audit_model::Certificate;
 
-/// A certificate that was found by a walk or in passes.
+/// A certificate that a walk or passes made.
 #[derive(Drop)]
 pub struct FoundCertificate {
     certificate: Certificate,
-    /// Whether the server kept to its rules by that, as far as its finder can tell. Nothing rests on it.
+    /// Whether the server kept to its rules by the certificate, by the finder's own judgement. No
+    /// verdict depends on it.
     seems_conforming: bool,
 }
 
@@ -23,7 +24,7 @@ impl FoundCertificate {
         }
     }
 
-    /// Whether the server kept to its rules by the certificate, as far as its finder can tell.
+    /// Whether the server kept to its rules by the certificate, by the finder's own judgement.
     pub fn seems_conforming(&self) -> bool
         ensures { result ≡ self.now.seems_conforming }
     {

@@ -1,7 +1,8 @@
-//! What a finder of certificates is.
+//! The traits of a finder of certificates.
 //!
-//! No verdict rests on a finder: whatever it gives is judged, or refused. It promises to return, and where captures grow to give what comes
-//! in turn. So the program is stated and proved for every finder, and its proofs don't wait for those of the one that it has.
+//! No verdict depends on a finder: its result is judged, or refused. A finder must return; for
+//! captures that grow, it must return only events after the last horizon. So the program is stated
+//! and proved for every finder, and its proofs are independent of those of the finder that it has.
 #![tactic(auto)]
 
 ghost use Rattle.std.specs.Prelude.{◌≡◌, None, IfOk};
@@ -23,13 +24,14 @@ pub trait CertificateFinder {
     ghost use Rattle.audit_model.specs.declared.certificate.Certificate.{Certificate as Found};
     ghost use Rattle.audit_sightings.specs.Intake.{Taken, taken};
 
-    /// What finds the certificate of captures that grow.
+    /// The finder for captures that grow.
     type Extending: ExtensionFinder + Drop;
 
-    /// What holds of each certificate that it finds for what was captured.
+    /// The property of each certificate that it makes for the captures.
     ghost finds: { Taken → Found → Type 0 };
 
-    /// Finds a certificate in the least time, by one walk over the sightings that goes by so much of each window.
+    /// Makes a certificate in the least time, by one walk over the sightings that uses only this
+    /// part of each window.
     fn find_once(
         &self,
         alloc: Global,
@@ -39,7 +41,8 @@ pub trait CertificateFinder {
     ) -> Result<FoundCertificate, AllocError>
         ensures { IfOk result (λ found. finds (taken intake.now) found.certificate) };
 
-    /// Finds a certificate by one walk in which leases last as long as they may: each request is acted on as its answer leaves.
+    /// Makes a certificate by one walk in which leases last as long as possible: the act on each
+    /// request is at the moment at which its response leaves.
     fn find_late(
         &self,
         alloc: Global,
@@ -48,7 +51,8 @@ pub trait CertificateFinder {
     ) -> Result<Certificate, AllocError>
         ensures { IfOk result (finds (taken intake.now)) };
 
-    /// Finds a certificate with all that can be tried by so much of each window, by so many threads at the most.
+    /// Makes a certificate with all passes, using this part of each window, with at most this
+    /// number of threads.
     fn find<R: Threads + Sync>(
         &self,
         rt: &R,
@@ -61,27 +65,28 @@ pub trait CertificateFinder {
         requires { IsSync R.row }
         ensures { IfOk result (λ found. finds (taken intake.now) found.certificate) };
 
-    /// What finds the certificate of captures that grow, of which nothing was found yet.
+    /// The finder for captures that grow, before its first portion.
     fn extending(&self, alloc: Global) -> Self::Extending
         ensures { Self.Extending.given_to result ≡ None };
 }
 
-/// Finds the certificate of captures that grow, in portions.
+/// Makes the certificate of captures that grow, in portions.
 pub trait ExtensionFinder {
     ghost use Rattle.std.specs.Prelude.{◌≡◌, ℕ, IfOk, OnOk, Option, Some};
     ghost use Rattle.audit_finding.specs.Turn.{StandInside};
 
-    /// The last horizon, up to which it has given all that it will.
+    /// The last horizon, up to which it returned all events.
     ghost given_to: { Self → Option ℕ };
 
-    /// What the certificate gains up to a horizon. After want of memory nothing more is found.
+    /// Returns the additions to the certificate up to a horizon. After an `AllocError` it can't
+    /// continue.
     fn extend(
         &mut self,
         intake: &Intake,
         credentials: &Credentials,
         horizon: u64,
     ) -> Result<Extension, AllocError>
-        // All of it stands past the last horizon, and no later than this one.
+        // All of it is after the last horizon, and no later than this one.
         ensures inside { IfOk result (StandInside (given_to self.old) horizon) }
         ensures given { OnOk result (given_to self.new ≡ Some horizon) };
 }

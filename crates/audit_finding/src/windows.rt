@@ -4,9 +4,10 @@ ghost use Rattle.std.specs.Prelude.{◌≤◌, ◌<◌, ◌+◌, ◌-◌, ◌/�
 
 use audit_model::{Policy, Sighting};
 
-/// How much of each datagram's stamp window a walk goes by: one part in so many, in the middle.
+/// The part of each datagram's stamp window that a walk uses: a fraction of it, in the middle.
 ///
-/// What stands in a part stands in the window. So an order that is found by a part is one by the whole.
+/// A moment in a part is in the window. So an order that uses a part is also one of the whole
+/// window.
 #[derive(Clone, Copy, Debug, PartialEq, Eq)]
 pub enum Windows {
     Whole,
@@ -18,7 +19,7 @@ pub enum Windows {
 }
 
 impl Windows {
-    /// The parts, each a tenth of the one before.
+    /// The parts, each a tenth of the previous one.
     pub const PARTS: [Windows; 5] = [
         Windows::Tenth,
         Windows::Hundredth,
@@ -27,7 +28,8 @@ impl Windows {
         Windows::HundredThousandth,
     ];
 
-    /// The first moment at which a datagram may stand, in nanoseconds since 1970: none before its window, or behind the middle of that.
+    /// The first moment at which a datagram may be placed, in nanoseconds since 1970: not before
+    /// its window, nor after the middle of the window.
     pub fn first(self, sighting: &Sighting) -> u64
         ensures inside { sighting.now.lo ≤ result }
         ensures middle { result ≤ sighting.now.lo + (sighting.now.hi - sighting.now.lo) / 2 }
@@ -35,7 +37,8 @@ impl Windows {
         sighting.lo.saturating_add(self.left_out(sighting))
     }
 
-    /// The last moment at which a datagram may stand, in nanoseconds since 1970: none behind its window, or before the middle of that.
+    /// The last moment at which a datagram may be placed, in nanoseconds since 1970: not after its
+    /// window, nor before the middle of the window.
     pub fn last(self, sighting: &Sighting) -> u64
         ensures inside { result ≤ sighting.now.hi }
         ensures middle { sighting.now.lo ≤ sighting.now.hi
@@ -44,18 +47,18 @@ impl Windows {
         sighting.hi.saturating_sub(self.left_out(sighting))
     }
 
-    /// How wide the widest window is that is gone by, in nanoseconds.
+    /// The width of the widest window that is used, in nanoseconds.
     pub fn widest(self, policy: &Policy) -> u64 {
         let own = policy.skews.as_slice().iter().map(|own| own.skew);
         let skew = own.fold(policy.skew, |widest, skew| widest.max(skew));
         skew.saturating_mul(2) / self.parts()
     }
 
-    /// How much of a window is left out at either end.
+    /// The part of a window that isn't used at either end.
     fn left_out(self, sighting: &Sighting) -> u64
         ensures { result ≤ (sighting.now.hi - sighting.now.lo) / 2 }
     {
-        // Most are asked of whole windows, and it takes no division then.
+        // Most calls are for whole windows, which need no division.
         if self == Windows::Whole {
             return 0;
         }
@@ -63,7 +66,7 @@ impl Windows {
         half.saturating_sub(half / self.parts())
     }
 
-    /// How many parts a window has.
+    /// The number of parts of a window.
     fn parts(self) -> u64
         ensures { 0 < result }
     {

@@ -1,4 +1,4 @@
-//! The lanes of a certificate, as they are judged.
+//! Judges the lanes of a certificate in order.
 
 ghost use Rattle.std.specs.Prelude.{IfOk};
 ghost use Rattle.audit_verdict.specs.Verdicts.{IsJobOf};
@@ -15,7 +15,7 @@ use audit_sightings::Intake;
 use std::alloc::{AllocError, Global};
 use std::sync::Arc;
 
-/// What each lane of a certificate is judged by, where placement has no breach.
+/// The inputs of a certificate's lanes, if placement has no breach.
 pub fn job<'a>(
     alloc: Global,
     intake: &'a Intake,
@@ -33,7 +33,7 @@ pub fn job<'a>(
     Ok(job)
 }
 
-/// What each lane shows, in the order of the lanes.
+/// The finding of each lane, in the order of the lanes.
 pub fn judge_all<'a>(alloc: Global, job: &Job<'a>) -> Result<Vec<Finding<'a>>, AllocError>
     ensures { IfOk result (λ findings. InOrder job.now findings.items) }
 {

@@ -1,4 +1,4 @@
-//! The verdict: placement, then each lane alone.
+//! Checks a certificate by one thread: placement, then each lane alone.
 #![tactic(auto)]
 
 mod lanes;

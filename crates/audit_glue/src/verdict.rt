@@ -1,4 +1,4 @@
-//! The verdict.
+//! Concludes the verdict from the findings of the lanes.
 
 ghost use Rattle.std.specs.Prelude.{length, ◌≤◌, ◌↔◌, IfOk};
 ghost use Rattle.audit_keys.specs.KeyFor.{key_for};
@@ -20,8 +20,8 @@ use audit_sightings::laws::sightings_are_numbered;
 use audit_tenancy::clash;
 use std::alloc::{AllocError, Global};
 
-/// The verdict that one finding for each lane, in any order, comes to, where placement has no breach: the least breach of the lanes, or else
-/// of their tenancies. It takes n log n in the tenancies.
+/// The verdict of one finding for each lane, in any order, if placement has no breach: the least
+/// breach of the lanes, or else of their tenancies. It takes n log n time in the tenancies.
 pub fn conclude(
     alloc: Global,
     datagrams: u32,
@@ -42,7 +42,8 @@ pub fn conclude(
     })
 }
 
-/// The verdict that the parts come to: placement first, then each lane alone, then which of them hold one address at once.
+/// The verdict of the parts: placement first, then each lane alone, then which of them hold one
+/// address at once.
 fn verdict_of_parts(
     alloc: Global,
     intake: &Intake,
@@ -60,17 +61,19 @@ fn verdict_of_parts(
     conclude(alloc, placement.datagrams(), findings.as_slice())
 }
 
-/// The verdict on an intake by a certificate (RFC 8656): it conforms just where the certificate stands for one run of the server that
-/// explains the captures. It takes n log n in the events and tenancies, and reads each payload a bounded number of times.
+/// The verdict on an intake by a certificate (RFC 8656): it conforms exactly if the certificate is
+/// one run of the server that explains the captures. It takes n log n time in the events and
+/// tenancies, and reads each payload a bounded number of times.
 pub fn check(
     alloc: Global,
     intake: &Intake,
     credentials: &Credentials,
     certificate: &Certificate,
 ) -> Result<Verdict, AllocError>
-    // The least breach of placement, or what the lanes come to.
+    // The least breach of placement, or the verdict of the lanes.
     ensures verdict { IfOk result (IsVerdict (taken intake.now) (key_for credentials.now) certificate.now) }
-    // It conforms exactly where the certificate's one list of moves is a run of the server that explains the captures,
+    // It conforms exactly if the certificate's one list of moves is a run of the server that
+    // explains the captures,
     ensures conforming { IfOk result (λ verdict. IsConforming verdict ↔ Conforms (taken intake.now) (rules_for (taken intake.now) (key_for credentials.now)) certificate.now) }
     // and then the headline holds.
     ensures headline { IfOk result (λ verdict. IsConforming verdict → Headline (taken intake.now) (key_for credentials.now) certificate.now) }

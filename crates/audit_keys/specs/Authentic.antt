@@ -1,4 +1,4 @@
--- A request that is a user's (RFC 8489, sections 9.2.3 and 9.2.4).
+-- A request that is authentic by a user (RFC 8489, sections 9.2.3 and 9.2.4).
 use Rattle.std.specs.Prelude.{◌≡◌, ℕ, List, Some}
 use Rattle.audit_stun.specs.declared.numbers.attribute.TheConstants.{USERNAME, REALM, NONCE}
 use Rattle.audit_stun.specs.Counted.{first_of}
@@ -8,8 +8,9 @@ use Rattle.audit_keys.specs.Chosen.{chosen_key}
 use Rattle.audit_keys.specs.Keys.{KeyFor}
 use Rattle.audit_keys.specs.Signed.{IsSigned}
 
--- It names the user and a realm and has a nonce, the credentials have keys for both, and it is signed under the one that
--- it chooses. `find` is the look-up of the credentials, as `key_for credentials`.
+-- It names the user and a realm and has a nonce, the credentials have keys for both, and it is
+-- signed under the one that it chooses. `find` is the look-up of the credentials, as `key_for
+-- credentials`.
 pub record IsAuthentic (find : KeyFor) (message user : List ℕ) : Type 0 where
   pub realm : List ℕ
   pub nonce : List ℕ

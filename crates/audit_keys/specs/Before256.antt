@@ -1,4 +1,4 @@
--- Signed and authentic as they were while no SHA-256 was judged. Only the law `unchanged` speaks of them.
+-- The definitions of signed and authentic without SHA-256. Only the law `unchanged` uses them.
 use Rattle.std.specs.Prelude.{◌≡◌, ◌≢◌, ℕ, ◌+◌, ◌==◌, ◌||◌, if◌then◌else◌, List, [], ◌∷◌, ◌++◌, length, take, slice_range, All, filter, find, Option, Some, option_map}
 use Rattle.std.specs.Int.{w16, to_be_bytes}
 use Rattle.audit_stun.specs.declared.numbers.attribute.TheConstants.{USERNAME, REALM, NONCE, MESSAGE_INTEGRITY, MESSAGE_INTEGRITY_SHA256, PASSWORD_ALGORITHM, FINGERPRINT}
@@ -8,7 +8,7 @@ use Rattle.audit_stun.specs.Parts.{parts_of}
 use Rattle.audit_keys.specs.Hmac.{hmac_of}
 use Rattle.audit_keys.specs.Keys.{KeyFor}
 
--- up to MESSAGE-INTEGRITY all counted, and after it these two
+-- all up to MESSAGE-INTEGRITY count, and after it these two
 unfoldable pub counted_before : List Attribute → List Attribute
 counted_before [] = []
 counted_before (a ∷ others) =
@@ -31,7 +31,7 @@ pub record WasSigned (message key : List ℕ) : Type 0 where
   pub twenty : length value ≡ 20
   pub signs : value ≡ hmac_of key (head ++ text)
 
--- `find` told one key of a user
+-- `find` returns one key of a user
 pub record WasAuthentic (find : List ℕ → List ℕ → Option (List ℕ)) (message user : List ℕ) : Type 0 where
   pub realm : List ℕ
   pub nonce : List ℕ
@@ -42,7 +42,7 @@ pub record WasAuthentic (find : List ℕ → List ℕ → Option (List ℕ)) (me
   pub known : find user realm ≡ Some key
   pub signed : WasSigned message key
 
--- it was this one
+-- which is this one
 abbrev pub md5_keys : KeyFor → List ℕ → List ℕ → Option (List ℕ)
 md5_keys find user realm = option_map (λ keys. keys.md5) (find user realm)
 

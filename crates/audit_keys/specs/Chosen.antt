@@ -1,4 +1,5 @@
--- Which of the keys a request chooses by its PASSWORD-ALGORITHM (RFC 8489, sections 9.2.4, 14.12 and 18.5).
+-- Which of the keys a request chooses by its PASSWORD-ALGORITHM (RFC 8489, sections 9.2.4, 14.12
+-- and 18.5).
 use Rattle.std.specs.Prelude.{ℕ, ◌==◌, if◌then◌else◌, List, [], ◌∷◌, Option, Some, None}
 use Rattle.std.specs.Int.{w16, from_be_bytes}
 use Rattle.audit_stun.specs.declared.numbers.attribute.TheConstants.{PASSWORD_ALGORITHM}
@@ -6,8 +7,8 @@ use Rattle.audit_stun.specs.Attribute.{Attribute}
 use Rattle.audit_stun.specs.Counted.{first_of}
 use Rattle.audit_keys.specs.declared.keys.Keys.{Keys}
 
--- The number of the algorithm in a value of four bytes, of which the last two are not judged. Another value counts as
--- absent, and where there is none the algorithm is MD5.
+-- The number of the algorithm in a value of four bytes, of which the last two are not checked.
+-- Another value counts as absent, and if there is none the algorithm is MD5.
 unfoldable pub algorithm_in : Option (List ℕ) → ℕ
 algorithm_in (Some (a ∷ b ∷ c ∷ d ∷ [])) = from_be_bytes w16 (a ∷ b ∷ [])
 algorithm_in _ = 1

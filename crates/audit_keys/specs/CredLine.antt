@@ -1,4 +1,4 @@
--- What one line of a credentials text says: user, TAB, realm, TAB, password.
+-- One line of a credentials text: user, TAB, realm, TAB, password.
 use Rattle.std.specs.Prelude.{ℕ, Bool, ◌==◌, ◌&&◌, ◌||◌, if◌then◌else◌, List, length, nat_le, nat_lt, Option, Some, None, Result, Ok, Err}
 use Rattle.std.specs.List.{list_any, list_all}
 use Rattle.audit_text.specs.Token.{cut_of}
@@ -15,7 +15,7 @@ pub record LongTermCredential : Type 0 where
 abbrev pub may_stand : ℕ → Bool
 may_stand b = (nat_le 0x20 b && nat_le b 0x7E) || (b == 9)
 
--- the realm and the password, where there is one TAB more and no other
+-- the realm and the password, if there is exactly one more TAB
 abbrev pub credential_after : List ℕ → Option (List ℕ × List ℕ) → Option LongTermCredential
 credential_after user None = None
 credential_after user (Some halves) =

@@ -8,7 +8,7 @@ use Rattle.audit_keys.specs.declared.cred_fault.CredFaultKind.TheVariants.{Line,
 use Rattle.audit_keys.specs.CredLine.{LongTermCredential, may_stand, read_credential}
 use Rattle.audit_keys.specs.Keys.{key_in}
 
--- a credential more, in front of those before it, where none has its user and realm
+-- one more credential, before the others, if none has its user and realm
 abbrev pub with_credential : List LongTermCredential → Result LongTermCredential CredFaultKind → Result (List LongTermCredential) CredFaultKind
 with_credential listed (Ok credential) = if is_some (key_in listed credential.user credential.realm) then Err Double else Ok (credential ∷ listed)
 with_credential listed (Err kind) = Err kind
@@ -17,15 +17,15 @@ with_credential listed (Err kind) = Err kind
 abbrev pub after : List LongTermCredential → List ℕ → Result (List LongTermCredential) CredFaultKind
 after listed line = with_credential listed (read_credential (length listed + 1) line)
 
--- what is wrong with bytes that no LF ends
+-- the fault of bytes that no LF ends
 abbrev pub unended : List LongTermCredential → List ℕ → CredFaultKind
 unended listed rest = if list_all may_stand rest then Line else Character
 
--- a line of too many bytes is none, whatever stands in it
+-- a line of too many bytes is a line fault, whatever it contains
 abbrev pub overlong : List LongTermCredential → CredFaultKind
 overlong listed = Line
 
--- nothing has to be there
+-- nothing is required
 abbrev pub lacks : List LongTermCredential → Option CredFaultKind
 lacks listed = None
 

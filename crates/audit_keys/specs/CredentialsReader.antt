@@ -1,4 +1,4 @@
--- Which text a reader of credentials stands for.
+-- The text that a reader of credentials has read.
 use Rattle.std.specs.Prelude.{ℕ, List, []}
 use Rattle.audit_text.specs.Reading.{within}
 use Rattle.audit_text.specs.Readers as readers

@@ -1,4 +1,4 @@
--- HMAC as RFC 2104, section 2, says it: H (K xor opad, H (K xor ipad, text)), over blocks of 64 bytes.
+-- HMAC (RFC 2104, section 2): H (K xor opad, H (K xor ipad, text)), over blocks of 64 bytes.
 use Rattle.std.specs.Prelude.{ℕ, ◌-◌, List, ◌++◌, length, map, replicate, nat_lt, if◌then◌else◌, bit_xor}
 use Rattle.sha1.specs.Sha1.{sha1}
 use Rattle.sha2.specs.Sha256.{sha256}
@@ -15,7 +15,7 @@ short_key hash key = if nat_lt 64 (length key) then hash key else key
 unfoldable pub block_of : Hash → List ℕ → List ℕ
 block_of hash key = short_key hash key ++ replicate (64 - length (short_key hash key)) 0
 
--- the pad upon each byte
+-- each byte XORed with the pad
 abbrev pub xored : ℕ → List ℕ → List ℕ
 xored pad bytes = map (λ b. bit_xor b pad) bytes
 

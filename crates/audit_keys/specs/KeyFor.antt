@@ -1,4 +1,4 @@
--- The keys that credentials keep for a user of a realm.
+-- The keys that credentials have for a user of a realm.
 use Rattle.std.specs.Prelude.{List}
 use Rattle.std.specs.Option.{option_and_then}
 use Rattle.std.specs.Ordering.{nat_cmp}
@@ -13,6 +13,6 @@ key_for credentials user realm =
     option_and_then (λ users. get_by (λ k. slice_cmp nat_cmp user k.items) users)
     (get_by (λ k. slice_cmp nat_cmp realm k.items) credentials.realms)
 
--- credentials keep the keys of these credentials, and no others
+-- credentials have the keys of these credentials, and no others
 abbrev pub HasKeysOf : Credentials → List LongTermCredential → Type 0
 HasKeysOf credentials listed = Knows (key_for credentials) listed

@@ -12,13 +12,14 @@ Integrity = List ℕ × List ℕ × List ℕ
 abbrev pub IsHmac : List ℕ → Integrity → Type 0
 IsHmac key found = (length found.2 ≡ 20) × (found.2 ≡ hmac_of key (found.0 ++ found.1))
 
--- a front of the HMAC-SHA256, of 16 to 32 bytes in steps of 4
+-- a prefix of the HMAC-SHA256, of 16 to 32 bytes in steps of 4
 pub record IsHmac256 (key : List ℕ) (found : Integrity) : Type 0 where
   pub from : 16 ≤ length found.2
   pub up_to : length found.2 ≤ 32
   pub steps : length found.2 % 4 ≡ 0
   pub front : found.2 ≡ take (length found.2) (hmac256_of key (found.0 ++ found.1))
 
--- MESSAGE-INTEGRITY-SHA256 decides alone where it counts, and else MESSAGE-INTEGRITY, without which no message is signed.
+-- MESSAGE-INTEGRITY-SHA256 decides alone if it counts, and otherwise MESSAGE-INTEGRITY. A message
+-- with neither is not signed.
 unfoldable pub IsSigned : List ℕ → List ℕ → Type 0
 IsSigned message key = MatchOption (covered_of MESSAGE_INTEGRITY_SHA256 message) (IsSomeAnd (covered_of MESSAGE_INTEGRITY message) (IsHmac key)) (IsHmac256 key)

@@ -7,8 +7,8 @@ use audit_text::LineFault;
 use std::alloc::{AllocError, AllocFailed};
 use thiserror::Error;
 
-/// What is wrong with a line of a credentials text. Of a line's faults that of Character is told first, then that of
-/// Line, Limit and Double.
+/// What is wrong with a line of a credentials text. Of a line's faults Character is reported first,
+/// then Line, Limit and Double.
 #[derive(Clone, Copy, Debug, PartialEq, Eq, Error)]
 pub enum CredFaultKind {
     /// K1: not two TABs, an empty user or realm, or no LF.
@@ -23,7 +23,7 @@ pub enum CredFaultKind {
     /// K4: a field of over 508 bytes, or a line past the 65,536th.
     #[error("K4 limit")]
     Limit,
-    /// K5: there was no memory.
+    /// K5: memory ran out.
     #[error("K5 memory")]
     Memory,
 }
@@ -45,7 +45,7 @@ impl CredFaultKind {
     }
 }
 
-/// A credentials text was refused.
+/// Why a credentials text was refused, with the line.
 pub type CredFault = LineFault<CredFaultKind>;
 
 impl<T: Drop> From<AllocFailed<T>> for CredFaultKind {

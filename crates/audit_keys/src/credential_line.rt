@@ -1,4 +1,4 @@
-//! One line of a credentials text.
+//! Parses one line of a credentials text.
 
 ghost use Rattle.std.specs.Prelude.{◌≡◌, ◌≤◌, OnOk, IfOk, MatchResult, option_map, Ok, Err};
 ghost use Rattle.std.specs.List.{list_all};
@@ -16,7 +16,7 @@ const MAX_FIELD: usize = 508;
 /// The most lines of a credentials text.
 pub(crate) const MAX_LINES: u64 = 65_536;
 
-/// What a line says.
+/// The credential of a line.
 #[derive(Clone, Copy)]
 pub(crate) struct LongTermCredential<'a> {
     pub(crate) user: &'a [u8],
@@ -32,7 +32,8 @@ pub(crate) fn are_characters(line: &[u8]) -> bool
         .all(|byte| (0x20 <= *byte && *byte <= 0x7E) || *byte == TAB)
 }
 
-/// The fields of a line: user, TAB, realm, TAB, password. None where they are not so many, or user or realm is empty.
+/// The fields of a line: user, TAB, realm, TAB, password. None if their number differs, or user or
+/// realm is empty.
 #[tactic(auto, unfolding(crate::specs::CredLine::credential_of))]
 fn split_line(line: &[u8]) -> Option<LongTermCredential<'_>>
     ensures { option_map seen result ≡ credential_of line.now }
@@ -49,7 +50,7 @@ fn split_line(line: &[u8]) -> Option<LongTermCredential<'_>>
     })
 }
 
-/// The credential that the line of this number says.
+/// The credential of the line of this number.
 #[tactic(auto, unfolding(crate::specs::CredLine::read_credential))]
 pub(crate) fn read_line(number: u64, line: &[u8]) -> Result<LongTermCredential<'_>, CredFaultKind>
     ensures exact { MatchResult result (λ credential. read_credential number line.now ≡ Ok (seen credential)) (λ kind. read_credential number line.now ≡ Err kind) }

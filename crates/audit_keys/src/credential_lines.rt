@@ -1,4 +1,4 @@
-//! The lines of a credentials text.
+//! Adds the lines of a credentials text.
 
 ghost use Rattle.std.specs.Prelude.{◌≡◌, ◌≤◌, []};
 ghost use Rattle.audit_keys.specs.declared.credential_line.TheConstants.{MAX_LINES};
@@ -9,11 +9,11 @@ use crate::keyring::Credentials;
 use audit_text::Lines;
 use std::alloc::Global;
 
-/// The users that the lines so far say.
+/// The users of the lines so far.
 #[derive(Drop)]
 pub struct CredentialLines {
     credentials: Credentials,
-    /// How many lines there were.
+    /// The number of lines.
     count: u64,
     alloc: Global,
     ghost few: { count ≤ MAX_LINES },
@@ -22,7 +22,7 @@ pub struct CredentialLines {
 impl CredentialLines {
     ghost use Rattle.audit_keys.specs.CredentialLines.{Says};
 
-    /// No line yet. It takes no memory.
+    /// No line yet. Allocates no memory.
     pub(crate) fn new(alloc: Global) -> CredentialLines
         ensures { Says result [] }
     {
@@ -33,7 +33,7 @@ impl CredentialLines {
         }
     }
 
-    /// The users that the lines said.
+    /// The users of the lines.
     pub(crate) fn into_credentials(self) -> Credentials
         ensures { result ≡ self.credentials }
     {

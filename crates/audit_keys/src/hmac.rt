@@ -9,7 +9,7 @@ ghost use Rattle.audit_keys.specs.Hmac.{block_of, xored, hmac_of, hmac256_of};
 use sha1::Sha1;
 use sha2::{Digest, Sha256};
 
-/// Bytes that SHA-1 and SHA-256 take in at once.
+/// The number of bytes of a block of SHA-1 and SHA-256.
 const BLOCK_LENGTH: usize = 64;
 
 const INNER_PAD: u8 = 0x36;
@@ -38,7 +38,7 @@ fn key_block(key: &[u8]) -> [u8; BLOCK_LENGTH]
     }
 }
 
-/// The same under SHA-256.
+/// The key in a block of its own, for SHA-256.
 #[tactic(auto, unfolding(crate::specs::Hmac::block_of))]
 fn key_block_sha256(key: &[u8]) -> [u8; BLOCK_LENGTH]
     ensures { result ≡ block_of sha256 key.now }
@@ -50,7 +50,7 @@ fn key_block_sha256(key: &[u8]) -> [u8; BLOCK_LENGTH]
     }
 }
 
-/// The block with the pad upon each byte.
+/// The block, each byte XORed with the pad.
 fn padded(block: &[u8; BLOCK_LENGTH], pad: u8) -> [u8; BLOCK_LENGTH]
     ensures { result ≡ xored pad block.now }
 {
@@ -61,7 +61,7 @@ fn padded(block: &[u8; BLOCK_LENGTH], pad: u8) -> [u8; BLOCK_LENGTH]
     padded
 }
 
-/// The HMAC-SHA1 of the pieces, one after the other, under the key (RFC 2104). It takes no memory.
+/// The HMAC-SHA1 of the pieces, one after the other, under the key (RFC 2104). Allocates no memory.
 #[tactic(auto, unfolding(crate::specs::Hmac::hmac_by))]
 pub fn hmac_sha1(key: &[u8], pieces: &[&[u8]]) -> [u8; 20]
     ensures { result ≡ hmac_of key.now (concat (map (λ piece. piece.now) pieces.now)) }
@@ -78,7 +78,7 @@ pub fn hmac_sha1(key: &[u8], pieces: &[&[u8]]) -> [u8; 20]
     outer.finalize()
 }
 
-/// The HMAC-SHA256 likewise. It takes no memory.
+/// The HMAC-SHA256 likewise. Allocates no memory.
 #[tactic(auto, unfolding(crate::specs::Hmac::hmac_by))]
 pub fn hmac_sha256(key: &[u8], pieces: &[&[u8]]) -> [u8; 32]
     ensures { result ≡ hmac256_of key.now (concat (map (λ piece. piece.now) pieces.now)) }

@@ -1,4 +1,4 @@
-//! Whether a message is signed.
+//! Checks that a message is signed.
 
 ghost use Rattle.std.specs.Prelude.{◌↔◌, IsTrue};
 ghost use Rattle.audit_keys.specs.Signed.{IsHmac, IsHmac256, IsSigned};
@@ -16,8 +16,8 @@ fn is_hmac<'a>(key: &[u8], head: &'a [u8], text: &'a [u8], value: &[u8]) -> bool
     value == hmac_sha1(key, &[head, text]).as_slice()
 }
 
-/// Whether the value is the HMAC-SHA256 of the head and the text under the key, or as much of its
-/// front as an integrity may be cut to.
+/// Whether the value is the HMAC-SHA256 of the head and the text under the key, or a prefix of it
+/// of an allowed length.
 fn is_hmac_sha256<'a>(key: &[u8], head: &'a [u8], text: &'a [u8], value: &[u8]) -> bool
     ensures { IsTrue result ↔ IsHmac256 key.now (head.now, text.now, value.now) }
 {
@@ -30,8 +30,8 @@ fn is_hmac_sha256<'a>(key: &[u8], head: &'a [u8], text: &'a [u8], value: &[u8]) 
 }
 
 /// Whether the message is signed under the key: its MESSAGE-INTEGRITY-SHA256 is the HMAC-SHA256 of
-/// what it covers, whole or cut (RFC 8489, section 14.6), or, where there is none, its
-/// MESSAGE-INTEGRITY the 20 bytes of the HMAC-SHA1 (section 14.5). It takes no memory.
+/// the bytes that it covers, whole or truncated (RFC 8489, section 14.6), or, if there is none, its
+/// MESSAGE-INTEGRITY is the 20 bytes of the HMAC-SHA1 (section 14.5). Allocates no memory.
 #[tactic(auto, unfolding(crate::specs::Signed::IsSigned))]
 pub fn signed(message: &Message<'_>, key: &[u8]) -> bool
     ensures { IsTrue result ↔ IsSigned message.now key.now }

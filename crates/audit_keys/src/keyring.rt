@@ -14,8 +14,7 @@ use std::alloc::Global;
 use std::collections::BTreeMap;
 use std::fmt;
 
-/// The users of a server, each with the long-term keys of its realm. Contracts see it by
-/// `key_for`.
+/// The users of a server, each with the long-term keys of its realm. Contracts see it by `key_for`.
 #[derive(Drop)]
 pub struct Credentials {
     /// By realm, and then by user.
@@ -34,7 +33,7 @@ fn keys_of(credential: &LongTermCredential<'_>) -> Keys
 }
 
 impl Credentials {
-    /// No users. It takes no memory.
+    /// No users. Allocates no memory.
     #[tactic(auto, unfolding(crate::specs::KeyFor::key_for))]
     pub(crate) fn new(alloc: Global) -> Self
         ensures { (user realm : List ℕ) → key_for result user realm ≡ None }
@@ -44,7 +43,7 @@ impl Credentials {
         }
     }
 
-    /// The long-term keys of the user of that realm. It takes no memory.
+    /// The long-term keys of the user of that realm. Allocates no memory.
     #[tactic(auto, unfolding(crate::specs::KeyFor::key_for))]
     pub fn lookup(&self, user: &[u8], realm: &[u8]) -> Option<Keys>
         ensures { result ≡ key_for self.now user.now realm.now }
@@ -53,7 +52,7 @@ impl Credentials {
         users.get(user).copied()
     }
 
-    /// Gives the credential's user its keys.
+    /// Adds the credential's user with its keys.
     #[tactic(auto, unfolding(crate::specs::KeyFor::key_for))]
     pub(crate) fn insert(
         &mut self,
@@ -78,7 +77,7 @@ impl Credentials {
     }
 }
 
-/// Tells no key.
+/// Prints no key.
 impl fmt::Debug for Credentials {
     fn fmt<W: fmt::Write>(&self, f: &mut fmt::Formatter<W>) -> fmt::Result {
         f.write_str("Credentials { .. }")

@@ -19,8 +19,8 @@ pub struct Keys {
     pub sha256: [u8; 32],
 }
 
-/// The number in a PASSWORD-ALGORITHM of four bytes, of which the last two are not judged. MD5's
-/// where there is no such value.
+/// The number in a PASSWORD-ALGORITHM of four bytes, of which the last two are not checked. MD5's
+/// if there is no such value.
 #[tactic(auto, unfolding(crate::specs::Chosen::algorithm_in))]
 fn algorithm(value: Option<&[u8]>) -> u16
     ensures { result ≡ algorithm_in (option_copied value.entry) }
@@ -33,7 +33,7 @@ fn algorithm(value: Option<&[u8]>) -> u16
 
 impl Keys {
     /// The key that the request chooses by its PASSWORD-ALGORITHM (RFC 8489, section 14.12), for
-    /// itself and its response. None for an algorithm that nobody knows. It takes no memory.
+    /// itself and its response. None for an unknown algorithm. Allocates no memory.
     #[tactic(auto, unfolding(crate::specs::Chosen::chosen_key))]
     pub fn chosen_by(&self, request: &Message<'_>) -> Option<&[u8]>
         ensures { option_copied result ≡ chosen_key (parts_of request.now).attributes self.now }

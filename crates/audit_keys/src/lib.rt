@@ -1,5 +1,5 @@
-//! Keys, and what is signed under them: HMAC-SHA1 and HMAC-SHA256 (RFC 2104), the long-term keys
-//! of STUN (RFC 8489, section 9.2.2) and the credentials file.
+//! Keys, and signatures under them: HMAC-SHA1 and HMAC-SHA256 (RFC 2104), the long-term keys of
+//! STUN (RFC 8489, section 9.2.2) and the credentials file.
 #![tactic(auto)]
 
 mod cred_fault;

@@ -1,4 +1,4 @@
-//! Which channels clients asked for.
+//! The channels that clients requested.
 
 use audit_model::Addr;
 use audit_seen::{LaneNumber, Says, Sights, asked_channel};
@@ -18,7 +18,7 @@ pub struct Bindings {
 }
 
 impl Bindings {
-    /// Those of all requests. It takes n log n.
+    /// The channels of all requests. It takes n log n.
     pub fn of(alloc: Global, intake: &Intake, sights: &Sights) -> Result<Bindings, AllocError> {
         let mut bindings = Bindings {
             by_peer: BTreeSet::new(alloc),
@@ -43,7 +43,7 @@ impl Bindings {
         Ok(())
     }
 
-    /// The least numbers that a lane's requests named for a peer, so many at the most.
+    /// The least numbers that a lane's requests named for a peer, at most `LOOKED_AT`.
     pub fn numbers_of(&self, lane: LaneNumber, peer: Addr) -> Result<Vec<u16>, AllocError> {
         let mut numbers = Vec::new(self.alloc);
         for (other, address, number) in self.by_peer.range((lane, peer, 0)..).take(LOOKED_AT) {
@@ -54,7 +54,7 @@ impl Bindings {
         Ok(numbers)
     }
 
-    /// The least peers that a lane's requests named for a number, so many at the most.
+    /// The least peers that a lane's requests named for a number, at most `LOOKED_AT`.
     pub fn peers_of(&self, lane: LaneNumber, number: u16) -> Result<Vec<Addr>, AllocError> {
         let mut peers = Vec::new(self.alloc);
         let least = Addr { ip: 0, port: 0 };

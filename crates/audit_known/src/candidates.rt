@@ -13,21 +13,21 @@ use audit_seen::{
 };
 use std::alloc::{AllocError, Global};
 
-/// What departures are matched by.
+/// The facts by which departures are matched.
 #[derive(Clone, Copy)]
 pub struct Known<'a> {
     contents: &'a Contents,
     times: &'a Times,
     pools: &'a Pools,
     tenancies: &'a Tenancies,
-    /// How long an arrival may wait for its answer, in nanoseconds.
+    /// The longest time from an arrival to its departure, in nanoseconds.
     hold: u64,
     alloc: Global,
 }
 
 impl<'a> Known<'a> {
-    /// What the sightings say, about when each was, the arrivals of each pool by that, and who had which address when. An arrival may wait so many
-    /// nanoseconds for its answer.
+    /// The contents of the sightings, their estimated moments, the arrivals of each pool, the
+    /// tenancies, and the longest time from an arrival to its departure in nanoseconds.
     pub fn new(
         alloc: Global,
         contents: &'a Contents,
@@ -56,12 +56,12 @@ impl<'a> Known<'a> {
         self.contents.numbers()
     }
 
-    /// The channels that were asked for.
+    /// The channels that were requested.
     pub fn bindings(&self) -> &'a Bindings {
         self.contents.bindings()
     }
 
-    /// About when each sighting was.
+    /// The estimated moment of each sighting.
     pub fn times(&self) -> &'a Times {
         self.times
     }
@@ -71,25 +71,26 @@ impl<'a> Known<'a> {
         self.pools
     }
 
-    /// Which client had which relayed address when.
+    /// Which client had which relayed address at which time.
     pub fn tenancies(&self) -> &'a Tenancies {
         self.tenancies
     }
 
-    /// How long an arrival may wait for its answer, in nanoseconds.
+    /// The longest time from an arrival to its departure, in nanoseconds.
     pub fn hold(&self) -> u64
         ensures { result ≡ self.now.hold }
     {
         self.hold
     }
 
-    /// The memory of the search.
+    /// The allocator of the search.
     pub fn alloc(&self) -> Global {
         self.alloc
     }
 
-    /// The pools whose arrivals a departure may answer, the likeliest first. `lane` is the lane of what leaves from a relayed
-    /// address, where it is known; else it is that of any client that may have had the address.
+    /// The pools whose arrivals a departure may answer, the likeliest first. `lane` is the lane of
+    /// a departure from a relayed address, if it is known; otherwise all clients count that may
+    /// have had the address.
     pub fn candidates(
         &self,
         number: SeenNumber,
@@ -132,7 +133,7 @@ impl<'a> Known<'a> {
         Ok(found)
     }
 
-    /// The lanes that may have sent what leaves from a relayed address.
+    /// The lanes that may have sent the data of a departure from a relayed address.
     fn senders(
         &self,
         number: SeenNumber,
@@ -154,7 +155,7 @@ impl<'a> Known<'a> {
         Ok(lanes)
     }
 
-    /// The tenancies of a departure's lane about its time.
+    /// The tenancies of a departure's lane at about its time.
     fn owned(&self, number: SeenNumber, seen: &Seen) -> Result<Vec<Tenancy>, AllocError> {
         let Some(lane) = seen.lane() else {
             return Ok(Vec::new(self.alloc));
@@ -164,7 +165,7 @@ impl<'a> Known<'a> {
         self.tenancies.meeting(of, time.early(), time.late())
     }
 
-    /// Adds the pools of what a lane sent to a peer.
+    /// Adds the pools of the data that a lane sent to a peer.
     pub fn add_sent(
         &self,
         lane: LaneNumber,
@@ -179,7 +180,7 @@ impl<'a> Known<'a> {
         Ok(())
     }
 
-    /// Adds the pool of what a peer sent to a tenancy's address.
+    /// Adds the pool of the data that a peer sent to a tenancy's address.
     fn add_received(
         &self,
         tenancy: &Tenancy,
@@ -190,7 +191,7 @@ impl<'a> Known<'a> {
         self.add(PoolKey::peer(tenancy.relayed(), peer, digest), found)
     }
 
-    /// Adds the pools of what the peers of a channel sent to a tenancy's address.
+    /// Adds the pools of the data that the peers of a channel sent to a tenancy's address.
     fn add_bound(
         &self,
         tenancy: &Tenancy,

@@ -1,4 +1,4 @@
-//! The answers that tell of allocations.
+//! The responses about allocations.
 
 ghost use Rattle.std.specs.Prelude.{◌≡◌};
 
@@ -7,7 +7,7 @@ use audit_model::Addr;
 use audit_seen::{Gives, LaneNumber, Seen, SeenNumber, Sights};
 use std::alloc::{AllocError, Global};
 
-/// An answer that tells of a lane's allocation. They are by lane, and then by their times.
+/// A response about a lane's allocation. They are ordered by lane, then by time.
 #[derive(Clone, Copy, Debug, PartialEq, Eq, PartialOrd, Ord)]
 pub struct Told {
     lane: LaneNumber,
@@ -23,14 +23,14 @@ impl Told {
         self.lane
     }
 
-    /// When it left, about.
+    /// Its estimated moment.
     pub fn when(&self) -> u64
         ensures { result ≡ self.now.when }
     {
         self.when
     }
 
-    /// The answer's number.
+    /// The response's number.
     pub fn number(&self) -> SeenNumber
         ensures { result ≡ self.now.number }
     {
@@ -38,7 +38,7 @@ impl Told {
     }
 }
 
-/// An answer that tells that an address was given. They are by address, and then by their times.
+/// A response that grants an address. They are ordered by address, then by time.
 #[derive(Clone, Copy, Debug, PartialEq, Eq, PartialOrd, Ord)]
 pub struct Made {
     relayed: Addr,
@@ -54,14 +54,14 @@ impl Made {
         self.relayed
     }
 
-    /// When it left, about.
+    /// Its estimated moment.
     pub fn when(&self) -> u64
         ensures { result ≡ self.now.when }
     {
         self.when
     }
 
-    /// The answer's number.
+    /// The response's number.
     pub fn number(&self) -> SeenNumber
         ensures { result ≡ self.now.number }
     {
@@ -69,7 +69,7 @@ impl Made {
     }
 }
 
-/// The answers that tell that allocations were made, ended and kept, each kind of them in order.
+/// The responses by which allocations were made, deleted and refreshed, each kind in order.
 #[derive(Drop)]
 pub struct Changes {
     made: Vec<Made>,
@@ -78,7 +78,7 @@ pub struct Changes {
 }
 
 impl Changes {
-    /// Those of all answers. It takes n log n.
+    /// The changes of all responses. It takes n log n.
     pub fn gather(alloc: Global, sights: &Sights, times: &Times) -> Result<Changes, AllocError> {
         let mut changes = Changes {
             made: Vec::new(alloc),
@@ -114,12 +114,12 @@ impl Changes {
         Ok(())
     }
 
-    /// The answers that tell that an address was given, by the address and their times.
+    /// The responses that grant addresses, by address and time.
     pub fn made(&self) -> &[Made] {
         self.made.as_slice()
     }
 
-    /// The first answer of a lane behind a moment that tells that its allocation was deleted.
+    /// The first response to a lane after a moment by which its allocation was deleted.
     pub fn end_behind(&self, lane: LaneNumber, when: u64) -> Option<SeenNumber> {
         let place = self
             .ended
@@ -130,7 +130,7 @@ impl Changes {
         }
     }
 
-    /// The answers behind a moment that tell that an allocation was kept, those of the lane first.
+    /// The responses after a moment by which an allocation was refreshed, those of the lane first.
     pub fn kept_behind(&self, lane: LaneNumber, when: u64) -> &[Told] {
         let place = self
             .kept

@@ -1,4 +1,4 @@
-//! What the sightings of captures say, read once.
+//! The contents of the captured sightings, read once.
 
 use crate::bindings::Bindings;
 use audit_finding::Windows;
@@ -7,7 +7,7 @@ use audit_seen::{Lanes, PoolNumbers, Sights};
 use audit_sightings::Intake;
 use std::alloc::{AllocError, Global};
 
-/// What the sightings say, the numbers of the pools, and the channels that were asked for.
+/// The contents of the sightings, the numbers of the pools, and the channels that were requested.
 #[derive(Drop)]
 pub struct Contents {
     sights: Sights,
@@ -16,8 +16,9 @@ pub struct Contents {
 }
 
 impl Contents {
-    /// Reads each sighting, which may stand in so much of its window. `pairs` has the client and the listen address of each lane. It takes
-    /// n log n, and for each sighting as many steps as it has bytes.
+    /// Reads each sighting. `windows` limits the moments that a sighting may have. `pairs` has the
+    /// client and the listen address of each lane. It takes n log n, and for each sighting as many
+    /// steps as it has bytes.
     pub fn read(
         alloc: Global,
         intake: &Intake,
@@ -44,7 +45,7 @@ impl Contents {
         &self.numbers
     }
 
-    /// The channels that were asked for.
+    /// The channels that were requested.
     pub fn bindings(&self) -> &Bindings {
         &self.bindings
     }

@@ -1,4 +1,4 @@
-//! A relayed address that went from one client to another.
+//! A relayed address that was granted to one client after another.
 
 ghost use Rattle.std.specs.Prelude.{◌≡◌};
 
@@ -14,7 +14,8 @@ pub struct Handover {
 }
 
 impl Handover {
-    /// From the lane whose allocation one answer tells of, and another one the end of, if one does, to that of the next allocation's answer.
+    /// A handover: the lane of the first allocation, the responses that granted it and that deleted
+    /// it, if one did, and the response that granted the next allocation.
     pub fn new(
         from: LaneNumber,
         maker: SeenNumber,
@@ -36,21 +37,21 @@ impl Handover {
         self.from
     }
 
-    /// The answer that tells of the first one's allocation.
+    /// The response that granted the first allocation.
     pub fn maker(&self) -> SeenNumber
         ensures { result ≡ self.now.maker }
     {
         self.maker
     }
 
-    /// The answer that tells of its end, if one does.
+    /// The response that deleted it, if one did.
     pub fn ender(&self) -> Option<SeenNumber>
         ensures { result ≡ self.now.ender }
     {
         self.ender
     }
 
-    /// The answer that tells of the second one's allocation.
+    /// The response that granted the second allocation.
     pub fn next(&self) -> SeenNumber
         ensures { result ≡ self.now.next }
     {

@@ -1,8 +1,10 @@
-//! What the sightings of captures tell that departures are matched by.
+//! The facts of the captures by which departures are matched with arrivals.
 //!
-//! `Pools` has the arrivals that are alike for an answer, each kind of them in its order. `Tenancies` has which client had which relayed
-//! address when, as far as the answers tell, `Bindings` the channels that were asked for, and `Contents` all that is read once. `Known` has all of it. `Matches`, `Order`,
-//! `Placed` and `Handover` are what is found by it. Nothing rests on any of it: what is found is checked.
+//! `Pools` has the arrivals that are alike for a response, each kind in order. `Tenancies` has
+//! which client had which relayed address at which time, by the responses, `Bindings` the channels
+//! that were requested, and `Contents` all that is read once. `Known` has all of it. `Matches`,
+//! `Order`, `Placed` and `Handover` are the results. No verdict depends on any of it: the results
+//! are checked.
 #![tactic(auto)]
 
 mod bindings;

@@ -1,16 +1,16 @@
-//! Which arrival and which departure are taken to be for each other.
+//! Pairs of an arrival and the departure that is assumed to answer it.
 
 use audit_seen::SeenNumber;
 use std::alloc::{AllocError, Global};
 
-/// A departure and an arrival for each other. It bounds their keys; a lane's search chooses anew.
+/// Pairs of an arrival and a departure. They bound the keys; a lane's search chooses anew.
 #[derive(Drop)]
 pub struct Matches {
     of: Vec<Option<SeenNumber>>,
 }
 
 impl Matches {
-    /// The match of each of so many sightings: none.
+    /// No match, for this number of sightings.
     pub fn none(alloc: Global, count: usize) -> Result<Matches, AllocError> {
         Ok(Matches {
             of: vec![in alloc; None; count]?,
@@ -26,7 +26,7 @@ impl Matches {
         self.of.get(number.index()).copied().flatten()
     }
 
-    /// Joins a departure to an arrival, and parts both from others.
+    /// Matches a departure with an arrival, and unmatches both from others.
     pub fn join_anew(&mut self, departure: SeenNumber, arrival: SeenNumber) {
         if let Some(other) = self.of(arrival) {
             self.set(other, None);
@@ -35,7 +35,7 @@ impl Matches {
         self.join(departure, arrival);
     }
 
-    /// Parts a departure from its arrival.
+    /// Unmatches a departure from its arrival.
     pub fn part(&mut self, departure: SeenNumber) {
         if let Some(matched) = self.of(departure) {
             self.set(matched, None);
@@ -43,7 +43,7 @@ impl Matches {
         self.set(departure, None);
     }
 
-    /// Joins a departure to an arrival, neither of which has a match.
+    /// Matches a departure with an arrival, neither of which has a match.
     pub fn join(&mut self, departure: SeenNumber, arrival: SeenNumber) {
         self.set(departure, Some(arrival));
         self.set(arrival, Some(departure));

@@ -11,7 +11,7 @@ pub struct Order {
 }
 
 impl Order {
-    /// An order of so many sightings, in which none stands yet.
+    /// An empty order for this number of sightings.
     pub fn new(alloc: Global, count: usize) -> Result<Order, AllocError> {
         Ok(Order {
             order: Vec::with_capacity(alloc, count)?,
@@ -19,7 +19,7 @@ impl Order {
         })
     }
 
-    /// Puts a sighting behind all that stand in it.
+    /// Appends a sighting.
     pub fn push(&mut self, number: SeenNumber) -> Result<(), AllocError> {
         if let (Some(rank), Ok(place)) = (
             self.ranks.get_mut(number.index()),
@@ -36,7 +36,7 @@ impl Order {
         self.order.as_slice()
     }
 
-    /// The place of a sighting in the order.
+    /// The rank of a sighting in the order.
     pub fn rank(&self, number: SeenNumber) -> u32 {
         self.ranks.get(number.index()).copied().unwrap_or(u32::MAX)
     }

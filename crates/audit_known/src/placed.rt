@@ -1,4 +1,4 @@
-//! Where each sighting stands: one order of all, and the moments of each.
+//! The placement of the sightings: one order of all, and the moments of each.
 
 use crate::order::Order;
 use audit_seen::SeenNumber;
@@ -22,17 +22,17 @@ impl Placed {
         self.order.as_slice()
     }
 
-    /// The place of a sighting in the order.
+    /// The rank of a sighting in the order.
     pub fn rank(&self, number: SeenNumber) -> u32 {
         self.order.rank(number)
     }
 
-    /// The least moment of a sighting, in nanoseconds since 1970; 0, where there is none of that number.
+    /// The least moment of a sighting, in nanoseconds since 1970; 0 if no sighting has that number.
     pub fn low(&self, number: SeenNumber) -> u64 {
         self.low.get(number.index()).copied().unwrap_or(0)
     }
 
-    /// The moment at which a sighting is placed; 0, where there is none of that number.
+    /// The moment at which a sighting is placed; 0 if no sighting has that number.
     pub fn at(&self, number: SeenNumber) -> u64 {
         self.at.get(number.index()).copied().unwrap_or(0)
     }

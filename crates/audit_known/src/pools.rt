@@ -1,4 +1,4 @@
-//! Arrivals that are alike for an answer.
+//! Arrivals that are alike for a response.
 
 use audit_seen::{PoolNumber, PoolNumbers, SeenNumber, Sights};
 use std::alloc::{AllocError, Global};
@@ -6,7 +6,7 @@ use std::alloc::{AllocError, Global};
 /// The arrivals of each pool in an order.
 #[derive(Drop)]
 pub struct Pools {
-    /// The place of the first arrival of each pool, and the number of arrivals behind the last one.
+    /// The index of the first arrival of each pool, and the number of all arrivals at the end.
     starts: Vec<usize>,
     members: Vec<SeenNumber>,
 }
@@ -31,7 +31,7 @@ impl Pools {
         Ok(pools)
     }
 
-    /// Notes where each pool's arrivals begin.
+    /// Records where each pool's arrivals begin.
     fn note_starts(
         &mut self,
         entries: &[(PoolNumber, u64, SeenNumber)],
@@ -43,7 +43,7 @@ impl Pools {
         self.start_up_to(count.saturating_add(1), entries.len())
     }
 
-    /// The pools up to a number that have no place yet begin at this one.
+    /// The pools up to a number that have no start yet begin at this index.
     fn start_up_to(&mut self, count: usize, place: usize) -> Result<(), AllocError> {
         if self.starts.len() < count {
             self.starts.resize(count, place)?;

@@ -1,4 +1,4 @@
-//! Which client had which relayed address when, as far as the answers tell.
+//! Which client had which relayed address at which time, by the responses.
 
 ghost use Rattle.std.specs.Prelude.{◌≡◌};
 
@@ -10,7 +10,8 @@ use std::alloc::{AllocError, Global};
 
 const NANOSECONDS: u64 = 1_000_000_000;
 
-/// How many answers that prolong one tenancy are looked at; one that has more has no end by its lifetime.
+/// How many responses that prolong one tenancy are looked at; a tenancy with more has no end by its
+/// lifetime.
 const PROLONGED: usize = 256;
 
 /// How many tenancies before a moment are looked at.
@@ -23,7 +24,7 @@ pub struct Tenancy {
     end: u64,
     relayed: Addr,
     lane: LaneNumber,
-    /// The answer that tells of it.
+    /// The response that granted it.
     maker: SeenNumber,
 }
 
@@ -43,7 +44,7 @@ impl Tenancy {
     }
 }
 
-/// The tenancies that answers tell of.
+/// The tenancies by the responses.
 #[derive(Drop)]
 pub struct Tenancies {
     by_address: Vec<Tenancy>,
@@ -52,7 +53,8 @@ pub struct Tenancies {
 }
 
 impl Tenancies {
-    /// Those of all answers. `matches` has the request of each that is known. It takes n log n.
+    /// The tenancies of all responses. `matches` has the known request of each response. It takes n
+    /// log n.
     pub fn of(
         alloc: Global,
         sights: &Sights,
@@ -103,8 +105,8 @@ impl Tenancies {
         self.by_lane.get(start..end).unwrap_or(&[])
     }
 
-    /// Those of some tenancies, in the order of their starts, that meet a span of time, the last one first; where none does, the
-    /// nearest ones.
+    /// Those of some tenancies, in the order of their starts, that overlap a span of time, the last
+    /// one first; if none does, the nearest ones.
     pub fn meeting(&self, of: &[Tenancy], low: u64, high: u64) -> Result<Vec<Tenancy>, AllocError> {
         let behind = of.partition_point(|one| one.start <= high);
         let near = of
@@ -127,7 +129,8 @@ impl Tenancies {
         Ok(found)
     }
 
-    /// The lanes in which the server may have acted on a datagram that came to a relayed address at a moment, the likeliest first.
+    /// The lanes in which the server may have acted on a datagram that arrived at a relayed address
+    /// at a moment, the likeliest first.
     pub fn lanes_at(
         &self,
         relayed: Addr,
@@ -157,7 +160,7 @@ impl Tenancies {
     }
 }
 
-/// The tenancy that an answer tells of.
+/// The tenancy that a response grants.
 fn tenancy_of(
     sights: &Sights,
     times: &Times,
@@ -194,14 +197,14 @@ fn tenancy_of(
     })
 }
 
-/// The last moment of what an answer gives for so many seconds.
+/// The last moment of a lease of this number of seconds.
 fn over(seen: &Seen, seconds: u32, grace: u64) -> u64 {
     seen.last_moment()
         .saturating_add(u64::from(seconds).saturating_mul(NANOSECONDS))
         .saturating_add(grace)
 }
 
-/// The last moment of a tenancy, prolonged by the answers behind a moment and up to an end.
+/// The last moment of a tenancy, prolonged by the responses after a moment and up to an end.
 fn prolonged(
     sights: &Sights,
     changes: &Changes,

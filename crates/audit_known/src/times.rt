@@ -1,11 +1,11 @@
-//! When sightings may have been.
+//! Estimated moments of the sightings.
 
 ghost use Rattle.std.specs.Prelude.{◌≡◌};
 
 use audit_seen::{SeenNumber, Sights};
 use std::alloc::{AllocError, Global};
 
-/// About when a sighting was.
+/// The estimated moment of a sighting.
 #[derive(Clone, Copy, Debug)]
 pub struct Time {
     when: u64,
@@ -14,7 +14,7 @@ pub struct Time {
 }
 
 impl Time {
-    /// What it is ordered by, in nanoseconds since 1970.
+    /// The moment by which it is ordered, in nanoseconds since 1970.
     pub fn when(&self) -> u64
         ensures { result ≡ self.now.when }
     {
@@ -36,14 +36,14 @@ impl Time {
     }
 }
 
-/// About when each sighting was, by their numbers.
+/// The estimated moment of each sighting, by their numbers.
 #[derive(Drop)]
 pub struct Times {
     list: Vec<Time>,
 }
 
 impl Times {
-    /// By what the captures say: the stamp, and the window around it.
+    /// From the captures: the stamp, and the window around it.
     pub fn by_stamps(alloc: Global, sights: &Sights) -> Result<Times, AllocError> {
         let mut list = Vec::with_capacity(alloc, sights.as_slice().len())?;
         for seen in sights.as_slice() {
@@ -56,7 +56,7 @@ impl Times {
         Ok(Times { list })
     }
 
-    /// By keys that were found: the least moment, and the one at which it is placed.
+    /// From computed keys: the least moment, and the moment at which it is placed.
     pub fn by_keys(alloc: Global, low: &[u64], at: &[u64]) -> Result<Times, AllocError> {
         let mut list = Vec::with_capacity(alloc, low.len())?;
         for (early, late) in low.iter().zip(at) {
@@ -69,7 +69,7 @@ impl Times {
         Ok(Times { list })
     }
 
-    /// About when a sighting was; at the first moment, where there is none of that number.
+    /// The estimated moment of a sighting; the moment 0 if no sighting has that number.
     pub fn of(&self, number: SeenNumber) -> Time {
         let none = Time {
             when: 0,
@@ -79,7 +79,7 @@ impl Times {
         self.list.get(number.index()).copied().unwrap_or(none)
     }
 
-    /// What each is ordered by.
+    /// The moment by which each sighting is ordered.
     pub fn whens(&self, alloc: Global) -> Result<Vec<u64>, AllocError> {
         let mut whens = Vec::with_capacity(alloc, self.list.len())?;
         for time in &self.list {

@@ -1,4 +1,4 @@
--- What an event of a lane leaves.
+-- The state of a lane after an event.
 use Rattle.std.specs.Prelude.{ℕ, true, false, Option, Some, None, List, ◌++◌, nat_eq, option_map, option_to_list}
 use Rattle.audit_model.specs.declared.event.At.{At}
 use Rattle.audit_model.specs.declared.sighting.SightId.{SightId}
@@ -15,7 +15,7 @@ use Rattle.audit_lane.specs.declared.noted.Owed.{Owed}
 use Rattle.audit_lane.specs.Content.{Happening, Came, Acted, Went}
 use Rattle.audit_lane.specs.Kept.{Terms, Kept, place_at, situation_in}
 
--- the first time that it comes in counts
+-- the first time that it arrives counts
 abbrev pub came_first : (SightId → Option Arrival) → SightId → Arrival → Option Arrival → SightId → Option Arrival
 came_first came sight arrival (Some first) = came
 came_first came sight arrival None = put same_sight came sight (Some arrival)
@@ -27,7 +27,7 @@ new_arrival user moment = record { moment = moment; user = user; acted = false }
 abbrev pub taken_up : Option Arrival → Option Arrival
 taken_up arrival = option_map (λ a. record { moment = a.moment; user = a.user; acted = true }) arrival
 
--- the departure for an arrival, given by the act at a place
+-- the departure for an arrival, sent by the act at a place
 abbrev pub given_for : Option Arrival → ℕ → Option Departure
 given_for arrival place = option_map (λ a. record { arrived = a.moment; place = place }) arrival
 

@@ -1,4 +1,4 @@
--- What a lane is judged by, wherever it stands in memory, and how a lane ends.
+-- The content by which a lane is judged, and the result of a lane.
 use Rattle.std.specs.Prelude.{ℕ, List, Option, slice_get, option_and_then, option_to_list}
 use Rattle.audit_model.specs.declared.address.Addr.{Addr}
 use Rattle.audit_model.specs.declared.event.Key.{Key}
@@ -11,7 +11,8 @@ use Rattle.audit_rules.specs.declared.credentials.CredRow.{CredRow}
 use Rattle.audit_lane.specs.declared.input.LaneEvent.{LaneEvent}
 use Rattle.audit_lane.specs.declared.input.LaneEvent.TheVariants.{In, Act, Out}
 
--- an event with the sightings that it names; of a request that arrives, the number of the user that it names too
+-- an event with the sightings that it names; for a request that arrives, also the number of the
+-- user that it names
 pub data Happening : Type 0 where
   Came : Sighting → Option ℕ → Key → Happening
   Acted : Sighting → Sighting → Key → Happening

@@ -1,4 +1,4 @@
--- What an event of a lane breaks, where the events before it left this.
+-- The rule that an event of a lane breaks, in the state before it.
 use Rattle.std.specs.Prelude.{ℕ, ◌≡◌, ◌⊎◌, ◌||◌, Bool, Option, Some, None, is_some, nat_lt, if◌then◌else◌}
 use Rattle.audit_model.specs.declared.rule.Rule.{Rule}
 use Rattle.audit_model.specs.declared.rule.Rule.TheVariants.{ActBeforeArrival, ActedTwice, LeftWithoutAct, HeldTooLong}
@@ -18,14 +18,15 @@ use Rattle.audit_lane.specs.Kept.{Terms, Kept, situation_in}
 abbrev pub is_past : ℕ → ℕ → ℕ → Bool
 is_past hold arrived moment = nat_lt (later arrived hold) moment
 
--- S9, S10 and S12 of an act: by this arrival, if it came in, with a departure that was given so before, if it was
+-- S9, S10 and S12 for an act: by this arrival, if it came, with a departure that was sent so
+-- before, if it was
 abbrev pub act_fault : ℕ → Option Arrival → Option Departure → ℕ → Option Rule
 act_fault hold None given moment = Some ActBeforeArrival
 act_fault hold (Some arrival) given moment =
     if arrival.acted || is_some given then Some ActedTwice
     else (if is_past hold arrival.moment moment then Some HeldTooLong else None)
 
--- S11 and S12 of a departure that leaves, given so, if it was
+-- S11 and S12 for a departure that leaves, sent so, if it was
 abbrev pub out_fault : ℕ → Option Departure → ℕ → Option Rule
 out_fault hold None moment = Some LeftWithoutAct
 out_fault hold (Some given) moment = if is_past hold given.arrived moment then Some HeldTooLong else None
@@ -33,11 +34,12 @@ out_fault hold (Some given) moment = if is_past hold given.arrived moment then S
 abbrev pub fault_at : Terms → Kept → Sighting → Sighting → ℕ → Option Rule
 fault_at terms kept arrives leaves moment = act_fault terms.policy.hold (kept.came arrives.id) (kept.gave leaves.id) moment
 
--- the first rule of the table, R1 to R21, that an act of captured datagrams breaks: what was captured is bytes
+-- the first rule of the table, R1 to R21, that an act of captured datagrams breaks: their payloads
+-- are bytes
 abbrev pub BreaksFirst : Situation → Rule → Type 0
 BreaksFirst x rule = AreBytes x.arrives.payload × AreBytes x.leaves.payload × FirstRule x rule
 
--- the event breaks this rule: of an act, the rules of the lane come before those of the table
+-- the event breaks this rule: for an act, the rules of the lane come before those of the table
 abbrev pub BreaksRule : Terms → Kept → Happening → Rule → Type 0
 BreaksRule terms kept (Came sighting user key) rule = ⊥
 BreaksRule terms kept (Acted arrives leaves key) rule =

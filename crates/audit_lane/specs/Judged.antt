@@ -14,7 +14,7 @@ is_user user realm one = bytes_eq one.user user && bytes_eq one.realm realm
 abbrev pub key_by : List User → KeyFor
 key_by users user realm = option_map (λ one. one.key) (find (is_user user realm) users)
 
--- an act goes by the key of the user that its arrival names
+-- an act uses the key of the user that its arrival names
 abbrev pub terms_of : Content → Terms
 terms_of content = record { number = content.number; policy = content.policy; keys = λ told. key_by (numbered content.users told) }
 
@@ -26,16 +26,18 @@ empty_table content = record { client = content.client; listen = content.listen;
 abbrev pub at_start : Content → Kept
 at_start content = at_first (empty_table content)
 
--- The first event that breaks a rule, in the state that the events before it leave, shows the lane's breach. Where there is
--- none, the first act whose departure has not left at the end does. Else the lane passes, with its tenancies.
+-- The lane's breach is that of the first event that breaks a rule, in the state after the events
+-- before it. If there is none, it is that of the first act whose departure has not left at the end.
+-- Otherwise the lane passes, with its tenancies.
 unfoldable pub IsJudged : Content → Judgement → Type 0
 IsJudged content judgement = WalksTo (terms_of content) 0 (at_start content) content.events judgement
 
--- each stands at its number
+-- each is at its number
 abbrev pub IsNumbered : List Content → Type 0
 IsNumbered job = (lane : ℕ) (content : Content) → slice_get job lane ≡ Some content → content.number ≡ lane
 
--- a finding of the job: its input is the job's input of its lane, and its outcome is that of its input
+-- a finding of the job: its input is the job's input of its lane, and its outcome is that of its
+-- input
 pub record IsOf (job : List Content) (found : Found) : Type 0 where
   pub input : slice_get job found.input.number ≡ Some found.input
   pub outcome : IsJudged found.input found.outcome

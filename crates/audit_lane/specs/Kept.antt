@@ -1,4 +1,5 @@
--- What a lane is judged by beside its events, and what the events so far leave.
+-- The terms by which a lane is judged in addition to its events, and the state after the events so
+-- far.
 use Rattle.std.specs.Prelude.{ℕ, Option, None, List, [], option_and_then}
 use Rattle.audit_model.specs.declared.event.At.{At}
 use Rattle.audit_model.specs.declared.event.Key.{Key}
@@ -13,14 +14,15 @@ use Rattle.audit_lane.specs.declared.noted.Arrival.{Arrival}
 use Rattle.audit_lane.specs.declared.noted.Departure.{Departure}
 use Rattle.audit_lane.specs.declared.noted.Owed.{Owed}
 
--- Its number, the policy, and the keys that an act goes by whose arrival names the user of a number.
+-- Its number, the policy, and the keys for an act whose arrival names the user of a number.
 pub record Terms : Type 0 where
   pub number : ℕ
   pub policy : Policy
   pub keys : Option ℕ → KeyFor
 
--- What the client has; each arrival that came in, by the first time that it did; each departure that an act gave; by the
--- places of the acts, those whose departure has not left; and the tenancies that acts ended.
+-- The client's leases; each arrival, by the first time that it came; each departure that an act
+-- sent; by the places of the acts, those whose departure has not left; and the tenancies that acts
+-- ended.
 pub record Kept : Type 0 where
   pub standing : Standing
   pub came : SightId → Option Arrival
@@ -28,19 +30,19 @@ pub record Kept : Type 0 where
   pub owed : ℕ → Option Owed
   pub ended : List Tenancy
 
--- nothing came, and nothing was given
+-- nothing came, and nothing was sent
 abbrev pub at_first : Standing → Kept
 at_first standing = record { standing = standing; came = λ _. None; gave = λ _. None; owed = λ _. None; ended = [] }
 
--- where an event of the lane stands
+-- the place of an event of the lane
 abbrev pub place_at : Terms → Key → ℕ → At
 place_at terms key place = record { key = key; lane = terms.number; place = place }
 
--- the number of the user that an arrival names, if it came in
+-- the number of the user that an arrival names, if it came
 abbrev pub told_by : Option Arrival → Option ℕ
 told_by arrival = option_and_then (λ a. a.user) arrival
 
--- the server answers an arrival by a departure at a moment
+-- the server sends a departure for an arrival at a moment
 abbrev pub situation_in : Terms → Kept → Sighting → Sighting → ℕ → Situation
 situation_in terms kept arrives leaves moment = record {
   client = kept.standing.client;

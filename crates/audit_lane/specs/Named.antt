@@ -1,4 +1,4 @@
--- What a lane of a certificate is judged by, over what was taken in.
+-- The input of a lane of a certificate, over an intake.
 use Rattle.std.specs.Prelude.{◌≡◌, ℕ, Some}
 use Rattle.std.specs.List.{AllZip}
 use Rattle.audit_model.specs.declared.certificate.CertLane.{CertLane}
@@ -7,7 +7,7 @@ use Rattle.audit_model.specs.declared.event.Event.TheVariants.{In, Act, Out}
 use Rattle.audit_sightings.specs.Intake.{Taken, sighting_at}
 use Rattle.audit_lane.specs.Content.{Content, Happening, Came, Acted, Went}
 
--- the event with the sightings that have its names, at its key
+-- the event with the sightings that have its ids, at its key
 abbrev pub IsFrom : Taken → Event → Happening → Type 0
 IsFrom taken (In sight key) (Came sighting user at) = (sighting_at taken sight ≡ Some sighting) × (key ≡ at)
 IsFrom taken (In sight key) (Acted arrives leaves at) = ⊥

@@ -1,4 +1,4 @@
--- What the code keeps of a lane, in the definitions' terms.
+-- The code's state of a lane, in the definitions' terms.
 use Rattle.std.specs.Prelude.{◌≡◌, ℕ, List}
 use Rattle.std.specs.BTreeMap.{get}
 use Rattle.std.specs.Ordering.{nat_cmp}
@@ -29,7 +29,7 @@ kept_of lane = record {
 abbrev pub terms_by : ℕ → Policy → List CredRow → Terms
 terms_by number policy users = record { number = number; policy = policy; keys = λ told. key_in (numbered users told) }
 
--- the same at each sighting and each place
+-- two states that are equal at each sighting and each place
 pub record SameKept (a b : Kept) : Type 0 where
   pub standing : a.standing ≡ b.standing
   pub came : (s : SightId) → a.came s ≡ b.came s
@@ -37,7 +37,7 @@ pub record SameKept (a b : Kept) : Type 0 where
   pub owed : (place : ℕ) → a.owed place ≡ b.owed place
   pub ended : a.ended ≡ b.ended
 
--- it is a breach of which the fact holds, or want of memory
+-- it is a breach with the property, or exhausted memory
 abbrev pub IsShown : LaneFault → (Breach → Type 0) → Type 0
 IsShown (Broken breach) Fact = Fact breach
 IsShown Memory Fact = Unit {0}

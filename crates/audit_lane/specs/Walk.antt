@@ -1,4 +1,4 @@
--- The walk of a lane, event by event, to what it ends with.
+-- The walk of a lane, event by event, to its result.
 use Rattle.std.specs.Prelude.{ℕ, ◌+◌, ◌≡◌, ◌≤◌, ◌⊎◌, ◌↔◌, Option, Some, None, List, [], ◌∷◌, ◌++◌, IsSome, Contains, length, option_to_list}
 use Rattle.std.specs.List.Sorted.{IsStrictlySortedBy}
 use Rattle.std.specs.Ordering.{nat_cmp}
@@ -20,7 +20,7 @@ key_at (Came sighting user key) = key
 key_at (Acted arrives leaves key) = key
 key_at (Went sighting key) = key
 
--- of an act, its arrival
+-- for an act, its arrival
 abbrev pub sight_at : Happening → SightId
 sight_at (Came sighting user key) = sighting.id
 sight_at (Acted arrives leaves key) = arrives.id
@@ -41,7 +41,7 @@ pub record IsFirst (owed : ℕ → Option Owed) (one : Owed) : Type 0 where
   pub there : owed place ≡ Some one
   pub least : (other : ℕ) → IsSome (owed other) → place ≤ other
 
--- how many acts there are whose departure has not left: their places, in rising order, are as many
+-- the number of acts whose departure has not left: their places, in rising order, are as many
 pub record AreOwed (owed : ℕ → Option Owed) (count : ℕ) : Type 0 where
   pub places : List ℕ
   pub rising : IsStrictlySortedBy nat_cmp places
@@ -53,7 +53,7 @@ abbrev pub EndsWith : Kept → Option Breach → Type 0
 EndsWith kept None = (place : ℕ) → kept.owed place ≡ None
 EndsWith kept (Some breach) = (one : Owed) × IsFirst kept.owed one × (breach ≡ breach_by one.at one.sight ActWithoutDeparture)
 
--- those that acts ended and the one that runs on, in order of birth
+-- those that acts ended and the current one, in order of birth
 abbrev pub tenancies_of : Kept → List Tenancy
 tenancies_of kept = kept.ended ++ option_to_list kept.standing.tenancy
 
@@ -61,7 +61,8 @@ abbrev pub EndsIn : Kept → Judgement → Type 0
 EndsIn kept (Breaks breach) = EndsWith kept (Some breach)
 EndsIn kept (Passes tenancies) = EndsWith kept None × (tenancies ≡ tenancies_of kept)
 
--- The events from a place on, from what those before them left: the breach of the first that shows one, or else what the end says.
+-- The events from a place on, from the state before them: the breach of the first that shows one,
+-- or else the result at the end.
 abbrev pub WalksTo : Terms → ℕ → Kept → List Happening → Judgement → Type 0
 WalksTo terms place kept [] judgement = EndsIn kept judgement
 WalksTo terms place kept (event ∷ events) judgement =

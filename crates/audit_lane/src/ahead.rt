@@ -1,10 +1,10 @@
-//! What the walks over a lane's events read before they need it.
+//! Reads ahead the payloads that the walks over a lane's events need.
 
 use crate::input::LaneEvent;
 use audit_model::Event;
 use audit_sightings::{Intake, ReadsAhead, read_payload};
 
-/// Reads what arrives, which may name a user.
+/// Reads ahead the arrivals, which may name a user.
 #[derive(Clone, Copy)]
 pub struct Arrivals<'a> {
     pub intake: &'a Intake,
@@ -22,7 +22,7 @@ impl ReadsAhead<Event> for Arrivals<'_> {
     }
 }
 
-/// Reads what acts compare.
+/// Reads ahead the payloads that acts compare.
 #[derive(Clone, Copy)]
 pub struct Compared;
 
@@ -31,7 +31,7 @@ impl<'a> ReadsAhead<LaneEvent<'a>> for Compared {
         match event {
             LaneEvent::In { sighting, .. } => read_payload(sighting),
             LaneEvent::Act { leaves, .. } => read_payload(leaves),
-            // Its act was there before it.
+            // Its act read it before.
             LaneEvent::Out { .. } => 0,
         }
     }

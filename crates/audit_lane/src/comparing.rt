@@ -1,4 +1,4 @@
-//! Whether two inputs say the same, wherever they stand in memory.
+//! Compares two inputs by content.
 
 ghost use Rattle.std.specs.Prelude.{◌≡◌, ◌↔◌, IsTrue, map};
 ghost use Rattle.audit_lane.specs.Content.{happening, user_of};
@@ -19,7 +19,7 @@ pub fn same_policy(one: &Policy, other: &Policy) -> bool
         && same_skews(one.skews.as_slice(), other.skews.as_slice())
 }
 
-// Each `==` has a proof of its own, so each stands in a function.
+// Each `==` has a proof of its own, so each is in a function.
 
 fn same_addresses(one: &[Addr], other: &[Addr]) -> bool
     ensures { IsTrue result ↔ (one.now ≡ other.now) }

@@ -12,7 +12,7 @@ use std::alloc::AllocError;
 pub enum LaneFault {
     /// The breach that the event shows.
     Broken(Breach),
-    /// There was no memory to take it in.
+    /// Memory ran out.
     Memory,
 }
 
@@ -39,7 +39,7 @@ pub fn breach(at: At, sight: SightId, rule: Rule) -> Breach
     }
 }
 
-/// The same, as a step is refused by it.
+/// The breach of a rule by an event of a lane, as the fault of a step.
 pub fn broken(at: At, sight: SightId, rule: Rule) -> LaneFault
     ensures { result ≡ Broken (breach_by at sight rule) }
 {

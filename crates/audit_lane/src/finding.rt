@@ -1,4 +1,4 @@
-//! What a lane shows.
+//! Judges one lane alone.
 
 ghost use Rattle.std.specs.Prelude.{◌≡◌, IfOk};
 ghost use Rattle.audit_lane.specs.Judged.{IsJudged};
@@ -14,16 +14,17 @@ use std::alloc::{AllocError, Global};
 use std::marker::Model;
 use std::sync::Arc;
 
-/// What the walk of a lane ends with.
+/// The result of the walk of a lane.
 #[derive(Debug, Drop)]
 pub enum Outcome {
-    /// The lane is a run of a server that has this client alone; the times in which it had a relayed address.
+    /// The lane is a run of a server that has this client alone; the times in which it had a
+    /// relayed address.
     Passed(Listed<Tenancy>),
     /// The first breach that the walk meets.
     Broken(Breach),
 }
 
-/// A lane's input and what it shows. Only `judge` makes one.
+/// A lane's input and its outcome. Only `judge` creates one.
 #[derive(Drop)]
 pub struct Finding<'a> {
     input: Arc<LaneInput<'a>>,
@@ -43,14 +44,14 @@ impl<'a> Model for Finding<'a> {
 }
 
 impl<'a> Finding<'a> {
-    /// What the lane was judged by.
+    /// The input by which the lane was judged.
     pub fn input(&self) -> &LaneInput<'a>
         ensures { result.now ≡ self.now.input }
     {
         &*self.input
     }
 
-    /// What it shows: the judgement of that input.
+    /// The outcome: the judgement of that input.
     pub fn outcome(&self) -> &Outcome
         ensures same { judgement_of result.now ≡ self.now.outcome }
         ensures judged { IsJudged self.now.input self.now.outcome }
@@ -59,7 +60,7 @@ impl<'a> Finding<'a> {
     }
 }
 
-/// What the walk of the lane ends with.
+/// The result of the walk of the lane.
 fn outcome_of(alloc: Global, input: &LaneInput<'_>) -> Result<Outcome, AllocError>
     ensures { IfOk result (λ outcome. IsJudged input.now (judgement_of outcome)) }
 {
@@ -89,7 +90,7 @@ fn outcome_of(alloc: Global, input: &LaneInput<'_>) -> Result<Outcome, AllocErro
     }
 }
 
-/// Judges a lane alone. The cost is n log n in its events.
+/// Judges a lane alone. It takes n log n time in its events.
 pub fn judge<'a>(alloc: Global, input: Arc<LaneInput<'a>>) -> Result<Finding<'a>, AllocError>
     ensures input { IfOk result (λ f. f.input ≡ input.entry.value) }
     ensures outcome { IfOk result (λ f. IsJudged input.entry.value f.outcome) }

@@ -1,4 +1,4 @@
-//! What a lane is judged by.
+//! The input by which a lane is judged.
 
 ghost use Rattle.std.specs.Prelude.{◌<◌, ◌≡◌, ◌↔◌, ◌≤◌, ◌^◌, All, IfOk, IsTrue, length, map, vec_len};
 ghost use Rattle.audit_keys.specs.KeyFor.{key_for};
@@ -26,11 +26,12 @@ pub enum LaneEvent<'a> {
     /// A datagram arrives at the server.
     In {
         sighting: &'a Sighting,
-        /// The number of the user that it names, among the lane's users; None where it is no request, or names nobody.
+        /// The number of the user that it names, among the lane's users; None if it is no request,
+        /// or names nobody.
         user: Option<u32>,
         key: Key,
     },
-    /// The server answers an arrival by a departure.
+    /// An act: the server sends a departure for an arrival.
     Act {
         arrives: &'a Sighting,
         leaves: &'a Sighting,
@@ -50,7 +51,8 @@ pub struct LaneInput<'a> {
     client: Addr,
     listen: Addr,
     policy: &'a Policy,
-    /// The user of a realm, with their key, that each request names, where the credentials have one, in the order of the arrivals.
+    /// The user of a realm, with their key, that each request names, if the credentials have one,
+    /// in the order of the arrivals.
     users: Vec<CredRow<'a>>,
     events: Vec<LaneEvent<'a>>,
 }
@@ -113,7 +115,7 @@ impl<'a> LaneInput<'a> {
         self.events.as_slice()
     }
 
-    /// Whether both say the same, wherever it stands in memory. It compares every payload.
+    /// Whether both have the same content. It compares every payload.
     pub fn equals(&self, other: &LaneInput<'_>) -> bool
         ensures { IsTrue result ↔ (self.now ≡ other.now) }
     {
@@ -161,10 +163,12 @@ fn with_sightings<'a>(
     }
 }
 
-/// What the lane of that number is judged by. Its events have to name sightings that are there, with the right sides.
+/// The input of the lane of that number. Its events must name sightings that exist, with the right
+/// direction.
 ///
-/// Each request tells the user that it names, so that judging an act looks for nobody, and a certificate that names one arrival in many
-/// acts has it read once. It takes log n in the credentials for each request, and time in its length.
+/// Each request has the user that it names, so that judging an act needs no look-up, and an arrival
+/// that many acts of a certificate name is read once. It takes log n time in the credentials for
+/// each request, and time in its length.
 pub fn lane_input<'a>(
     alloc: Global,
     number: u32,

@@ -29,7 +29,7 @@ impl<'a> Model for Job<'a> {
 }
 
 impl<'a> Job<'a> {
-    /// A job of no lanes. It takes no memory.
+    /// A job of no lanes. Allocates no memory.
     pub fn new(alloc: Global) -> Job<'a>
         ensures { result ≡ [] }
     {
@@ -38,7 +38,7 @@ impl<'a> Job<'a> {
         }
     }
 
-    /// One lane more, whose number is that of the lanes before it.
+    /// Adds a lane, whose number is the count of the lanes before it.
     pub fn push(&mut self, input: Arc<LaneInput<'a>>) -> Result<(), AllocError>
         requires room { length self.old < MAX_LANES }
         requires numbered { input.value.number ≡ length self.old }
@@ -48,7 +48,7 @@ impl<'a> Job<'a> {
         Ok(())
     }
 
-    /// How many lanes there are.
+    /// The number of lanes.
     pub fn len(&self) -> u32
         ensures len { result ≡ length self.now }
         ensures limit { result ≤ MAX_LANES }
@@ -57,7 +57,7 @@ impl<'a> Job<'a> {
         self.inputs.len() as u32
     }
 
-    /// What a lane is judged by.
+    /// The input of a lane.
     pub fn input(&self, lane: u32) -> &Arc<LaneInput<'a>>
         requires { lane < length self.now }
         ensures at { slice_get self.now lane ≡ Some result.now.value }

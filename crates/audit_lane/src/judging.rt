@@ -1,4 +1,4 @@
-//! What an act of a lane is judged by.
+//! Judges an act of a lane.
 
 ghost use Rattle.std.specs.Prelude.{◌≡◌, IfErr, IfOk};
 ghost use Rattle.audit_rules.specs.Answer.{MayAnswer};
@@ -22,7 +22,7 @@ pub fn is_past(hold: u64, arrived: u64, moment: u64) -> bool
     moment > arrived.saturating_add(hold)
 }
 
-/// The user of that number alone, if there is one. It takes the same time whatever the users are.
+/// The user of that number alone, if there is one. The time doesn't depend on the number of users.
 pub fn user_alone<'u>(users: &'u [CredRow<'u>], number: Option<u32>) -> &'u [CredRow<'u>]
     ensures { result.now ≡ numbered users.now number }
 {
@@ -44,7 +44,8 @@ fn bytes(payload: &[u8])
     let _length = payload.len();
 }
 
-/// Judges an act by the table's rules, with the key of the user of that number, and changes the table by it. It gives the tenancy that ended.
+/// Judges an act by the table's rules, with the key of the user of that number, and changes the
+/// table by it. Returns the tenancy that ended.
 pub fn judge_act(
     alloc: Global,
     table: &mut LaneTable,

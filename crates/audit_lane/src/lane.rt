@@ -1,4 +1,4 @@
-//! A lane of an input, walked event by event.
+//! Walks a lane of an input, event by event.
 
 ghost use Rattle.std.specs.Prelude.{◌≡◌, ◌<◌, IfErr, IfSome, MatchResult, None, OnOk, Some, length, slice_get};
 ghost use Rattle.audit_rules.specs.Effect.{standing};
@@ -23,7 +23,7 @@ pub struct Lane<'a> {
 }
 
 impl<'a> Lane<'a> {
-    /// The lane before its first event. It takes no memory.
+    /// The lane before its first event. Allocates no memory.
     pub fn new(alloc: Global, input: &'a LaneInput<'a>) -> Lane<'a>
         ensures input { result.input.now ≡ input.now }
         ensures start { SameKept (kept_of result.state) (at_start input.now) }
@@ -34,7 +34,8 @@ impl<'a> Lane<'a> {
         }
     }
 
-    /// Takes in the event at a place, in turn from 0, or tells what it breaks; after a refusal the lane is not walked on.
+    /// Applies the event at a place, in turn from 0, or returns the breach; after a refusal the
+    /// lane is not walked on.
     pub fn step(&mut self, place: u32) -> Result<(), LaneFault>
         requires { place < length self.old.input.now.events }
         ensures input { self.new.input.now ≡ self.old.input.now }
@@ -53,28 +54,30 @@ impl<'a> Lane<'a> {
         )
     }
 
-    /// Whether the lane may end here: the first act whose departure has not left is a breach. It takes no memory.
+    /// Checks that the lane may end here: the first act whose departure has not left is a breach.
+    /// Allocates no memory.
     pub fn end(&self) -> Result<(), Breach>
         ensures { MatchResult result (λ _. EndsWith (kept_of self.now.state) None) (λ breach. EndsWith (kept_of self.now.state) (Some breach)) }
     {
         self.state.end()
     }
 
-    /// What the server has for the client after the events so far. It takes no memory.
+    /// The server's state for the client after the events so far. Allocates no memory.
     pub fn table(&self) -> &LaneTable
         ensures { standing result.now ≡ (kept_of self.now.state).standing }
     {
         self.state.table()
     }
 
-    /// The tenancies that acts of the lane ended, in order of birth. It takes no memory.
+    /// The tenancies that acts of the lane ended, in order of birth. Allocates no memory.
     pub fn tenancies(&self) -> &[Tenancy]
         ensures { result.now ≡ (kept_of self.now.state).ended }
     {
         self.state.tenancies()
     }
 
-    /// The tenancy that runs on after the events so far, born after those that ended. It takes no memory.
+    /// The current tenancy after the events so far, born after those that ended. Allocates no
+    /// memory.
     pub fn running(&self) -> Option<Tenancy>
         ensures { result ≡ (kept_of self.now.state).standing.tenancy }
     {

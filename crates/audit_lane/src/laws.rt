@@ -1,4 +1,4 @@
-//! What holds of every lane, by the definitions alone. No program calls these.
+//! Properties of every lane, by the definitions alone. No program calls these.
 
 ghost use Rattle.std.specs.Prelude.{◌≡◌};
 ghost use Rattle.audit_lane.specs.Content.{Content, Judgement};

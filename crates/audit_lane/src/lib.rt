@@ -1,4 +1,5 @@
-//! One lane alone: what its client sent, and what the server answered.
+//! Judges one lane alone: the datagrams that its client sent, and those that the server sent for
+//! them.
 #![tactic(auto)]
 
 mod ahead;

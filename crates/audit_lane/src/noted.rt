@@ -1,4 +1,4 @@
-//! What the walk of a lane notes of its events.
+//! Notes of the walk of a lane.
 
 ghost use Rattle.std.specs.Prelude.{◌≡◌, ◌++◌, ℕ, None, OnOk, Some, nat_eq, option_to_list};
 ghost use Rattle.std.specs.BTreeMap.{get};
@@ -13,20 +13,20 @@ use audit_sights::SightMap;
 use std::alloc::AllocError;
 use std::collections::BTreeMap;
 
-/// An arrival that came in.
+/// An arrival that came.
 #[derive(Clone, Copy, Debug)]
 pub struct Arrival {
-    /// When it came in, in nanoseconds since 1970.
+    /// When it came, in nanoseconds since 1970.
     pub moment: u64,
     /// The number of the user that it names, among the lane's users, if it is a request.
     pub user: Option<u32>,
     pub acted: bool,
 }
 
-/// A departure that an act gave.
+/// A departure that an act sent.
 #[derive(Clone, Copy, Debug)]
 pub struct Departure {
-    /// When the act's arrival came in, in nanoseconds since 1970.
+    /// When the act's arrival came, in nanoseconds since 1970.
     pub arrived: u64,
     /// The act's place in the lane.
     pub place: u32,

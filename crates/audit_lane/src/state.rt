@@ -1,4 +1,4 @@
-//! What the events of a lane leave, one after the other.
+//! The state of a lane after each of its events.
 
 ghost use Rattle.std.specs.Prelude.{◌≡◌, ◌++◌, ℕ, IfErr, IfOk, List, MatchResult, None, OnOk, Some, nat_eq, min, true};
 ghost use Rattle.std.specs.BTreeMap.{get};
@@ -28,7 +28,8 @@ use audit_sights::SightMap;
 use std::alloc::{AllocError, Global};
 use std::collections::BTreeMap;
 
-/// What the events so far leave: the client's table, what came in, and what was given. After a refused step it isn't used again.
+/// The state after the events so far: the client's table, the arrivals, and the departures that
+/// were sent. After a refused step it isn't used again.
 #[derive(Drop)]
 pub struct LaneState {
     table: LaneTable,
@@ -41,7 +42,7 @@ pub struct LaneState {
 }
 
 impl LaneState {
-    /// The lane before its first event. It takes no memory.
+    /// The lane before its first event. Allocates no memory.
     pub fn new(alloc: Global, number: u32, client: Addr, listen: Addr) -> LaneState
         ensures { SameKept (kept_of result) (at_first (record { client = client; listen = listen; lane = number; allocation = None; tenancy = None })) }
     {
@@ -69,7 +70,7 @@ impl LaneState {
         Ok(())
     }
 
-    /// The arrival, if it may be answered by the departure now.
+    /// The arrival, if the server may send the departure for it now.
     fn answerable(
         &self,
         hold: u64,
@@ -94,7 +95,7 @@ impl LaneState {
         Ok(arrival)
     }
 
-    /// Notes that the arrival is acted on, and what is owed for it.
+    /// Notes that the arrival is acted on, and the departure that is owed for it.
     fn give(
         &mut self,
         at: At,
@@ -160,7 +161,7 @@ impl LaneState {
         Ok(())
     }
 
-    /// The act that gave the departure, which may leave now.
+    /// The act that sent the departure, which may leave now.
     fn leavable(&self, hold: u64, moment: u64, leaves: SightId) -> Result<Departure, Rule>
         ensures { MatchResult result
             (λ given. (out_fault hold (found self.now.departures leaves) moment ≡ None) × (found self.now.departures leaves ≡ Some given))
@@ -188,8 +189,9 @@ impl LaneState {
         Ok(())
     }
 
-    /// Takes in the event at a place of the lane with that number, in turn from 0, or tells what it breaks. It takes log n in the
-    /// events so far, and reads what it has to of an act's two payloads.
+    /// Applies the event at a place of the lane with that number, in turn from 0, or returns the
+    /// breach. It takes log n time in the events so far, and reads the needed parts of an act's two
+    /// payloads.
     pub fn step(
         &mut self,
         number: u32,
@@ -234,7 +236,8 @@ impl LaneState {
         }
     }
 
-    /// Whether the lane may end here: the first act whose departure has not left is a breach. It takes no memory.
+    /// Checks that the lane may end here: the first act whose departure has not left is a breach.
+    /// Allocates no memory.
     pub fn end(&self) -> Result<(), Breach>
         ensures { MatchResult result (λ _. EndsWith (kept_of self.now) None) (λ breach. EndsWith (kept_of self.now) (Some breach)) }
     {
@@ -244,21 +247,22 @@ impl LaneState {
         }
     }
 
-    /// What the server has for the client after the events so far. It takes no memory.
+    /// The server's state for the client after the events so far. Allocates no memory.
     pub fn table(&self) -> &LaneTable
         ensures { standing result.now ≡ (kept_of self.now).standing }
     {
         &self.table
     }
 
-    /// How many acts there are whose departure has not left, up to the greatest number of 32 bits. It takes no memory.
+    /// The number of acts whose departure has not left, up to the greatest number of 32 bits.
+    /// Allocates no memory.
     pub fn owed(&self) -> u32
         ensures { (count : ℕ) × AreOwed (kept_of self.now).owed count × (result ≡ min count 4294967295) }
     {
         u32::try_from(self.owed.len()).unwrap_or(u32::MAX)
     }
 
-    /// The tenancies that acts of the lane ended, in order of birth. It takes no memory.
+    /// The tenancies that acts of the lane ended, in order of birth. Allocates no memory.
     pub fn tenancies(&self) -> &[Tenancy]
         ensures { result.now ≡ (kept_of self.now).ended }
     {
@@ -274,7 +278,7 @@ impl LaneState {
         Ok(all)
     }
 
-    /// The tenancy that runs on after the events so far. It takes no memory.
+    /// The current tenancy after the events so far. Allocates no memory.
     pub fn running(&self) -> Option<Tenancy>
         ensures { result ≡ (kept_of self.now).standing.tenancy }
     {

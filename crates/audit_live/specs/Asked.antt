@@ -1,4 +1,4 @@
--- Which tenancies are asked for clashes in a turn.
+-- Which tenancies are checked for clashes in a turn.
 use Rattle.std.specs.Prelude.{ℕ, Bool, true, List, [], ◌++◌, Option, Some, None, option_to_list, slice_get, nat_lt, drop, length, min, if◌then◌else◌, ◌↔◌, Contains, map}
 use Rattle.std.specs.List.{flat_map}
 use Rattle.audit_model.specs.declared.event.Event.{Event}
@@ -13,14 +13,15 @@ abbrev pub is_past_last : Option ℕ → ℕ → Bool
 is_past_last None moment = true
 is_past_last (Some last) moment = nat_lt last moment
 
--- of a lane those that ended since it was asked, and the one that runs
+-- the tenancies of a lane that ended after it was last checked, and the current one
 abbrev pub fresh_of : LiveLane → List Tenancy
 fresh_of lane = drop (min lane.asked (length (kept_of lane.state).ended)) (kept_of lane.state).ended ++ option_to_list (runs_in lane)
 
 abbrev pub fresh_at : List LiveLane → ℕ → List Tenancy
 fresh_at lanes number = flat_map fresh_of (option_to_list (slice_get lanes number))
 
--- of the lane that is noted with the address of one that is born past the last horizon the one that runs
+-- the current tenancy of the lane that is noted for the address of a tenancy born past the last
+-- horizon
 abbrev pub held_by : List LiveLane → Holders → Option ℕ → Tenancy → List Tenancy
 held_by lanes holders last tenancy = if is_past_last last tenancy.born.key.moment then option_to_list (held_in lanes holders tenancy.relayed) else []
 

@@ -1,4 +1,4 @@
--- Which lane is asked for a relayed address.
+-- The lane that holds each relayed address.
 use Rattle.std.specs.Prelude.{◌≡◌, ℕ, Bool, true, false, ◌&&◌, ◌==◌, List, Option, Some, None, option_and_then, slice_get}
 use Rattle.std.specs.BTreeMap.{get}
 use Rattle.std.specs.declared.cmp.Ordering.{Ordering}
@@ -12,18 +12,18 @@ use Rattle.audit_server.specs.State.{put}
 use Rattle.audit_live.specs.declared.holders.Holders.{Holders}
 use Rattle.audit_live.specs.declared.lane.LiveLane.{LiveLane}
 
--- the lane that is noted with the address
+-- the lane that is noted for the address
 abbrev pub holder_of : Holders → Addr → Option ℕ
 holder_of holders relayed = get addr_cmp holders.lanes relayed
 
 abbrev pub runs_in : LiveLane → Option Tenancy
 runs_in lane = (kept_of lane.state).standing.tenancy
 
--- the tenancy that runs of the lane of that number, if there is one
+-- the current tenancy of the lane of that number, if there is one
 abbrev pub running_at : List LiveLane → ℕ → Option Tenancy
 running_at lanes number = option_and_then runs_in (slice_get lanes number)
 
--- the tenancy that runs of the lane that is noted with the address
+-- the current tenancy of the lane that is noted for the address
 abbrev pub held_in : List LiveLane → Holders → Addr → Option Tenancy
 held_in lanes holders relayed = option_and_then (running_at lanes) (holder_of holders relayed)
 
@@ -39,12 +39,13 @@ is_before one other = is_less (act_cmp one.born.key one.born.lane other.born.key
 abbrev pub same_addr : Addr → Addr → Bool
 same_addr one other = (one.ip == other.ip) && (one.port == other.port)
 
--- the one that runs was given the address later
+-- the address was granted to the current tenancy later
 abbrev pub is_held_later : Option Tenancy → Tenancy → Bool
 is_held_later None tenancy = false
 is_held_later (Some holder) tenancy = same_addr holder.relayed tenancy.relayed && is_before tenancy holder
 
--- the lane of a tenancy that runs is noted with its address, unless another lane was given that later
+-- the lane of a current tenancy is noted for its address, unless the address was granted to another
+-- lane later
 pub record Notes (lanes : List LiveLane) (old : Holders) (tenancy : Tenancy) (new : Holders) : Type 0 where
   pub kept : is_held_later (held_in lanes old tenancy.relayed) tenancy ≡ true → new ≡ old
   pub noted : is_held_later (held_in lanes old tenancy.relayed) tenancy ≡ false

@@ -1,4 +1,4 @@
--- What a lane owes, by the places of the acts, is what its walk remembers as owing.
+-- The departures that a lane owes, by the places of the acts, are those that its walk owes.
 use Rattle.std.specs.Prelude.{◌≡◌, ◌<◌, ◌↔◌, ℕ, List, [], ◌∷◌, map, Option, Some, IsSome, Contains, option_map}
 use Rattle.std.specs.List.{AllByRecursion}
 use Rattle.audit_lane.specs.declared.noted.Departure.{Departure}
@@ -6,7 +6,7 @@ use Rattle.audit_lane.specs.Kept.{Kept}
 use Rattle.audit_model.specs.declared.sighting.SightId.{SightId}
 use Rattle.audit_prefix.specs.Walk.{Owing}
 
--- each is below all behind it
+-- each is below all after it
 abbrev pub Rise : List ℕ → Type 0
 Rise [] = Unit {0}
 Rise (x ∷ xs) = AllByRecursion (λ y. x < y) xs × Rise xs
@@ -14,8 +14,9 @@ Rise (x ∷ xs) = AllByRecursion (λ y. x < y) xs × Rise xs
 abbrev pub places_of : List Owing → List ℕ
 places_of owing = map (λ one. one.at.place) owing
 
--- The acts that are owing are those of the places where a departure is owed, in the order of the places, which all come before the next
--- place; and each departure that was given was given at a place of its own.
+-- The owing acts are those at the places where a departure is owed, in the order of the places,
+-- which all come before the next place; and each departure was sent by an act at a place of its
+-- own.
 pub record Owes (place : ℕ) (kept : Kept) (owing : List Owing) : Type 0 where
   pub rising : Rise (places_of owing)
   pub all : (p : ℕ) → IsSome (kept.owed p) ↔ Contains (places_of owing) p

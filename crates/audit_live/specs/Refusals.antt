@@ -1,4 +1,4 @@
--- When a call on a live audit is refused, what that leaves, and what is told at the end.
+-- When a call on a live audit is refused, the state after that, and the result at the end.
 use Rattle.std.specs.Prelude.{◌≡◌, ℕ, List, Some, None, IsSome, Result, Ok, Err}
 use Rattle.audit_model.specs.declared.extension.Extension.{Extension}
 use Rattle.audit_model.specs.declared.verdict.Breach.{Breach}
@@ -20,7 +20,8 @@ use Rattle.audit_live.specs.Audit.{Audit}
 abbrev pub standing_of : Audit → Standing
 standing_of audit = record { taken = taken audit.intake; certificate = audit.front.placing.certificate; last = audit.last }
 
--- Which refusal of an advance comes, in their order; want of memory may come in place of any but the first two.
+-- Which refusal an advance has, in their order; exhausted memory may come in place of any except
+-- the first two.
 abbrev pub IsRefusal : Audit → ℕ → Extension → LiveFault → Type 0
 IsRefusal audit horizon extension faults.Ended = IsSome audit.ended
 IsRefusal audit horizon extension faults.Horizon = (audit.ended ≡ None) × IsNotLater (standing_of audit) horizon
@@ -31,7 +32,8 @@ IsRefusal audit horizon extension (faults.Breach breach) = (audit.ended ≡ None
 IsRefusal audit horizon extension faults.Memory = (audit.ended ≡ None) × ¬ IsNotLater (standing_of audit) horizon
 IsRefusal audit horizon extension (faults.Input fault) = ⊥
 
--- What a refusal of an advance leaves: a breach and want of memory end the audit, and the others change nothing.
+-- The state after a refusal of an advance: a breach and exhausted memory end the audit, and the
+-- others change nothing.
 abbrev pub Leaves : Audit → Audit → LiveFault → Type 0
 Leaves old new faults.Ended = new ≡ old
 Leaves old new faults.Horizon = new ≡ old
@@ -41,7 +43,7 @@ Leaves old new (faults.Breach breach) = new.ended ≡ Some (Broke breach)
 Leaves old new faults.Memory = new.ended ≡ Some NoMemory
 Leaves old new (faults.Input fault) = ⊥
 
--- it is a fault of a capture, of which this holds
+-- it is a fault of a capture that has the property
 abbrev pub IsInput : LiveFault → (IntakeFault → Type 0) → Type 0
 IsInput (faults.Input fault) Fact = Fact fault
 IsInput faults.Horizon Fact = ⊥
@@ -51,7 +53,7 @@ IsInput faults.Memory Fact = ⊥
 IsInput faults.Ended Fact = ⊥
 IsInput faults.Lane Fact = ⊥
 
--- it is a breach, of which this holds
+-- it is a breach that has the property
 abbrev pub IfBreach : LiveFault → (Breach → Type 0) → Type 0
 IfBreach (faults.Breach breach) Fact = Fact breach
 IfBreach (faults.Input fault) Fact = Unit {0}
@@ -61,13 +63,13 @@ IfBreach faults.Memory Fact = Unit {0}
 IfBreach faults.Ended Fact = Unit {0}
 IfBreach faults.Lane Fact = Unit {0}
 
--- the first cause, as it is told at the end
+-- the first cause, as it is reported at the end
 abbrev pub told_by : Cause → Result Verdict LiveEnd
 told_by (Broke breach) = Ok (NotShown breach)
 told_by NoMemory = Err ends.Memory
 told_by (Refused fault) = Err (ends.Input fault)
 
--- the end of each file is asked before there is a verdict
+-- the end of each file is checked before there is a verdict
 abbrev pub AsksTheEnds : Result Verdict LiveEnd → List Fed → Type 0
 AsksTheEnds (Ok verdict) files = FilesEnd (Ok tt) files
 AsksTheEnds (Err ends.Memory) files = FilesEnd (Ok tt) files

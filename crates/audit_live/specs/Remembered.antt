@@ -1,4 +1,4 @@
--- What a lane keeps is what its walk remembers.
+-- The state of a lane is that of its walk.
 use Rattle.std.specs.Prelude.{◌≡◌, false, Some, None, ℕ, List, option_map}
 use Rattle.audit_lane.specs.declared.noted.Arrival.{Arrival}
 use Rattle.audit_lane.specs.Content.{Happening}
@@ -19,7 +19,8 @@ use Rattle.audit_sightings.specs.Intake.{Taken, sighting_at}
 use Rattle.audit_whole.specs.CaptureRun.{rules_for}
 use Rattle.audit_live.specs.Steps.{AreRowsOf}
 
--- What is kept of a client's lane, but for what it owes: each arrival tells the first user, and one that didn't come wasn't acted on.
+-- The state of a client's lane, except what it owes: each arrival has the first user, and one that
+-- didn't come wasn't acted on.
 pub record Remembers (pair : Pair) (kept : Kept) (m : Memory) : Type 0 where
   pub client : kept.standing.client ≡ pair.client
   pub listen : kept.standing.listen ≡ pair.listen
@@ -32,7 +33,7 @@ pub record Remembers (pair : Pair) (kept : Kept) (m : Memory) : Type 0 where
   pub runs : kept.standing.tenancy ≡ m.runs
   pub ended : kept.ended ≡ m.ended
 
--- an event that is right goes on, and what is kept then is what is remembered then
+-- the walk goes on with an event that is right, and the states stay equal
 abbrev pub GoesOnAsWalk : Taken → KeyFor → Pair → ℕ → ℕ → Happening → List CredRow → Kept → Kept → Memory → Type 0
 GoesOnAsWalk taken key_for pair number place event rows old new m =
     AreRowsOf key_for event rows → IsKnown (sighting_at taken) event → Remembers pair old m → IsRight (terms_by number taken.policy rows) old event
@@ -40,7 +41,7 @@ GoesOnAsWalk taken key_for pair number place event rows old new m =
     → GoesOn (rules_for taken key_for) m (key_at event).moment (move_of pair event)
     × Remembers pair new (remembered (rules_for taken key_for) m (placed_at (terms_by number taken.policy rows) pair place event))
 
--- a breach that an event shows is of the first rule that the walk breaks by it
+-- the breach of an event is of the first rule that the walk breaks by it
 abbrev pub StopsAsWalk : Taken → KeyFor → Pair → ℕ → ℕ → Happening → List CredRow → Kept → Memory → Breach → Type 0
 StopsAsWalk taken key_for pair number place event rows old m breach =
     AreRowsOf key_for event rows → IsKnown (sighting_at taken) event → Remembers pair old m → Shows (terms_by number taken.policy rows) place old event breach

@@ -1,4 +1,4 @@
--- What a turn makes of the lanes.
+-- The lanes and the events of a turn.
 use Rattle.std.specs.Prelude.{◌≡◌, ℕ, ◌+◌, ◌-◌, min, List, ◌∷◌, [], ◌++◌, map, length, Option, Some, None, Contains, slice_get, slice_set, MatchBool}
 use Rattle.audit_model.specs.declared.address.Addr.{Addr}
 use Rattle.audit_model.specs.declared.event.Event.{Event}
@@ -18,17 +18,17 @@ use Rattle.audit_live.specs.Chain.{Chain}
 use Rattle.audit_live.specs.Holding.{running_at, Notes}
 use Rattle.audit_live.specs.Steps.{IsNew, Steps}
 
--- a lane more behind the others
+-- one more lane after the others
 abbrev pub AddsLane : List LiveLane → Addr × Addr → List LiveLane → Type 0
 AddsLane old pair new = (lane : LiveLane) × IsNew (length old) pair lane × (new ≡ old ++ lane ∷ [])
 
--- an event, and what it shows
+-- an event, and the breach that it shows
 pub record Shown : Type 0 where
   pub number : ℕ
   pub event : Event
   pub found : Option Breach
 
--- the lane of that number takes in the event, and the sum of what is owed changes with it
+-- the lane of that number applies the event, and the sum of owed departures changes with it
 pub record StepsIn (taken : Taken) (key_for : KeyFor) (old : LiveLanes) (shown : Shown) (new : LiveLanes) : Type 0 where
   pub was : LiveLane
   pub there : slice_get old.lanes.items shown.number ≡ Some was
@@ -38,29 +38,31 @@ pub record StepsIn (taken : Taken) (key_for : KeyFor) (old : LiveLanes) (shown :
   pub owed : new.owed ≡ min ((old.owed - was.owes) + is.owes) 18446744073709551615
   pub holders : new.holders ≡ old.holders
 
--- Each event is taken in by its lane, in their order, and the least of what they show is told, whatever that order is.
+-- Each event is applied by its lane, in their order. The result is the least breach that they show,
+-- whatever that order is.
 pub record Walks (taken : Taken) (key_for : KeyFor) (old : LiveLanes) (events : List (ℕ × Event)) (new : LiveLanes) (found : Option Breach) : Type 0 where
   pub shown : List Shown
   pub events_are : map (λ one. (one.number, one.event)) shown ≡ events
   pub chain : Chain (StepsIn taken key_for) old shown new
   pub least : IsLeast (λ breach. Contains (map (λ one. one.found) shown) (Some breach)) found
 
--- what ended in the lane was asked
+-- the ended tenancies of the lane are marked as checked
 abbrev pub NotesAsked : List LiveLane → ℕ → List LiveLane → Type 0
 NotesAsked old number new = (was : LiveLane) × (slice_get old number ≡ Some was) × (new ≡ slice_set old number (record was { asked = length (kept_of was.state).ended }))
 
--- the tenancy that runs is noted if it was born past the last horizon
+-- the current tenancy is noted if it was born past the last horizon
 abbrev pub NotesRunning : List LiveLane → Option ℕ → Holders → Option Tenancy → Holders → Type 0
 NotesRunning lanes last old None new = new ≡ old
 NotesRunning lanes last old (Some tenancy) new = MatchBool (is_past_last last tenancy.born.key.moment) (Notes lanes old tenancy new) (new ≡ old)
 
--- what is noted of lanes that were asked
+-- the notes about lanes that were checked
 pub record NotesTurn (last : Option ℕ) (touched : List ℕ) (old new : LiveLanes) : Type 0 where
   pub lanes : Chain NotesAsked old.lanes.items touched new.lanes.items
   pub holders : Chain (λ was number is. NotesRunning new.lanes.items last was (running_at new.lanes.items number) is) old.holders touched new.holders
   pub owed : new.owed ≡ old.owed
 
--- The least of the lanes' breaches is told, or else the least clash of the tenancies that are asked; and where there is none, it is noted who was asked.
+-- The result is the least of the lanes' breaches, or else the least clash of the checked tenancies;
+-- if there is none, the lanes are noted as checked.
 pub record TakesTurn (taken : Taken) (key_for : KeyFor) (last : Option ℕ) (old : LiveLanes) (events : List (ℕ × Event)) (new : LiveLanes) (found : Option Breach) : Type 0 where
   pub mid : LiveLanes
   pub of_lanes : Option Breach

@@ -1,4 +1,4 @@
--- What is kept of each lane, while no breach was told.
+-- The state of each lane, while no breach was reported.
 use Rattle.std.specs.Prelude.{◌≡◌, ◌≤◌, ℕ, false, List, length, map, min, Option, Some, slice_get, sum_by}
 use Rattle.std.specs.List.{AllByRecursion}
 use Rattle.audit_lane.specs.Seen.{kept_of}
@@ -20,8 +20,8 @@ use Rattle.audit_live.specs.Holding.{holder_of}
 use Rattle.audit_live.specs.Owed.{Owes}
 use Rattle.audit_live.specs.Remembered.{Remembers}
 
--- The lane keeps what its walk remembers, has come to a place, and as many of its tenancies that ended were asked; and it owes what that
--- walk remembers as owing.
+-- The lane's state is that of its walk at a place, this number of its ended tenancies were checked,
+-- and it owes what the walk owes.
 pub record IsAt (pair : Pair) (number place : ℕ) (m : Memory) (asked : ℕ) (lane : LiveLane) : Type 0 where
   pub keeps : Remembers pair (kept_of lane.state) m
   pub number' : lane.number ≡ number
@@ -34,11 +34,11 @@ pub record IsAt (pair : Pair) (number place : ℕ) (m : Memory) (asked : ℕ) (l
 abbrev pub events_of : ℕ → CertLane → List Placed
 events_of number lane = map placed_of (lane_entries number lane)
 
--- what the walk of a lane of the certificate remembers
+-- the state of the walk of a lane of the certificate
 abbrev pub memory_of : Taken → KeyFor → ℕ → CertLane → Memory
 memory_of taken key_for number lane = remembered_all (rules_for taken key_for) nothing_yet (events_of number lane)
 
--- all events of the lane are walked, and all tenancies that ended were asked
+-- all events of the lane are walked, and all ended tenancies were checked
 abbrev pub IsWalked : Taken → KeyFor → ℕ → CertLane → LiveLane → Type 0
 IsWalked taken key_for number lane live =
     IsAt (pair_of_lane lane) number (length lane.events) (memory_of taken key_for number lane) (length (memory_of taken key_for number lane).ended) live
@@ -52,7 +52,7 @@ abbrev pub AreNoted : Taken → KeyFor → Option ℕ → List CertLane → Hold
 AreNoted taken key_for last lanes holders =
     (number : ℕ) (lane : CertLane) → slice_get lanes number ≡ Some lane → KnowsHolders (rules_for taken key_for) (horizon_of last) (holder_of holders) (events_of number lane)
 
--- what all lanes owe is the sum of what each does, which is a number of 32 bits
+-- the departures that all lanes owe are the sum over the lanes, each a number of 32 bits
 pub record IsSummed (lanes : LiveLanes) : Type 0 where
   pub sum : lanes.owed ≡ sum_by (λ lane. lane.owes) lanes.lanes.items
   pub few : AllByRecursion (λ lane. lane.owes ≤ 4294967295) lanes.lanes.items

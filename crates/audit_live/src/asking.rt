@@ -1,4 +1,4 @@
-//! Which tenancies are asked for clashes in a turn.
+//! Which tenancies are checked for clashes in a turn.
 
 ghost use Rattle.std.specs.Prelude.{◌≡◌, ◌<◌, ◌++◌, All, IfOk, OnOk, vec_len};
 ghost use Rattle.std.specs.List.{flat_map};
@@ -19,7 +19,7 @@ pub fn is_past_last(last: Option<u64>, moment: u64) -> bool
 }
 
 impl LiveLanes {
-    /// Of those lanes the tenancies that ended since they were asked last, and the ones that run.
+    /// The tenancies of those lanes that ended after they were last checked, and the current ones.
     fn fresh(&self, touched: &[u32]) -> Result<Vec<Tenancy>, AllocError>
         requires { All (λ number. number < vec_len self.now.lanes) touched.now }
         ensures { IfOk result (λ fresh. fresh.items ≡ flat_map (fresh_at self.now.lanes.items) touched.now) }
@@ -43,7 +43,8 @@ impl LiveLanes {
         Ok(())
     }
 
-    /// Adds the tenancy of the lane that is noted with the address of one that was born past the last horizon.
+    /// Adds the current tenancy of the lane that is noted for the address of a tenancy which was
+    /// born past the last horizon.
     fn add_held(
         &self,
         last: Option<u64>,
@@ -60,8 +61,9 @@ impl LiveLanes {
         Ok(())
     }
 
-    /// The tenancies that are asked for clashes: of the lanes with these numbers those that ended since they were asked last and the one that
-    /// runs, and of other lanes the one that runs with an address that one of these was given past the last horizon.
+    /// The tenancies that are checked for clashes: of the lanes with these numbers those that ended
+    /// after they were last checked and the current one, and of other lanes the current one if its
+    /// address was granted to one of these past the last horizon.
     pub fn asked(&self, last: Option<u64>, touched: &[u32]) -> Result<Vec<Tenancy>, AllocError>
         requires { All (λ number. number < vec_len self.now.lanes) touched.now }
         ensures { IfOk result (λ asked. asked.items ≡ asked_of self.now.lanes.items self.now.holders last touched.now) }

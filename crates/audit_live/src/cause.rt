@@ -8,7 +8,7 @@ use audit_sightings::IntakeFault;
 pub enum Cause {
     /// An advance showed this breach.
     Broke(Breach),
-    /// An advance had no memory.
+    /// An advance ran out of memory.
     NoMemory,
     /// The bytes of a capture were refused.
     Refused(IntakeFault),

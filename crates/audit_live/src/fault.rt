@@ -16,13 +16,14 @@ pub enum LiveFault {
     /// G3: with the extension the certificate shows a breach.
     #[error("G3 breach")]
     Breach(Breach),
-    /// G4: there was no memory.
+    /// G4: out of memory.
     #[error("G4 memory")]
     Memory,
     /// G5: an earlier advance or feed failed.
     #[error("G5 ended")]
     Ended,
-    /// G6: the number of a lane that isn't there, a second lane of one client at one listen address, or too many lanes or events.
+    /// G6: the number of a lane that doesn't exist, a second lane of one client at one listen
+    /// address, or too many lanes or events.
     #[error("G6 lane")]
     Lane,
     /// The capture was refused.
@@ -33,10 +34,10 @@ pub enum LiveFault {
 /// Why there is no verdict.
 #[derive(Clone, Copy, Debug, PartialEq, Eq, Error)]
 pub enum LiveEnd {
-    /// A capture was refused, or ends where it may not.
+    /// A capture was refused, or ends inside a block, or has no byte.
     #[error("{0}")]
     Input(IntakeFault),
-    /// An advance had no memory.
+    /// An advance ran out of memory.
     #[error("memory")]
     Memory,
 }

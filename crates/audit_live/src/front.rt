@@ -1,4 +1,4 @@
-//! What is placed so far.
+//! The front: all that is placed so far.
 
 ghost use Rattle.std.specs.Prelude.{◌≡◌, ℕ, Option, None, Some, IfNone, IfOk, OnOk, [], length, vec_len};
 ghost use Rattle.audit_keys.specs.KeyFor.{key_for};
@@ -20,7 +20,7 @@ use audit_order::Placing;
 use audit_sightings::Intake;
 use std::alloc::{AllocError, Global};
 
-/// The certificate that is taken so far, and what its lanes have come to.
+/// The certificate so far, and the state of its lanes.
 #[derive(Drop)]
 pub struct Front {
     pub placing: Placing,
@@ -28,7 +28,7 @@ pub struct Front {
 }
 
 impl Front {
-    /// Nothing is placed. It takes no memory.
+    /// Nothing is placed. Allocates no memory.
     pub fn new(alloc: Global) -> Front
         ensures lanes { result.placing.certificate.lanes ≡ [] }
         ensures drops { result.placing.certificate.drops ≡ [] }
@@ -40,7 +40,7 @@ impl Front {
         }
     }
 
-    /// Takes what the certificate gains, and gives the breach that it shows then.
+    /// Adds an extension to the certificate, and returns the breach that it then shows.
     pub fn take(
         &mut self,
         intake: &Intake,
@@ -51,10 +51,10 @@ impl Front {
         requires knows { Knows (taken intake.now) (key_for credentials.now) last self.old }
         requires fits { Fits self.old.placing.certificate extension.now }
         ensures tells { IfOk result (Tells (taken intake.now) (key_for credentials.now) last self.old extension.now self.new) }
-        // Of an extension that may come, what it shows is the breach of the whole,
+        // If the extension may come, the result is the breach of the whole certificate,
         ensures shows { (horizon : ℕ) → MayAdvance (stands_for (taken intake.now) self.old last) horizon extension.now →
             IfOk result (LiveBreach (taken intake.now) (key_for credentials.now) self.new.placing.certificate) }
-        // and where there is none, what is known goes on.
+        // and if there is none, the invariant holds on.
         ensures knows { (horizon : ℕ) → MayAdvance (stands_for (taken intake.now) self.old last) horizon extension.now →
             IfOk result (λ found. IfNone found (Knows (taken intake.now) (key_for credentials.now) (Some horizon) self.new)) }
     {
@@ -66,7 +66,7 @@ impl Front {
             .take(intake, credentials, last, extension.events.as_slice())
     }
 
-    /// What it has come to at a horizon.
+    /// The progress at a horizon.
     pub fn progress(&self, horizon: u64) -> Progress
         requires { vec_len self.now.lanes.lanes ≡ length self.now.placing.certificate.lanes }
         ensures horizon { result.horizon ≡ horizon }

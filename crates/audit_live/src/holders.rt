@@ -1,4 +1,4 @@
-//! Which lane is asked for a relayed address.
+//! The lane that holds each relayed address.
 
 ghost use Rattle.std.specs.Prelude.{◌≡◌, OnOk, ◌↔◌, IsTrue, true};
 ghost use Rattle.audit_live.specs.Holding.{Notes, held_in, is_before as came_before};
@@ -9,13 +9,13 @@ use std::alloc::{AllocError, Global};
 use std::cmp::Ordering;
 use std::collections::BTreeMap;
 
-/// The lane that was given each relayed address last.
+/// The lane to which each relayed address was last granted.
 #[derive(Drop)]
 pub struct Holders {
     pub lanes: BTreeMap<Addr, u32>,
 }
 
-/// Whether the first tenancy came before the second.
+/// Whether the first tenancy was born before the second.
 fn is_before(one: &Tenancy, other: &Tenancy) -> bool
     ensures { result ≡ came_before one.now other.now }
 {
@@ -28,14 +28,14 @@ fn is_before(one: &Tenancy, other: &Tenancy) -> bool
 }
 
 impl Holders {
-    /// No address was given yet. It takes no memory.
+    /// No address was granted yet. Allocates no memory.
     pub fn new(alloc: Global) -> Self {
         Holders {
             lanes: BTreeMap::new(alloc),
         }
     }
 
-    /// The tenancy that runs of the lane that was given the address last.
+    /// The current tenancy of the lane to which the address was last granted.
     pub fn running(&self, lanes: &[LiveLane], relayed: Addr) -> Option<Tenancy>
         ensures { result ≡ held_in lanes.now self.now relayed }
     {
@@ -43,7 +43,7 @@ impl Holders {
         lanes.get(*number as usize)?.running()
     }
 
-    /// Notes the lane of a tenancy that runs, unless its address was given to another lane later.
+    /// Notes the lane of a current tenancy, unless its address was granted to another lane later.
     pub fn note(&mut self, lanes: &[LiveLane], tenancy: &Tenancy) -> Result<(), AllocError>
         ensures { OnOk result (Notes lanes.now self.old tenancy.now self.new) }
     {

@@ -14,23 +14,23 @@ use audit_rules::CredRow;
 use audit_sightings::Intake;
 use std::alloc::{AllocError, Global};
 
-/// A lane as far as it is walked.
+/// A lane, as far as it is walked.
 #[derive(Drop)]
 pub struct LiveLane {
     pub number: u32,
     pub state: LaneState,
-    /// How many events it took in: the place of the next one.
+    /// The number of events so far, which is the place of the next one.
     pub steps: u32,
-    /// How many of its tenancies that ended were asked for clashes.
+    /// How many of its ended tenancies were checked for clashes.
     pub asked: usize,
-    /// How many departures were given that have not left.
+    /// The number of departures that acts sent and that haven't left.
     pub owes: u32,
-    /// An event broke a rule; it isn't walked on.
+    /// An event broke a rule; the lane isn't walked on.
     pub broken: bool,
 }
 
 impl LiveLane {
-    /// The lane before its first event. It takes no memory.
+    /// The lane before its first event. Allocates no memory.
     pub fn new(alloc: Global, number: u32, client: Addr, listen: Addr) -> LiveLane
         ensures { IsNew number (client, listen) result }
     {
@@ -66,7 +66,7 @@ impl LiveLane {
             .step(self.number, &[], intake.policy(), self.steps, arrives)
     }
 
-    /// The user that a request names is looked up when the server acts on it.
+    /// Applies an act. The user that its request names is looked up now.
     fn act(
         &mut self,
         intake: &Intake,
@@ -115,7 +115,7 @@ impl LiveLane {
             .step(self.number, &[], intake.policy(), self.steps, leaves)
     }
 
-    /// Takes in its next event, or tells which rule it breaks.
+    /// Applies its next event, or returns the rule that it breaks.
     fn walk(
         &mut self,
         intake: &Intake,
@@ -134,7 +134,7 @@ impl LiveLane {
         }
     }
 
-    /// An event more was taken in.
+    /// Counts one more event.
     fn count(&mut self)
         ensures rest { self.new ≡ record self.old { steps = min (self.old.steps + 1) 4294967295; owes = self.new.owes } }
         ensures owing { IsOwing self.new }
@@ -143,7 +143,8 @@ impl LiveLane {
         self.owes = self.state.owed();
     }
 
-    /// Takes in its next event, and gives the breach that it shows. A lane that has shown one is not walked on.
+    /// Applies its next event, and returns the breach that it shows. A lane that has shown one is
+    /// not walked on.
     pub fn step(
         &mut self,
         intake: &Intake,
@@ -169,7 +170,7 @@ impl LiveLane {
         }
     }
 
-    /// The tenancies that ended and weren't asked for clashes.
+    /// The ended tenancies that weren't checked for clashes.
     pub fn ended(&self) -> &[Tenancy]
         ensures { result.now ≡ drop (min self.now.asked (length (kept_of self.now.state).ended)) (kept_of self.now.state).ended }
     {
@@ -177,14 +178,14 @@ impl LiveLane {
         &ended[self.asked.min(ended.len())..]
     }
 
-    /// All tenancies that ended are asked for clashes.
+    /// Marks all ended tenancies as checked for clashes.
     pub fn note_asked(&mut self)
         ensures { self.new ≡ record self.old { asked = length (kept_of self.old.state).ended } }
     {
         self.asked = self.state.tenancies().len();
     }
 
-    /// The tenancy that runs.
+    /// The current tenancy.
     pub fn running(&self) -> Option<Tenancy>
         ensures { result ≡ (kept_of self.now.state).standing.tenancy }
     {

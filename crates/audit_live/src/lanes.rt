@@ -23,7 +23,7 @@ use std::alloc::{AllocError, Global};
 pub struct LiveLanes {
     pub lanes: Vec<LiveLane>,
     pub holders: Holders,
-    /// How many departures were given that have not left, over all lanes.
+    /// The number of departures that acts sent and that haven't left, over all lanes.
     pub owed: u64,
     pub alloc: Global,
 }
@@ -42,7 +42,7 @@ fn lanes_of(alloc: Global, events: &[(u32, Event)]) -> Result<Vec<u32>, AllocErr
 }
 
 impl LiveLanes {
-    /// There is no lane yet. It takes no memory.
+    /// No lanes. Allocates no memory.
     pub fn new(alloc: Global) -> LiveLanes
         ensures lanes { vec_len result.lanes ≡ 0 }
         ensures owed { result.owed ≡ 0 }
@@ -81,7 +81,7 @@ impl LiveLanes {
         Ok(())
     }
 
-    /// Takes in the next event of a lane, and gives the breach that it shows.
+    /// Applies the next event of a lane, and returns the breach that it shows.
     fn step(
         &mut self,
         intake: &Intake,
@@ -105,7 +105,8 @@ impl LiveLanes {
         Ok(breach)
     }
 
-    /// Takes in events, each the next one of its lane, and gives the least of the breaches that they show.
+    /// Applies events, each the next one of its lane, and returns the least of the breaches that
+    /// they show.
     fn walk(
         &mut self,
         intake: &Intake,
@@ -134,7 +135,7 @@ impl LiveLanes {
         self.lanes[number as usize].note_asked();
     }
 
-    /// What ended in those lanes is asked.
+    /// Marks the ended tenancies of those lanes as checked.
     fn note_asked(&mut self, touched: &[u32])
         requires { All (λ number. number < vec_len self.old.lanes) touched.now }
         ensures lanes { Chain NotesAsked self.old.lanes.items touched.now self.new.lanes.items }
@@ -159,7 +160,7 @@ impl LiveLanes {
         Ok(())
     }
 
-    /// Notes which of those lanes were given addresses past the last horizon.
+    /// Notes which of those lanes were granted addresses past the last horizon.
     fn note_holders(&mut self, last: Option<u64>, touched: &[u32]) -> Result<(), AllocError>
         requires { All (λ number. number < vec_len self.old.lanes) touched.now }
         ensures holders { OnOk result (Chain (λ was number is. NotesRunning self.old.lanes.items last was (running_at self.old.lanes.items number) is) self.old.holders touched.now self.new.holders) }
@@ -171,7 +172,8 @@ impl LiveLanes {
         Ok(())
     }
 
-    /// Notes what was asked of those lanes, and which of them were given addresses past the last horizon.
+    /// Notes that those lanes were checked, and which of them were granted addresses past the last
+    /// horizon.
     fn note(&mut self, last: Option<u64>, touched: &[u32]) -> Result<(), AllocError>
         requires { All (λ number. number < vec_len self.old.lanes) touched.now }
         ensures notes { OnOk result (NotesTurn last touched.now self.old self.new) }
@@ -182,7 +184,8 @@ impl LiveLanes {
         Ok(())
     }
 
-    /// Takes in the events of a turn, and gives the breach that the lanes or their tenancies show. It takes n log n in the events.
+    /// Applies the events of a turn, and returns the breach that the lanes or their tenancies show.
+    /// It takes n log n time in the events.
     pub fn take(
         &mut self,
         intake: &Intake,

@@ -1,4 +1,5 @@
-//! The verdict while captures grow: a certificate is taken in turns, each up to a horizon, and the first turn that breaks a rule is told.
+//! The verdict while captures grow: a certificate is extended in turns, each up to a horizon, and
+//! the first turn that breaks a rule is reported.
 #![tactic(auto)]
 
 mod asking;

@@ -1,4 +1,4 @@
-//! A live audit.
+//! A live audit: captures that grow, judged turn by turn.
 
 ghost use Rattle.std.specs.Prelude.{◌≡◌, ◌<◌, ◌+◌, ◌++◌, ◌∷◌, ◌↔◌, ℕ, List, [], IfErr, IfOk, IsOkUnless, IsSome, OnErr, OnOk, None, Some, Ok, Err, vec_len};
 ghost use Rattle.audit_keys.specs.KeyFor.{key_for};
@@ -34,7 +34,7 @@ use audit_sightings::laws::sightings_are_numbered;
 use std::alloc::Global;
 use std::marker::Model;
 
-/// Captures that grow, and the certificate that is taken for them so far.
+/// Captures that grow, and the certificate for them so far.
 #[derive(Drop)]
 pub struct Live {
     intake: Intake,
@@ -68,7 +68,7 @@ impl Model for Live {
 }
 
 impl Live {
-    /// An audit of no captures. It takes no memory.
+    /// An audit of no captures. Allocates no memory.
     pub fn open(alloc: Global, policy: Policy, credentials: Credentials) -> Live
         ensures taken { taken result.intake ≡ record { policy = policy; files = 0; interfaces = [] } }
         ensures stands { StandsFor result.intake [] }
@@ -88,7 +88,7 @@ impl Live {
         }
     }
 
-    /// One capture more, whose number is given: from 0 in order. A refusal changes nothing.
+    /// Adds a capture, and returns its number, from 0 in order. A refusal changes nothing.
     pub fn add_file(&mut self) -> Result<u32, LiveFault>
         ensures ended { IsSome self.old.ended → (result ≡ Err Ended) × (self.new ≡ self.old) }
         ensures number { IfOk result (λ file. file ≡ vec_len self.old.intake.files) }
@@ -97,7 +97,7 @@ impl Live {
         ensures err { OnErr result (taken self.new.intake ≡ taken self.old.intake) }
         ensures kept { (files : List Fed) → StandsFor self.old.intake files → OnErr result (StandsFor self.new.intake files) }
         ensures rest { self.new ≡ record self.old { intake = self.new.intake } }
-        // Before the audit has ended, it is refused as an intake refuses a file, and for nothing else.
+        // Before the audit has ended, it is refused exactly as an intake refuses a file.
         ensures room { self.old.ended ≡ None → self.old.intake.failed ≡ None → vec_len self.old.intake.files < MAX_FILES →
             IsOkUnless result (Input (record { kind = kinds.Memory; file = vec_len self.old.intake.files })) }
         ensures full { self.old.ended ≡ None → self.old.intake.failed ≡ None → vec_len self.old.intake.files ≡ MAX_FILES →
@@ -115,7 +115,7 @@ impl Live {
         }
     }
 
-    /// Takes the next bytes of a capture, cut anywhere. A refusal of the bytes ends the audit.
+    /// Feeds the next bytes of a capture, split anywhere. A refusal of the bytes ends the audit.
     pub fn feed(&mut self, file: u32, piece: &[u8]) -> Result<(), LiveFault>
         requires { file < vec_len self.old.intake.files }
         ensures ended { IsSome self.old.ended → (result ≡ Err Ended) × (self.new ≡ self.old) }
@@ -126,7 +126,7 @@ impl Live {
         ensures goes_on { OnOk result (self.new.ended ≡ None) }
         ensures files { vec_len self.new.intake.files ≡ vec_len self.old.intake.files }
         ensures policy { self.new.intake.policy ≡ self.old.intake.policy }
-        // As the captures grow, what is placed stays the front of a run that explains them.
+        // As the captures grow, the placed part stays a prefix of a run that explains them.
         ensures prefix { OnOk result (IsPrefix (taken self.new.intake) (rules_for (taken self.new.intake) (key_for self.new.credentials)) self.new.front.placing.certificate (horizon_of self.new.last)) }
         ensures rest { self.new ≡ record self.old { intake = self.new.intake; ended = self.new.ended } }
     {
@@ -134,7 +134,7 @@ impl Live {
             return Err(LiveFault::Ended);
         }
         let fed = self.intake.feed(file, piece);
-        // That its sightings are numbered is asked of what is known.
+        // The invariant includes that its sightings are numbered.
         sightings_are_numbered(&self.intake);
         match fed {
             Ok(()) => Ok(()),
@@ -145,7 +145,7 @@ impl Live {
         }
     }
 
-    /// Whether an advance may come, asked before anything changes.
+    /// Checks whether an advance may come, before anything changes.
     fn may_advance(&self, horizon: u64, extension: &Extension) -> Result<(), LiveFault>
         ensures may { OnOk result ((self.now.ended ≡ None) × MayAdvance (standing_of self.now) horizon extension.now) }
         ensures refused { IfErr result (IsRefusal self.now horizon extension.now) }
@@ -169,24 +169,26 @@ impl Live {
         }
     }
 
-    /// Takes what the certificate gains, up to a new horizon, and tells what the audit has come to. It is refused, in this order, by G5 after
-    /// G3, G4 or a refused feed; G1, G6 and G2, which change nothing; G3, the least breach of the certificate as it then stands; and G4.
+    /// Extends the certificate up to a new horizon, and returns the progress. It is refused, in
+    /// this order, by G5 after G3, G4 or a refused feed; G1, G6 and G2, which change nothing; G3,
+    /// the least breach of the certificate with the extension; and G4.
     ///
-    /// It takes n log n in the extension and the sightings that came since.
+    /// It takes n log n time in the extension and the sightings after the last advance.
     pub fn advance(&mut self, horizon: u64, extension: Extension) -> Result<Progress, LiveFault>
         ensures refused { IfErr result (IsRefusal self.old horizon extension) }
         ensures accepted { OnOk result ((self.old.ended ≡ None) × MayAdvance (standing_of self.old) horizon extension × (self.new.last ≡ Some horizon) × (self.new.ended ≡ None)) }
         ensures leaves { IfErr result (Leaves self.old self.new) }
         ensures passes { OnOk result (Tells (taken self.old.intake) (key_for self.old.credentials) self.old.last self.old.front extension self.new.front None) }
         ensures breach { IfErr result (λ refusal. IfBreach refusal (λ breach. Tells (taken self.old.intake) (key_for self.old.credentials) self.old.last self.old.front extension self.new.front (Some breach))) }
-        // Accepted, no breach is told of the whole certificate as it then stands; refused by G3, this one is.
+        // If accepted, the whole certificate with the extension has no breach; if refused by G3, it
+        // has this one.
         ensures advances { OnOk result (Advances (key_for self.old.credentials) (standing_of self.old) horizon extension (standing_of self.new)) }
         ensures shows { IfErr result (λ refusal. IfBreach refusal (λ breach. Shows (key_for self.old.credentials) (standing_of self.old) extension (Some breach))) }
         ensures broken { IfErr result (λ refusal. IfBreach refusal (λ breach.
             LiveBreach (taken self.old.intake) (key_for self.old.credentials) self.new.front.placing.certificate (Some breach))) }
-        // What is placed is the front of a run that explains the captures.
+        // The placed part is a prefix of a run that explains the captures.
         ensures prefix { OnOk result (IsPrefix (taken self.new.intake) (rules_for (taken self.new.intake) (key_for self.new.credentials)) self.new.front.placing.certificate horizon) }
-        // What it has come to: among it is what is owed, the departures that were given and haven't left.
+        // The progress includes the number of departures that acts sent and that haven't left.
         ensures progress { IfOk result (λ progress. (progress.horizon ≡ horizon)
             × IsProgress (key_for self.new.credentials) (standing_of self.new) horizon progress.placed progress.lanes progress.owed) }
         ensures rest { (self.new.intake ≡ self.old.intake) × (self.new.credentials ≡ self.old.credentials) }
@@ -217,31 +219,32 @@ impl Live {
         }
     }
 
-    /// What was taken in of the captures. It takes no memory.
+    /// The intake of the captures. Allocates no memory.
     pub fn intake(&self) -> &Intake
         ensures { result.now ≡ self.now.intake }
     {
         &self.intake
     }
 
-    /// The users that it was opened with. It takes no memory.
+    /// The users that it was opened with. Allocates no memory.
     pub fn credentials(&self) -> &Credentials
         ensures { result.now ≡ self.now.credentials }
     {
         &self.credentials
     }
 
-    /// The last horizon, up to which all is placed that will be. It takes no memory.
+    /// The last horizon. No event up to it will be added. Allocates no memory.
     pub fn last(&self) -> Option<u64>
         ensures { result ≡ self.now.last }
     {
         self.last
     }
 
-    /// The verdict, if the captures end here: what ended the audit before, or else the fault of the first capture that may not end where it does,
-    /// or else the verdict on the whole intake by the certificate of all extensions. It goes over all of both once.
+    /// The verdict, if the captures end here: the first cause that ended the audit, or else the
+    /// fault of the first capture that ends inside a block or has no byte, or else the verdict on
+    /// the whole intake by the certificate of all extensions. It reads all of both once.
     pub fn finish(&self) -> Result<Verdict, LiveEnd>
-        // The first cause is told again.
+        // The first cause is reported again.
         ensures first_cause { (cause : FirstCause) → self.now.ended ≡ Some cause → result ≡ told_by cause }
         ensures ends { self.now.ended ≡ None → (files : List Fed) → StandsFor self.now.intake files → AsksTheEnds result files }
         ensures verdict { self.now.ended ≡ None → IfOk result (IsVerdict (taken self.now.intake) (key_for self.now.credentials) self.now.front.placing.certificate) }

@@ -1,14 +1,14 @@
-//! What an audit has come to.
+//! The progress of an audit.
 
-/// What an audit has come to.
+/// The progress of an audit.
 #[derive(Clone, Copy, Debug, PartialEq, Eq)]
 pub struct Progress {
-    /// All that is placed stands at this moment at the latest, in nanoseconds since 1970.
+    /// The horizon, in nanoseconds since 1970: everything placed is at or before it.
     pub horizon: u64,
-    /// How many sightings are placed.
+    /// The number of sightings that are placed.
     pub placed: u32,
-    /// How many lanes there are.
+    /// The number of lanes.
     pub lanes: u32,
-    /// How many departures the server gave that have not left.
+    /// The number of departures that acts sent and that haven't left.
     pub owed: u32,
 }

@@ -1,4 +1,4 @@
-//! Whether an extension comes in turn.
+//! Checks that an extension is between the horizons of its turn.
 
 ghost use Rattle.std.specs.Prelude.{◌≡◌, ◌≤◌, ◌<◌, ◌↔◌, All, IfSome, IsTrue, None};
 ghost use Rattle.audit_model.specs.Event.{key_of};
@@ -42,7 +42,7 @@ fn are_drops_between(last: Option<u64>, horizon: u64, drops: &[CertDrop]) -> boo
         .all(|dropped| is_between(last, horizon, dropped.key.moment))
 }
 
-/// Whether all events and drops stand past the last horizon, and none past the new one.
+/// Whether all events and drops are past the last horizon, and none past the new one.
 pub fn is_in_turn(last: Option<u64>, horizon: u64, extension: &Extension) -> bool
     ensures { IsTrue result ↔ IsInTurn last horizon extension.now }
 {

@@ -1,4 +1,4 @@
--- What contracts see of counts by interface.
+-- Counts by interface, as contracts see them.
 use Rattle.std.specs.Prelude.{ℕ, unwrap_or}
 use Rattle.std.specs.BTreeMap.{get}
 use Rattle.std.specs.Ordering.{nat_cmp}

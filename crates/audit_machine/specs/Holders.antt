@@ -1,4 +1,4 @@
--- What contracts see of the clients that have relayed addresses.
+-- The clients that have relayed addresses, as contracts see them.
 use Rattle.std.specs.Prelude.{Option}
 use Rattle.std.specs.BTreeMap.{get}
 use Rattle.audit_model.specs.declared.address.Addr.{Addr}

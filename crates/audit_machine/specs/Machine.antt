@@ -1,4 +1,4 @@
--- What contracts see of a machine.
+-- A machine, as contracts see it.
 use Rattle.std.specs.Prelude.{◌≡◌, ◌≢◌, ℕ, Bool, Option, Some, List, [], ◌∷◌, is_some}
 use Rattle.audit_model.specs.declared.pair.Pair.{Pair}
 use Rattle.audit_model.specs.declared.sighting.SightId.{SightId}
@@ -42,7 +42,7 @@ AreHeld tables holders grace moment = (c : Pair) (a : Allocation) → allocation
 abbrev pub IsFreeFor : Tables → ℕ → ℕ → Pair → Addr → Type 0
 IsFreeFor tables grace moment pair relayed = (other : Pair) → other ≢ pair → HasAddress grace moment relayed (allocation_of tables other) → ⊥
 
--- the fact holds of the allocation, if there is one and it is usable
+-- the allocation has the property, if there is one and it is usable
 abbrev pub IfUsable : ℕ → ℕ → Option Allocation → (Allocation → Type 0) → Type 0
 IfUsable grace moment allocation Fact = (a : Allocation) → allocation ≡ Some a → IsUsable a.until moment grace → Fact a
 
@@ -50,7 +50,8 @@ IfUsable grace moment allocation Fact = (a : Allocation) → allocation ≡ Some
 abbrev pub AreOthersHeld : Pair → Tables → Holders → ℕ → ℕ → Type 0
 AreOthersHeld pair tables holders grace moment = (c : Pair) (b : Allocation) → c ≢ pair → allocation_of tables c ≡ Some b → IsUsable b.until moment grace → holder_of holders b.relayed ≡ Some c
 
--- The invariant: each table is of its client, and the relayed address of each usable allocation was granted last to its client.
+-- The invariant: each table is of its client, and the relayed address of each usable allocation was
+-- granted last to its client.
 pub record IsConsistent (m : Machine) : Type 0 where
   pub own : AreOwn m.tables
   pub held : AreHeld m.tables m.holders m.policy.grace m.last
@@ -79,7 +80,7 @@ pub record IsUnmoved (old new : Machine) : Type 0 where
   pub policy : new.policy ≡ old.policy
   pub cut : (excluded : SightId → Bool) → cut_of new excluded ≡ cut_of old excluded
 
--- the same, unless the refusal is fatal
+-- the cut is the same, and the invariant holds, unless the refusal is fatal
 abbrev pub IsUnmovedUnlessFatal : Machine → Machine → Refusal → Type 0
 IsUnmovedUnlessFatal old new refusal = (IsFatal refusal → ⊥) → IsUnmoved old new
 

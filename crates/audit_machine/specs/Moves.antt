@@ -27,6 +27,7 @@ NamesIncluded excluded (actions.Leave sight moment) = excluded sight ≡ false
 abbrev pub AllNameIncluded : (SightId → Bool) → List Action → Type 0
 AllNameIncluded excluded actions = AllByRecursion (NamesIncluded excluded) actions
 
--- The moves are a segment from the first cut to the second, whichever sightings are excluded that they don't name.
+-- The moves are a segment from the first cut to the second, whichever sightings are excluded that
+-- they don't name.
 abbrev pub LeadsTo : Policy → KeyFor → View → (old new : (SightId → Bool) → Cut) → List Action → Type 0
 LeadsTo policy key_for view old new actions = (excluded : SightId → Bool) → AllNameIncluded excluded actions → IsSegment policy key_for view (old excluded) (steps_of actions) (new excluded)

@@ -1,4 +1,4 @@
--- What contracts see of the tables of clients.
+-- The tables of clients, as contracts see them.
 use Rattle.std.specs.Prelude.{◌≡◌, Option, Some, option_and_then}
 use Rattle.std.specs.BTreeMap.{get}
 use Rattle.audit_model.specs.declared.pair.Pair.{Pair}

@@ -1,4 +1,4 @@
-//! What one server has, judged move by move: acts.
+//! One server's state, changed move by move: acts.
 
 ghost use Rattle.std.specs.Prelude.{◌≡◌, ◌≤◌, Bool, false, Some, None, OnOk, OnErr, IfOk, IfErr, IfSome, IsSomeAnd, IsTrue, ◌↔◌};
 ghost use Rattle.audit_model.specs.declared.pair.Pair.{Pair as Client};
@@ -84,7 +84,7 @@ impl Machine {
         Ok(())
     }
 
-    /// The moment at which the arrival came in, if an act may use it and send the departure.
+    /// The moment at which the arrival came, if an act may use it and send the departure.
     fn answerable(&self, arrives: SightId, leaves: SightId, moment: u64) -> Result<u64, Refusal>
         ensures came { IfOk result (λ came. time_of self.now.waiting arrives ≡ Some came) }
         ensures in_time { IfOk result (λ came. moment ≤ later came self.now.policy.hold) }
@@ -144,7 +144,8 @@ impl Machine {
         }
     }
 
-    /// Takes the client's table out, judges an act by it, and returns the table after the act. If the act breaks a rule, it puts the table back.
+    /// Takes the client's table out, judges an act by it, and returns the table after the act. If
+    /// the act breaks a rule, it puts the table back.
     fn table_after(
         &mut self,
         alloc: Global,
@@ -176,7 +177,8 @@ impl Machine {
         }
     }
 
-    /// A copy of the client's table, if the departure may be an Allocate success response (RFC 8656, section 7.2).
+    /// A copy of the client's table, if the departure may be an Allocate success response (RFC
+    /// 8656, section 7.2).
     fn copy_for(
         &self,
         alloc: Global,
@@ -209,7 +211,8 @@ impl Machine {
         }
     }
 
-    /// Notes that a client has the relayed address of its table. If another client has it, it puts the table of before the act back.
+    /// Notes that a client has the relayed address of its table. If another client has it, it
+    /// restores the table before the act.
     fn claim_or_restore(
         &mut self,
         pair: Pair,
@@ -234,7 +237,8 @@ impl Machine {
         }
     }
 
-    /// The server acts on an arrival, for a client, and sends a departure. `users` is the user that the arrival names, if the credentials have it.
+    /// Applies an act: the server acts on an arrival, for a client, and sends a departure. `users`
+    /// is the user that the arrival names, if the credentials have it.
     pub fn act(
         &mut self,
         alloc: Global,

@@ -1,4 +1,4 @@
-//! How many sightings of each interface are placed.
+//! The number of placed sightings of each interface.
 
 ghost use Rattle.std.specs.Prelude.{◌≡◌, ℕ, OnOk, nat_eq};
 ghost use Rattle.audit_server.specs.State.{put};
@@ -14,7 +14,7 @@ pub struct Counts {
 }
 
 impl Counts {
-    /// No counts. It takes no memory.
+    /// No counts. Allocates no memory.
     pub fn new(alloc: Global) -> Counts
         ensures { (iface : ℕ) → count_of result iface ≡ 0 }
     {

@@ -1,4 +1,4 @@
-//! Whether moves explain the captures.
+//! Checks that moves explain the captures.
 
 ghost use Rattle.std.specs.Prelude.{◌≡◌, ◌≤◌, ℕ, length, IsTrue, IfOk, is_some, true, None};
 ghost use Rattle.audit_keys.specs.KeyFor.{key_for};
@@ -60,7 +60,8 @@ fn copy_of(alloc: Global, policy: &Policy) -> Result<Policy, AllocError>
     })
 }
 
-/// Whether moves are a run of one server that explains the captures: if so, the headline holds of them.
+/// Whether moves are a run of one server that explains the captures: if so, the headline holds of
+/// them.
 pub fn explains(
     alloc: Global,
     intake: &Intake,

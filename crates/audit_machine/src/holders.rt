@@ -17,7 +17,7 @@ pub struct Holders {
 }
 
 impl Holders {
-    /// No addresses. It takes no memory.
+    /// No addresses. Allocates no memory.
     pub fn new(alloc: Global) -> Holders
         ensures { (relayed : Address) → holder_of result relayed ≡ None }
     {

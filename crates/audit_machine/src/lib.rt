@@ -1,4 +1,5 @@
-//! One TURN server's state as data. It judges moves one by one in the order of time, and keeps only what a later move may depend on.
+//! One TURN server's state as data. It judges moves one by one in the order of time, and keeps only
+//! what a later move may depend on.
 #![tactic(auto)]
 
 mod acts;

@@ -1,4 +1,4 @@
-//! What one server has, judged move by move: arrivals and departures.
+//! One server's state, changed move by move: arrivals and departures.
 
 ghost use Rattle.std.specs.Prelude.{◌≡◌, ◌≤◌, ◌+◌, ◌<◌, ℕ, Bool, false, true, Some, None, OnOk, IfErr, IsSomeAnd, IsTrue, ◌↔◌, [], nat_eq};
 ghost use Rattle.audit_model.specs.declared.sighting.SightId.{SightId as SightName};
@@ -21,23 +21,23 @@ use crate::times::Times;
 use audit_model::{Policy, Side, SightId, Sighting};
 use std::alloc::Global;
 
-/// What one server has, without what no later move depends on.
+/// One server's state, without the parts that no later move depends on.
 #[derive(Drop)]
 pub struct Machine {
     pub(crate) policy: Policy,
     pub(crate) tables: Tables,
     pub(crate) holders: Holders,
-    /// Arrivals that no act has used, with the moments at which they came in.
+    /// Arrivals that no act has used, with the moments at which they came.
     pub(crate) waiting: Times,
-    /// Departures that were sent and have not left, with the moments at which their arrivals came in.
+    /// Departures that were sent and have not left, with the moments at which their arrivals came.
     pub(crate) owed: Times,
-    /// How many sightings of each interface are placed.
+    /// The number of placed sightings of each interface.
     pub(crate) placed: Counts,
     /// The moment of the last move.
     pub(crate) last: u64,
 }
 
-/// Whether the sighting goes that way, and the moment is in its window.
+/// Whether the sighting has that direction, and the moment is in its window.
 fn is_seen(sighting: &Sighting, side: Side, moment: u64) -> bool
     ensures { IsTrue result → (sighting.now.side ≡ side) × (sighting.now.lo ≤ moment) × (moment ≤ sighting.now.hi) }
 {
@@ -50,7 +50,7 @@ fn is_seen(sighting: &Sighting, side: Side, moment: u64) -> bool
     moment <= sighting.hi
 }
 
-/// Whether a moment is at most the hold after the moment at which an arrival came in.
+/// Whether a moment is at most the hold after the moment at which an arrival came.
 pub(crate) fn is_in_time(hold: u64, came: u64, moment: u64) -> bool
     ensures { IsTrue result ↔ (moment ≤ later came hold) }
 {
@@ -58,7 +58,7 @@ pub(crate) fn is_in_time(hold: u64, came: u64, moment: u64) -> bool
 }
 
 impl Machine {
-    /// A server with an empty table, before the first move. It takes no memory.
+    /// A server with an empty table, before the first move. Allocates no memory.
     pub fn new(alloc: Global, policy: Policy) -> Machine
         ensures policy { result.policy ≡ policy }
         ensures start { cut_of result (λ _. false) ≡ empty_cut }
@@ -102,7 +102,7 @@ impl Machine {
         Ok(())
     }
 
-    /// An arrival comes in at a moment.
+    /// Applies an arrival at a moment.
     pub fn arrive(&mut self, sighting: &Sighting, moment: u64) -> Result<(), Refusal>
         requires consistent { IsConsistent self.old }
         ensures segment { OnOk result ((key_for : KeyFor) (view : View) (excluded : SightName → Bool) → view sighting.now.id ≡ Some sighting.now → excluded sighting.now.id ≡ false →
@@ -137,7 +137,7 @@ impl Machine {
         }
     }
 
-    /// A departure leaves at a moment.
+    /// Applies a departure at a moment.
     pub fn leave(&mut self, sighting: &Sighting, moment: u64) -> Result<(), Refusal>
         requires consistent { IsConsistent self.old }
         ensures segment { OnOk result ((key_for : KeyFor) (view : View) (excluded : SightName → Bool) → view sighting.now.id ≡ Some sighting.now → excluded sighting.now.id ≡ false →

@@ -1,4 +1,4 @@
-//! Moves by the names of sightings, one after the other.
+//! Applies moves by the ids of sightings, one after the other.
 
 ghost use Rattle.std.specs.Prelude.{◌≡◌, ◌∷◌, [], Bool, false, OnOk, IfErr, take};
 ghost use Rattle.audit_keys.specs.KeyFor.{key_for};
@@ -19,10 +19,10 @@ use audit_sightings::Intake;
 use audit_sightings::laws::sightings_are_numbered;
 use std::alloc::Global;
 
-/// A move, with the names of its sightings.
+/// A move, with the ids of its sightings.
 #[derive(Clone, Copy, Debug)]
 pub enum Action {
-    /// An arrival comes in.
+    /// A datagram arrives.
     Arrive {
         sight: SightId,
         moment: u64,
@@ -44,13 +44,13 @@ pub enum Action {
 /// Which of several moves was refused, and why.
 #[derive(Clone, Copy, Debug)]
 pub struct Stop {
-    /// How many moves came before it.
+    /// The number of moves before it.
     pub place: usize,
     pub refusal: Refusal,
 }
 
 impl Machine {
-    /// An arrival comes in, by its name.
+    /// Applies an arrival, by its id.
     fn apply_arrival(&mut self, intake: &Intake, sight: SightId, moment: u64) -> Result<(), Refusal>
         requires consistent { IsConsistent self.old }
         ensures segment { OnOk result ((key_for : KeyFor) (excluded : SightName → Bool) → excluded sight ≡ false →
@@ -66,7 +66,7 @@ impl Machine {
         self.arrive(sighting, moment)
     }
 
-    /// A departure leaves, by its name.
+    /// Applies a departure, by its id.
     fn apply_departure(
         &mut self,
         intake: &Intake,
@@ -87,7 +87,7 @@ impl Machine {
         self.leave(sighting, moment)
     }
 
-    /// The server acts, by the names of the arrival and the departure.
+    /// Applies an act, by the ids of the arrival and the departure.
     fn apply_act(
         &mut self,
         alloc: Global,
@@ -118,7 +118,7 @@ impl Machine {
         }
     }
 
-    /// Makes one move.
+    /// Applies one move.
     fn apply(
         &mut self,
         alloc: Global,
@@ -145,8 +145,9 @@ impl Machine {
         }
     }
 
-    /// Makes moves, one after the other. They are a segment from the cut before to the cut after, whatever is excluded that they don't name. If one is
-    /// refused, those before it are a segment to where the machine is then, unless there was no memory.
+    /// Applies moves, one after the other. They are a segment from the cut before to the cut after,
+    /// whatever is excluded that they don't name. If one is refused, those before it are a segment
+    /// to the machine's current cut, unless memory ran out.
     pub fn apply_all(
         &mut self,
         alloc: Global,

@@ -8,11 +8,11 @@ use std::alloc::AllocError;
 /// Why a move is refused.
 #[derive(Clone, Copy, Debug, PartialEq, Eq)]
 pub enum Refusal {
-    /// No sighting has the name.
+    /// No sighting has the id.
     Unknown,
     /// The moment is before that of the last move.
     Order,
-    /// The sighting goes the other way, or the moment is not in its window.
+    /// The sighting has the other direction, or the moment is not in its window.
     Window,
     /// The sighting is not the next one of its interface.
     Next,
@@ -26,7 +26,7 @@ pub enum Refusal {
     Held,
     /// The first rule that an act breaks.
     Broken(Rule),
-    /// There was no memory.
+    /// Memory ran out.
     Memory,
     /// The client's table was changed, and there was no copy of it.
     TableLost,

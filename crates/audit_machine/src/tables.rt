@@ -1,4 +1,4 @@
-//! What the server has for each client.
+//! The server's state for each client.
 
 ghost use Rattle.std.specs.Prelude.{◌≡◌, Some, None, OnOk, option_copied};
 ghost use Rattle.audit_model.specs.declared.pair.Pair.{Pair as Client};
@@ -31,7 +31,7 @@ fn or_empty(entry: Option<LaneTable>, pair: Pair) -> LaneTable
 }
 
 impl Tables {
-    /// No tables. It takes no memory.
+    /// No tables. Allocates no memory.
     pub fn new(alloc: Global) -> Tables
         ensures { (c : Client) → table_of result c ≡ None }
     {

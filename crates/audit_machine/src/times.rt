@@ -1,4 +1,4 @@
-//! Moments, by the names of sightings.
+//! Moments, by the ids of sightings.
 
 ghost use Rattle.std.specs.Prelude.{◌≡◌, Some, None, OnOk, IsTrue};
 ghost use Rattle.audit_model.specs.declared.sighting.SightId.{SightId as SightName};
@@ -17,7 +17,7 @@ pub struct Times {
 }
 
 impl Times {
-    /// No moments. It takes no memory.
+    /// No moments. Allocates no memory.
     pub fn new(alloc: Global) -> Times
         ensures { (s : SightName) → time_of result s ≡ None }
     {

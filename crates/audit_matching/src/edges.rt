@@ -1,24 +1,24 @@
-//! Which arrivals have to stand before which departures.
+//! Which arrivals must come before which departures.
 
 use audit_known::Matches;
 use audit_seen::SeenNumber;
 use std::alloc::{AllocError, Global};
 use std::collections::BTreeSet;
 
-/// How many arrivals beside its match have to stand before a departure, at the most.
+/// At most this number of arrivals, in addition to its match, must come before a departure.
 const MORE: usize = 16;
 
-/// The match of each departure, which is a guess, and arrivals that are asked to stand before it.
+/// The match of each departure, which is a guess, and arrivals that constraints place before it.
 #[derive(Drop)]
 pub struct Edges {
     matches: Matches,
-    /// Departures, and arrivals that stand before them.
+    /// Departures, and arrivals that must come before them.
     asked: BTreeSet<(SeenNumber, SeenNumber)>,
     alloc: Global,
 }
 
 impl Edges {
-    /// The matches, and nothing else.
+    /// The matches, without further arrivals.
     pub fn of(alloc: Global, matches: Matches) -> Edges {
         Edges {
             matches,
@@ -32,28 +32,28 @@ impl Edges {
         &self.matches
     }
 
-    /// The same, and nothing else of it.
+    /// The matches, by value.
     pub fn into_matches(self) -> Matches {
         self.matches
     }
 
-    /// Joins a departure to another arrival, and parts both from others.
+    /// Matches a departure with another arrival, and unmatches both from others.
     pub fn join_anew(&mut self, departure: SeenNumber, arrival: SeenNumber) {
         self.matches.join_anew(departure, arrival);
     }
 
-    /// Asks for an arrival to stand before a departure.
+    /// Adds the requirement that an arrival comes before a departure.
     pub fn ask(&mut self, arrival: SeenNumber, departure: SeenNumber) -> Result<(), AllocError> {
         self.asked.insert((departure, arrival))?;
         Ok(())
     }
 
-    /// How many are asked for.
+    /// The number of added requirements.
     pub fn asked(&self) -> usize {
         self.asked.len()
     }
 
-    /// The arrivals that are asked to stand before a departure.
+    /// The arrivals that were added for a departure.
     pub fn asked_of(&self, departure: SeenNumber) -> Result<Vec<SeenNumber>, AllocError> {
         let mut arrivals = Vec::new(self.alloc);
         if self.asked.is_empty() {
@@ -71,7 +71,7 @@ impl Edges {
         Ok(arrivals)
     }
 
-    /// The arrivals that stand before a departure, its match first.
+    /// The arrivals that must come before a departure, its match first.
     pub fn of_departure(&self, departure: SeenNumber) -> Result<Vec<SeenNumber>, AllocError> {
         let mut arrivals = self.asked_of(departure)?;
         if let Some(matched) = self.matches.of(departure) {
@@ -80,7 +80,7 @@ impl Edges {
         Ok(arrivals)
     }
 
-    /// Gives up a departure's match where that wasn't placed; or else one that was asked for, and wasn't.
+    /// Drops a departure's match if the match wasn't placed, or else an added arrival that wasn't.
     pub fn give_up(&mut self, departure: SeenNumber, placed: &[bool]) {
         let is_placed = |number: SeenNumber| placed.get(number.index()).copied().unwrap_or(false);
         if self

@@ -1,4 +1,4 @@
-//! Relayed addresses that go from one client to another.
+//! Relayed addresses that are granted to one client after another.
 
 use crate::edges::Edges;
 use audit_known::{Changes, Handover, Matches, Times};
@@ -6,10 +6,10 @@ use audit_model::Addr;
 use audit_seen::{Gives, LaneNumber, Says, SeenNumber, Sights};
 use std::alloc::{AllocError, Global};
 
-/// How far an allocation is put behind others that can't have ended before it.
+/// The most swaps of an allocation with others that can't have ended before it.
 const SWAPS: usize = 8;
 
-/// An allocation of an address, by the answer that tells of it, and the answer that tells of its end.
+/// An allocation of an address, with the responses that granted and that deleted it.
 #[derive(Clone, Copy)]
 struct Holding {
     relayed: Addr,
@@ -18,7 +18,7 @@ struct Holding {
     ender: Option<SeenNumber>,
 }
 
-/// What handovers are found by.
+/// The facts from which handovers are found.
 #[derive(Clone, Copy)]
 struct Facts<'a> {
     sights: &'a Sights,
@@ -26,7 +26,7 @@ struct Facts<'a> {
 }
 
 impl Facts<'_> {
-    /// Whether one may have ended before another one began.
+    /// Whether one allocation may have ended before another one began.
     fn may(&self, first: &Holding, second: &Holding) -> bool {
         if first.lane == second.lane {
             return true;
@@ -46,7 +46,8 @@ impl Facts<'_> {
     }
 }
 
-/// The handovers of all relayed addresses, in an order of each that is possible, if there is one close to that of the answers.
+/// The handovers of all relayed addresses. The allocations of each are put into a possible order,
+/// if there is one close to that of the responses.
 pub fn handovers(
     alloc: Global,
     sights: &Sights,
@@ -69,7 +70,7 @@ pub fn handovers(
     Ok(found)
 }
 
-/// The allocations of each address, in the order of the answers.
+/// The allocations of each address, in the order of the responses.
 fn holdings(alloc: Global, facts: Facts<'_>, times: &Times) -> Result<Vec<Holding>, AllocError> {
     let changes = Changes::gather(alloc, facts.sights, times)?;
     let mut found = Vec::new(alloc);
@@ -97,7 +98,8 @@ fn holdings(alloc: Global, facts: Facts<'_>, times: &Times) -> Result<Vec<Holdin
     Ok(found)
 }
 
-/// Puts an allocation before those that can't have ended before it, and that it can have ended before.
+/// Moves an allocation before those that can't have ended before it and before which it can have
+/// ended.
 fn settle(facts: Facts<'_>, holdings: &mut [Holding], place: usize) {
     for back in 0..SWAPS {
         let (Some(before), Some(here)) = (
@@ -117,7 +119,8 @@ fn settle(facts: Facts<'_>, holdings: &mut [Holding], place: usize) {
     }
 }
 
-/// Asks that whoever gave an address up asked for it before the next one had it.
+/// Adds the requirement that the Refresh that deletes an allocation comes before the next client
+/// gets the address.
 pub fn ask_handovers(
     sights: &Sights,
     handovers: &[Handover],

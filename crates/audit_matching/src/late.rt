@@ -4,8 +4,8 @@ use crate::edges::Edges;
 use audit_seen::{SeenNumber, Sights};
 use std::alloc::{AllocError, Global};
 
-/// The moment at which each sighting is placed: an arrival at its least one, a departure as late as its window, the next one on its
-/// interface and the hold behind its match allow.
+/// The moment at which each sighting is placed: an arrival at its least moment, a departure as late
+/// as its window, the next departure on its interface, and the hold after its match permit.
 pub fn places(
     alloc: Global,
     sights: &Sights,
@@ -36,7 +36,7 @@ pub fn places(
     Ok(at)
 }
 
-/// The last moment at which what answers an arrival may leave.
+/// The last moment at which the response to an arrival may leave.
 fn held_until(low: &[u64], arrival: SeenNumber, hold: u64) -> u64 {
     low.get(arrival.index())
         .copied()

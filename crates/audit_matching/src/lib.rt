@@ -1,7 +1,8 @@
-//! Which of the sightings of captures may answer which, and one order of all of them.
+//! Which departures may answer which arrivals, and one order of all sightings.
 //!
-//! `match_up` joins each departure to the oldest arrival that it may answer. `lows` and `places` give each sighting a moment, and `ranked`
-//! an order. Nothing rests on any of it: what is found by it is checked.
+//! `match_up` matches each departure with the oldest arrival that it may answer. `lows` and
+//! `places` compute a moment for each sighting, and `ranked` an order. No verdict depends on any of
+//! it: the result is checked.
 #![tactic(auto)]
 
 mod edges;

@@ -5,26 +5,28 @@ use crate::merge::Merge;
 use audit_seen::{Seen, SeenNumber, Sights};
 use std::alloc::{AllocError, Global};
 
-/// How often arrivals are raised for the sake of their departures.
+/// How often arrivals are raised for their departures.
 const TURNS: u32 = 3;
 
-/// The least moments under the windows, the order of each interface, and the edges.
+/// The computation of the least moments under the windows, the order of each interface, and the
+/// edges.
 #[derive(Drop)]
 struct LowPass<'a> {
     sights: &'a Sights,
     edges: &'a mut Edges,
-    /// How far behind the start of its window each interface's clock stands.
+    /// How far after the start of its window the sightings of each interface are.
     shifts: &'a [u64],
-    /// The moments below which arrivals mayn't stand, since their departures stand so late.
+    /// The moments before which arrivals may not be, because their departures are so late.
     raised: &'a [u64],
     merge: Merge,
     low: Vec<u64>,
     placed: Vec<bool>,
 }
 
-/// The least moment of each sighting: it is in its window, not before that of the one before it on its interface, not before that of an
-/// arrival that stands before it, and not longer than the hold behind its match, as far as that can be had. Edges that form a
-/// circle are given up. `shifts` has by interface how far behind its windows' starts all stand. It takes n log n.
+/// The least moment of each sighting. It is in its window, not before the previous sighting on its
+/// interface, not before an arrival that must come before it, and no longer than the hold after its
+/// match, if all of that is possible. Edges in a circle are dropped. `shifts` has, by interface,
+/// how far after the starts of their windows all sightings are. It takes n log n.
 pub fn lows(
     alloc: Global,
     sights: &Sights,
@@ -74,7 +76,8 @@ fn least(
     Ok(pass.low)
 }
 
-/// Raises arrivals to the least moments at which their departures are within the hold, and tells whether there are any.
+/// Raises arrivals to the least moments at which their departures are within the hold, and returns
+/// whether there are any.
 fn raise(sights: &Sights, edges: &Edges, low: &[u64], hold: u64, raised: &mut [u64]) -> bool {
     let mut is_any = false;
     for (departure, (matched, moment)) in sights
@@ -107,7 +110,7 @@ impl LowPass<'_> {
         Ok(())
     }
 
-    /// Places a sighting, or gives up an edge; tells whether there was one.
+    /// Places a sighting, or drops an edge; returns whether there was one.
     fn step(&mut self) -> Result<bool, AllocError> {
         if let Some(iface) = self.merge.pop() {
             self.place(iface)?;
@@ -149,7 +152,7 @@ impl LowPass<'_> {
         self.low.get(number.index()).copied().unwrap_or(0)
     }
 
-    /// Whether a departure has to wait for an arrival that isn't placed.
+    /// Whether a departure must wait for an arrival that isn't placed.
     fn has_to_wait(&self, arrival: SeenNumber, departure: &Seen) -> bool {
         let lo = self
             .sights
@@ -158,7 +161,7 @@ impl LowPass<'_> {
         !self.is_placed(arrival) && lo <= departure.last_moment()
     }
 
-    /// The moment of a placed arrival that stands before a departure.
+    /// The moment of a placed arrival that comes before a departure.
     fn bound(&self, arrival: SeenNumber, departure: &Seen) -> u64 {
         let low = self.low_of(arrival);
         if self.is_placed(arrival) && low <= departure.last_moment() {
@@ -168,7 +171,8 @@ impl LowPass<'_> {
         }
     }
 
-    /// Queues an interface by the least moment of its next sighting, or lets it wait for an arrival that stands before that.
+    /// Queues an interface by the least moment of its next sighting, or parks it until an arrival
+    /// is placed that comes before that sighting.
     fn queue(&mut self, iface: u32) -> Result<(), AllocError> {
         let Some(number) = self.merge.next(self.sights, iface) else {
             return Ok(());
@@ -201,7 +205,7 @@ impl LowPass<'_> {
         self.merge.queue(iface, (low, !seen.arrives(), 0))
     }
 
-    /// The least moment of a sighting by its window, its interface and what it was raised to.
+    /// The least moment of a sighting by its window, its interface and the raising.
     fn alone(&self, number: SeenNumber, seen: &Seen) -> u64 {
         let shift = match usize::try_from(seen.id().iface) {
             Ok(iface) => self.shifts.get(iface).copied().unwrap_or(0),

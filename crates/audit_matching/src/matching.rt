@@ -7,18 +7,18 @@ use std::alloc::{AllocError, Global};
 /// How many arrivals of a pool are looked at for one departure.
 pub(crate) const COPIES: usize = 16;
 
-/// Joins departures to arrivals, the oldest first.
+/// Matches departures with arrivals, the oldest first.
 #[derive(Drop)]
 struct Matching {
     matches: Matches,
-    /// The place in each pool of the first arrival that may still be joined.
+    /// The index in each pool of the first arrival that may still be matched.
     heads: Vec<usize>,
-    /// How many responses of each pool's requests are left.
+    /// How many responses to the requests of each pool remain.
     pending: Vec<usize>,
 }
 
-/// Joins each departure to the oldest arrival that it may answer. `lanes` has the lane of each that leaves from a relayed address, where it
-/// is known. It takes n log n.
+/// Matches each departure with the oldest arrival that it may answer. `lanes` has the lane of each
+/// departure from a relayed address, if it is known. It takes n log n.
 pub fn match_up(known: &Known<'_>, lanes: &[Option<LaneNumber>]) -> Result<Matches, AllocError> {
     let alloc = known.alloc();
     let mut matching = Matching {
@@ -35,7 +35,7 @@ pub fn match_up(known: &Known<'_>, lanes: &[Option<LaneNumber>]) -> Result<Match
     Ok(matching.matches)
 }
 
-/// How many responses there are to the requests of each pool.
+/// The number of responses to the requests of each pool.
 fn pending(known: &Known<'_>) -> Result<Vec<usize>, AllocError> {
     let alloc = known.alloc();
     let mut pending: Vec<usize> = vec![in alloc; 0; known.numbers().count()]?;
@@ -49,7 +49,7 @@ fn pending(known: &Known<'_>) -> Result<Vec<usize>, AllocError> {
     Ok(pending)
 }
 
-/// The departures by their times.
+/// The departures in the order of time.
 pub(crate) fn departures(
     alloc: Global,
     sights: &Sights,
@@ -76,7 +76,7 @@ struct Choice {
 }
 
 impl Choice {
-    /// The better one of the two: rather a sure one, and then the older one.
+    /// The better one of the two: a sure one is preferred, then the older one.
     fn or(self, other: Option<Choice>) -> Choice {
         match other {
             Some(other)
@@ -88,7 +88,7 @@ impl Choice {
 }
 
 impl Matching {
-    /// Joins a departure to the best arrival of its pools.
+    /// Matches a departure with the best arrival of its pools.
     fn join_departure(
         &mut self,
         known: &Known<'_>,
@@ -117,7 +117,7 @@ impl Matching {
         Ok(())
     }
 
-    /// Goes past the arrivals of a pool that are joined, or came too long ago.
+    /// Skips the arrivals of a pool that are matched, or came too long ago.
     fn advance(&mut self, known: &Known<'_>, pool: PoolNumber, leaves: &Seen) {
         let Some(head) = self.heads.get_mut(pool.index()) else {
             return;
@@ -136,7 +136,8 @@ impl Matching {
         }
     }
 
-    /// Whether as many responses are left as requests of a pool are, so that none is to be left out.
+    /// Whether the remaining responses are enough for the remaining requests of a pool, so that no
+    /// request may be skipped.
     fn is_all_pending(&self, known: &Known<'_>, pool: PoolNumber, head: usize) -> bool {
         let pending = self.pending.get(pool.index()).copied().unwrap_or(0);
         let left = known.pools().get(pool).get(head..).unwrap_or(&[]);

@@ -5,10 +5,11 @@ use std::alloc::{AllocError, Global};
 use std::cmp::Reverse;
 use std::collections::{BTreeSet, BinaryHeap};
 
-/// By what one interface goes before another, the least first: a moment, whether it is a departure, another moment.
+/// The priority of one interface before another, the least first: a moment, whether it is a
+/// departure, another moment.
 pub(crate) type Urgency = (u64, bool, u64);
 
-/// Where an interface waits.
+/// The arrival for which an interface waits.
 #[derive(Clone, Copy)]
 struct Parked {
     arrival: SeenNumber,
@@ -18,17 +19,17 @@ struct Parked {
 /// The interfaces, each with its next sighting, which is ready or waits for an arrival.
 #[derive(Drop)]
 pub(crate) struct Merge {
-    /// The place of the next sighting of each.
+    /// The index of the next sighting of each.
     heads: Vec<u32>,
     parked: Vec<Option<Parked>>,
     ready: BinaryHeap<Reverse<(Urgency, u32)>>,
-    /// Those that wait, by the arrival that they wait for, and by their urgency.
+    /// The interfaces that wait, by the arrival that they wait for, and by their urgency.
     by_arrival: BTreeSet<(SeenNumber, u32)>,
     by_urgency: BTreeSet<(Urgency, u32)>,
 }
 
 impl Merge {
-    /// So many interfaces at their first sightings, none of them ready.
+    /// This number of interfaces at their first sightings, none of them ready.
     pub(crate) fn new(alloc: Global, interfaces: usize) -> Result<Merge, AllocError> {
         Ok(Merge {
             heads: vec![in alloc; 0; interfaces]?,
@@ -45,7 +46,7 @@ impl Merge {
         sights.at(iface as usize, place)
     }
 
-    /// Goes on behind the next sighting of an interface.
+    /// Moves past the next sighting of an interface.
     pub(crate) fn advance(&mut self, iface: u32) {
         if let Some(head) = self.heads.get_mut(iface as usize) {
             *head = head.saturating_add(1);
@@ -58,7 +59,7 @@ impl Merge {
         Ok(())
     }
 
-    /// Lets an interface wait for an arrival.
+    /// Parks an interface until an arrival is placed.
     pub(crate) fn park(
         &mut self,
         iface: u32,
@@ -73,13 +74,13 @@ impl Merge {
         Ok(())
     }
 
-    /// Takes out the most urgent interface that is ready.
+    /// Removes the most urgent interface that is ready.
     pub(crate) fn pop(&mut self) -> Option<u32> {
         let Reverse((_, iface)) = self.ready.pop()?;
         Some(iface)
     }
 
-    /// Takes out an interface that waits for the arrival.
+    /// Removes an interface that waits for the arrival.
     pub(crate) fn woken(&mut self, arrival: SeenNumber) -> Option<u32> {
         let (other, iface) = *self.by_arrival.range((arrival, 0)..).next()?;
         if other != arrival {
@@ -89,7 +90,7 @@ impl Merge {
         Some(iface)
     }
 
-    /// Takes out the most urgent interface that waits.
+    /// Removes the most urgent interface that waits.
     pub(crate) fn release(&mut self) -> Option<u32> {
         let (_, iface) = *self.by_urgency.first()?;
         self.unpark(iface);

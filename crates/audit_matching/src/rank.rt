@@ -18,8 +18,9 @@ struct RankPass<'a> {
     order: Order,
 }
 
-/// The order by the moments at which they are placed; of one moment arrivals come first, but for departures that stand before them on
-/// their interface, and a departure behind its arrivals. It takes n log n.
+/// Orders the sightings by the moments at which they are placed. At one moment arrivals come first,
+/// except after departures that precede them on their interface, and a departure comes after its
+/// arrivals. It takes n log n.
 pub fn ranked(
     alloc: Global,
     sights: &Sights,
@@ -56,7 +57,7 @@ impl RankPass<'_> {
         Ok(())
     }
 
-    /// Places a sighting, or lets one wait no longer; tells whether there was one.
+    /// Places a sighting, or ends the waiting of one; returns whether there was one.
     fn step(&mut self) -> Result<bool, AllocError> {
         if let Some(iface) = self.merge.pop() {
             self.place(iface)?;
@@ -88,13 +89,14 @@ impl RankPass<'_> {
         self.queue(iface, true)
     }
 
-    /// Whether an arrival isn't placed and stands at a moment at the latest.
+    /// Whether an arrival isn't placed and its moment is at most this one.
     fn has_to_wait(&self, arrival: SeenNumber, at: u64) -> bool {
         let is_placed = self.placed.get(arrival.index()).copied().unwrap_or(true);
         !is_placed && moment(self.at, arrival) <= at
     }
 
-    /// Queues an interface by the moment of its next sighting; or lets it wait, where it may, for an arrival that stands before that.
+    /// Queues an interface by the moment of its next sighting, or parks it, if it may wait, until
+    /// an arrival is placed that comes before that sighting.
     fn queue(&mut self, iface: u32, may_wait: bool) -> Result<(), AllocError> {
         let Some(number) = self.merge.next(self.sights, iface) else {
             return Ok(());

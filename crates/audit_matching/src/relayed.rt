@@ -1,4 +1,4 @@
-//! The lanes of what leaves from relayed addresses.
+//! The lanes of departures from relayed addresses.
 
 use crate::matching::{COPIES, departures};
 use audit_known::{Known, Tenancy};
@@ -15,7 +15,7 @@ pub struct RelayedLanes {
     taken: Vec<bool>,
 }
 
-/// What leaves from a relayed address.
+/// A departure from a relayed address.
 #[derive(Clone, Copy)]
 struct Relayed {
     number: SeenNumber,
@@ -24,11 +24,12 @@ struct Relayed {
     digest: u64,
 }
 
-/// Departures that are said to be no departures of a lane.
+/// Departures, each with a lane to which a constraint says it doesn't belong.
 pub type Banned = BTreeSet<(SeenNumber, LaneNumber)>;
 
 impl RelayedLanes {
-    /// Of the clients that may have had the address then, the one whose datagram of that content came last. It takes n log n.
+    /// Finds for each departure, among the clients that may have had the address then, the one
+    /// whose datagram with that content came last. It takes n log n.
     pub fn of(known: &Known<'_>, banned: &Banned) -> Result<RelayedLanes, AllocError> {
         let alloc = known.alloc();
         let count = known.sights().as_slice().len();
@@ -83,7 +84,7 @@ impl RelayedLanes {
         Ok(())
     }
 
-    /// The lane of some tenancies whose datagram of that content came last, up to a moment.
+    /// The lane among some tenancies whose datagram with that content came last, up to a moment.
     fn sender(
         &mut self,
         known: &Known<'_>,
@@ -129,7 +130,8 @@ impl RelayedLanes {
         Ok(best)
     }
 
-    /// The last arrival of a pool up to a moment that no departure has and that is within the hold of another moment.
+    /// The last arrival of a pool up to a moment that no departure has taken and that is within the
+    /// hold before another moment.
     fn last_of(
         &self,
         known: &Known<'_>,
@@ -151,7 +153,7 @@ impl RelayedLanes {
     }
 }
 
-/// What a departure gives, if it leaves from a relayed address.
+/// The content of a departure from a relayed address.
 fn relayed_of(known: &Known<'_>, number: SeenNumber) -> Option<Relayed> {
     match known.sights().get(number)?.says() {
         Says::Gives(

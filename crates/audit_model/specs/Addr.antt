@@ -21,6 +21,6 @@ octets_text octets port =
     ++ (decimal (slice_index octets 1)
     ++ (codes "." ++ (decimal (slice_index octets 2) ++ (codes "." ++ (decimal (slice_index octets 3) ++ (codes ":" ++ decimal port)))))))
 
--- the address as a text has it
+-- the address in a text
 abbrev pub addr_text : Addr → List ℕ
 addr_text addr = octets_text (to_be_bytes w32 addr.ip) addr.port

@@ -1,4 +1,5 @@
--- The order in which breaches are told: by moment, tie, lane, rule, place and sighting. The rule goes before the place.
+-- The order in which breaches are reported: by moment, tie, lane, rule, place and sighting. The
+-- rule is compared before the place.
 use Rattle.std.specs.Prelude.{Option, Some, None}
 use Rattle.std.specs.declared.cmp.Ordering.{Ordering}
 use Rattle.std.specs.declared.cmp.Ordering.TheVariants.{Less, Equal, Greater}
@@ -23,7 +24,7 @@ lesser_by Less one other = Some other
 lesser_by Equal one other = Some one
 lesser_by Greater one other = Some one
 
--- the one of two breaches that is told; the first where they rank alike
+-- the one of two breaches that is reported; the first if they rank alike
 abbrev pub lesser : Option Breach → Option Breach → Option Breach
 lesser None other = other
 lesser (Some one) None = Some one

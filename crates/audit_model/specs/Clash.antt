@@ -1,4 +1,5 @@
--- Two clients that hold one relayed address at once. A relayed address is unique across all allocations (RFC 8656, section 6).
+-- Two clients that hold one relayed address at once. A relayed address is unique across all
+-- allocations (RFC 8656, section 6).
 use Rattle.std.specs.Prelude.{◌≡◌, ◌≢◌, ◌≤◌, ℕ, List, IfSome, Contains}
 use Rattle.std.specs.declared.cmp.Ordering.{Ordering}
 use Rattle.std.specs.declared.cmp.Ordering.TheVariants.{Less}
@@ -16,11 +17,12 @@ act_cmp key lane other_key other_lane = ordering_then (key_cmp key other_key) (n
 abbrev pub Precedes : Key → ℕ → Key → ℕ → Type 0
 Precedes key lane other_key other_lane = act_cmp key lane other_key other_lane ≡ Less
 
--- at the act of this key and lane the tenancy still has its address: its last moment isn't past, and it wasn't stopped before
+-- at the act of this key and lane the tenancy still has its address: its last moment hasn't passed,
+-- and it wasn't stopped before
 abbrev pub StillHeld : Tenancy → Key → ℕ → Type 0
 StillHeld held key lane = (key.moment ≤ held.last) × IfSome held.stopped (λ stop. ¬ Precedes stop held.born.lane key lane)
 
--- an allocation was given an address that a client of another lane holds
+-- an allocation was granted an address that a client of another lane holds
 pub record Clashes (new held : Tenancy) : Type 0 where
   pub same_address : held.relayed ≡ new.relayed
   pub other_lane : held.born.lane ≢ new.born.lane

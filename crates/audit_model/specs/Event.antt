@@ -9,7 +9,7 @@ key_of (In sight key) = key
 key_of (Act sight gives key) = key
 key_of (Out sight key) = key
 
--- of an act its arrival
+-- for an act its arrival
 abbrev pub sight_of : Event → SightId
 sight_of (In sight key) = sight
 sight_of (Act sight gives key) = sight

@@ -1,4 +1,4 @@
--- How many events a certificate's lanes have.
+-- The number of events of a certificate's lanes.
 use Rattle.std.specs.Prelude.{ℕ, List, length, sum_by}
 use Rattle.audit_model.specs.declared.certificate.CertLane.{CertLane}
 

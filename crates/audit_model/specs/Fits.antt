@@ -1,4 +1,4 @@
--- Numbers of the types that an address is read into.
+-- Numbers that fit the types of an address.
 use Rattle.std.specs.Prelude.{◌<◌, ◌^◌}
 use Rattle.audit_model.specs.declared.address.Addr.{Addr}
 

@@ -13,6 +13,6 @@ addr_cmp a b = ordering_then (nat_cmp a.ip b.ip) (nat_cmp a.port b.port)
 abbrev pub pair_cmp : Addr × Addr → Addr × Addr → Ordering
 pair_cmp p q = ordering_then (addr_cmp p.0 q.0) (addr_cmp p.1 q.1)
 
--- whether this client is there at this listen address
+-- whether the set has this client at this listen address
 abbrev pub has : LanePairs → Addr → Addr → Bool
 has pairs client listen = contains pair_cmp pairs.set (client, listen)

@@ -17,7 +17,7 @@ Relays policy addr = Any (λ range. IsIn addr range) policy.relay
 abbrev pub IsOfService : Policy → ℕ → Type 0
 IsOfService policy ip = Any (λ listen. listen.ip ≡ ip) policy.listen ⊎ Any (λ range. range.ip ≡ ip) policy.relay
 
--- the same three as tests
+-- the three definitions above as tests
 abbrev pub listens : Policy → Addr → Bool
 listens policy addr = list_any (λ listen. (listen.ip == addr.ip) && (listen.port == addr.port)) policy.listen
 

@@ -1,4 +1,4 @@
--- The fault of a policy line that a word of it has.
+-- The fault of a policy line, by the fault of one of its words.
 use Rattle.std.specs.Prelude.{ℕ, Bool, true, false, List, codes}
 use Rattle.audit_text.specs.declared.token.TokenFault.{TokenFault}
 use Rattle.audit_text.specs.declared.token.TokenFault.TheVariants as token

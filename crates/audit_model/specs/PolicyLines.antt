@@ -1,4 +1,4 @@
--- What one line of a policy says (after the heading): a word, a space and a value.
+-- One line of a policy after the heading: a word, a space and a value.
 use Rattle.std.specs.Prelude.{ℕ, ◌*◌, Bool, false, ◌&&◌, ◌||◌, ◌==◌, if◌then◌else◌, List, [], ◌∷◌, ◌++◌, length, nat_le, nat_lt, Option, Some, None, Result, Ok, Err, codes}
 use Rattle.std.specs.Str.{bytes_eq}
 use Rattle.std.specs.List.{list_any}
@@ -15,7 +15,7 @@ use Rattle.audit_model.specs.Addr.{addr_of}
 use Rattle.audit_model.specs.PolicyFault.{policy_fault_of}
 use Rattle.audit_model.specs.PortRange.{is_in, meet, lone}
 
--- what the lines so far say
+-- the settings of the lines so far
 pub record Said : Type 0 where
   pub listen : List Addr
   pub relay : List PortRange
@@ -26,7 +26,7 @@ pub record Said : Type 0 where
   pub headed : Bool
   pub by_interface : Bool
 
--- what goes on as a line's reading, where a word's did
+-- the result of a line, by that of its word
 abbrev pub of_word : {A : Type 0} → Result A TokenFault → Result A PolicyFaultKind
 of_word (Ok x) = Ok x
 of_word (Err fault) = Err (policy_fault_of fault)
@@ -45,7 +45,7 @@ range_of word = do
   range ← both_of (ip_of halves.0) (both_of (number_of 65535 ports.0) (number_of 65535 ports.1))
   if (range.1.0 == 0) || nat_lt range.1.1 range.1.0 then Err token.Number else Ok (record { ip = range.0; low = range.1.0; high = range.1.1 })
 
--- the range meets an endpoint of an earlier line
+-- the range overlaps an endpoint of an earlier line
 abbrev pub meets_said : Said → PortRange → Bool
 meets_said said range = list_any (λ addr. is_in addr range) said.listen || list_any (λ other. meet range other) said.relay
 
@@ -61,7 +61,7 @@ after_relay said value = do
   if nat_le 64 (length said.relay) then Err Limit
       else (if meets_said said range then Err Overlap else Ok (record said { relay = said.relay ++ range ∷ [] }))
 
--- a length of time of at most `most` units, in nanoseconds, where none was said yet
+-- a length of time of at most `most` units, in nanoseconds, if none was set yet
 unfoldable pub tolerance_of : Option ℕ → List ℕ → ℕ → ℕ → Result (Option ℕ) PolicyFaultKind
 tolerance_of (Some earlier) value most unit = Err Line
 tolerance_of None value most unit = do
@@ -77,7 +77,7 @@ abbrev pub is_said_of : Said → Result ℕ TokenFault → Bool
 is_said_of said (Ok iface) = list_any (λ own. own.iface == iface) said.skews
 is_said_of said (Err fault) = false
 
--- the skew of an interface, IFACE N: a second one is no line, whatever its N is
+-- the skew of an interface, IFACE N: a second one is a line fault, whatever its N is
 unfoldable pub after_skew : Said → List ℕ → Result Said PolicyFaultKind
 after_skew said value = do
   halves ← of_word (halves_of 32 value)
@@ -100,7 +100,7 @@ after_setting said word value =
       Ok (record said { hold = hold }))
     else Err Line))
 
--- what is said with one line more behind the heading, or the line's fault
+-- the settings with one more line after the heading, or the line's fault
 unfoldable pub after_word : Said → List ℕ → Result Said PolicyFaultKind
 after_word said line = do
   halves ← of_word (halves_of 32 line)

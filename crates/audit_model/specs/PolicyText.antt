@@ -12,7 +12,7 @@ use Rattle.audit_model.specs.PolicyLines.{Said, after_word}
 abbrev pub nothing_said : Said
 nothing_said = record { listen = []; relay = []; skew = None; skews = []; grace = None; hold = None; headed = false; by_interface = false }
 
--- under the heading of version 2 a line may say the skew of an interface
+-- after the heading of version 2 a line may set the skew of an interface
 abbrev pub after_heading : Said → List ℕ → Result Said PolicyFaultKind
 after_heading said line =
     if bytes_eq line (codes "turnaudit-policy 2") then Ok (record said { headed = true; by_interface = true })
@@ -26,15 +26,15 @@ after said line = if said.headed then after_word said line else after_heading sa
 abbrev pub unended : Said → List ℕ → PolicyFaultKind
 unended said rest = Line
 
--- a line of too many bytes is none
+-- a line of too many bytes is a line fault
 abbrev pub overlong : Said → PolicyFaultKind
 overlong said = Line
 
--- a listen line has to be there
+-- a listen line is required
 abbrev pub lacks : Said → Option PolicyFaultKind
 lacks said = if said.headed then (if length said.listen == 0 then Some Missing else None) else Some Line
 
--- the policy that is said, with the defaults of 500 us, 1,000 ms and 2,000 ms
+-- the policy of the lines, with the defaults of 500 us, 1,000 ms and 2,000 ms
 abbrev pub policy_said : Said → Policy
 policy_said said = record {
   listen = said.listen;
@@ -45,7 +45,7 @@ policy_said said = record {
   hold = unwrap_or said.hold 2000000000;
 }
 
--- a draft is what its lines said
+-- a draft has the settings of its lines
 abbrev pub Says : Said → Said → Type 0
 Says draft said = draft ≡ said
 
@@ -53,11 +53,11 @@ Says draft said = draft ≡ said
 abbrev pub StandsFor : SoFar Said → List ℕ → Type 0
 StandsFor reader text = readers.StandsFor Says (within overlong after) nothing_said reader text
 
--- the policy of what a whole text says
+-- the policy of a whole text's settings
 abbrev pub policy_read : Result Said (LineFault PolicyFaultKind) → Result Policy (LineFault PolicyFaultKind)
 policy_read (Ok said) = Ok (policy_said said)
 policy_read (Err fault) = Err fault
 
--- the policy that a text spells, or its first fault
+-- the policy of a text, or its first fault
 unfoldable pub policy_of : List ℕ → Result Policy (LineFault PolicyFaultKind)
 policy_of text = policy_read (read_text overlong after unended lacks nothing_said text)

@@ -15,7 +15,7 @@ Meet a b = (a.ip ≡ b.ip) × (a.low ≤ b.high) × (b.low ≤ a.high)
 abbrev pub lone : Addr → PortRange
 lone addr = record { ip = addr.ip; low = addr.port; high = addr.port }
 
--- the same two as tests
+-- the two definitions of a range above as tests
 abbrev pub is_in : Addr → PortRange → Bool
 is_in addr range = (range.ip == addr.ip) && nat_le range.low addr.port && nat_le addr.port range.high
 

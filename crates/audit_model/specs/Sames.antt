@@ -1,10 +1,10 @@
--- Names and clients that are the same.
+-- Equal ids and equal clients.
 use Rattle.std.specs.Prelude.{Bool, ◌&&◌, ◌==◌}
 use Rattle.audit_model.specs.declared.pair.Pair.{Pair}
 use Rattle.audit_model.specs.declared.sighting.SightId.{SightId}
 use Rattle.audit_model.specs.Lanes.{same_pair}
 
--- one name of a sighting
+-- one id of a sighting
 abbrev pub same_sight : SightId → SightId → Bool
 same_sight a b = (a.iface == b.iface) && (a.index == b.index)
 

@@ -1,4 +1,4 @@
--- The skews of interfaces: those that a policy has, and those to which a certificate cuts the windows.
+-- The skews of interfaces: those of a policy, and those by which a certificate narrows the windows.
 use Rattle.std.specs.Prelude.{ℕ, ◌*◌, ◌-◌, ◌^◌, min, Bool, true, ◌&&◌, ◌==◌, nat_lt, List, [], ◌∷◌, Option, option_map, unwrap_or}
 use Rattle.std.specs.List.{find}
 use Rattle.audit_model.specs.declared.certificate.CertSkew.{CertSkew}
@@ -9,11 +9,11 @@ use Rattle.audit_model.specs.declared.policy.Policy.{Policy}
 abbrev pub skew_for : Policy → ℕ → ℕ
 skew_for policy iface = unwrap_or (option_map (λ (own : InterfaceSkew). own.skew) (find (λ own. own.iface == iface) policy.skews)) policy.skew
 
--- the skew that a certificate has of an interface, in microseconds
+-- the certificate's skew of an interface, in microseconds
 abbrev pub skew_of : List CertSkew → ℕ → Option ℕ
 skew_of skews iface = option_map (λ (skew : CertSkew). skew.microseconds) (find (λ skew. skew.iface == iface) skews)
 
--- as nanoseconds, which stop at the greatest number
+-- as nanoseconds, at most the greatest number
 abbrev pub nanoseconds_of : ℕ → ℕ
 nanoseconds_of microseconds = min (microseconds * 1000) (2 ^ 64 - 1)
 

@@ -1,7 +1,7 @@
--- The window of a stamp: the moments that lie within the skew of it, among the numbers of 64 bits.
+-- The window of a stamp: the moments within the skew of it, among the numbers of 64 bits.
 use Rattle.std.specs.Prelude.{ℕ, ◌+◌, ◌-◌, ◌^◌, min}
 
--- sums of moments and lengths of time stop at the greatest number
+-- sums of moments and lengths of time are at most the greatest number
 abbrev pub later : ℕ → ℕ → ℕ
 later moment time = min (moment + time) (2 ^ 64 - 1)
 

@@ -1,4 +1,4 @@
-//! IPv4 transport addresses, and how a text spells them.
+//! IPv4 transport addresses, and their spelling in a text.
 
 ghost use Rattle.std.specs.Prelude.{◌≡◌};
 ghost use Rattle.audit_text.specs.Token.{number_of};
@@ -29,7 +29,7 @@ impl fmt::Display for Addr {
     }
 }
 
-/// One of the four numbers of an address.
+/// Parses one of the four numbers of an address.
 fn read_octet(word: &[u8]) -> Result<u8, TokenFault>
     ensures { result ≡ number_of 255 word.now }
 {
@@ -39,7 +39,7 @@ fn read_octet(word: &[u8]) -> Result<u8, TokenFault>
     }
 }
 
-/// The port that the word spells, 0 to 65535.
+/// Parses a port, 0 to 65535.
 pub fn read_port(word: &[u8]) -> Result<u16, TokenFault>
     ensures { result ≡ number_of 65535 word.now }
 {
@@ -49,7 +49,7 @@ pub fn read_port(word: &[u8]) -> Result<u16, TokenFault>
     }
 }
 
-/// The IPv4 address that the word spells, four numbers joined by dots.
+/// Parses an IPv4 address, four numbers joined by dots.
 #[tactic(auto, unfolding(crate::specs::AddressText::ip_of))]
 pub fn read_ip(word: &[u8]) -> Result<u32, TokenFault>
     ensures { result ≡ ip_of word.now }
@@ -66,7 +66,7 @@ pub fn read_ip(word: &[u8]) -> Result<u32, TokenFault>
 impl Addr {
     ghost use Rattle.audit_model.specs.Addr.{addr_of};
 
-    /// The address that the word spells, as `198.51.100.7:40000`.
+    /// Parses an address, as `198.51.100.7:40000`.
     #[tactic(auto, unfolding(crate::specs::Addr::addr_of))]
     pub fn read(word: &[u8]) -> Result<Addr, TokenFault>
         ensures { result ≡ addr_of word.now }

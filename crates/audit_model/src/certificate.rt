@@ -1,4 +1,4 @@
-//! Certificates: an order of all that was captured, lane by lane.
+//! Certificates: an order of all captured datagrams of the service, lane by lane.
 
 ghost use Rattle.std.specs.Prelude.{◌≡◌, ◌≤◌, ◌+◌, length, true};
 ghost use Rattle.std.specs.List.{IsDistinct};
@@ -13,13 +13,13 @@ use crate::event::{Event, Key};
 use crate::listed::Listed;
 use crate::sighting::SightId;
 
-/// How many lanes a certificate may have.
+/// The most lanes of a certificate.
 pub const MAX_LANES: usize = 65_536;
 
-/// How many interfaces a certificate may have a skew of.
+/// The most interfaces that a certificate has skews of.
 pub const MAX_SKEWS: usize = 1_024;
 
-/// How many events and drops together.
+/// The most events and drops together.
 pub const MAX_EVENTS: usize = 50_331_648;
 
 /// The events of one client at one listen address, in their order.
@@ -37,7 +37,7 @@ pub struct CertDrop {
     pub key: Key,
 }
 
-/// How far the moments on one interface lie from their stamps at the most.
+/// How far the moments on one interface may differ from their stamps.
 #[derive(Clone, Copy, Debug, PartialEq, Eq)]
 pub struct CertSkew {
     /// The interface, as in a `SightId`. There need not be one of that number.
@@ -45,12 +45,14 @@ pub struct CertSkew {
     pub microseconds: u64,
 }
 
-/// What is claimed of a capture: lanes, and the arrivals that were dropped, which count as the lane after the last.
+/// A certificate: lanes, and the arrivals that were dropped, which count as the lane after the
+/// last.
 #[derive(Debug, Drop)]
 pub struct Certificate {
     pub lanes: Listed<CertLane>,
     pub drops: Listed<CertDrop>,
-    /// The interfaces on which moments lie nearer to their stamps than the policy asks, in rising order. No skew widens a window.
+    /// The interfaces on which moments are nearer to their stamps than the policy requires, in
+    /// rising order. No skew widens a window.
     pub skews: Listed<CertSkew>,
     /// No two lanes have one client at one listen address.
     pub ghost distinct: { IsDistinct same_lane lanes } by { Prim.hlevel props },
@@ -62,7 +64,7 @@ pub struct Certificate {
 }
 
 impl Certificate {
-    /// The skew that it has of the interface, in microseconds. It takes log n in the skews.
+    /// The certificate's skew of the interface, in microseconds. It takes log n time in the skews.
     pub fn skew_of(&self, iface: u32) -> Option<u64>
         ensures { result ≡ skew_of self.now.skews iface }
     {

@@ -1,4 +1,4 @@
-//! What a certificate says happened, and when.
+//! The events of a certificate, and their keys.
 
 use crate::sighting::SightId;
 
@@ -9,7 +9,7 @@ pub struct Key {
     pub tie: u32,
 }
 
-/// Where an event stands: its key, its lane, and its number in that lane from 0.
+/// The place of an event: its key, its lane, and its number in that lane from 0.
 #[derive(Clone, Copy, Debug, PartialEq, Eq, PartialOrd, Ord, Hash)]
 pub struct At {
     pub key: Key,
@@ -25,7 +25,7 @@ pub enum Event {
         sight: SightId,
         key: Key,
     },
-    /// The server answers the arrival `sight` by the departure `gives`.
+    /// An act: the server sends the departure `gives` for the arrival `sight`.
     Act {
         sight: SightId,
         gives: SightId,
@@ -50,7 +50,7 @@ impl Event {
         }
     }
 
-    /// The sighting that the event is told by: of an act its arrival.
+    /// The sighting that a report names for the event: for an act its arrival.
     pub fn sight(&self) -> SightId
         ensures { result ≡ sight_of self.now }
     {

@@ -1,11 +1,12 @@
-//! What is found of captures as they grow.
+//! An extension of a certificate, as captures grow.
 
 use crate::address::Addr;
 use crate::certificate::CertDrop;
 use crate::event::Event;
 use crate::listed::Listed;
 
-/// What a certificate gains: lanes behind those that it has, events behind those of their lanes, and drops behind the others.
+/// An extension of a certificate: lanes after those that it has, events after those of their lanes,
+/// and drops after the others.
 #[derive(Debug, Drop)]
 pub struct Extension {
     /// A client and a listen address for each new lane.

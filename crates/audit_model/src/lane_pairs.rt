@@ -1,4 +1,4 @@
-//! The client and the listen address of each lane.
+//! A set of the client and the listen address of each lane.
 
 ghost use Rattle.std.specs.Prelude.{◌≡◌, ◌||◌, false, OnOk, OnErr};
 ghost use Rattle.audit_model.specs.declared.address.Addr.{Addr as Address};
@@ -16,7 +16,7 @@ pub struct LanePairs {
 }
 
 impl LanePairs {
-    /// No pair. It takes no memory.
+    /// The empty set. Allocates no memory.
     pub fn new(alloc: Global) -> LanePairs
         ensures { (client listen : Address) → has result client listen ≡ false }
     {
@@ -25,14 +25,15 @@ impl LanePairs {
         }
     }
 
-    /// Whether this client is there at this listen address. The cost is the logarithm of the number of pairs.
+    /// Whether the set has this client at this listen address. It takes logarithmic time in the
+    /// number of pairs.
     pub fn contains(&self, client: Addr, listen: Addr) -> bool
         ensures { result ≡ has self.now client listen }
     {
         self.set.contains(&(client, listen))
     }
 
-    /// Adds a pair. The cost is the logarithm of their number.
+    /// Adds a pair. It takes logarithmic time in the number of pairs.
     pub fn insert(&mut self, client: Addr, listen: Addr) -> Result<(), AllocFailed<(Addr, Addr)>>
         ensures ok { OnOk result ((c l : Address) → has self.new c l ≡ (same_pair client listen c l || has self.old c l)) }
         ensures err { OnErr result (self.new ≡ self.old) }

@@ -1,4 +1,4 @@
-//! The types that all of turnaudit speaks of, and the policy text.
+//! The types that all of turnaudit uses, and the policy text.
 #![tactic(auto)]
 
 mod address;

@@ -5,7 +5,7 @@ ghost use Rattle.std.specs.Prelude.{◌≡◌, ◌==◌, [], ◌∷◌, ◌++◌
 use std::alloc::{AllocFailed, Global};
 use std::marker::Model;
 
-/// A vector that contracts see as the list of its items, whatever its room and place in memory.
+/// A vector that contracts see as the list of its items, whatever its capacity and place in memory.
 #[derive(Debug, Drop)]
 pub struct Listed<T> {
     items: Vec<T>,
@@ -20,7 +20,7 @@ impl<T> Model for Listed<T> {
 }
 
 impl<T> Listed<T> {
-    /// No items. It takes no memory.
+    /// No items. Allocates no memory.
     pub fn new(alloc: Global) -> Self
         ensures { result ≡ [] }
     {
@@ -47,14 +47,14 @@ impl<T> Listed<T> {
         self.items.as_slice()
     }
 
-    /// The vector itself. It takes no memory.
+    /// The vector itself. Allocates no memory.
     pub fn into_vec(self) -> Vec<T>
         ensures { result.items ≡ self }
     {
         self.items
     }
 
-    /// Adds an item at the end, or gives it back where there is no memory for it.
+    /// Adds an item at the end, or returns it if memory runs out.
     pub fn push(&mut self, item: T) -> Result<(), AllocFailed<T>>
         ensures ok { OnOk result (self.new ≡ self.old ++ item ∷ []) }
         ensures err { OnErr result (self.new ≡ self.old) }
@@ -64,7 +64,7 @@ impl<T> Listed<T> {
     }
 }
 
-/// The items of a vector, as they are. It takes no memory.
+/// The items of a vector, unchanged. Allocates no memory.
 impl<T> From<Vec<T>> for Listed<T> {
     ghost from_gives = { λ items listed. listed ≡ items.items };
 

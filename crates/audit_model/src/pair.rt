@@ -1,4 +1,4 @@
-//! A client and where it asks.
+//! A client and its listen address.
 
 use crate::address::Addr;
 

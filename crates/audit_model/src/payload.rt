@@ -6,7 +6,8 @@ use std::alloc::AllocError;
 use std::marker::Model;
 use std::sync::Arc;
 
-/// The bytes of a datagram: a range of an arena that has those of others, too. The last payload of an arena frees it.
+/// The bytes of a datagram: a range of an arena, which other payloads share. The last payload of an
+/// arena frees it.
 #[derive(Debug, Drop)]
 pub struct Payload {
     arena: Arc<Vec<u8>>,
@@ -27,7 +28,8 @@ impl Model for Payload {
 impl Payload {
     ghost use Rattle.std.specs.Prelude.{◌≡◌, ◌==◌, length};
 
-    /// The arena's bytes from `start` on, `len` of them. It takes no memory, and fails only where the arena has 2^63 owners.
+    /// The arena's bytes from `start` on, `len` of them. It allocates no memory, and fails only if
+    /// the arena has 2^63 owners.
     pub fn of(arena: &Arc<Vec<u8>>, start: u32, len: u32) -> Result<Payload, AllocError>
         requires { start + len ≤ vec_len arena.now.value }
         ensures { IfOk result (λ payload. payload ≡ take len (drop start arena.now.value.items)) }

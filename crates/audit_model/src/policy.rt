@@ -1,9 +1,9 @@
-//! The policy: which endpoints are the service, and the tolerances.
+//! The policy: the endpoints of the service, and the tolerances.
 
 use crate::address::Addr;
 use crate::listed::Listed;
 
-/// UDP ports of one IPv4 address, from `low` to `high`, both of them in it.
+/// UDP ports of one IPv4 address, from `low` to `high` inclusive.
 #[derive(Clone, Copy, Debug, PartialEq, Eq)]
 pub struct PortRange {
     pub ip: u32,
@@ -48,7 +48,7 @@ impl From<Addr> for PortRange {
     }
 }
 
-/// How far a datagram's moment on one interface may lie from its stamp.
+/// How far a datagram's moment on one interface may differ from its stamp.
 #[derive(Clone, Copy, Debug, PartialEq, Eq)]
 pub struct InterfaceSkew {
     /// The interface, as in a `SightId`.
@@ -57,20 +57,21 @@ pub struct InterfaceSkew {
     pub skew: u64,
 }
 
-/// What the auditor is told of the server. Lengths of time are nanoseconds.
+/// The policy: what the auditor knows of the server. Lengths of time are nanoseconds.
 #[derive(Debug, Drop)]
 pub struct Policy {
-    /// Where clients send their requests.
+    /// The listen addresses, to which clients send their requests.
     pub listen: Listed<Addr>,
-    /// From where the server relays.
+    /// The relay ranges, from which the server relays.
     pub relay: Listed<PortRange>,
-    /// How far a datagram's moment may lie from its stamp, on an interface that has no skew of its own.
+    /// How far a datagram's moment may differ from its stamp, on an interface that has no skew of
+    /// its own.
     pub skew: u64,
     /// The skews that interfaces have of their own. The first of an interface counts.
     pub skews: Listed<InterfaceSkew>,
     /// How long after its end a lease may be used.
     pub grace: u64,
-    /// How long the server may hold an arrival before it acts, and before what it gives leaves.
+    /// The longest time from an arrival to its act, and from an arrival to its departure.
     pub hold: u64,
 }
 
@@ -80,7 +81,8 @@ impl Policy {
     ghost use Rattle.audit_model.specs.Policy.{Listens, Relays, IsOfService, listens, relays, is_of_service};
     ghost use Rattle.audit_model.specs.Skews.{skew_for};
 
-    /// Whether clients send their requests to this address. It goes over at most 64 of them.
+    /// Whether clients send their requests to this address. It searches at most 64 listen
+    /// addresses.
     pub fn listens(&self, addr: Addr) -> bool
         ensures means { IsTrue result ↔ Listens self.now addr }
         ensures value { result ≡ listens self.now addr }
@@ -88,7 +90,7 @@ impl Policy {
         self.listen.as_slice().iter().any(|listen| *listen == addr)
     }
 
-    /// Whether the address is in a relay range. It goes over at most 64 of them.
+    /// Whether the address is in a relay range. It searches at most 64 ranges.
     pub fn relays(&self, addr: Addr) -> bool
         ensures means { IsTrue result ↔ Relays self.now addr }
         ensures value { result ≡ relays self.now addr }
@@ -107,8 +109,9 @@ impl Policy {
         self.listens_at_ip(ip) || self.relays_at_ip(ip)
     }
 
-    /// How far a datagram's moment on this interface may lie from its stamp, in nanoseconds. It goes over the skews that
-    /// interfaces have of their own, at most 1,024 of them in a policy that was read.
+    /// How far a datagram's moment on this interface may differ from its stamp, in nanoseconds. It
+    /// searches the skews that interfaces have of their own, at most 1,024 of them in a policy that
+    /// was read.
     pub fn skew_for(&self, iface: u32) -> u64
         ensures { result ≡ skew_for self.now iface }
     {

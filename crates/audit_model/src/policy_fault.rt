@@ -11,14 +11,15 @@ use thiserror::Error;
 /// What is wrong with a line of a policy text.
 #[derive(Clone, Copy, Debug, PartialEq, Eq, Error)]
 pub enum PolicyFaultKind {
-    /// P1: another heading, an unknown word, another shape, a blank line, a setting for the second time, or no LF.
+    /// P1: another heading, an unknown word, another syntax, a blank line, a setting for the second
+    /// time, or no LF.
     #[error("P1 line")]
     Line,
-    /// P2: a number with a leading zero or past the greatest u64, an address part or a port out of its range,
-    /// or a range whose low port is over its high one.
+    /// P2: a number with a leading zero or past the greatest u64, an address part or a port out of
+    /// its range, or a range whose low port is greater than its high one.
     #[error("P2 number")]
     Number,
-    /// P3: a listen address or a relay range that meets an earlier one.
+    /// P3: a listen address or a relay range that overlaps an earlier one.
     #[error("P3 overlap")]
     Overlap,
     /// P4: no listen line.
@@ -27,7 +28,7 @@ pub enum PolicyFaultKind {
     /// P5: over 64 listen or 64 relay lines, or a tolerance past its greatest value.
     #[error("P5 limit")]
     Limit,
-    /// P6: there was no memory.
+    /// P6: memory ran out.
     #[error("P6 memory")]
     Memory,
 }
@@ -50,7 +51,7 @@ impl PolicyFaultKind {
     }
 }
 
-/// A policy text was refused.
+/// Why a policy text was refused, with the line.
 pub type PolicyFault = LineFault<PolicyFaultKind>;
 
 impl From<TokenFault> for PolicyFaultKind {

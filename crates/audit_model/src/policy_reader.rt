@@ -1,4 +1,4 @@
-//! Reading a policy text.
+//! Reads a policy text.
 
 ghost use Rattle.std.specs.Prelude.{◌≡◌, ◌++◌, [], ℕ, List, false, IfOk, IfErr, MatchResult, Ok, Err};
 ghost use Rattle.audit_text.specs.Reading.{UnlessMemory};
@@ -13,7 +13,7 @@ use audit_text::TextReader;
 use std::alloc::Global;
 use std::marker::Model;
 
-/// Reads a policy text that comes in pieces, cut anywhere.
+/// Reads a policy text that comes in pieces, split anywhere.
 #[derive(Drop)]
 pub struct PolicyReader {
     reader: TextReader<PolicyDraft>,
@@ -29,7 +29,7 @@ impl Model for PolicyReader {
 }
 
 impl PolicyReader {
-    /// A reader of no bytes. It takes no memory.
+    /// A reader of no bytes. Allocates no memory.
     pub fn new(alloc: Global) -> PolicyReader
         ensures { StandsFor result [] }
     {
@@ -39,8 +39,9 @@ impl PolicyReader {
     }
 
     #[tactic(auto, unfolding(crate::specs::PolicyText::policy_of))]
-    /// Takes the next piece of the text, or reports the first fault of the text so far. Every text that continues these bytes has the
-    /// same fault, however it is cut. After a fault the reader is consumed.
+    /// Reads the next piece of the text, or returns the first fault of the text so far. Every text
+    /// that continues these bytes has the same fault, however it is split. After a fault the reader
+    /// is consumed.
     pub fn feed(self, piece: &[u8]) -> Result<PolicyReader, PolicyFault>
         ensures ok { (text : List ℕ) → StandsFor self text → IfOk result (λ fed. StandsFor fed (text ++ piece.now)) }
         ensures err { (text : List ℕ) → StandsFor self text → (more : List ℕ) →
@@ -52,7 +53,7 @@ impl PolicyReader {
     }
 
     #[tactic(auto, unfolding(crate::specs::PolicyText::policy_of))]
-    /// The policy that the text spells which ends here, or its first fault. It takes no memory.
+    /// The policy of the text that ends here, or its first fault. Allocates no memory.
     pub fn finish(self) -> Result<Policy, PolicyFault>
         ensures reading { (text : List ℕ) → StandsFor self text → result ≡ policy_of text }
         ensures apart { (text : List ℕ) → StandsFor self text → IfOk result AreApart }
@@ -64,7 +65,8 @@ impl PolicyReader {
     }
 }
 
-/// The policy that a text spells, or its first fault: the kind, and the line from 1. The cost is the size of the text.
+/// The policy of a text, or its first fault: the kind, and the line from 1. It takes linear time in
+/// the text.
 pub fn read_policy(alloc: Global, text: &[u8]) -> Result<Policy, PolicyFault>
     ensures reading { MatchResult result (λ policy. policy_of text.now ≡ Ok policy)
         (λ fault. UnlessMemory (λ f. is_memory f.kind) fault (policy_of text.now)) }

@@ -17,13 +17,13 @@ use std::marker::Model;
 
 const HEADING: &[u8; 18] = b"turnaudit-policy 1";
 
-/// Under it a line may say the skew of an interface.
+/// The heading after which a line may set the skew of an interface.
 const SECOND_HEADING: &[u8; 18] = b"turnaudit-policy 2";
 
-/// How many listen lines a policy may have, and how many relay lines.
+/// The most listen lines of a policy, and the most relay lines.
 const MAX_ENDPOINTS: usize = 64;
 
-/// How many interfaces may have a skew of their own.
+/// The most interfaces that have a skew of their own.
 const MAX_INTERFACES: usize = 1_024;
 
 /// The greatest skew, in microseconds.
@@ -42,7 +42,7 @@ const DEFAULT_GRACE: u64 = 1_000 * NANOSECONDS_IN_MS;
 
 const DEFAULT_HOLD: u64 = 2_000 * NANOSECONDS_IN_MS;
 
-/// What the lines so far say.
+/// The settings of the lines so far.
 #[derive(Debug, Drop)]
 pub struct PolicyDraft {
     listen: Listed<Addr>,
@@ -53,7 +53,7 @@ pub struct PolicyDraft {
     hold: Option<u64>,
     /// Whether the heading is there.
     headed: bool,
-    /// Whether it is the one under which a line may say the skew of an interface.
+    /// Whether it is the heading after which a line may set the skew of an interface.
     by_interface: bool,
 }
 
@@ -74,7 +74,7 @@ impl Model for PolicyDraft {
     } };
 }
 
-/// A range as in `192.0.2.1:49152-65535`.
+/// Parses a range as in `192.0.2.1:49152-65535`.
 #[tactic(auto, unfolding(crate::specs::PolicyLines::range_of))]
 fn read_range(word: &[u8]) -> Result<PortRange, TokenFault>
     ensures { result ≡ range_of word.now }
@@ -88,7 +88,7 @@ fn read_range(word: &[u8]) -> Result<PortRange, TokenFault>
     Ok(PortRange { ip, low, high })
 }
 
-/// A listen address, whose port isn't 0.
+/// Parses a listen address, whose port isn't 0.
 #[tactic(auto, unfolding(crate::specs::PolicyLines::listen_of))]
 fn read_listen(word: &[u8]) -> Result<Addr, TokenFault>
     ensures { result ≡ listen_of word.now }
@@ -100,7 +100,7 @@ fn read_listen(word: &[u8]) -> Result<Addr, TokenFault>
     Ok(addr)
 }
 
-/// A length of time of at most `most` units, in nanoseconds, where there is none yet.
+/// Parses a length of time of at most `most` units, in nanoseconds, if there is none yet.
 #[tactic(auto, unfolding(crate::specs::PolicyLines::tolerance_of))]
 fn read_tolerance(
     earlier: Option<u64>,
@@ -121,7 +121,7 @@ fn read_tolerance(
     Ok(Some(units * unit))
 }
 
-/// An interface, as in a `SightId`.
+/// Parses an interface, as in a `SightId`.
 fn read_interface(word: &[u8]) -> Result<u32, TokenFault>
     ensures { result ≡ interface_of word.now }
 {
@@ -171,7 +171,7 @@ impl PolicyDraft {
         }
     }
 
-    /// Whether the range meets an endpoint of an earlier line.
+    /// Whether the range overlaps an endpoint of an earlier line.
     fn meets(&self, range: &PortRange) -> bool
         ensures { result ≡ meets_said self.now range.now }
     {
@@ -220,7 +220,7 @@ impl PolicyDraft {
         }
     }
 
-    /// Takes in the skew of an interface, `IFACE N` with N in microseconds.
+    /// Adds the skew of an interface, `IFACE N` with N in microseconds.
     #[tactic(auto, unfolding(crate::specs::PolicyLines::after_skew))]
     fn add_skew(&mut self, value: &[u8]) -> Result<(), PolicyFaultKind>
         ensures { MatchResult result (λ _. after_skew self.old value.now ≡ Ok self.new)
@@ -239,7 +239,7 @@ impl PolicyDraft {
         Ok(())
     }
 
-    /// Takes in what a setting's line says.
+    /// Adds a setting.
     #[tactic(auto, unfolding(crate::specs::PolicyLines::after_setting))]
     fn add_setting(&mut self, word: &[u8], value: &[u8]) -> Result<(), PolicyFaultKind>
         ensures { MatchResult result (λ _. after_setting self.old word.now value.now ≡ Ok self.new)
@@ -257,7 +257,7 @@ impl PolicyDraft {
         Ok(())
     }
 
-    /// Takes in what a line behind the heading says.
+    /// Adds a line after the heading.
     #[tactic(auto, unfolding(crate::specs::PolicyLines::after_word))]
     fn add_line(&mut self, line: &[u8]) -> Result<(), PolicyFaultKind>
         ensures { MatchResult result (λ _. after_word self.old line.now ≡ Ok self.new)
@@ -275,7 +275,7 @@ impl PolicyDraft {
         }
     }
 
-    /// The policy that is said.
+    /// The policy of the lines.
     pub fn policy(self) -> Policy
         ensures { result ≡ policy_said self }
     {
@@ -289,7 +289,7 @@ impl PolicyDraft {
         }
     }
 
-    /// Takes in the heading, of either version.
+    /// Adds the heading, of either version.
     fn add_heading(&mut self, line: &[u8]) -> Result<(), PolicyFaultKind>
         ensures { MatchResult result (λ _. after_heading self.old line.now ≡ Ok self.new)
             (λ fault. UnlessMemory is_memory fault (after_heading self.old line.now)) }
@@ -303,7 +303,7 @@ impl PolicyDraft {
         Ok(())
     }
 
-    /// Takes in a line: the heading first.
+    /// Adds a line: the heading first.
     #[tactic(auto, unfolding(crate::specs::PolicyText::after))]
     fn add(&mut self, line: &[u8]) -> Result<(), PolicyFaultKind>
         ensures { MatchResult result (λ _. after self.old line.now ≡ Ok self.new)

@@ -7,7 +7,7 @@ ghost use Rattle.audit_model.specs.Window.{first_moment, last_moment};
 use crate::address::Addr;
 use crate::payload::Payload;
 
-/// The name of a sighting: its interface, and its place among the sightings of that interface.
+/// The id of a sighting: its interface, and its place among the sightings of that interface.
 #[derive(Clone, Copy, Debug, PartialEq, Eq, PartialOrd, Ord, Hash)]
 pub struct SightId {
     /// 64 times the number of the file, plus the interface's number in the file.
@@ -16,7 +16,7 @@ pub struct SightId {
     pub index: u32,
 }
 
-/// Which way a datagram goes.
+/// The direction of a datagram.
 #[derive(Clone, Copy, Debug, PartialEq, Eq, Hash)]
 pub enum Side {
     /// To an endpoint of the service.
@@ -29,7 +29,7 @@ pub enum Side {
 #[derive(Debug, Drop)]
 pub struct Sighting {
     pub payload: Payload,
-    /// When the capture says that it was seen.
+    /// The stamp in the capture.
     pub stamp: u64,
     /// The first moment of its stamp's window.
     pub lo: u64,
@@ -41,15 +41,15 @@ pub struct Sighting {
     pub side: Side,
 }
 
-/// A skew of so many microseconds, in nanoseconds: no more than the greatest u64.
+/// A skew in microseconds as nanoseconds, at most the greatest u64.
 pub fn nanoseconds(microseconds: u64) -> u64
     ensures { result ≡ nanoseconds_of microseconds }
 {
     microseconds.saturating_mul(1_000)
 }
 
-/// The first and the last moment at which a datagram of this stamp may have been seen, in nanoseconds:
-/// `skew` to each side, not below 0 and not past the greatest u64.
+/// The first and the last moment at which a datagram of this stamp may have been seen, in
+/// nanoseconds: `skew` to each side, at least 0 and at most the greatest u64.
 pub fn window(stamp: u64, skew: u64) -> (u64, u64)
     ensures lo { result.0 ≡ first_moment stamp skew }
     ensures hi { result.1 ≡ last_moment stamp skew }

@@ -1,4 +1,4 @@
-//! What the audit answers.
+//! The result of an audit.
 
 use crate::address::Addr;
 use crate::event::{At, Key};
@@ -21,7 +21,8 @@ impl Breach {
     ghost use Rattle.std.specs.Prelude.{◌≡◌, None, Some};
     ghost use Rattle.audit_model.specs.Breach.{breach_cmp, lesser};
 
-    /// The order in which breaches of one phase are told: by moment, tie, lane, rule, place and sighting.
+    /// The order in which breaches of one phase are reported: by moment, tie, lane, rule, place and
+    /// sighting.
     pub fn telling_order(&self, other: &Breach) -> Ordering
         ensures { result ≡ breach_cmp self.now other.now }
     {
@@ -34,7 +35,7 @@ impl Breach {
             .then(self.sight.cmp(&other.sight))
     }
 
-    /// The one of two breaches that is told.
+    /// The one of two breaches that is reported.
     pub fn least(first: Option<Breach>, second: Option<Breach>) -> Option<Breach>
         ensures { result ≡ lesser first second }
     {
@@ -49,14 +50,14 @@ impl Breach {
     }
 }
 
-/// The answer of an audit.
+/// The result of an audit.
 #[derive(Clone, Copy, Debug, PartialEq, Eq)]
 pub enum Verdict {
-    /// Some order of all that was captured is a run of the server.
+    /// Some order of all captured datagrams of the service is a run of the server.
     Conforming {
-        /// How many sightings there are.
+        /// The number of sightings.
         datagrams: u32,
-        /// How many lanes the certificate has.
+        /// The number of the certificate's lanes.
         lanes: u32,
     },
     /// The certificate doesn't show it; the first breach.

@@ -7,13 +7,13 @@ use crate::sink::SinkFailed;
 use std::alloc::AllocError;
 use thiserror::Error;
 
-/// A text was not written, or only a front of it.
+/// Why a text was not written, or only a prefix of it.
 #[derive(Clone, Copy, Debug, PartialEq, Eq, Error)]
 pub enum WriteFault {
     /// F1: the sink failed.
     #[error("F1 device")]
     Device,
-    /// F2: there was no memory.
+    /// F2: memory ran out.
     #[error("F2 memory")]
     Memory,
 }

@@ -1,4 +1,4 @@
--- What is kept of a certificate that was placed in portions.
+-- The invariant of a certificate that was placed in portions.
 use Rattle.std.specs.Prelude.{◌≡◌, ◌+◌, List, length}
 use Rattle.audit_model.specs.declared.address.Addr.{Addr}
 use Rattle.audit_model.specs.declared.certificate.Certificate.{Certificate}
@@ -18,7 +18,8 @@ use Rattle.audit_placement.specs.FirstPlace.{Notes}
 use Rattle.audit_order.specs.Growing.{placing_count}
 use Rattle.audit_placement.specs.Keys.{key_at}
 
--- the same intake, later: its policy, and the sightings that it had, and maybe more behind those of their interfaces
+-- the same intake, later: its policy, and the sightings that it had, with possibly more after those
+-- of their interfaces
 pub record Stays (before now : Taken) : Type 0 where
   pub policy : now.policy ≡ before.policy
   pub rows : Grows before.interfaces now.interfaces
@@ -31,7 +32,8 @@ abbrev pub AreOf : Taken → Certificate → Places → Type 0
 AreOf taken certificate (Once keys) = IsClean taken (key_at keys) (entries certificate)
 AreOf taken certificate (First first) = Notes certificate first (entries certificate)
 
--- where the sightings of that intake are placed is known, and of how many lanes and events the certificate is
+-- the places of that intake's sightings are known, and the numbers of the certificate's lanes and
+-- events
 pub record Keeps (taken : Taken) (placing : Placing) : Type 0 where
   pub places : AreOf taken placing.certificate placing.places
   pub count : placing.count ≡ placing_count (entries placing.certificate)

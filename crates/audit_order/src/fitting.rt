@@ -1,4 +1,4 @@
-//! Whether an extension goes with a certificate.
+//! Checks that an extension fits a certificate.
 
 ghost use Rattle.std.specs.Prelude.{◌≡◌, ◌<◌, ◌↔◌, ◌||◌, ◌++◌, List, All, IfOk, OnOk, IsTrue, length, map};
 ghost use Rattle.std.specs.List.{IsDistinct};
@@ -11,7 +11,7 @@ ghost use Rattle.audit_order.specs.Kept.{AreOfLanes};
 use audit_model::{Addr, Event, LanePairs};
 use std::alloc::{AllocError, Global};
 
-/// Whether the number of each event is one of so many lanes.
+/// Whether the number of each event is less than `lanes`.
 pub fn are_of_lanes(events: &[(u32, Event)], lanes: usize) -> bool
     ensures { IsTrue result ↔ All (λ event. event.0 < lanes) events.now }
 {
@@ -24,7 +24,7 @@ fn is_known(pairs: &LanePairs, seen: &LanePairs, client: Addr, listen: Addr) -> 
     pairs.contains(client, listen) || seen.contains(client, listen)
 }
 
-/// Whether the pairs are new, and each another.
+/// Whether the pairs are new, and all different.
 pub fn are_apart(alloc: Global, pairs: &LanePairs, new: &[(Addr, Addr)]) -> Result<bool, AllocError>
     ensures { (lanes : List Lane) → AreOfLanes pairs.now lanes → IsDistinct same_lane lanes →
         IfOk result (λ apart. IsTrue apart ↔ IsDistinct same_lane (lanes ++ map empty_lane new.now)) }

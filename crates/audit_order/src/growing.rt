@@ -1,4 +1,4 @@
-//! A certificate that grows by lanes, events and drops.
+//! A certificate to which lanes, events and drops are added.
 
 ghost use Rattle.std.specs.Prelude.{◌≡◌, ◌<◌, ◌+◌, ◌-◌, ◌++◌, ◌∷◌, [], ℕ, All, Some, None, OnOk, true, length, map, min, option_map, slice_get};
 ghost use Rattle.audit_model.specs.declared.certificate.CertLane.{CertLane as Lane};
@@ -16,16 +16,16 @@ use audit_placement::{LaneEnd, PlacedKeys, note_event};
 use audit_sightings::Intake;
 use std::alloc::{AllocError, Global};
 
-/// What a certificate has so far.
+/// The content of a certificate so far.
 #[derive(Drop)]
 pub struct Growing {
     pub lanes: Vec<CertLane>,
     pub drops: Listed<CertDrop>,
-    /// The keys at which they place sightings, as long as no breach is shown.
+    /// The keys at which they place sightings, while no breach is shown.
     pub keys: PlacedKeys,
-    /// How many arrivals and departures they have, drops among them.
+    /// The number of arrivals and departures, drops included.
     pub count: u32,
-    /// Whether no breach is shown of what they place.
+    /// Whether what they place shows no breach.
     pub clean: bool,
 }
 
@@ -49,7 +49,7 @@ fn last_of(events: &[Event]) -> Option<Key>
 }
 
 impl Growing {
-    /// Where the next event of a lane stands.
+    /// The place of the next event of a lane.
     fn lane_end(&self, number: u32) -> LaneEnd
         requires { number < length self.now.lanes.items }
         ensures { (lane : Lane) → slice_get self.now.lanes.items number ≡ Some lane → result ≡ record { pair = Some (record { client = lane.client; listen = lane.listen }); last = last_key lane.events } }
@@ -64,7 +64,7 @@ impl Growing {
         }
     }
 
-    /// Where the next drop stands.
+    /// The place of the next drop.
     fn drops_end(&self) -> LaneEnd
         ensures { result ≡ record { pair = None; last = option_map (λ dropped. dropped.key) (slice_get self.now.drops (length self.now.drops - 1)) } }
     {
@@ -77,7 +77,7 @@ impl Growing {
         }
     }
 
-    /// Notes what an event places behind that end.
+    /// Notes the placement of an event after that end.
     fn take(&mut self, intake: &Intake, end: LaneEnd, event: Event)
         ensures clean { self.new.clean ≡ true → (self.old.clean ≡ true) × Takes (taken intake.now) (key_at self.old.keys) end.pair end.last event (key_at self.new.keys) }
         ensures count { self.new.count ≡ min (self.old.count + one_if (places_one event)) 4294967295 }
@@ -103,7 +103,7 @@ impl Growing {
         Ok(())
     }
 
-    /// Adds an event behind the others of its lane.
+    /// Adds an event after the others of its lane.
     fn push_event(&mut self, number: u32, event: Event) -> Result<(), AllocError>
         requires { number < length self.old.lanes.items }
         ensures lanes { OnOk result (self.new.lanes.items ≡ with_event number event self.old.lanes.items) }
@@ -116,7 +116,7 @@ impl Growing {
         Ok(())
     }
 
-    /// Adds an event behind the others of its lane, and notes what it places.
+    /// Adds an event after the others of its lane, and notes its placement.
     fn add_event(&mut self, intake: &Intake, number: u32, event: Event) -> Result<(), AllocError>
         requires { number < length self.old.lanes.items }
         ensures lanes { OnOk result (self.new.lanes.items ≡ with_event number event self.old.lanes.items) }
@@ -129,7 +129,7 @@ impl Growing {
         Ok(())
     }
 
-    /// Adds a drop behind the others, and notes that it places its arrival.
+    /// Adds a drop after the others, and notes that it places its arrival.
     fn add_drop(&mut self, intake: &Intake, dropped: CertDrop) -> Result<(), AllocError>
         ensures lanes { OnOk result (self.new.lanes.items ≡ self.old.lanes.items) }
         ensures drops { OnOk result (self.new.drops ≡ self.old.drops ++ dropped ∷ []) }
@@ -145,7 +145,7 @@ impl Growing {
         Ok(())
     }
 
-    /// Adds lanes without events behind the others.
+    /// Adds lanes without events after the others.
     fn add_lanes(&mut self, alloc: Global, pairs: &[(Addr, Addr)]) -> Result<(), AllocError>
         ensures lanes { OnOk result (self.new.lanes.items ≡ self.old.lanes.items ++ map empty_lane pairs.now) }
         ensures drops { OnOk result (self.new.drops ≡ self.old.drops) }
@@ -157,7 +157,7 @@ impl Growing {
         Ok(())
     }
 
-    /// Adds events, each behind the others of its lane.
+    /// Adds events, each after the others of its lane.
     fn add_events(&mut self, intake: &Intake, events: &[(u32, Event)]) -> Result<(), AllocError>
         requires { All (λ event. event.0 < length self.old.lanes.items) events.now }
         ensures lanes { OnOk result (self.new.lanes.items ≡ with_events 0 self.old.lanes.items events.now) }
@@ -171,7 +171,7 @@ impl Growing {
         Ok(())
     }
 
-    /// Adds drops behind the others.
+    /// Adds drops after the others.
     fn add_drops(&mut self, intake: &Intake, drops: &[CertDrop]) -> Result<(), AllocError>
         ensures lanes { OnOk result (self.new.lanes.items ≡ self.old.lanes.items) }
         ensures drops { OnOk result (self.new.drops ≡ self.old.drops ++ drops.now) }
@@ -183,8 +183,8 @@ impl Growing {
         Ok(())
     }
 
-    /// Adds what an extension has, to a certificate of an intake that has grown. It takes time in proportion to the extension
-    /// and the sightings that came since.
+    /// Adds an extension to a certificate of an intake that has grown. It takes time in proportion
+    /// to the extension and the new sightings.
     pub fn extend(
         &mut self,
         alloc: Global,

@@ -1,4 +1,4 @@
-//! Placement of a certificate that grows in portions.
+//! Checks the placement of a certificate that grows in portions.
 #![tactic(auto)]
 
 mod fitting;

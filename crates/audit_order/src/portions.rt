@@ -1,4 +1,4 @@
-//! Placement of a certificate that grows in portions.
+//! Checks the placement of a certificate that grows in portions.
 
 ghost use Rattle.std.specs.Prelude.{◌≡◌, ◌↔◌, ◌≤◌, ◌+◌, [], length, IsTrue, IfOk, IfErr, IfNone, OnOk, Some, None, true};
 ghost use Rattle.std.specs.List.{IsDistinct};
@@ -25,16 +25,16 @@ use audit_sightings::Intake;
 use std::alloc::{AllocError, Global};
 use std::mem::replace;
 
-/// A certificate that grows in portions, and where it places the sightings of an intake that grows.
+/// A certificate that grows in portions, and the places of the sightings of an intake that grows.
 #[derive(Drop)]
 pub struct Placing {
     certificate: Certificate,
     places: Places,
     /// The client and the listen address of each lane.
     pairs: LanePairs,
-    /// How many events and drops the certificate has.
+    /// The number of events and drops of the certificate.
     events: usize,
-    /// How many arrivals and departures the certificate has, drops among them.
+    /// The number of arrivals and departures of the certificate, drops included.
     count: u32,
     alloc: Global,
 }
@@ -51,7 +51,8 @@ fn no_certificate(alloc: Global) -> Certificate
     }
 }
 
-/// Where a certificate places sightings, and the least breach that it shows of what it places. The keys are right where it is clean.
+/// The places of a certificate's sightings, and the least breach of what it places. The keys are
+/// right if it is clean.
 fn judged(
     alloc: Global,
     intake: &Intake,
@@ -73,7 +74,7 @@ fn judged(
     Ok((Places::First(first), breach))
 }
 
-/// The keys that are kept, and whether they are those of a clean certificate.
+/// The keys, and whether they are those of a clean certificate.
 fn keys_of(alloc: Global, places: Places) -> (PlacedKeys, bool)
     ensures { (taken : Taken) (certificate : Sorted) → AreOf taken certificate places → result.1 ≡ true → IsClean taken (key_at result.0) (entries certificate) }
 {
@@ -83,7 +84,8 @@ fn keys_of(alloc: Global, places: Places) -> (PlacedKeys, bool)
     }
 }
 
-/// A certificate with what it has gained, where it places sightings, and the least breach that it shows of what it places.
+/// A certificate with its extension, the places of its sightings, and the least breach of what it
+/// places.
 #[derive(Drop)]
 struct Settled {
     certificate: Certificate,
@@ -124,7 +126,7 @@ fn settle(alloc: Global, intake: &Intake, growing: Growing) -> Result<Settled, A
 }
 
 impl Placing {
-    /// Nothing was added yet. It takes no memory.
+    /// Nothing was added yet. Allocates no memory.
     pub fn new(alloc: Global) -> Placing
         ensures lanes { result.certificate.lanes ≡ [] }
         ensures drops { result.certificate.drops ≡ [] }
@@ -141,29 +143,32 @@ impl Placing {
         }
     }
 
-    /// What was added so far. It takes no memory.
+    /// The certificate so far. Allocates no memory.
     pub fn certificate(&self) -> &Certificate
         ensures { result.now ≡ self.now.certificate }
     {
         &self.certificate
     }
 
-    /// How many arrivals and departures were added, drops among them: where no breach is shown, how many sightings are placed.
+    /// The number of arrivals and departures that were added, drops included. If no breach is
+    /// shown, it is the number of placed sightings.
     pub fn count(&self) -> u32
         ensures { (taken : Taken) → Keeps taken self.now → result ≡ placing_count (entries self.now.certificate) }
     {
         self.count
     }
 
-    /// The least breach of the intake's sightings that are placed nowhere. It goes once over the sightings, and takes no memory.
+    /// The least breach of the intake's sightings that aren't placed. It reads the sightings once,
+    /// and allocates no memory.
     pub fn unplaced(&self, intake: &Intake) -> Option<Breach>
         ensures { (before : Taken) → Keeps before self.now → IsLeast (ShowsAnUnplaced (taken intake.now) self.now.certificate) result }
     {
         unplaced_breach(intake, &self.certificate, &self.places)
     }
 
-    /// Whether the certificate with the extension is one: the events' lanes are there, no two lanes are of one client at one
-    /// listen address, and the limits are kept. The cost is n log n in the extension.
+    /// Whether the certificate with the extension is one: the events' lanes exist, no two lanes are
+    /// of one client at one listen address, and the limits are kept. It takes n log n time in the
+    /// extension.
     pub fn fits(&self, extension: &Extension) -> Result<bool, AllocError>
         ensures { (taken : Taken) → Keeps taken self.now → IfOk result (λ fits. IsTrue fits ↔ Fits self.now.certificate extension.now) }
     {
@@ -173,7 +178,7 @@ impl Placing {
         are_apart(self.alloc, &self.pairs, extension.lanes.as_slice())
     }
 
-    /// Whether the limits are kept, and the events' lanes are there.
+    /// Whether the limits are kept, and the events' lanes exist.
     fn has_room(&self, extension: &Extension) -> bool
         ensures { (taken : Taken) → Keeps taken self.now → IsTrue result ↔ HasRoom self.now.certificate extension.now }
     {
@@ -184,11 +189,12 @@ impl Placing {
             && are_of_lanes(extension.events.as_slice(), lanes + extension.lanes.len())
     }
 
-    /// Adds what an extension has, and tells the least breach of all that was added so far, but for those of sightings that
-    /// are placed nowhere. The intake is the one of the call before, and may have grown.
+    /// Adds an extension, and returns the least breach of everything that was added so far, except
+    /// those of sightings that aren't placed. The intake is that of the previous call, and may have
+    /// grown.
     ///
-    /// As long as no breach is shown, it takes time in proportion to the extension and the sightings that came since. Without
-    /// memory what was added is lost.
+    /// While no breach is shown, it takes time in proportion to the extension and the new
+    /// sightings. If memory runs out, what was added is lost.
     pub fn add(
         &mut self,
         intake: &Intake,
@@ -196,10 +202,10 @@ impl Placing {
     ) -> Result<Result<(), Breach>, AllocError>
         requires { Fits self.old.certificate extension.now }
         ensures extends { OnOk result (Extends self.old.certificate extension.now self.new.certificate) }
-        // It passes exactly where no breach is shown,
+        // It passes exactly if no breach is shown,
         ensures passes { (before : Taken) → Keeps before self.old → Stays before (taken intake.now) →
             IfOk result (λ found. OnOk found (IsLeast (ShowsPlaced (taken intake.now) self.new.certificate) None)) }
-        // and else the least one is told.
+        // and otherwise returns the least one.
         ensures breach { (before : Taken) → Keeps before self.old → Stays before (taken intake.now) →
             IfOk result (λ found. IfErr found (λ least. IsLeast (ShowsPlaced (taken intake.now) self.new.certificate) (Some least))) }
         ensures named { (before : Taken) → Keeps before self.old → Stays before (taken intake.now) →
@@ -223,7 +229,8 @@ impl Placing {
         }
     }
 
-    /// What was added so far, to be added to. What is left behind is of no use.
+    /// Takes the certificate so far out, to be added to. `self` must not be used before it is set
+    /// again.
     fn growing(&mut self) -> Growing
         ensures lanes { result.lanes.items ≡ self.old.certificate.lanes }
         ensures drops { result.drops ≡ self.old.certificate.drops }

@@ -1,5 +1,5 @@
--- The headers in a frame, by their places in the whole frame: Ethernet with VLAN tags (IEEE 802.3, IEEE 802.1Q),
--- IPv4 (RFC 791, section 3.1), UDP (RFC 768).
+-- The headers in a frame, by their places in the whole frame: Ethernet with VLAN tags (IEEE 802.3,
+-- IEEE 802.1Q), IPv4 (RFC 791, section 3.1), UDP (RFC 768).
 use Rattle.std.specs.Prelude.{ℕ, ◌+◌, ◌*◌, ◌/◌, ◌%◌, Bool, ◌==◌, ◌||◌, not, ◌&&◌, nat_le, if◌then◌else◌, List, slice_index}
 
 -- two and four bytes in network order
@@ -13,7 +13,8 @@ long_number frame at = number frame at * 65536 + number frame (at + 2)
 abbrev pub is_tag : ℕ → Bool
 is_tag kind = kind == 0x8100 || kind == 0x88A8
 
--- two addresses and a type, and four bytes more for each of at most two tags: the last two bytes are the type
+-- two addresses and a type, and four more bytes for each of at most two tags: the last two bytes
+-- are the type
 unfoldable pub ethernet_length : List ℕ → ℕ
 ethernet_length frame = if is_tag (number frame 12) then (if is_tag (number frame 16) then 22 else 18) else 14
 
@@ -46,10 +47,10 @@ pub record Udp_header : Type 0 where
 abbrev pub udp_at : List ℕ → ℕ → Udp_header
 udp_at frame at = record { from = number frame at; to = number frame (at + 2); length = number frame (at + 4) }
 
--- an IPv4 header with UDP behind it
+-- an IPv4 header that UDP follows
 abbrev pub carries_udp : Ipv4 → Bool
 carries_udp ip = ip.version == 4 && nat_le 20 ip.header_length && nat_le ip.header_length ip.total_length && ip.protocol == 17
 
--- the whole UDP datagram lies within the IPv4 datagram
+-- the whole UDP datagram is within the IPv4 datagram
 abbrev pub fits_in : Udp_header → Ipv4 → Bool
 fits_in udp ip = nat_le (ip.header_length + 8) ip.total_length && nat_le 8 udp.length && nat_le (ip.header_length + udp.length) ip.total_length

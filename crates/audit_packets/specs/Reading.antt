@@ -1,5 +1,5 @@
--- What a captured frame holds, by the places in the whole frame. A step's bytes are asked for before its
--- conditions.
+-- The content of a captured frame, by the places in the whole frame. For each step, that its bytes
+-- were captured is checked before its conditions.
 use Rattle.std.specs.Prelude.{ℕ, ◌+◌, ◌-◌, Bool, ◌==◌, not, nat_lt, if◌then◌else◌, List, length, slice_range, Option, Some, None}
 use Rattle.audit_model.specs.declared.address.Addr.{Addr}
 use Rattle.audit_packets.specs.Frame.{Ipv4, number, ethernet_length, ipv4_at, udp_at, carries_udp, fits_in}
@@ -10,11 +10,11 @@ pub data Datagram : Type 0 where
   Fragment : ℕ → ℕ → Datagram
   Cut : Option (ℕ × ℕ) → Datagram
 
--- of a frame that ends too early
+-- for a frame that ends too early
 abbrev pub lacking : Bool → Option (ℕ × ℕ) → Datagram
 lacking is_cut ips = if is_cut then Cut ips else Other
 
--- behind the IPv4 header
+-- after the IPv4 header
 unfoldable pub udp_datagram : List ℕ → Bool → Ipv4 → ℕ → Datagram
 udp_datagram frame is_cut ip at =
     let udp = udp_at frame at in
@@ -23,7 +23,7 @@ udp_datagram frame is_cut ip at =
     (if nat_lt (length frame) (at + udp.length) then lacking is_cut (Some (ip.from, ip.to)) else
     Udp (record { ip = ip.from; port = udp.from }) (record { ip = ip.to; port = udp.to }) (slice_range frame (at + 8) (at + udp.length))))
 
--- behind the Ethernet header
+-- after the Ethernet header
 unfoldable pub ip_datagram : List ℕ → Bool → ℕ → Datagram
 ip_datagram frame is_cut at =
     let ip = ipv4_at frame at in

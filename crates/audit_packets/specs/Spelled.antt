@@ -1,5 +1,5 @@
--- A UDP datagram in a frame, spelled out from the first byte to the last: Ethernet (IEEE 802.3) with VLAN tags
--- (IEEE 802.1Q), IPv4 (RFC 791, section 3.1), UDP (RFC 768).
+-- A UDP datagram in a frame, spelled out from the first byte to the last: Ethernet (IEEE 802.3)
+-- with VLAN tags (IEEE 802.1Q), IPv4 (RFC 791, section 3.1), UDP (RFC 768).
 use Rattle.std.specs.Prelude.{◌≡◌, ◌⊎◌, ℕ, ◌+◌, ◌*◌, ◌^◌, ◌<◌, ◌≤◌, List, [], ◌∷◌, ◌++◌, length}
 use Rattle.std.specs.Int.{w16, w32, to_be_bytes}
 use Rattle.audit_model.specs.declared.address.Addr.{Addr}
@@ -8,8 +8,8 @@ use Rattle.audit_model.specs.declared.address.Addr.{Addr}
 abbrev pub IsTag : List ℕ → Type 0
 IsTag tag = (a b : ℕ) × ((tag ≡ 0x81 ∷ 0x00 ∷ a ∷ b ∷ []) ⊎ (tag ≡ 0x88 ∷ 0xA8 ∷ a ∷ b ∷ []))
 
--- Two Ethernet addresses, no tag, one or two, the type of IPv4, and the IPv4 datagram. An IPv4 datagram's first
--- byte is no tag's, so there is one such reading.
+-- Two Ethernet addresses, no tag, one or two, the type of IPv4, and the IPv4 datagram. An IPv4
+-- datagram's first byte is no tag's, so there is one such reading.
 pub record HoldsIpv4 (frame datagram : List ℕ) : Type 0 where
   pub addresses : List ℕ
   pub first : List ℕ
@@ -18,8 +18,8 @@ pub record HoldsIpv4 (frame datagram : List ℕ) : Type 0 where
   pub tags : ((first ≡ []) × (second ≡ [])) ⊎ (IsTag first × (second ≡ [])) ⊎ (IsTag first × IsTag second)
   pub spelled : frame ≡ addresses ++ first ++ second ++ 0x08 ∷ 0x00 ∷ [] ++ datagram
 
--- An IPv4 header of so many words, for UDP and no fragment, and what comes after it. The length that it says is that
--- of the whole datagram.
+-- An IPv4 header of this number of words, for UDP and no fragment, and the content after it. The
+-- length in it is that of the whole datagram.
 pub record HoldsProtocol (datagram : List ℕ) (words total from to : ℕ) (content : List ℕ) : Type 0 where
   pub service : ℕ
   pub identification : List ℕ
@@ -37,7 +37,7 @@ pub record HoldsProtocol (datagram : List ℕ) (words total from to : ℕ) (cont
   pub from_fits : from < 2 ^ 32
   pub to_fits : to < 2 ^ 32
 
--- a UDP header, the payload, and what the link put behind it
+-- a UDP header, the payload, and the link's padding after it
 pub record HoldsPayload (content : List ℕ) (from to : ℕ) (payload : List ℕ) : Type 0 where
   pub checksum : List ℕ
   pub behind : List ℕ

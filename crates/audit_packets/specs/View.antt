@@ -1,4 +1,4 @@
--- What the code says of a frame, in the definition's terms.
+-- The code's content of a frame, in the definition's terms.
 use Rattle.std.specs.Prelude.{◌≡◌, ℕ, List}
 use Rattle.audit_model.specs.declared.address.Addr.{Addr}
 use Rattle.audit_packets.specs.declared.seen.Seen.{Seen}

@@ -1,4 +1,4 @@
-//! The datagram of a frame.
+//! Finds the datagram of a frame.
 
 ghost use Rattle.std.specs.Prelude.{◌≡◌, ◌↔◌, ℕ, ◌+◌, ◌≤◌, List, length, nat_lt};
 ghost use Rattle.audit_model.specs.declared.address.Addr.{Addr};
@@ -15,13 +15,13 @@ use crate::udp::Udp;
 use audit_model::Addr;
 use audit_pcapng::{Packet, PacketSlice};
 
-/// What the packet's frame holds: Ethernet, at most two VLAN tags, IPv4 and UDP. The payload is a
-/// part of the frame. A frame that ends too early is cut where less was captured than the link had.
+/// The content of the packet's frame: Ethernet, at most two VLAN tags, IPv4 and UDP. The payload is
+/// a part of the frame. A frame that ends too early is cut if less was captured than the link had.
 pub fn datagram(packet: &Packet) -> Seen<'_>
-    // What the places in the frame tell, in their order.
+    // The fields at the places in the frame, in their order.
     ensures places { view result
         ≡ datagram_of packet.now.bytes (nat_lt packet.now.captured packet.now.original) }
-    // It is a UDP datagram just where the frame is spelled as one.
+    // It is a UDP datagram exactly if the frame is spelled as one.
     ensures udp { (from to : Addr) (payload : List ℕ)
         → IsUdp result from to payload ↔ HoldsUdp packet.now.bytes from to payload }
 {
@@ -30,7 +30,7 @@ pub fn datagram(packet: &Packet) -> Seen<'_>
     seen_in(frame, is_cut)
 }
 
-/// What the frame of a packet holds whose bytes stand elsewhere, as `datagram` says it.
+/// The content of the frame of a packet with borrowed bytes, as `datagram` finds it.
 pub fn slice_datagram<'a>(packet: PacketSlice<'a>) -> Seen<'a>
     ensures { view result
         ≡ datagram_of packet.entry.bytes.now (nat_lt packet.entry.captured packet.entry.original) }
@@ -38,7 +38,7 @@ pub fn slice_datagram<'a>(packet: PacketSlice<'a>) -> Seen<'a>
     seen_in(packet.bytes, packet.captured < packet.original)
 }
 
-/// What a frame holds. `is_cut` says whether the link had more of it.
+/// The content of a frame. `is_cut` is whether the link had more of it.
 #[tactic(auto, unfolding(crate::specs::Reading::datagram_of))]
 fn seen_in(frame: &[u8], is_cut: bool) -> Seen<'_>
     ensures { view result ≡ datagram_of frame.now is_cut }
@@ -52,7 +52,7 @@ fn seen_in(frame: &[u8], is_cut: bool) -> Seen<'_>
     behind_ethernet(frame, is_cut, at)
 }
 
-/// What the frame holds whose IPv4 header is at this place.
+/// The content of the frame whose IPv4 header is at this place.
 #[tactic(auto, unfolding(crate::specs::Reading::ip_datagram))]
 fn behind_ethernet(frame: &[u8], is_cut: bool, at: usize) -> Seen<'_>
     requires { at ≤ 22 }
@@ -73,7 +73,7 @@ fn behind_ethernet(frame: &[u8], is_cut: bool, at: usize) -> Seen<'_>
     behind_ipv4(frame, is_cut, &ip, at + ip.header_length)
 }
 
-/// What the frame holds whose UDP header is at this place.
+/// The content of the frame whose UDP header is at this place.
 #[tactic(auto, unfolding(crate::specs::Reading::udp_datagram))]
 fn behind_ipv4<'a>(frame: &'a [u8], is_cut: bool, ip: &Ipv4, at: usize) -> Seen<'a>
     requires header { ip.now.header_length ≤ 60 }

@@ -1,4 +1,4 @@
-//! Ethernet frames.
+//! Reads Ethernet frames.
 
 ghost use Rattle.std.specs.Prelude.{◌≡◌, ◌+◌, ◌-◌, ◌<◌, ◌≤◌, length, IfSome, IfNone};
 ghost use Rattle.audit_packets.specs.Frame.{number, is_tag, ethernet_length};
@@ -25,8 +25,8 @@ fn is_vlan_tag(kind: u16) -> bool
     kind == CUSTOMER_TAG || kind == SERVICE_TAG
 }
 
-/// The type of a frame's content and where the content begins, behind at most two VLAN tags. None
-/// where the frame ends before.
+/// The type of a frame's content and where the content begins, after at most two VLAN tags. None if
+/// the frame ends before.
 #[tactic(auto, unfolding(crate::specs::Frame::ethernet_length))]
 pub(crate) fn content(frame: &[u8]) -> Option<(u16, usize)>
     ensures none { IfNone result (length frame.now < ethernet_length frame.now) }

@@ -1,15 +1,15 @@
-//! IPv4 headers.
+//! Reads IPv4 headers.
 
 ghost use Rattle.std.specs.Prelude.{◌≡◌, ◌+◌, ◌<◌, ◌≤◌, length, IfSome, IfNone};
 ghost use Rattle.audit_packets.specs.Frame.{ipv4_at, carries_udp};
 
 use crate::numbers::{LEAST_HEADER, UDP_PROTOCOL};
 
-/// The fields of an IPv4 header (RFC 791, section 3.1) that tell a UDP datagram.
+/// The fields of an IPv4 header (RFC 791, section 3.1) that a UDP datagram needs.
 #[derive(Clone, Copy, Debug)]
 pub(crate) struct Ipv4 {
     pub(crate) version: u8,
-    /// Bytes of the header, options too.
+    /// Bytes of the header, options included.
     pub(crate) header_length: usize,
     /// Bytes of the header and what follows it.
     pub(crate) total_length: usize,
@@ -22,8 +22,7 @@ pub(crate) struct Ipv4 {
 impl Ipv4 {
     ghost use Rattle.audit_packets.specs.Headers.{ipv4_of};
 
-    /// The header at this place of the frame. None where the frame ends within its first twenty
-    /// bytes.
+    /// The header at this place of the frame. None if the frame ends within its first twenty bytes.
     pub(crate) fn read(frame: &[u8], at: usize) -> Option<Ipv4>
         requires { at ≤ 22 }
         ensures none { IfNone result (length frame.now < at + 20) }
@@ -48,7 +47,7 @@ impl Ipv4 {
         })
     }
 
-    /// Whether this is a header of version 4, with lengths that agree, and UDP stands behind it.
+    /// Whether this is a header of version 4, with lengths that agree, and UDP follows it.
     pub(crate) fn carries_udp(&self) -> bool
         ensures { result ≡ carries_udp (ipv4_of self.now) }
     {

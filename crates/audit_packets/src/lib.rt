@@ -1,4 +1,4 @@
-//! Which UDP datagram a captured Ethernet frame holds.
+//! Finds the UDP datagram in a captured Ethernet frame.
 #![tactic(auto)]
 
 mod datagrams;

@@ -1,4 +1,4 @@
-//! The numbers that stand in frames.
+//! The constants of frames.
 
 /// The types of VLAN tags (IEEE 802.1Q): of a customer and of a service.
 pub(crate) const CUSTOMER_TAG: u16 = 0x8100;

@@ -1,10 +1,10 @@
-//! What a frame holds.
+//! The content of a frame.
 
 ghost use Rattle.std.specs.Prelude.{◌≡◌};
 
 use audit_model::Addr;
 
-/// What a captured frame holds.
+/// The content of a captured frame.
 #[derive(Clone, Copy, Debug, PartialEq, Eq)]
 pub enum Seen<'a> {
     /// A whole UDP datagram over IPv4.
@@ -20,7 +20,7 @@ pub enum Seen<'a> {
         from: u32,
         to: u32,
     },
-    /// A frame of which too little was captured to say more, with its addresses where they were
+    /// A frame of which too little was captured to find more, with its addresses if they were
     /// captured.
     Cut {
         ips: Option<(u32, u32)>,
@@ -31,7 +31,7 @@ impl<'a> Seen<'a> {
     ghost use Rattle.audit_packets.specs.View.{view};
     ghost use Rattle.audit_packets.specs.Reading.{lacking};
 
-    /// Of a frame that ends too early.
+    /// The result for a frame that ends too early.
     pub(crate) fn lacking(is_cut: bool, ips: Option<(u32, u32)>) -> Self
         ensures { view result ≡ lacking is_cut ips }
     {

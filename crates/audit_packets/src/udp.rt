@@ -1,4 +1,4 @@
-//! UDP headers.
+//! Reads UDP headers.
 
 ghost use Rattle.std.specs.Prelude.{◌≡◌, ◌+◌, ◌<◌, ◌≤◌, length, IfSome, IfNone};
 ghost use Rattle.audit_packets.specs.Frame.{udp_at, fits_in};
@@ -18,7 +18,7 @@ pub(crate) struct Udp {
 impl Udp {
     ghost use Rattle.audit_packets.specs.Headers.{ipv4_of, udp_of};
 
-    /// The header at this place of the frame. None where the frame ends within it.
+    /// The header at this place of the frame. None if the frame ends within it.
     pub(crate) fn read(frame: &[u8], at: usize) -> Option<Udp>
         requires { at ≤ 82 }
         ensures none { IfNone result (length frame.now < at + 8) }
@@ -37,7 +37,7 @@ impl Udp {
         })
     }
 
-    /// Whether header and payload lie within the IPv4 datagram.
+    /// Whether header and payload are within the IPv4 datagram.
     pub(crate) fn fits_in(&self, ip: &Ipv4) -> bool
         requires short { self.now.length < 65536 }
         requires header { ip.now.header_length ≤ 60 }

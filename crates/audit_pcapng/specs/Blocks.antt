@@ -1,4 +1,5 @@
--- A whole block: its packet, and what it says about the blocks after it, or its first fault (section 4).
+-- A whole block: its packet, and what the blocks after it depend on, or its first fault (section
+-- 4).
 use Rattle.std.specs.Prelude.{◌≡◌, ◌≢◌, ℕ, ◌+◌, ◌-◌, ◌*◌, ◌^◌, List, length, take, drop, Option, Some, None, Result, Ok, Err, nat_lt, ◌==◌, ◌&&◌, if◌then◌else◌}
 use Rattle.std.specs.Int.{w32}
 use Rattle.audit_pcapng.specs.declared.byte_order.ByteOrder.{ByteOrder}
@@ -37,7 +38,7 @@ packet scope order body =
 abbrev pub silent : Scope → Result (Scope × Option Packet) CaptureFault
 silent scope = Ok (scope, None)
 
--- what a block of each kind says
+-- the content of a block of each kind
 unfoldable pub content : BlockKind → Scope → ByteOrder → List ℕ → Result (Scope × Option Packet) CaptureFault
 content kinds.Section scope order body = section scope order body >>= silent
 content kinds.Interface scope order body = description scope order body >>= silent
@@ -53,7 +54,7 @@ block scope heading bytes =
     if number_at heading.order w32 (length bytes - 4) bytes == length bytes then content heading.kind scope heading.order body
     else Err faults.Length
 
--- what a block was taken as: after a fault nothing is changed
+-- the result of reading a block: after a fault nothing is changed
 abbrev pub Takes : Result (Option Packet) CaptureFault → Scope → Scope → Result (Scope × Option Packet) CaptureFault → Type 0
 Takes (Ok given) old new read = read ≡ Ok (new, given)
 Takes (Err fault) old new read = (new ≡ old) × (fault ≢ faults.Memory → read ≡ Err fault)

@@ -8,7 +8,7 @@ use Rattle.audit_pcapng.specs.declared.fault.CaptureFault.TheVariants.{Length}
 use Rattle.audit_pcapng.specs.Reading.{◌>>=◌}
 use Rattle.audit_pcapng.specs.Options.{first_option, number_option}
 
--- if_tsresol has one byte, and is 6 where it is absent
+-- if_tsresol has one byte, and is 6 if it is absent
 abbrev pub resolution_of : Option (List ℕ) → Result ℕ CaptureFault
 resolution_of None = Ok 6
 resolution_of (Some []) = Err Length
@@ -18,7 +18,7 @@ resolution_of (Some (resolution ∷ more ∷ others)) = Err Length
 unfoldable pub resolution : ByteOrder → List ℕ → Result ℕ CaptureFault
 resolution order options = first_option order options 9 >>= resolution_of
 
--- if_tsoffset is signed, and 0 where it is absent
+-- if_tsoffset is signed, and 0 if it is absent
 abbrev pub offset_of : Option ℕ → ℤ
 offset_of None = pos 0
 offset_of (Some seconds) = cast_signed w64 seconds

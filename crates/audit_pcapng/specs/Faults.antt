@@ -19,7 +19,7 @@ code_of Limit = codes "C12"
 code_of Memory = codes "C13"
 code_of Failed = codes "C14"
 
--- what a text's block can show: not its end, no want of memory, nothing before
+-- what a text's block can show: not its end, not exhausted memory, not an earlier fault
 abbrev pub IsOfBlocks : CaptureFault → Type 0
 IsOfBlocks Torn = ⊥
 IsOfBlocks Memory = ⊥

@@ -1,4 +1,4 @@
--- What the first bytes of a block say, or the fault that they show (sections 3.1 and 4.1).
+-- The content of a block's first bytes, or the fault that they show (sections 3.1 and 4.1).
 use Rattle.std.specs.Prelude.{ℕ, ◌%◌, ◌≤◌, List, length, Option, Some, None, Result, Ok, Err, nat_lt, ◌==◌, ◌||◌, not, if◌then◌else◌}
 use Rattle.std.specs.Int.{w32}
 use Rattle.audit_pcapng.specs.declared.byte_order.ByteOrder.{ByteOrder}
@@ -60,7 +60,7 @@ block_heading (Some order) bytes =
     if nat_lt (length bytes) 8 then Ok None
     else some_heading (heading_of (kind_of (number_at order w32 0 bytes)) order bytes)
 
--- the heading, nothing where the bytes are too few to show it, or the fault that they show
+-- the heading, nothing if the bytes are too few to show it, or the fault that they show
 unfoldable pub heading : Option ByteOrder → List ℕ → Result (Option Heading) CaptureFault
 heading section bytes =
     if nat_lt (length bytes) 4 then Ok None

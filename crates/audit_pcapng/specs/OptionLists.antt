@@ -15,12 +15,12 @@ pub record IsOption (order : ByteOrder) (text : List ℕ) (option : ℕ × List 
   pub pads : length option.1 + length padding ≡ padded (length option.1)
   pub some : option.0 ≢ 0
 
--- the list's end is the block's, or code 0, whatever stands behind it
+-- the list ends with the block, or with code 0, whatever comes after it
 abbrev pub IsEnd : ByteOrder → List ℕ → Type 0
 IsEnd order [] = Unit {0}
 IsEnd order (byte ∷ bytes) = (4 ≤ length (byte ∷ bytes)) × (number_at order w16 0 (byte ∷ bytes) ≡ 0)
 
--- options one after another, and the end
+-- consecutive options, and the end
 abbrev pub AreOptions : ByteOrder → List ℕ → List (ℕ × List ℕ) → Type 0
 AreOptions order list [] = IsEnd order list
 AreOptions order list (option ∷ others) = (text : List ℕ) × (rest : List ℕ) × (list ≡ text ++ rest) × IsOption order text option × AreOptions order rest others

@@ -7,8 +7,8 @@ use Rattle.audit_pcapng.specs.declared.fault.CaptureFault.TheVariants.{Length}
 use Rattle.audit_pcapng.specs.Numbers.{number_at, padded}
 use Rattle.audit_pcapng.specs.Reading.{◌>>=◌}
 
--- the codes and values of a list of at most n options: each is a code, the length of its value, and the
--- value padded to a multiple of 4. Code 0 ends the list, and so does the block's end
+-- the codes and values of a list of at most n options: each is a code, the length of its value, and
+-- the value padded to a multiple of 4. Code 0 ends the list, and so does the block's end
 unfoldable pub options : ℕ → ByteOrder → List ℕ → Result (List (ℕ × List ℕ)) CaptureFault
 options zero order list = Ok []
 options (suc n) order list =
@@ -24,7 +24,7 @@ abbrev pub value_of : ℕ → List (ℕ × List ℕ) → Option (List ℕ)
 value_of code [] = None
 value_of code (option ∷ options) = if option.0 == code then Some option.1 else value_of code options
 
--- what was found before, or else a value that is sought
+-- the value that was found before, or else a value that is sought
 abbrev pub first_of : Option (List ℕ) → Bool → List ℕ → Option (List ℕ)
 first_of (Some earlier) is_sought value = Some earlier
 first_of None is_sought value = if is_sought then Some value else None
@@ -40,7 +40,7 @@ number_of order (Some value) = if length value == 8 then Ok (Some (number_at ord
 unfoldable pub number_option : ByteOrder → List ℕ → ℕ → Result (Option ℕ) CaptureFault
 number_option order list code = first_option order list code >>= number_of order
 
--- a count of dropped packets is 0 where it is absent
+-- a count of dropped packets is 0 if it is absent
 unfoldable pub drop_count : ByteOrder → List ℕ → ℕ → Result ℕ CaptureFault
 drop_count order list code = do
   count ← number_option order list code

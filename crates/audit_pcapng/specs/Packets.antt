@@ -1,4 +1,4 @@
--- A packet whose bytes stand elsewhere, as a packet.
+-- A packet with borrowed bytes, as a packet.
 use Rattle.std.specs.Prelude.{Option, Some, None, Result, Ok, Err}
 use Rattle.audit_pcapng.specs.declared.packet.Packet.{Packet}
 use Rattle.audit_pcapng.specs.declared.packet.PacketSlice.{PacketSlice}

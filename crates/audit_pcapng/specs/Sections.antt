@@ -1,4 +1,4 @@
--- What the blocks so far say about the next: the section's byte order, and the interfaces (4.1 and 4.2).
+-- What the next block depends on: the section's byte order, and the interfaces (4.1 and 4.2).
 use Rattle.std.specs.Prelude.{ℕ, ◌+◌, List, [], ◌∷◌, ◌++◌, length, drop, Option, Some, None, Result, Ok, Err, nat_lt, nat_le, ◌==◌, slice_get, if◌then◌else◌}
 use Rattle.std.specs.Int.{w16}
 use Rattle.audit_pcapng.specs.declared.byte_order.ByteOrder.{ByteOrder}
@@ -26,7 +26,7 @@ with_interface scope interface =
     else if nat_le 64 (length scope.interfaces) then Err faults.Limit
     else Ok (record { interfaces = scope.interfaces ++ interface ∷ []; earlier = scope.earlier; order = scope.order })
 
--- an Ethernet interface with its clock, one of 64 of the file at most (4.2)
+-- an Ethernet interface with its clock, one of at most 64 of the file (4.2)
 unfoldable pub description : Scope → ByteOrder → List ℕ → Result Scope CaptureFault
 description scope order body =
     if number_at order w16 8 body == 1 then (clock order (drop 16 body) >>= with_interface scope)

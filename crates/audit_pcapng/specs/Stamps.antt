@@ -4,7 +4,7 @@ use Rattle.audit_pcapng.specs.declared.clock.Interface.{Interface}
 use Rattle.audit_pcapng.specs.declared.fault.CaptureFault.{CaptureFault}
 use Rattle.audit_pcapng.specs.declared.fault.CaptureFault.TheVariants.{StampRange}
 
--- a number of nanoseconds, where 64 bits hold it
+-- a number of nanoseconds, if it fits 64 bits
 abbrev pub moment : ℤ → Result ℕ CaptureFault
 moment (pos n) = if nat_lt n (2 ^ 64) then Ok n else Err StampRange
 moment (negsuc n) = Err StampRange

@@ -1,4 +1,4 @@
--- A reader in the midst of a piece.
+-- A reader in the middle of a piece.
 use Rattle.std.specs.Prelude.{◌≡◌, ◌≢◌, ◌⊎◌, ℕ, false, List, [], ◌∷◌, ◌++◌}
 use Rattle.audit_pcapng.specs.declared.packet.Packet.{Packet}
 use Rattle.audit_pcapng.specs.declared.packet.PacketSlice.{PacketSlice}
@@ -9,8 +9,8 @@ use Rattle.audit_pcapng.specs.Sections.{no_blocks}
 use Rattle.audit_pcapng.specs.Captures.{Front, IsCut, FirstFault}
 use Rattle.audit_pcapng.specs.Packets.{packet_of}
 
--- The text begins with blocks that gave these packets. Behind them come the bytes that are held and the rest of
--- the text, one of which is empty.
+-- The text begins with blocks that have these packets. The bytes that are held and the rest of the
+-- text follow, one of which is empty.
 pub record IsAt (reader : BlockReader) (text : List ℕ) (packets : List Packet) (rest : List ℕ) : Type 0 where
   pub sound : reader.failed ≡ false
   pub front : Front no_blocks text packets reader.scope (reader.held.items ++ rest)
@@ -22,10 +22,10 @@ pub record Begins (reader : BlockReader) (text : List ℕ) (packets before after
   pub at : IsAt reader text (packets ++ more) rest
   pub added : after ≡ before ++ more
 
--- one packet more
+-- one more packet
 abbrev pub Gave : BlockReader → List ℕ → List Packet → PacketSlice → List ℕ → Type 0
 Gave reader text packets slice rest = IsAt reader text (packets ++ packet_of slice ∷ []) rest
 
--- the text has this first fault behind these packets, or memory ran out
+-- the text has this first fault after these packets, or memory ran out
 abbrev pub EndsBy : List ℕ → List Packet → CaptureFault → Type 0
 EndsBy text packets fault = fault ≢ Memory → FirstFault text packets fault

@@ -1,4 +1,4 @@
-//! The types of blocks, and how long each is at least.
+//! The types of blocks, and their least lengths.
 
 ghost use Rattle.std.specs.Prelude.{◌≡◌};
 
@@ -7,7 +7,7 @@ use crate::wire::{
     SIMPLE_PACKET,
 };
 
-/// What a block's type says of it (section 4).
+/// The kind of a block, by its type (section 4).
 #[derive(Clone, Copy, Debug, PartialEq, Eq)]
 pub enum BlockKind {
     /// Section Header Block.
@@ -20,7 +20,7 @@ pub enum BlockKind {
     Packet,
     /// Simple Packet Block, which has no stamp, and the obsolete Packet Block.
     NoStamp,
-    /// A block of any other type, which is passed over.
+    /// A block of any other type, which is skipped.
     Other,
 }
 

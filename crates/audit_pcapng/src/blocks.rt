@@ -1,4 +1,4 @@
-//! Blocks one after another.
+//! Reads consecutive blocks.
 
 ghost use Rattle.std.specs.Prelude.{◌≡◌, ◌≢◌, ◌<◌, ◌≤◌, [], ◌++◌, length, max, IfOk, IfErr, IfSome, IfNone, OnOk, OnErr, List, ℕ, MatchOption};
 ghost use Rattle.std.specs.Option.{option_to_list};
@@ -14,7 +14,7 @@ use crate::packet::{Packet, PacketSlice};
 use crate::scope::Scope;
 use std::alloc::Global;
 
-/// Takes the whole blocks at the front, and gives back the bytes behind them.
+/// Reads the whole blocks at the front, and returns the bytes after them.
 pub fn take_blocks<'a>(
     scope: &mut Scope,
     alloc: Global,
@@ -40,7 +40,7 @@ pub fn take_blocks<'a>(
     Ok(rest)
 }
 
-/// Takes a whole block, and adds its packet if it has one.
+/// Reads a whole block, and adds its packet if it has one.
 fn take_block(
     scope: &mut Scope,
     alloc: Global,
@@ -59,8 +59,8 @@ fn take_block(
     Ok(())
 }
 
-/// Takes blocks up to the first that has a packet. Gives that packet if there is one, and the bytes behind it, which are
-/// less than a block where there is none.
+/// Reads blocks up to the first that has a packet. Returns that packet and the bytes after it; if
+/// there is none, the bytes that are left, which are less than a block.
 pub fn next_packet<'a>(
     scope: &mut Scope,
     bytes: &'a [u8],
@@ -87,8 +87,8 @@ pub fn next_packet<'a>(
     Ok((None, rest))
 }
 
-/// Adds to the block that is held what it lacks and takes it once it is whole. Gives back the bytes
-/// behind it, or nothing where it is still not whole.
+/// Completes the block that is held with the bytes that it lacks, and reads it once it is whole.
+/// Returns the bytes after it, or nothing if it is still not whole.
 pub fn complete<'a>(
     scope: &mut Scope,
     held: &mut Vec<u8>,
@@ -118,7 +118,7 @@ pub fn complete<'a>(
     Ok(Some(rest))
 }
 
-/// Holds bytes of the piece until so many are held, and gives back the others.
+/// Holds bytes of the piece until `size` bytes are held, and returns the others.
 fn hold<'a>(held: &mut Vec<u8>, piece: &'a [u8], size: usize) -> Result<&'a [u8], CaptureFault>
     ensures all { IfOk result (λ rest. held.new.items ++ rest.now ≡ held.old.items ++ piece.now) }
     ensures enough { IfOk result (λ rest. length held.new.items < size → rest.now ≡ []) }

@@ -1,9 +1,9 @@
-//! Numbers in a section's byte order.
+//! Reads numbers in a section's byte order.
 
 ghost use Rattle.std.specs.Prelude.{◌≡◌, ◌+◌, ◌≤◌, length};
 ghost use Rattle.std.specs.Int.{w16, w32, w64};
 
-/// The byte order of a section's numbers, which its byte-order magic gives (section 4.1).
+/// The byte order of a section's numbers, which its byte-order magic shows (section 4.1).
 #[derive(Clone, Copy, Debug, PartialEq, Eq)]
 pub enum ByteOrder {
     Little,

@@ -13,11 +13,11 @@ use crate::wire::{DEFAULT_RESOLUTION, IF_TSOFFSET, IF_TSRESOL};
 pub struct Interface {
     /// Seconds to be added to each stamp.
     pub offset: i64,
-    /// How many decimal digits of a second a tick has.
+    /// The number of decimal digits of a second that a tick has.
     pub resolution: u8,
 }
 
-/// So many decimal digits of a second a nanosecond has.
+/// The number of decimal digits of a second that a nanosecond has.
 const NANOSECOND_DIGITS: u8 = 9;
 
 const NANOSECONDS: u128 = 1_000_000_000;
@@ -46,7 +46,7 @@ impl Interface {
     }
 }
 
-/// The clock that an interface's options give.
+/// The clock in an interface's options.
 #[tactic(auto, unfolding(crate::specs::Clocks::clock))]
 pub fn clock(order: ByteOrder, options: &[u8]) -> Result<Interface, CaptureFault>
     ensures { result ≡ clock order options.now }

@@ -6,7 +6,7 @@ ghost use Rattle.audit_pcapng.specs.declared.fault.CaptureFault.TheVariants.{Mem
 use std::alloc::{AllocError, AllocFailed};
 use thiserror::Error;
 
-/// What is wrong with a capture: the first fault of its text. The names `C1` to `C14` are what users see.
+/// The first fault of a capture's text. The names `C1` to `C14` are what users see.
 #[derive(Clone, Copy, Debug, PartialEq, Eq, Error)]
 pub enum CaptureFault {
     /// The capture ends inside a block.
@@ -21,7 +21,7 @@ pub enum CaptureFault {
     /// A section's major version is not 1.
     #[error("a section has another major version than 1")]
     Version,
-    /// A block stands before the first section, or the capture has no byte.
+    /// A block is before the first section, or the capture has no byte.
     #[error("no section begins the capture")]
     NoSection,
     /// A packet or a statistics block names an interface that its section has not described.
@@ -45,7 +45,7 @@ pub enum CaptureFault {
     /// A block is longer than 16,777,216 bytes, or the capture describes more than 64 interfaces.
     #[error("a block is too long, or there are too many interfaces")]
     Limit,
-    /// No fault of the input: there was no memory for what it has.
+    /// No fault of the input: memory ran out.
     #[error("out of memory")]
     Memory,
     /// No fault of the input: an earlier call of this reader had one.

@@ -7,7 +7,7 @@ use crate::byte_order::ByteOrder;
 use crate::fault::CaptureFault;
 use crate::wire::{MAGIC, MAX_BLOCK, SECTION_HEADER, SECTION_MAGIC, TOTAL_LENGTH};
 
-/// What a block's first bytes say (section 3.1).
+/// The content of a block's first bytes (section 3.1).
 #[derive(Clone, Copy, Debug, PartialEq, Eq)]
 pub struct Heading {
     /// The block's total length in bytes, from its type to its second length.
@@ -21,14 +21,15 @@ const TYPE_END: usize = 4;
 
 const LENGTH_END: usize = 8;
 
-/// So many bytes show each block's heading, and no block has fewer.
+/// The number of bytes that show each block's heading. No block has fewer.
 pub const HEADING_LENGTH: usize = 12;
 
 impl Heading {
     ghost use Rattle.audit_pcapng.specs.Headings.{heading, section_heading, heading_of, IsLong};
 
     /// The heading of the block that begins so, in a section of this order, if the bytes show it.
-    /// Its faults are C5 once 4 bytes are there, and C2, C3 and C12 once 8 are, in a section block 12.
+    /// Its faults are C5 once 4 bytes are there, and C2, C3 and C12 once 8 are, in a section block
+    /// 12.
     #[tactic(auto, unfolding(crate::specs::Headings::heading, crate::specs::Headings::block_heading))]
     pub fn read(section: Option<ByteOrder>, bytes: &[u8]) -> Result<Option<Heading>, CaptureFault>
         ensures exact { result ≡ heading section bytes.now }

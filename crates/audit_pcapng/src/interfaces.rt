@@ -6,7 +6,7 @@ use crate::clock::Interface;
 use crate::wire::MAX_INTERFACES;
 use std::marker::Model;
 
-/// The interfaces that a file has described so far, in order. They take no memory.
+/// The interfaces that a file has described so far, in order. Allocates no memory.
 #[derive(Debug, Drop)]
 pub struct Interfaces {
     slots: [Interface; MAX_INTERFACES],

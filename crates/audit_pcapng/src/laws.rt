@@ -1,4 +1,4 @@
-//! Laws of what a capture's text says. They do nothing when they run.
+//! Properties of a capture's text. These functions do nothing when they run.
 
 ghost use Rattle.std.specs.Prelude.{◌≡◌, ◌++◌, ◌↔◌, ℕ, List, length, Ok};
 ghost use Rattle.audit_pcapng.specs.declared.packet.Packet.{Packet};

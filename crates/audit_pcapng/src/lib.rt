@@ -1,4 +1,4 @@
-//! Packets out of a pcapng capture that comes in pieces (draft-ietf-opsawg-pcapng).
+//! Reads the packets of a pcapng capture that comes in pieces (draft-ietf-opsawg-pcapng).
 #![tactic(auto)]
 
 mod block_kind;

@@ -18,8 +18,9 @@ pub fn padded(length: u32) -> usize
     (length as usize + 3) / 4 * 4
 }
 
-/// The value of the first option with this code, if there is one (section 3.5). Any option past the
-/// end of the list is a fault; what stands behind the option that ends it is not looked at.
+/// The value of the first option with this code, if there is one (section 3.5). Any option that
+/// extends past the end of the list is a fault; the bytes after the option that ends the list are
+/// not read.
 pub fn first_option<'a>(
     order: ByteOrder,
     list: &'a [u8],
@@ -56,7 +57,7 @@ pub fn first_option<'a>(
     Ok(found)
 }
 
-/// What was found before, or else this value if it is sought.
+/// The value that was found before, or else this value if `is_sought`.
 fn first_of<'a>(found: Option<&'a [u8]>, is_sought: bool, value: &'a [u8]) -> Option<&'a [u8]>
     ensures { option_map (λ value. value.now) result ≡ first_of (option_map (λ value. value.now) found.entry) is_sought value.now }
 {
@@ -83,7 +84,7 @@ pub fn number_option(order: ByteOrder, list: &[u8], code: u16) -> Result<Option<
     }
 }
 
-/// How many packets the option says were dropped: none where it is absent.
+/// The option's count of dropped packets: 0 if the option is absent.
 #[tactic(auto, unfolding(crate::specs::Options::drop_count))]
 pub fn drop_count(order: ByteOrder, list: &[u8], code: u16) -> Result<u64, CaptureFault>
     ensures { result ≡ drop_count order list.now code }

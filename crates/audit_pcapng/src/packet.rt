@@ -3,7 +3,7 @@
 use audit_model::Listed;
 use std::alloc::{AllocError, Global};
 
-/// What an Enhanced Packet Block has (section 4.3).
+/// The content of an Enhanced Packet Block (section 4.3).
 #[derive(Debug, Drop)]
 pub struct Packet {
     /// Nanoseconds since 1970.
@@ -12,9 +12,9 @@ pub struct Packet {
     pub bytes: Listed<u8>,
     /// The interface's number in the file from 0, counted over all sections.
     pub iface: u32,
-    /// How many bytes were captured.
+    /// The number of bytes that were captured.
     pub captured: u32,
-    /// How many bytes the packet had on the link.
+    /// The number of bytes of the packet on the link.
     pub original: u32,
 }
 
@@ -22,7 +22,7 @@ impl Packet {
     ghost use Rattle.std.specs.Prelude.{◌≡◌};
     ghost use Rattle.audit_pcapng.specs.Packets.{packet_of};
 
-    /// The packet without bytes of its own.
+    /// The packet with borrowed bytes.
     pub fn as_slice(&self) -> PacketSlice<'_>
         ensures { packet_of result ≡ self.now }
     {
@@ -36,7 +36,7 @@ impl Packet {
     }
 }
 
-/// A packet whose captured bytes stand elsewhere, as in the piece of the capture that was fed.
+/// A packet with borrowed bytes, as in the piece of the capture that was fed.
 #[derive(Clone, Copy, Debug)]
 pub struct PacketSlice<'a> {
     /// Nanoseconds since 1970.
@@ -45,9 +45,9 @@ pub struct PacketSlice<'a> {
     pub bytes: &'a [u8],
     /// The interface's number in the file from 0, counted over all sections.
     pub iface: u32,
-    /// How many bytes were captured.
+    /// The number of bytes that were captured.
     pub captured: u32,
-    /// How many bytes the packet had on the link.
+    /// The number of bytes of the packet on the link.
     pub original: u32,
 }
 

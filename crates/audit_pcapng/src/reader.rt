@@ -1,4 +1,4 @@
-//! Reading a capture in pieces.
+//! Reads a capture in pieces.
 
 use crate::blocks::{complete, next_packet, take_blocks};
 use crate::fault::CaptureFault;
@@ -6,7 +6,8 @@ use crate::packet::{Packet, PacketSlice};
 use crate::scope::Scope;
 use std::alloc::Global;
 
-/// Reads a capture that comes in pieces, cut anywhere. It keeps the one block that is not yet whole.
+/// Reads a capture that comes in pieces, split anywhere. It keeps the one block that is not yet
+/// whole.
 #[derive(Debug, Drop)]
 pub struct BlockReader {
     scope: Scope,
@@ -24,7 +25,7 @@ impl BlockReader {
     ghost use Rattle.audit_pcapng.specs.Steps.{IsAt, Begins, Gave, EndsBy};
     ghost use Rattle.audit_pcapng.specs.Readers.{StandsFor, IsFailed, GoesOn, Refuses};
 
-    /// A reader of no bytes. It takes no memory.
+    /// A reader of no bytes. Allocates no memory.
     pub fn new(alloc: Global) -> Self
         ensures { StandsFor result [] [] }
     {
@@ -36,9 +37,9 @@ impl BlockReader {
         }
     }
 
-    /// Takes the next piece of the capture, and adds the packet of each block that is whole now.
-    /// After a fault `out` has the packets before it, after C13 perhaps only the first of them,
-    /// and the reader refuses from then on.
+    /// Reads the next piece of the capture, and adds the packet of each block that is now whole.
+    /// After a fault `out` has the packets before it, after C13 perhaps only the first of them, and
+    /// the reader refuses from then on.
     pub fn feed(&mut self, piece: &[u8], out: &mut Vec<Packet>) -> Result<(), CaptureFault>
         ensures ok { (text : List ℕ) (packets : List Packet) → StandsFor self.old text packets →
             OnOk result (GoesOn self.new (text ++ piece.now) packets out.old.items out.new.items) }
@@ -59,8 +60,9 @@ impl BlockReader {
         }
     }
 
-    /// Takes of the next piece what the block that is held lacks, adds the packet of that block once it is whole, and
-    /// gives the bytes behind it, to be stepped through by `next` until there is none. Its faults are those of `feed`.
+    /// Completes the block that is held from the next piece, adds the packet of that block once it
+    /// is whole, and returns the bytes after it. Call `next` on these until it returns None. The
+    /// faults are those of `feed`.
     pub fn start<'a>(
         &mut self,
         piece: &'a [u8],
@@ -89,8 +91,8 @@ impl BlockReader {
         }
     }
 
-    /// The next packet of what is left of a piece, and the bytes behind it. Where there is none the piece is taken.
-    /// The packet's bytes are not copied. Its faults are those of `feed`.
+    /// The next packet of the rest of a piece, and the bytes after it. If there is none, the piece
+    /// is read. The packet's bytes are not copied. The faults are those of `feed`.
     pub fn next<'a>(
         &mut self,
         rest: &'a [u8],
@@ -127,7 +129,7 @@ impl BlockReader {
         }
     }
 
-    /// Whether the capture may end here.
+    /// Checks that the capture may end here.
     pub fn finish(&self) -> Result<(), CaptureFault>
         ensures ends { (text : List ℕ) (packets : List Packet) → StandsFor self.now text packets → Ends result text packets }
         ensures again { IsFailed self.now → result ≡ Err CaptureFault.Failed }
@@ -163,7 +165,7 @@ impl BlockReader {
         }
     }
 
-    /// Takes bytes that begin with a block.
+    /// Reads bytes that begin with a block.
     fn begin(&mut self, bytes: &[u8], out: &mut Vec<Packet>) -> Result<(), CaptureFault>
         requires { self.old.held.items ≡ [] }
         ensures cut { OnOk result (IsCut self.new.scope self.new.held.items) }

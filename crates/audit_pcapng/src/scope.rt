@@ -1,4 +1,4 @@
-//! Whole blocks, and what those before say about the next ones.
+//! Reads whole blocks, and keeps what later blocks depend on.
 
 use crate::block_kind::BlockKind;
 use crate::byte_order::ByteOrder;
@@ -14,7 +14,7 @@ use crate::wire::{
     PACKET_DATA, SECOND_LENGTH, SECTION_MAJOR, STAMP_HIGH, STAMP_LOW, STATISTICS_OPTIONS,
 };
 
-/// What the blocks so far say about the next one.
+/// What the next block depends on, of the blocks so far.
 #[derive(Debug, Drop)]
 pub struct Scope {
     /// The interfaces of the file, over all sections.
@@ -50,7 +50,7 @@ impl Scope {
         self.order
     }
 
-    /// Takes in a whole block, and gives its packet if it has one. After a fault nothing is changed.
+    /// Reads a whole block, and returns its packet if it has one. After a fault nothing is changed.
     #[tactic(auto, unfolding(crate::specs::Blocks::block, crate::specs::Blocks::content))]
     pub fn take_block<'a>(
         &mut self,
@@ -88,7 +88,7 @@ impl Scope {
         }
     }
 
-    /// A Section Header Block (section 4.1).
+    /// Reads a Section Header Block (section 4.1).
     #[tactic(auto, unfolding(crate::specs::Sections::section))]
     fn begin_section(&mut self, order: ByteOrder, body: &[u8]) -> Result<(), CaptureFault>
         requires { 24 ≤ length body.now }
@@ -104,7 +104,7 @@ impl Scope {
         Ok(())
     }
 
-    /// An Interface Description Block (section 4.2).
+    /// Reads an Interface Description Block (section 4.2).
     #[tactic(auto, unfolding(crate::specs::Sections::description))]
     fn describe(&mut self, order: ByteOrder, body: &[u8]) -> Result<(), CaptureFault>
         requires { 16 ≤ length body.now }
@@ -117,7 +117,7 @@ impl Scope {
         }
         let (_, options) = body.split_at(INTERFACE_OPTIONS);
         let interface = clock(order, options)?;
-        // With the top bit set the resolution is a power of 2, and over 9 too.
+        // With the top bit set the resolution is a power of 2, and also greater than 9.
         if interface.resolution > MAX_RESOLUTION {
             return Err(CaptureFault::Resolution);
         }
@@ -140,7 +140,7 @@ impl Scope {
         }
     }
 
-    /// An Interface Statistics Block (section 4.6).
+    /// Checks an Interface Statistics Block (section 4.6).
     #[tactic(auto, unfolding(crate::specs::Blocks::statistics))]
     fn check_statistics(&self, order: ByteOrder, body: &[u8]) -> Result<(), CaptureFault>
         requires { 20 ≤ length body.now }
@@ -158,7 +158,7 @@ impl Scope {
         Ok(())
     }
 
-    /// An Enhanced Packet Block (section 4.3).
+    /// Reads an Enhanced Packet Block (section 4.3).
     #[tactic(auto, unfolding(crate::specs::Blocks::packet))]
     fn packet<'a>(&self, order: ByteOrder, body: &'a [u8]) -> Result<PacketSlice<'a>, CaptureFault>
         requires { 28 ≤ length body.now }

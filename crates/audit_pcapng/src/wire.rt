@@ -1,4 +1,4 @@
-//! The numbers of the pcapng format.
+//! The constants of the pcapng format.
 
 /// A Section Header Block's type is the same in both byte orders.
 pub const SECTION_HEADER: u32 = 0x0A0D_0D0A;
@@ -20,9 +20,9 @@ pub const MAJOR_VERSION: u16 = 1;
 
 pub const ETHERNET: u16 = 1;
 
-/// No block that is read is longer than this many bytes.
+/// The greatest length in bytes of a block that is read.
 pub const MAX_BLOCK: u32 = 16_777_216;
-/// At most so many interfaces are in a file.
+/// The most interfaces of a file.
 pub const MAX_INTERFACES: usize = 64;
 
 // Where the fields of a block begin (section 4).
@@ -49,7 +49,7 @@ pub const ORIGINAL_LENGTH: usize = 24;
 pub const PACKET_DATA: usize = 28;
 
 pub const STATISTICS_OPTIONS: usize = 20;
-/// A block ends with its total length once more, in so many bytes.
+/// The size in bytes of the total length that a block ends with.
 pub const SECOND_LENGTH: usize = 4;
 
 // The codes of the options that are read.

@@ -1,4 +1,5 @@
--- The same of entries in no order: which one is earlier, and which is first, is told by lane and place alone.
+-- Breaches of entries without an order: which one is earlier, and which is first, depends on lane
+-- and place alone.
 use Rattle.std.specs.Prelude.{◌≡◌, ◌⊎◌, ◌↔◌, ◌<◌, Bool, true, List, Contains}
 use Rattle.audit_model.specs.declared.event.At.{At}
 use Rattle.audit_model.specs.declared.sighting.SightId.{SightId}

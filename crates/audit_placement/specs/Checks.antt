@@ -1,4 +1,5 @@
--- Which rules of placement one entry breaks. Each rule is asked by itself; they stand in the order of their ranks.
+-- The rules of placement that one entry breaks. Each rule is checked by itself, in the order of
+-- their ranks.
 use Rattle.std.specs.Prelude.{◌≡◌, ◌⊎◌, Bool, true, false, not, ◌&&◌, ◌||◌, nat_lt, List, [], ◌∷◌, Option, Some, None, is_some, if◌then◌else◌}
 use Rattle.std.specs.Ordering.{is_gt}
 use Rattle.audit_model.specs.declared.event.At.{At}
@@ -21,7 +22,7 @@ use Rattle.audit_placement.specs.declared.entry.Entry.{Entry}
 use Rattle.audit_model.specs.declared.pair.Pair.{Pair}
 use Rattle.audit_placement.specs.FirstPlace.{is_placed}
 
--- a rule that is asked, the sighting that tells it, and whether it is broken
+-- the check of a rule, the sighting that its breach names, and whether it is broken
 pub record Check : Type 0 where
   pub rule : Rule
   pub sight : SightId
@@ -30,7 +31,7 @@ pub record Check : Type 0 where
 abbrev pub ask : SightId → Rule → Bool → Check
 ask sight rule broken = record { rule = rule; sight = sight; broken = broken }
 
--- a sighting is there, and it is so
+-- the sighting exists, and the test holds
 abbrev pub is_so : Option Sighting → (Sighting → Bool) → Bool
 is_so None test = false
 is_so (Some sighting) test = test sighting
@@ -53,13 +54,14 @@ differ Leaves Leaves = false
 abbrev pub goes_against : Side → Sighting → Bool
 goes_against side sighting = differ sighting.side side
 
--- the datagram is one of a listen address, and not between the lane's client and its listen address
+-- the datagram is to or from a listen address, and not between the lane's client and its listen
+-- address
 abbrev pub is_of_another : Policy → Option Pair → Side → Sighting → Bool
 is_of_another policy None side sighting = false
 is_of_another policy (Some pair) Arrives sighting = listens policy sighting.to && not (same_pair pair.client pair.listen sighting.from sighting.to)
 is_of_another policy (Some pair) Leaves sighting = listens policy sighting.from && not (same_pair pair.client pair.listen sighting.to sighting.from)
 
--- an arrival or a departure: placed tells whether an earlier entry places the same sighting
+-- an arrival or a departure: placed is whether an earlier entry places the same sighting
 abbrev pub placing_checks : Taken → Bool → Option Pair → Option Key → Side → SightId → Key → List Check
 placing_checks taken placed pair last side sight key =
     let sighting = sighting_at taken sight in
@@ -71,7 +73,8 @@ placing_checks taken placed pair last side sight key =
     ∷ ask sight OtherEndpoint (is_so sighting (is_of_another taken.policy pair side))
     ∷ []
 
--- an act: a stranger is told by the first of the two that isn't there, all else by the arrival
+-- an act: the breach of a stranger names the first of the two that doesn't exist, all others the
+-- arrival
 abbrev pub act_checks : Taken → Option Key → SightId → SightId → Key → List Check
 act_checks taken last arrival departure key =
     ask (if is_some (sighting_at taken arrival) then departure else arrival) Stranger
@@ -85,7 +88,7 @@ event_checks taken placed pair last (In sight key) = placing_checks taken placed
 event_checks taken placed pair last (Act arrival departure key) = act_checks taken last arrival departure key
 event_checks taken placed pair last (Out sight key) = placing_checks taken placed pair last Leaves sight key
 
--- what is asked of an entry behind the earlier ones
+-- the checks of an entry after the earlier ones
 abbrev pub checks : Taken → List Entry → Entry → List Check
 checks taken earlier entry = event_checks taken (is_placed earlier entry.event) entry.pair entry.last entry.event
 

@@ -1,5 +1,6 @@
--- Entries that show no breach of what they place, in a form that one entry more keeps: none breaks a rule by itself, none places
--- what another places, and what is noted of each sighting is the key at which it is placed.
+-- Entries that show no breach in what they place, in a form to which one more entry can be added:
+-- none breaks a rule by itself, no two place the same sighting, and the key noted for each sighting
+-- is the one at which it is placed.
 use Rattle.std.specs.Prelude.{◌≡◌, ℕ, ◌+◌, Bool, true, false, List, All, Option, Some, None, is_some, sum_by, if◌then◌else◌}
 use Rattle.std.specs.Ordering.{is_gt}
 use Rattle.audit_model.specs.declared.event.Event.{Event}
@@ -14,7 +15,7 @@ use Rattle.audit_placement.specs.Checks.{event_checks, first_broken}
 use Rattle.audit_placement.specs.FirstPlace.{places}
 use Rattle.audit_model.specs.Sames.{same_sight}
 
--- the entry breaks no rule where no other places its sighting, and what it places is noted at its key
+-- the entry breaks no rule if no other places its sighting, and its sighting is noted at its key
 pub record IsFine (taken : Taken) (noted : SightId → Option Key) (entry : Entry) : Type 0 where
   pub own : first_broken (event_checks taken false entry.pair entry.last entry.event) ≡ None
   pub told : (sight : SightId) → places entry.event sight ≡ true → noted sight ≡ Some entry.at.key
@@ -33,7 +34,7 @@ pub record IsClean (taken : Taken) (noted : SightId → Option Key) (entries : L
   pub order : (iface index : ℕ) (before at : Key) → noted (record { iface = iface; index = index }) ≡ Some before
       → noted (record { iface = iface; index = index + 1 }) ≡ Some at → is_gt (key_cmp at before) ≡ true
 
--- a sighting that wasn't noted is now, between its neighbours on the interface
+-- a sighting that wasn't noted is noted now, between its neighbours on the interface
 pub record PlacesAt (noted : SightId → Option Key) (sight : SightId) (key : Key) (now : SightId → Option Key) : Type 0 where
   pub free : noted sight ≡ None
   pub behind : (index : ℕ) (before : Key) → sight.index ≡ index + 1 → noted (record { iface = sight.iface; index = index }) ≡ Some before
@@ -47,7 +48,7 @@ PlacesEvent noted (In sight key) now = PlacesAt noted sight key now
 PlacesEvent noted (Act arrival departure key) now = (other : SightId) → now other ≡ noted other
 PlacesEvent noted (Out sight key) now = PlacesAt noted sight key now
 
--- an event of a lane of that pair, behind one of that key
+-- an event of a lane of that pair, after one of that key
 pub record Takes (taken : Taken) (noted : SightId → Option Key) (pair : Option Pair) (last : Option Key) (event : Event) (now : SightId → Option Key) : Type 0 where
   pub own : first_broken (event_checks taken false pair last event) ≡ None
   pub placed : PlacesEvent noted event now

@@ -1,4 +1,4 @@
--- The windows to which a certificate cuts those of the stamps, by its skews of interfaces.
+-- The windows that a certificate narrows by its skews of interfaces.
 use Rattle.std.specs.Prelude.{◌≡◌, ◌⊎◌, ℕ, Bool, false, ◌||◌, nat_lt, if◌then◌else◌, List, [], ◌∷◌, Option, Some, None}
 use Rattle.audit_model.specs.declared.certificate.CertSkew.{CertSkew}
 use Rattle.audit_model.specs.declared.certificate.Certificate.{Certificate}
@@ -18,12 +18,12 @@ use Rattle.audit_placement.specs.declared.entry.Entry.{Entry}
 use Rattle.audit_placement.specs.Checks.{breach_at, is_so}
 use Rattle.audit_placement.specs.Entries.{entries}
 
--- the moment is not in the window that a skew of so many microseconds gives the stamp
+-- the moment is outside the window around the stamp by a skew in microseconds
 abbrev pub is_past : ℕ → ℕ → ℕ → Bool
 is_past microseconds stamp moment =
     nat_lt moment (first_moment stamp (nanoseconds_of microseconds)) || nat_lt (last_moment stamp (nanoseconds_of microseconds)) moment
 
--- nothing is cut off where the certificate has no skew of the interface
+-- nothing is excluded if the certificate has no skew of the interface
 abbrev pub is_cut_off : Option ℕ → Key → Sighting → Bool
 is_cut_off None key sighting = false
 is_cut_off (Some microseconds) key sighting = is_past microseconds sighting.stamp key.moment
@@ -31,13 +31,13 @@ is_cut_off (Some microseconds) key sighting = is_past microseconds sighting.stam
 abbrev pub is_cut_there : Taken → List CertSkew → SightId → Key → Bool
 is_cut_there taken skews sight key = is_so (sighting_at taken sight) (is_cut_off (skew_of skews sight.iface) key)
 
--- an arrival or a departure at a moment that a skew of its interface cuts off
+-- an arrival or a departure at a moment that a skew of its interface excludes
 abbrev pub is_cut : Taken → List CertSkew → Event → Bool
 is_cut taken skews (In sight key) = is_cut_there taken skews sight key
 is_cut taken skews (Act arrival departure key) = false
 is_cut taken skews (Out sight key) = is_cut_there taken skews sight key
 
--- what it breaks where it stands
+-- its breach at its place
 abbrev pub cut_breach : Taken → List CertSkew → At → Event → Option Breach
 cut_breach taken skews at event = if is_cut taken skews event then Some (breach_at at OutOfWindow (sight_of event)) else None
 

@@ -1,4 +1,5 @@
--- What stands in a certificate, by lane and place: the events of each lane in turn, and then the drops, which count as the lane after the last.
+-- The entries of a certificate, by lane and place: the events of each lane in turn, and then the
+-- drops, which count as the lane after the last.
 use Rattle.std.specs.Prelude.{ℕ, ◌+◌, List, [], ◌∷◌, ◌++◌, length, map, Option, Some, None, option_map, option_and_then, slice_get}
 use Rattle.audit_model.specs.declared.certificate.Certificate.{Certificate}
 use Rattle.audit_model.specs.declared.certificate.CertLane.{CertLane}
@@ -16,7 +17,7 @@ use Rattle.audit_placement.specs.declared.entry.Spot.TheVariants.{Nowhere, InLan
 abbrev pub entry_of : Option Pair → ℕ → ℕ → Option Key → Event → Entry
 entry_of pair lane place last event = record { at = record { key = key_of event; lane = lane; place = place }; event = event; pair = pair; last = last }
 
--- events from a place of their lane on, behind an event of that key
+-- events from a place of their lane on, after an event of that key
 abbrev pub entries_from : Option Pair → ℕ → ℕ → Option Key → List Event → List Entry
 entries_from pair lane place last [] = []
 entries_from pair lane place last (event ∷ events) =
@@ -30,7 +31,7 @@ abbrev pub lanes_entries : ℕ → List CertLane → List Entry
 lanes_entries number [] = []
 lanes_entries number (lane ∷ lanes) = lane_entries number lane ++ lanes_entries (number + 1) lanes
 
--- a dropped arrival comes in
+-- a dropped arrival is `In`
 abbrev pub arrival_of : CertDrop → Event
 arrival_of dropped = In dropped.sight dropped.key
 
@@ -40,7 +41,7 @@ drop_entries lanes drops = entries_from None lanes 0 None (map arrival_of drops)
 abbrev pub entries : Certificate → List Entry
 entries certificate = lanes_entries 0 certificate.lanes ++ drop_entries (length certificate.lanes) certificate.drops
 
--- where the event or the drop at that spot stands, if there is one
+-- the place of the event or the drop at that spot, if there is one
 abbrev pub at_of : Certificate → Spot → Option At
 at_of certificate Nowhere = None
 at_of certificate (InLane lane place) =

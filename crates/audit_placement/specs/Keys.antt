@@ -1,4 +1,4 @@
--- The key at which each sighting is placed, as it is kept.
+-- The key at which each sighting is placed, as the table stores it.
 use Rattle.std.specs.Prelude.{Option, Some, None}
 use Rattle.audit_model.specs.declared.event.Key.{Key}
 use Rattle.audit_model.specs.declared.sighting.SightId.{SightId}

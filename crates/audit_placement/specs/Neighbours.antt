@@ -1,4 +1,5 @@
--- What one sighting shows, by where it is placed first and where the one before it on its interface is.
+-- The breaches of one sighting, by its first place and that of the sighting before it on its
+-- interface.
 use Rattle.std.specs.Prelude.{ℕ, Option, Some, None, if◌then◌else◌}
 use Rattle.std.specs.Ordering.{is_gt}
 use Rattle.audit_model.specs.declared.event.At.{At}

@@ -1,4 +1,5 @@
--- Events that break no rule by themselves: each is asked behind the one before it in its lane, whatever else places its sighting.
+-- Events that break no rule by themselves: each is checked after the one before it in its lane,
+-- whatever else places its sighting.
 use Rattle.std.specs.Prelude.{◌≡◌, false, List, [], ◌∷◌, Option, Some, None}
 use Rattle.audit_model.specs.declared.certificate.CertLane.{CertLane}
 use Rattle.audit_model.specs.declared.event.Event.{Event}
@@ -9,12 +10,12 @@ use Rattle.audit_sightings.specs.Intake.{Taken}
 use Rattle.audit_placement.specs.declared.pieces.Piece.{Piece}
 use Rattle.audit_placement.specs.Checks.{event_checks, first_broken}
 
--- the key of the last event, or that key where there is none
+-- the key of the last event, or the key before the events if there is none
 abbrev pub last_of : Option Key → List Event → Option Key
 last_of last [] = last
 last_of last (event ∷ events) = last_of (Some (key_of event)) events
 
--- events of a lane of that pair, behind one of that key
+-- events of a lane of that pair, after one of that key
 abbrev pub BreakNoRule : Taken → Option Pair → Option Key → List Event → Type 0
 BreakNoRule taken pair last [] = Unit {0}
 BreakNoRule taken pair last (event ∷ events) =

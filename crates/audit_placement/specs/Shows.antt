@@ -1,4 +1,5 @@
--- The breaches of placement that a certificate shows: of each entry, of neighbours on an interface, and of what is placed nowhere.
+-- The breaches of placement that a certificate shows: of each entry, of neighbours on an interface,
+-- and of sightings that aren't placed.
 use Rattle.std.specs.Prelude.{◌≡◌, ◌⊎◌, ℕ, ◌+◌, ◌<◌, false, List, [], ◌∷◌, ◌++◌, length, Contains, Some, None}
 use Rattle.std.specs.Ordering.{is_gt}
 use Rattle.audit_model.specs.declared.certificate.Certificate.{Certificate}
@@ -14,16 +15,17 @@ use Rattle.audit_placement.specs.Cuts.{ShowsCut}
 use Rattle.audit_placement.specs.Entries.{entries}
 use Rattle.audit_placement.specs.FirstPlace.{first_place}
 
--- a rule that the entry breaks behind the earlier ones
+-- a rule that the entry breaks after the earlier ones
 abbrev pub ShowsAt : Taken → List Entry → Entry → Breach → Type 0
 ShowsAt taken earlier entry = IsOneOf (checks taken earlier entry) entry.at
 
--- entries in turn, behind the earlier ones
+-- entries in turn, after the earlier ones
 abbrev pub ShowsFrom : Taken → List Entry → List Entry → Breach → Type 0
 ShowsFrom taken earlier [] breach = ⊥
 ShowsFrom taken earlier (entry ∷ later) breach = ShowsAt taken earlier entry breach ⊎ ShowsFrom taken (earlier ++ entry ∷ []) later breach
 
--- Two neighbours on an interface are placed, and the key of the second is not greater. It is told where the second is placed first.
+-- Two neighbours on an interface are placed, and the key of the second is not greater. The breach
+-- is at the first place of the second.
 pub record ShowsInterfaceOrder (entries : List Entry) (iface count : ℕ) (breach : Breach) : Type 0 where
   pub index : ℕ
   pub before : At
@@ -34,7 +36,7 @@ pub record ShowsInterfaceOrder (entries : List Entry) (iface count : ℕ) (breac
   pub not_greater : is_gt (key_cmp at.key before.key) ≡ false
   pub told : breach ≡ breach_at at InterfaceOrder (record { iface = iface; index = index + 1 })
 
--- A sighting is placed nowhere. It is told by its stamp, behind the last drop.
+-- A sighting isn't placed. The breach is at its stamp, after the last drop.
 pub record ShowsUnplaced (entries : List Entry) (lanes drops : ℕ) (row : List Sighting) (breach : Breach) : Type 0 where
   pub sighting : Sighting
   pub there : Contains row sighting
@@ -49,7 +51,7 @@ ShowsOutOfOrder taken entries breach = (iface : ℕ) × ShowsInterfaceOrder entr
 abbrev pub ShowsNowhere : Taken → List Entry → ℕ → ℕ → Breach → Type 0
 ShowsNowhere taken entries lanes drops breach = (iface : ℕ) × ShowsUnplaced entries lanes drops (interface_at taken iface) breach
 
--- what is placed, whatever else is not
+-- of what is placed, whatever isn't
 abbrev pub ShowsPlaced : Taken → Certificate → Breach → Type 0
 ShowsPlaced taken certificate breach = ShowsFrom taken [] (entries certificate) breach ⊎ ShowsOutOfOrder taken (entries certificate) breach
 
@@ -60,6 +62,6 @@ ShowsAnUnplaced taken certificate breach = ShowsNowhere taken (entries certifica
 abbrev pub ShowsByStamps : Taken → Certificate → Breach → Type 0
 ShowsByStamps taken certificate breach = ShowsPlaced taken certificate breach ⊎ ShowsAnUnplaced taken certificate breach
 
--- and by those to which the certificate cuts them
+-- and by those that the certificate narrows
 abbrev pub Shows : Taken → Certificate → Breach → Type 0
 Shows taken certificate breach = ShowsByStamps taken certificate breach ⊎ ShowsCut taken certificate breach

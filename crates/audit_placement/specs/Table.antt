@@ -3,11 +3,11 @@ use Rattle.std.specs.Prelude.{List, Option, Some, None, slice_get, option_and_th
 use Rattle.std.specs.Global.{Vec}
 use Rattle.audit_model.specs.declared.sighting.SightId.{SightId}
 
--- what a table has at the place of that name
+-- the value of a table at the place of that id
 abbrev pub table_at : {X : Type 0} → List (Vec X) → SightId → Option X
 table_at by_interface sight = option_and_then (λ values. slice_get values.items sight.index) (slice_get by_interface sight.iface)
 
--- the same, or the blank where there is no such place
+-- that value, or the blank if there is no such place
 abbrev pub or_blank : {X : Type 0} → X → Option X → X
 or_blank blank None = blank
 or_blank blank (Some x) = x

@@ -1,9 +1,9 @@
-//! What the walks over placed events read before they need it.
+//! Reads ahead the payloads that the walks over placed events need.
 
 use audit_model::Event;
 use audit_sightings::{Intake, ReadsAhead, read_sighting};
 
-/// Reads the sightings that arrive and leave. Acts name the same ones.
+/// Reads ahead the sightings of arrivals and departures. Acts name the same sightings.
 #[derive(Clone, Copy)]
 pub struct Placed<'a> {
     pub intake: &'a Intake,

@@ -1,4 +1,4 @@
-//! Whether the events of a certificate's lanes break no rule by themselves, asked by the workers.
+//! Checks in parallel that the events of a certificate's lanes break no rule by themselves.
 
 ghost use Rattle.std.specs.Prelude.{◌≡◌, ◌<◌, ℕ, All, IfOk, IsSomeAnd, IsTrue, length, slice_get, slice_index_or};
 ghost use Rattle.std.specs.Bool.{OnTrue};
@@ -15,7 +15,7 @@ use std::alloc::{AllocError, Global};
 use std::thread;
 use std::thread::Threads;
 
-/// Whether events that stand behind the end of their lane, one behind the other, break no rule by themselves.
+/// Whether consecutive events after the end of their lane break no rule by themselves.
 fn break_no_rule(intake: &Intake, start: LaneEnd, events: &[Event]) -> bool
     ensures { OnTrue result (BreakNoRule (taken intake.now) start.pair start.last events.now) }
 {
@@ -35,7 +35,7 @@ fn break_no_rule(intake: &Intake, start: LaneEnd, events: &[Event]) -> bool
     true
 }
 
-/// Sets the flag where the piece of that number breaks no rule, and clears it where it breaks one.
+/// Sets the flag if the piece of that number breaks no rule, and clears it if it breaks one.
 fn ask_piece(intake: &Intake, pieces: &[Piece<'_>], number: usize, flag: &mut bool)
     requires { number < length pieces.now }
     ensures { OnTrue flag.new (IsSomeAnd (slice_get pieces.now number) (PieceBreaksNoRule (taken intake.now))) }
@@ -44,7 +44,7 @@ fn ask_piece(intake: &Intake, pieces: &[Piece<'_>], number: usize, flag: &mut bo
     *flag = break_no_rule(intake, piece.end, piece.events);
 }
 
-/// The same of each piece and its flag, by so many threads at the most.
+/// Sets or clears the flag of each piece so, by at most `workers` threads.
 fn ask_pieces<R: Threads + Sync>(
     rt: &R,
     intake: &Intake,
@@ -76,7 +76,8 @@ fn all_set(flags: &[bool]) -> bool
     true
 }
 
-/// Whether no piece breaks a rule, asked by so many threads at the most. There is a flag for each.
+/// Whether no piece breaks a rule, checked by at most `workers` threads. There is a flag for each
+/// piece.
 fn pieces_break_no_rule<R: Threads + Sync>(
     rt: &R,
     intake: &Intake,
@@ -92,8 +93,9 @@ fn pieces_break_no_rule<R: Threads + Sync>(
     all_set(flags)
 }
 
-/// Whether the events of the lanes break no rule by themselves, asked by so many threads at the most.
-/// It goes once over the events, and takes up to 129 bytes for each lane and for each 4,096 events of a lane.
+/// Whether the events of the lanes break no rule by themselves, checked by at most `workers`
+/// threads. It reads the events once, and takes up to 129 bytes for each lane and for each 4,096
+/// events of a lane.
 pub fn lanes_break_no_rule<R: Threads + Sync>(
     rt: &R,
     alloc: Global,

@@ -1,4 +1,4 @@
-//! Whether a certificate shows no breach of what it places, told in one pass over its events.
+//! Checks in one pass over the events that a certificate shows no breach in what it places.
 
 ghost use Rattle.std.specs.Prelude.{◌<◌, ◌++◌, [], ℕ, All, List, IfOk, IfSome};
 ghost use Rattle.std.specs.Bool.{OnTrue};
@@ -19,7 +19,8 @@ use audit_sightings::{EventsAhead, Intake};
 use std::alloc::{AllocError, Global};
 use std::thread::Threads;
 
-/// Notes what a lane's events place, and tells whether they show no breach behind what is noted.
+/// Notes the placements of a lane's events. Returns whether they show no breach after those that
+/// are noted.
 fn note_lane(intake: &Intake, keys: &mut PlacedKeys, lane: &CertLane) -> bool
     ensures { (number : ℕ) (earlier : List Entry) → IsClean (taken intake.now) (key_at keys.old) earlier →
         OnTrue result (IsClean (taken intake.now) (key_at keys.new) (earlier ++ lane_entries number lane.now)) }
@@ -44,7 +45,7 @@ fn note_lane(intake: &Intake, keys: &mut PlacedKeys, lane: &CertLane) -> bool
     true
 }
 
-/// The same of all lanes.
+/// Notes the placements of all lanes, as `note_lane` does of one.
 fn note_lanes(intake: &Intake, keys: &mut PlacedKeys, lanes: &[CertLane]) -> bool
     ensures { IsClean (taken intake.now) (key_at keys.old) [] → OnTrue result (IsClean (taken intake.now) (key_at keys.new) (lanes_entries 0 lanes.now)) }
 {
@@ -56,7 +57,8 @@ fn note_lanes(intake: &Intake, keys: &mut PlacedKeys, lanes: &[CertLane]) -> boo
     true
 }
 
-/// Notes what a lane's events place, of which none breaks a rule by itself, and tells whether they show no breach behind what is noted.
+/// Notes the placements of a lane's events, of which none breaks a rule by itself. Returns whether
+/// they show no breach after those that are noted.
 fn place_lane(keys: &mut PlacedKeys, lane: &CertLane) -> bool
     ensures { (taken : Taken) (number : ℕ) (earlier : List Entry) → LaneBreaksNoRule taken lane.now → IsClean taken (key_at keys.old) earlier →
         OnTrue result (IsClean taken (key_at keys.new) (earlier ++ lane_entries number lane.now)) }
@@ -69,7 +71,7 @@ fn place_lane(keys: &mut PlacedKeys, lane: &CertLane) -> bool
     true
 }
 
-/// The same of all lanes.
+/// Notes the placements of all lanes, as `place_lane` does of one.
 fn place_lanes(keys: &mut PlacedKeys, lanes: &[CertLane]) -> bool
     ensures { (taken : Taken) → All (LaneBreaksNoRule taken) lanes.now → IsClean taken (key_at keys.old) [] →
         OnTrue result (IsClean taken (key_at keys.new) (lanes_entries 0 lanes.now)) }
@@ -82,7 +84,8 @@ fn place_lanes(keys: &mut PlacedKeys, lanes: &[CertLane]) -> bool
     true
 }
 
-/// Notes what the drops place, and tells whether they show no breach behind what is noted.
+/// Notes the placements of the drops. Returns whether they show no breach after those that are
+/// noted.
 fn note_drops(intake: &Intake, keys: &mut PlacedKeys, drops: &[CertDrop]) -> bool
     ensures { (number : ℕ) (earlier : List Entry) → IsClean (taken intake.now) (key_at keys.old) earlier →
         OnTrue result (IsClean (taken intake.now) (key_at keys.new) (earlier ++ drop_entries number drops.now)) }
@@ -102,8 +105,8 @@ fn note_drops(intake: &Intake, keys: &mut PlacedKeys, drops: &[CertDrop]) -> boo
     true
 }
 
-/// The keys at which a certificate places sightings, where it shows no breach of what it places.
-/// It goes once over the events, and takes 16 bytes a sighting.
+/// The keys at which a certificate places sightings, if it shows no breach in what it places. It
+/// reads the events once, and takes 16 bytes a sighting.
 pub fn clean_keys(
     alloc: Global,
     intake: &Intake,
@@ -122,9 +125,10 @@ pub fn clean_keys(
     Ok(Some(keys))
 }
 
-/// The same by so many threads at the most. They ask each event of the lanes whether it breaks a rule by itself, and then this thread
-/// alone goes over the events once more, for the keys, and over the drops. It takes 16 bytes a sighting, and before that up to 129 bytes
-/// for each lane and for each 4,096 events of a lane. Without memory for those, it is `clean_keys`.
+/// The result of `clean_keys`, by at most `workers` threads. They check each event of the lanes by
+/// itself. Then this thread alone reads the events once more for the keys, and the drops. It takes
+/// 16 bytes a sighting, and before that up to 129 bytes for each lane and for each 4,096 events of
+/// a lane. If there is no memory for those, it is `clean_keys`.
 pub fn clean_keys_by<R: Threads + Sync>(
     rt: &R,
     alloc: Global,

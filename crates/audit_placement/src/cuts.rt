@@ -1,4 +1,4 @@
-//! Whether moments lie in the windows to which a certificate cuts those of the stamps.
+//! Checks that moments are in the windows that a certificate's skews narrow.
 
 ghost use Rattle.std.specs.Prelude.{◌≡◌, ◌<◌, ◌^◌, length};
 ghost use Rattle.audit_model.specs.Least.{IsLeast};
@@ -11,7 +11,7 @@ use audit_model::{
 };
 use audit_sightings::Intake;
 
-/// Whether the moment isn't in the window that a skew of so many microseconds gives the stamp.
+/// Whether the moment is outside the window around the stamp by a skew in microseconds.
 fn lies_past(microseconds: u64, stamp: u64, moment: u64) -> bool
     ensures { result ≡ is_past microseconds stamp moment }
 {
@@ -19,7 +19,7 @@ fn lies_past(microseconds: u64, stamp: u64, moment: u64) -> bool
     moment < lo || moment > hi
 }
 
-/// Whether the certificate's skew of the sighting's interface, where it has one, cuts the moment off.
+/// Whether the certificate's skew for the sighting's interface, if it has one, excludes the moment.
 fn is_cut_of(intake: &Intake, certificate: &Certificate, sight: SightId, key: Key) -> bool
     ensures { result ≡ is_cut_there (taken intake.now) certificate.now.skews sight key }
 {
@@ -43,7 +43,7 @@ fn event_is_cut(intake: &Intake, certificate: &Certificate, event: Event) -> boo
     }
 }
 
-/// What an event shows where it stands.
+/// The breach that an event shows at its place.
 fn cut_at(intake: &Intake, certificate: &Certificate, at: At, event: Event) -> Option<Breach>
     ensures { result ≡ cut_breach (taken intake.now) certificate.now.skews at event }
 {
@@ -113,8 +113,8 @@ fn drops_cut(intake: &Intake, certificate: &Certificate) -> Option<Breach>
     least
 }
 
-/// The least breach of moments that the certificate's skews cut off, or none exactly where none is shown. Where it has skews, it
-/// goes once over the events.
+/// The least breach of moments that the certificate's skews exclude, or none exactly if none is
+/// shown. If the certificate has skews, it reads the events once.
 pub fn least_cut(intake: &Intake, certificate: &Certificate) -> Option<Breach>
     ensures { IsLeast (ShowsCut (taken intake.now) certificate.now) result }
 {

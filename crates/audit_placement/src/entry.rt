@@ -1,4 +1,4 @@
-//! What stands in a certificate: the events of its lanes, and the drops.
+//! The entries of a certificate: the events of its lanes, and the drops.
 
 ghost use Rattle.std.specs.Prelude.{◌≡◌};
 ghost use Rattle.audit_placement.specs.Entries.{at_of};
@@ -6,10 +6,10 @@ ghost use Rattle.audit_placement.specs.Entries.{at_of};
 use audit_model::{At, Certificate, Event, Key, Pair};
 use std::mem::size_of;
 
-/// The end of a lane, or of the drops, behind which an event stands.
+/// The end of a lane, or of the drops, after which an event follows.
 #[derive(Clone, Copy, Debug)]
 pub struct LaneEnd {
-    /// The lane's, and none of the drops.
+    /// The lane's pair; none for the drops.
     pub pair: Option<Pair>,
     /// The key of the last event.
     pub last: Option<Key>,
@@ -19,11 +19,11 @@ pub struct LaneEnd {
 #[derive(Clone, Copy, Debug)]
 pub struct Entry {
     pub at: At,
-    /// Of a dropped arrival that it comes in.
+    /// For a dropped arrival, `In`.
     pub event: Event,
-    /// Its lane's, and none of a dropped arrival.
+    /// The lane's pair; none for a dropped arrival.
     pub pair: Option<Pair>,
-    /// The key of the one before it, in its lane or in the drops.
+    /// The key of the entry before it, in its lane or in the drops.
     pub last: Option<Key>,
 }
 
@@ -37,7 +37,7 @@ pub enum Spot {
 
 const _: () = prove!(size_of::<Spot>() == 12);
 
-/// Where the certificate's event or drop at the spot stands, with its key.
+/// The place and the key of the certificate's event or drop at the spot.
 pub fn at_spot(certificate: &Certificate, spot: Spot) -> Option<At>
     ensures { result ≡ at_of certificate.now spot }
 {

@@ -1,4 +1,4 @@
-//! What the events of a lane, and the drops, show of placement.
+//! The breaches of placement that the events of a lane, and the drops, show.
 
 ghost use Rattle.std.specs.Prelude.{◌≡◌, ◌++◌, ◌∷◌, [], All, List, IfOk, IfNone, OnOk, Some, slice_get, length, ◌<◌, ◌^◌};
 ghost use Rattle.audit_model.specs.Least.{IsLeast};
@@ -16,7 +16,7 @@ use audit_model::{At, Breach, CertLane, Certificate, Event, Key, Pair};
 use audit_sightings::Intake;
 use std::alloc::AllocError;
 
-/// The breach that an entry shows, where `placed` tells whether an earlier one places the same sighting.
+/// The breach that an entry shows. `placed` is whether an earlier entry places the same sighting.
 fn breach_of(intake: &Intake, entry: &Entry, placed: bool) -> Option<Breach>
     ensures exact { result ≡ told entry.now.at (first_broken (event_checks (taken intake.now) placed entry.now.pair entry.now.last entry.now.event)) }
     ensures named { IfNone result (NamesWhatIsThere (taken intake.now) entry.now.event) }
@@ -34,7 +34,8 @@ fn breach_of(intake: &Intake, entry: &Entry, placed: bool) -> Option<Breach>
     })
 }
 
-/// The least breach that an entry shows behind those whose first placements are noted, and notes its own.
+/// The least breach that an entry shows after those whose first placements are noted. Notes its
+/// own.
 fn entry_breach(
     intake: &Intake,
     certificate: &Certificate,
@@ -52,7 +53,7 @@ fn entry_breach(
     Ok(breach_of(intake, entry, placed))
 }
 
-/// The least breach that a lane's events show. Where there is none, they name what is there.
+/// The least breach that a lane's events show. If there is none, they name sightings that exist.
 pub fn lane_breach(
     intake: &Intake,
     certificate: &Certificate,

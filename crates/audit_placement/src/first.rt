@@ -1,4 +1,4 @@
-//! Where each sighting is placed first, by lane and place.
+//! The first place of each sighting, by lane and place.
 
 ghost use Rattle.std.specs.Prelude.{◌≡◌, ◌++◌, ◌∷◌, [], List, IfOk, OnOk, is_some, if◌then◌else◌};
 ghost use Rattle.audit_model.specs.declared.sighting.SightId.{SightId};
@@ -14,11 +14,11 @@ use audit_sightings::Intake;
 use std::alloc::{AllocError, Global};
 use std::collections::BTreeMap;
 
-/// The first placements of an intake's sightings, by interface and index: 12 bytes a sighting.
+/// The first places of an intake's sightings, by interface and index: 12 bytes a sighting.
 #[derive(Drop)]
 pub struct FirstPlaces {
     places: Table<Spot>,
-    /// Those of names that no sighting has.
+    /// Those of ids that no sighting has.
     strangers: BTreeMap<SightId, Spot>,
 }
 
@@ -47,14 +47,15 @@ impl FirstPlaces {
         }
     }
 
-    /// Where in the certificate the sighting is placed first.
+    /// The first place of the sighting in the certificate.
     pub fn at(&self, certificate: &Certificate, sight: SightId) -> Option<At>
         ensures { result ≡ noted certificate.now self.now sight }
     {
         at_spot(certificate, self.spot(sight))
     }
 
-    /// Notes that the certificate's entry at the spot places the sighting, and tells whether an earlier one does.
+    /// Notes that the certificate's entry at the spot places the sighting. Returns whether an
+    /// earlier entry does.
     fn place(
         &mut self,
         certificate: &Certificate,
@@ -75,7 +76,7 @@ impl FirstPlaces {
         Ok(false)
     }
 
-    /// The same of an entry, which is false of an act.
+    /// Notes the placement of an entry, as `place` does. Returns false for an act.
     pub fn place_entry(
         &mut self,
         certificate: &Certificate,

@@ -1,4 +1,4 @@
-//! The key at which each sighting is placed, once at the most.
+//! The key at which each sighting is placed, at most once.
 
 ghost use Rattle.std.specs.Prelude.{◌≡◌, Some, None, if◌then◌else◌};
 ghost use Rattle.std.specs.Bool.{OnTrue};
@@ -39,7 +39,7 @@ pub struct PlacedKeys {
 }
 
 impl PlacedKeys {
-    /// No sighting is placed yet. It takes no memory.
+    /// No sighting is placed yet. Allocates no memory.
     pub fn new(alloc: Global) -> PlacedKeys
         ensures { (sight : SightId) → key_at result sight ≡ None }
     {
@@ -48,7 +48,7 @@ impl PlacedKeys {
         }
     }
 
-    /// Makes room for the sightings that came since.
+    /// Reserves memory for the sightings that were added to the intake.
     pub fn grow(&mut self, alloc: Global, intake: &Intake) -> Result<(), AllocError>
         ensures { (sight : SightId) → key_at self.new sight ≡ key_at self.old sight }
     {
@@ -62,7 +62,7 @@ impl PlacedKeys {
         self.keys.read(sight)?.key()
     }
 
-    /// Notes the key of a sighting, and tells whether there is room for it.
+    /// Notes the key of a sighting. Returns whether the table has a place for it.
     pub fn place(&mut self, sight: SightId, key: Key) -> bool
         ensures { OnTrue result ((other : SightId) → key_at self.new other ≡ (if same_sight sight other then Some key else key_at self.old other)) }
     {

@@ -1,4 +1,4 @@
-//! What the definitions of placement come to.
+//! Consequences of the definitions of placement.
 
 ghost use Rattle.std.specs.Prelude.{◌≡◌, ◌↔◌, [], Some};
 ghost use Rattle.audit_model.specs.declared.certificate.Certificate.{Certificate};
@@ -11,8 +11,9 @@ ghost use Rattle.audit_placement.specs.Entries.{entries};
 ghost use Rattle.audit_placement.specs.FirstPlace.{first_place};
 ghost use Rattle.audit_placement.specs.Shows.{ShowsFrom};
 
-/// The entries of a certificate stand by lane and place: what is placed first, and what is placed earlier, is told by
-/// lane and place alone. So it is all one in which order the entries are looked at.
+/// The entries of a certificate are ordered by lane and place: which one is first, and which one is
+/// earlier, depends on lane and place alone. So the order in which the entries are read doesn't
+/// matter.
 pub fn by_lane_and_place()
     ensures first { (certificate : Certificate) (sight : SightId) (at : At) →
         (first_place (entries certificate) sight ≡ Some at) ↔ IsFirst (entries certificate) sight at }

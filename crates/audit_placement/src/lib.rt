@@ -1,4 +1,4 @@
-//! Placement: whether a certificate places each sighting once, in its window and in order.
+//! Placement: checks that a certificate places each sighting once, in its window and in order.
 #![tactic(auto)]
 
 mod ahead;

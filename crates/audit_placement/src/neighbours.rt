@@ -1,4 +1,4 @@
-//! What neighbours on an interface show of placement.
+//! The breaches of placement that neighbours on an interface show.
 
 ghost use Rattle.std.specs.Prelude.{◌≡◌, ℕ, List, length};
 ghost use Rattle.audit_model.specs.Least.{IsLeast};
@@ -13,7 +13,7 @@ use crate::first::FirstPlaces;
 use audit_model::{At, Breach, Certificate, Rule, Sighting};
 use audit_sightings::Intake;
 
-/// What a sighting shows that is placed there, behind its neighbour on the interface.
+/// The breach that a sighting shows, if it isn't placed after its neighbour on the interface.
 fn sighting_breach(sighting: &Sighting, place: Option<At>, before: Option<At>) -> Option<Breach>
     ensures { result ≡ order_breach before place sighting.now }
 {
@@ -49,7 +49,7 @@ fn interface_breach(
     least
 }
 
-/// The least breach that neighbours show: one that isn't placed behind the sighting before it.
+/// The least breach that neighbours show: a sighting that isn't placed after the one before it.
 pub fn neighbours_breach(
     intake: &Intake,
     certificate: &Certificate,

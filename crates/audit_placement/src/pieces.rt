@@ -8,17 +8,17 @@ use crate::entry::LaneEnd;
 use audit_model::{CertLane, Event, Key, Pair};
 use std::alloc::{AllocError, Global};
 
-/// How many events a piece has at the most.
+/// The most events of a piece.
 const PIECE: usize = 4096;
 
-/// Some events of a lane, one behind the other, and the end of the lane behind which they stand.
+/// Some consecutive events of a lane, and the end of the lane before them.
 #[derive(Clone, Copy)]
 pub struct Piece<'a> {
     pub end: LaneEnd,
     pub events: &'a [Event],
 }
 
-/// The first events, no more than a piece has, and those behind them.
+/// The first events, at most `PIECE`, and those after them.
 fn parted(events: &[Event]) -> (&[Event], &[Event])
     ensures whole { events.now ≡ result.0.now ++ result.1.now }
     ensures shorter { 0 < length events.now → length result.1.now < length events.now }
@@ -29,7 +29,7 @@ fn parted(events: &[Event]) -> (&[Event], &[Event])
     events.split_at(PIECE)
 }
 
-/// The key of the last of the events, or that key where there is none.
+/// The key of the last of the events, or `last` if there is none.
 fn last_key(last: Option<Key>, events: &[Event]) -> Option<Key>
     ensures { result ≡ last_of last events.now }
 {
@@ -65,8 +65,8 @@ fn add_lane<'a>(
     Ok(())
 }
 
-/// The pieces of all lanes. Where none of them breaks a rule, no lane does.
-/// It takes up to 128 bytes a piece. There is one for each 4,096 events of a lane, and one for those that are left.
+/// The pieces of all lanes. If none of them breaks a rule, no lane does. It takes up to 128 bytes a
+/// piece. Each lane has one piece for each 4,096 events, and one for the rest.
 pub fn pieces_of(alloc: Global, lanes: &[CertLane]) -> Result<Vec<Piece<'_>>, AllocError>
     ensures { (taken : Taken) → IfOk result (λ pieces. All (PieceBreaksNoRule taken) pieces.items → All (LaneBreaksNoRule taken) lanes.now) }
 {

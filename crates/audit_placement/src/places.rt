@@ -1,4 +1,4 @@
-//! Where sightings are placed.
+//! The places of sightings.
 
 ghost use Rattle.std.specs.Prelude.{◌≡◌};
 ghost use Rattle.audit_placement.specs.Places.{has_place};
@@ -7,12 +7,12 @@ use crate::first::FirstPlaces;
 use crate::keys::PlacedKeys;
 use audit_model::{Certificate, SightId};
 
-/// Where sightings are placed.
+/// The places of sightings.
 #[derive(Drop)]
 pub enum Places {
-    /// Each once at the most, at that key.
+    /// Each is placed at most once, at that key.
     Once(PlacedKeys),
-    /// Each first there. Another entry may place it again.
+    /// Each has that first place. Another entry may place it again.
     First(FirstPlaces),
 }
 

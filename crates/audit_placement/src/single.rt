@@ -1,4 +1,4 @@
-//! What one event shows of placement.
+//! The breaches of placement that one event shows.
 
 ghost use Rattle.std.specs.Prelude.{◌≡◌, IfNone, None, false};
 ghost use Rattle.std.specs.Bool.{OnTrue};
@@ -20,7 +20,8 @@ fn is_not_after(last: Option<Key>, key: Key) -> bool
     }
 }
 
-/// Whether the datagram is one of a listen address, but not between the lane's client and its listen address.
+/// Whether the datagram is to or from a listen address, but not between the lane's client and its
+/// listen address.
 fn is_of_other(policy: &Policy, pair: Option<Pair>, side: Side, sighting: &Sighting) -> bool
     ensures { result ≡ is_of_another policy.now pair side sighting.now }
 {
@@ -43,8 +44,8 @@ fn is_pair(pair: Pair, client: Addr, listen: Addr) -> bool
     pair.client == client && pair.listen == listen
 }
 
-/// The first rule that an arrival or a departure breaks where it is placed.
-/// `placed` tells whether an earlier entry places the same sighting.
+/// The first rule that an arrival or a departure breaks at its place. `placed` is whether an
+/// earlier entry places the same sighting.
 fn placing_rule(
     intake: &Intake,
     end: LaneEnd,
@@ -77,7 +78,7 @@ fn placing_rule(
     None
 }
 
-/// The first rule of placement that an act breaks, and the sighting that tells it.
+/// The first rule of placement that an act breaks, and the sighting that its breach names.
 fn act_rule(
     intake: &Intake,
     last: Option<Key>,
@@ -103,8 +104,8 @@ fn act_rule(
     None
 }
 
-/// The first rule of placement that an event breaks behind the end of its lane, and the sighting that tells it.
-/// `placed` tells whether an earlier entry places the same sighting.
+/// The first rule of placement that an event breaks after the end of its lane, and the sighting
+/// that its breach names. `placed` is whether an earlier entry places the same sighting.
 pub fn event_rule(
     intake: &Intake,
     end: LaneEnd,
@@ -121,7 +122,8 @@ pub fn event_rule(
     }
 }
 
-/// Whether the event breaks no rule of placement behind the end of its lane, whatever else places its sighting.
+/// Whether the event breaks no rule of placement after the end of its lane, whatever else places
+/// its sighting.
 pub fn breaks_no_rule(intake: &Intake, end: LaneEnd, event: Event) -> bool
     ensures { OnTrue result (first_broken (event_checks (taken intake.now) false end.pair end.last event) ≡ None) }
 {

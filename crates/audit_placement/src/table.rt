@@ -1,4 +1,4 @@
-//! A value for each sighting of an intake.
+//! A table with a value for each sighting of an intake.
 
 ghost use Rattle.std.specs.Prelude.{◌≡◌, ◌<◌, ◌≤◌, ◌++◌, ℕ, Some, None, OnOk, is_some, length, replicate, if◌then◌else◌};
 ghost use Rattle.std.specs.Bool.{OnTrue, OnFalse};
@@ -17,7 +17,7 @@ pub struct Table<T> {
 }
 
 impl<T: Copy> Table<T> {
-    /// A table with no place. It takes no memory.
+    /// A table without places. Allocates no memory.
     pub fn new(alloc: Global) -> Self
         ensures { (sight : SightId) → table_at result.by_interface.items sight ≡ None }
     {
@@ -26,14 +26,15 @@ impl<T: Copy> Table<T> {
         }
     }
 
-    /// Gives each sighting of the intake that has no place one with the blank. It takes time in proportion to them and the interfaces.
+    /// Adds a place with the blank for each sighting of the intake that has none. It takes time in
+    /// proportion to these sightings and the interfaces.
     pub fn grow(&mut self, alloc: Global, intake: &Intake, blank: T) -> Result<(), AllocError>
         ensures { (sight : SightId) → table_or blank self.new.by_interface.items sight ≡ table_or blank self.old.by_interface.items sight }
     {
         grow_interfaces(alloc, &mut self.by_interface, intake, blank)
     }
 
-    /// What is at the place of the name.
+    /// The value at the place of the id.
     pub fn read(&self, sight: SightId) -> Option<T>
         ensures { result ≡ table_at self.now.by_interface.items sight }
     {
@@ -41,7 +42,7 @@ impl<T: Copy> Table<T> {
         values.get(sight.index as usize).copied()
     }
 
-    /// Sets the place of the name, and tells whether there is one.
+    /// Sets the value at the place of the id. Returns whether there is one.
     pub fn write(&mut self, sight: SightId, value: T) -> bool
         ensures there { result ≡ is_some (table_at self.old.by_interface.items sight) }
         ensures set { OnTrue result ((other : SightId) → table_at self.new.by_interface.items other
@@ -58,7 +59,7 @@ impl<T: Copy> Table<T> {
     }
 }
 
-/// Adds an empty list where the interface has none.
+/// Adds an empty list if the interface has none.
 fn add_interface<T: Copy>(
     alloc: Global,
     by_interface: &mut Vec<Vec<T>>,
@@ -75,7 +76,7 @@ fn add_interface<T: Copy>(
     Ok(())
 }
 
-/// Gives each interface a list with as many places as it has sightings.
+/// Extends the list of each interface to its number of sightings.
 fn grow_interfaces<T: Copy>(
     alloc: Global,
     by_interface: &mut Vec<Vec<T>>,
@@ -92,7 +93,7 @@ fn grow_interfaces<T: Copy>(
     Ok(())
 }
 
-/// Adds the value at the end up to that number of values.
+/// Adds the value at the end, up to that number of values.
 fn fill<T: Copy>(values: &mut Vec<T>, blank: T, count: usize) -> Result<(), AllocError>
     ensures { (more : ℕ) × (values.new.items ≡ values.old.items ++ replicate more blank) }
 {

@@ -1,4 +1,4 @@
-//! Whether an event more still shows no breach.
+//! Checks that one more event shows no breach.
 
 ghost use Rattle.std.specs.Prelude.{◌≡◌, ◌+◌, ℕ, Some, None, true};
 ghost use Rattle.std.specs.Bool.{OnTrue};
@@ -15,7 +15,8 @@ use crate::single::breaks_no_rule;
 use audit_model::{Event, Key, SightId};
 use audit_sightings::Intake;
 
-/// Whether the key is greater than that of the sighting before it on the interface, where that is placed.
+/// Whether the key is greater than that of the sighting before it on the interface, if that is
+/// placed.
 fn follows_its_neighbour(keys: &PlacedKeys, sight: SightId, key: Key) -> bool
     ensures { OnTrue result ((index : ℕ) (before : EventKey) → sight.index ≡ index + 1
         → key_at keys.now (record { iface = sight.iface; index = index }) ≡ Some before → is_gt (key_cmp key before) ≡ true) }
@@ -32,7 +33,7 @@ fn follows_its_neighbour(keys: &PlacedKeys, sight: SightId, key: Key) -> bool
     }
 }
 
-/// Whether the key of the sighting after it on the interface is greater, where that is placed.
+/// Whether the key of the sighting after it on the interface is greater, if that is placed.
 fn precedes_its_neighbour(keys: &PlacedKeys, sight: SightId, key: Key) -> bool
     ensures { OnTrue result ((next : EventKey) → key_at keys.now (record { iface = sight.iface; index = sight.index + 1 }) ≡ Some next
         → is_gt (key_cmp next key) ≡ true) }
@@ -49,7 +50,7 @@ fn precedes_its_neighbour(keys: &PlacedKeys, sight: SightId, key: Key) -> bool
     }
 }
 
-/// Notes the key of a sighting that isn't placed yet, and tells whether it stands between its neighbours.
+/// Notes the key of a sighting that isn't placed yet. Returns whether it is between its neighbours.
 fn note_key(keys: &mut PlacedKeys, sight: SightId, key: Key) -> bool
     ensures { OnTrue result (PlacesAt (key_at keys.old) sight key (key_at keys.new)) }
 {
@@ -59,7 +60,8 @@ fn note_key(keys: &mut PlacedKeys, sight: SightId, key: Key) -> bool
         && keys.place(sight, key)
 }
 
-/// Notes what an event places, and tells whether it stands between its neighbours. Whether the event breaks a rule by itself isn't asked.
+/// Notes the placement of an event. Returns whether it is between its neighbours. Whether the event
+/// breaks a rule by itself isn't checked.
 pub fn place_event(keys: &mut PlacedKeys, event: Event) -> bool
     ensures { OnTrue result (PlacesEvent (key_at keys.old) event (key_at keys.new)) }
 {
@@ -69,7 +71,7 @@ pub fn place_event(keys: &mut PlacedKeys, event: Event) -> bool
     }
 }
 
-/// Notes what an event places behind the end of its lane, and tells whether it shows no breach.
+/// Notes the placement of an event after the end of its lane. Returns whether it shows no breach.
 pub fn note_event(intake: &Intake, keys: &mut PlacedKeys, end: LaneEnd, event: Event) -> bool
     ensures { OnTrue result (Takes (taken intake.now) (key_at keys.old) end.pair end.last event (key_at keys.new)) }
 {

@@ -1,4 +1,4 @@
-//! What sightings show that are placed nowhere.
+//! The breaches of sightings that aren't placed.
 
 ghost use Rattle.std.specs.Prelude.{◌≡◌, List, Some, None, length, if◌then◌else◌};
 ghost use Rattle.audit_model.specs.Least.{IsLeast};
@@ -12,7 +12,7 @@ use crate::places::Places;
 use audit_model::{At, Breach, Certificate, Key, Rule, Sighting};
 use audit_sightings::Intake;
 
-/// A sighting that is placed nowhere, told behind the last drop.
+/// The breach of a sighting that isn't placed: its place is after the last drop.
 fn unplaced(sighting: &Sighting, lanes: u32, drops: u32) -> Breach
     ensures { result ≡ unplaced_breach lanes drops sighting.now }
 {
@@ -31,7 +31,7 @@ fn unplaced(sighting: &Sighting, lanes: u32, drops: u32) -> Breach
     }
 }
 
-/// What a sighting shows by whether it is placed.
+/// The breach of a sighting, if it isn't placed.
 fn sighting_unplaced(
     certificate: &Certificate,
     sighting: &Sighting,
@@ -47,7 +47,7 @@ fn sighting_unplaced(
     Some(unplaced(sighting, lanes, drops))
 }
 
-/// The least breach of the sightings of one interface that are placed nowhere.
+/// The least breach of the sightings of one interface that aren't placed.
 fn interface_unplaced(
     certificate: &Certificate,
     sightings: &[Sighting],
@@ -66,7 +66,7 @@ fn interface_unplaced(
     least
 }
 
-/// The least breach of the sightings that are placed nowhere.
+/// The least breach of the sightings that aren't placed.
 pub fn unplaced_breach(
     intake: &Intake,
     certificate: &Certificate,

@@ -1,4 +1,4 @@
-//! Whether all is placed.
+//! Checks the whole placement of a certificate.
 
 ghost use Rattle.std.specs.Prelude.{◌≡◌, ◌<◌, [], IfOk, IfErr, IfNone, IfSome, OnOk, Some, None};
 ghost use Rattle.audit_model.specs.Least.{IsLeast};
@@ -24,17 +24,19 @@ use audit_sightings::Intake;
 use std::alloc::{AllocError, Global};
 use std::thread::Threads;
 
-/// A certificate with fewer events in its lanes is judged by one thread, since to start another takes longer.
+/// If the lanes of a certificate have fewer events than this, one thread judges it, since to start
+/// another takes longer.
 const FEW: usize = 16_384;
 
-/// That a certificate places each sighting once, in its window and in order. Only `placed` and `placed_by` make one.
+/// Evidence that a certificate places each sighting once, in its window and in order. Only `placed`
+/// and `placed_by` create one.
 #[derive(Debug, Drop)]
 pub struct Placement {
     datagrams: u32,
 }
 
 impl Placement {
-    /// How many sightings are placed.
+    /// The number of sightings that are placed.
     pub fn datagrams(&self) -> u32
         ensures { result ≡ self.now.datagrams }
     {
@@ -42,7 +44,7 @@ impl Placement {
     }
 }
 
-/// The least breach that the lanes' events show. Where there is none, they name what is there.
+/// The least breach that the lanes' events show. If there is none, they name sightings that exist.
 fn lanes_breach(
     intake: &Intake,
     first: &mut FirstPlaces,
@@ -60,8 +62,8 @@ fn lanes_breach(
     Ok(least)
 }
 
-/// The least breach of what is placed, or none exactly where none is shown, and where each sighting is placed first.
-/// Where there is none, the events name what is there.
+/// The least breach of what is placed, or none exactly if none is shown, and the first place of
+/// each sighting. If there is none, the events name sightings that exist.
 pub fn placed_breach(
     alloc: Global,
     intake: &Intake,
@@ -79,8 +81,9 @@ pub fn placed_breach(
     Ok((Breach::least(of_entries, of_neighbours), first))
 }
 
-/// The least breach of placement by the windows of the stamps, or none exactly where none is shown. Where there is none, the
-/// events name what is there. `clean` has the keys at which sightings are placed, where it is known that nothing placed shows a breach.
+/// The least breach of placement by the windows of the stamps, or none exactly if none is shown. If
+/// there is none, the events name sightings that exist. `clean` has the keys at which sightings are
+/// placed, if it is known that nothing placed shows a breach.
 fn least_breach(
     alloc: Global,
     intake: &Intake,
@@ -99,8 +102,8 @@ fn least_breach(
     Ok(Breach::least(of_placed, of_unplaced))
 }
 
-/// The least breach of placement, also by the windows to which the certificate cuts those of the stamps. Where there is none,
-/// the events name what is there.
+/// The least breach of placement, also by the windows that the certificate's skews narrow. If there
+/// is none, the events name sightings that exist.
 fn least_with_cuts(
     alloc: Global,
     intake: &Intake,
@@ -116,7 +119,7 @@ fn least_with_cuts(
     Ok(Breach::least(by_stamps, of_cuts))
 }
 
-/// What `placed` finds, by what is known of clean keys.
+/// The result of `placed`, by the clean keys if they are known.
 fn found_by(
     alloc: Global,
     intake: &Intake,
@@ -138,17 +141,18 @@ fn found_by(
     }
 }
 
-/// Whether the certificate places each sighting of the intake once, in its window and in order, or else the least breach.
-/// It goes once over the events and once over the sightings, and takes 16 bytes a sighting. Where the certificate has skews, it
-/// goes over the events once more; where something is broken, over all of them again and the neighbours on each interface.
+/// Whether the certificate places each sighting of the intake once, in its window and in order, or
+/// else the least breach. It reads the events once and the sightings once, and takes 16 bytes a
+/// sighting. If the certificate has skews, it reads the events once more. If a rule is broken, it
+/// reads all of them again, and the neighbours on each interface.
 pub fn placed(
     alloc: Global,
     intake: &Intake,
     certificate: &Certificate,
 ) -> Result<Result<Placement, Breach>, AllocError>
-    // It passes exactly where no breach is shown,
+    // It passes exactly if no breach is shown,
     ensures passes { IfOk result (λ found. OnOk found (IsLeast (Shows (taken intake.now) certificate.now) None)) }
-    // and else the least one is told.
+    // and otherwise reports the least one.
     ensures breach { IfOk result (λ found. IfErr found (λ least. IsLeast (Shows (taken intake.now) certificate.now) (Some least))) }
     ensures datagrams { IfOk result (λ found. IfOk found (λ placement. placement.datagrams ≡ count_of (taken intake.now).interfaces)) }
     ensures named { IfOk result (λ found. OnOk found (AllNamed (taken intake.now) certificate.now)) }
@@ -157,7 +161,7 @@ pub fn placed(
     found_by(alloc, intake, certificate, clean)
 }
 
-/// Whether the lanes have so many events that threads take less time than they cost.
+/// Whether the lanes have enough events for threads to save time.
 fn are_many(lanes: &[CertLane]) -> bool {
     let mut events: usize = 0;
     'lanes: for lane in lanes {
@@ -169,9 +173,10 @@ fn are_many(lanes: &[CertLane]) -> bool {
     false
 }
 
-/// The same as `placed`, by so many threads at the most: they ask each event of the lanes what it tells by itself, and the rest is done by
-/// this thread alone. It takes up to 129 bytes more for each lane and for each 4,096 events of a lane, while the threads ask. With one
-/// worker, or with few events, it is `placed`.
+/// The same as `placed`, by at most `workers` threads: they check each event of the lanes by
+/// itself, and this thread alone does the rest. It takes up to 129 bytes more for each lane and for
+/// each 4,096 events of a lane, while the threads run. With one worker, or with few events, it is
+/// `placed`.
 pub fn placed_by<R: Threads + Sync>(
     rt: &R,
     alloc: Global,
@@ -180,9 +185,9 @@ pub fn placed_by<R: Threads + Sync>(
     workers: u32,
 ) -> Result<Result<Placement, Breach>, AllocError>
     requires { 0 < workers }
-    // It passes exactly where no breach is shown,
+    // It passes exactly if no breach is shown,
     ensures passes { IfOk result (λ found. OnOk found (IsLeast (Shows (taken intake.now) certificate.now) None)) }
-    // and else the least one is told.
+    // and otherwise reports the least one.
     ensures breach { IfOk result (λ found. IfErr found (λ least. IsLeast (Shows (taken intake.now) certificate.now) (Some least))) }
     ensures datagrams { IfOk result (λ found. IfOk found (λ placement. placement.datagrams ≡ count_of (taken intake.now).interfaces)) }
     ensures named { IfOk result (λ found. OnOk found (AllNamed (taken intake.now) certificate.now)) }

@@ -13,7 +13,8 @@ use Rattle.audit_book.specs.Machine.{State}
 use Rattle.audit_book.specs.Seats.{IsHistory}
 use Rattle.audit_verdict.specs.Verdicts.{IsJobOf}
 
--- the claimants, and the entries with the seat of each, of a state that a book of that many seats comes to
+-- the claimants, and the entries with the seat of each, of a state that a book of that many seats
+-- may have
 pub record IsHistoryOf (job : List Content) (seats : ℕ) (claimants by : List ℕ) (founds : List Found) : Type 0 where
   pub state : State
   pub history : IsHistory job seats state claimants by founds
@@ -23,7 +24,8 @@ pub record IsFull (job : List Content) (workers : ℕ) (claimants by : List ℕ)
   pub filled : IsHistoryOf job workers claimants by founds
   pub full : length founds ≡ length job
 
--- a full book of the job of a certificate in which nothing is misplaced, whose entries come to the verdict
+-- a full book of the job of a certificate whose placement has no breach, whose entries have the
+-- verdict
 pub record IsFullOf (taken : Taken) (key_for : KeyFor) (certificate : Certificate) (workers : ℕ) (claimants by : List ℕ) (founds : List Found) (verdict : Verdict) : Type 0 where
   pub placed : IsLeast (Shows taken certificate) None
   pub job : List Content

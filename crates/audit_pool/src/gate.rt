@@ -1,12 +1,13 @@
-//! What a caller may do round each judging.
+//! A caller's hooks before and after each judging.
 
-/// Called by the worker that judges a lane, without the book's lock: other workers may be inside it at the same time. Its functions
-/// have to return, also where no thread can be started and the workers run one after another.
+/// Called by the worker that judges a lane, without the book's lock: other workers may be in it at
+/// the same time. Its functions must return, also if no thread can be started and the workers run
+/// one after another.
 pub trait Gate {
     /// Called before the lane of this number is judged.
     fn before(&self, lane: u32);
 
-    /// Called once it is judged, also where there was no memory for that.
+    /// Called once it is judged, also if memory ran out for that.
     fn after(&self, lane: u32);
 }
 

@@ -1,4 +1,4 @@
-//! What the lanes are judged by, made by the workers.
+//! Builds the inputs of the lanes, by the workers.
 
 ghost use Rattle.std.specs.Prelude.{◌<◌, ◌≡◌, ℕ, IfOk, IfSome, IsSomeAnd, length, slice_get, slice_index_or};
 ghost use Rattle.audit_keys.specs.KeyFor.{key_for};
@@ -16,7 +16,7 @@ use std::sync::Arc;
 use std::thread;
 use std::thread::Threads;
 
-/// Puts what the lane of that number is judged by into its place, or None without memory.
+/// Stores the input of the lane of that number in its place, or None if memory runs out.
 fn put_input<'a>(
     alloc: Global,
     intake: &'a Intake,
@@ -37,7 +37,7 @@ fn put_input<'a>(
     };
 }
 
-/// As many places as there are lanes, with nothing in them.
+/// One empty place for each lane.
 fn places<'a>(alloc: Global, lanes: usize) -> Result<Vec<Option<Arc<LaneInput<'a>>>>, AllocError>
     ensures { IfOk result (λ places. length places.items ≡ lanes) }
 {
@@ -48,7 +48,8 @@ fn places<'a>(alloc: Global, lanes: usize) -> Result<Vec<Option<Arc<LaneInput<'a
     Ok(places)
 }
 
-/// Puts what each lane is judged by into its place, or None without memory, by so many threads at the most.
+/// Stores the input of each lane in its place, or None if memory runs out, by at most `workers`
+/// threads.
 fn put_inputs<'a, R: Threads + Sync>(
     rt: &R,
     alloc: Global,
@@ -72,7 +73,8 @@ fn put_inputs<'a, R: Threads + Sync>(
     );
 }
 
-/// What each lane of a certificate is judged by, where placement has no breach: the same as `audit_glue::job`, made by so many threads at the most.
+/// The inputs of a certificate's lanes, if placement has no breach: the same as `audit_glue::job`,
+/// by at most `workers` threads.
 pub fn job_by<'a, R: Threads + Sync>(
     rt: &R,
     alloc: Global,

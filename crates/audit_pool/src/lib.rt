@@ -1,4 +1,5 @@
-//! The verdict by many workers: threads that judge lanes, and enter their findings into one book.
+//! Checks a certificate by many workers: threads that judge lanes, and enter their findings into
+//! one book.
 #![tactic(auto)]
 
 mod gate;

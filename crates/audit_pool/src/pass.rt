@@ -27,11 +27,12 @@ use std::thread::Threads;
 #[derive(Drop)]
 pub struct Judged<'a> {
     pub verdict: Verdict,
-    /// None where placement has a breach, and where the workers had no memory.
+    /// None if placement has a breach, or memory ran out for the workers.
     pub closed: Option<Closed<'a>>,
 }
 
-/// The verdict that the parts come to: placement first, then the lanes, by the workers, or by this thread where they had no memory.
+/// The verdict of the parts: placement first, then the lanes, by the workers, or by this thread if
+/// memory ran out for them.
 fn verdict_of_parts<'a, R: Threads + Wait + Sync, G: Gate + Sync>(
     rt: &R,
     alloc: Global,
@@ -65,7 +66,7 @@ fn verdict_of_parts<'a, R: Threads + Wait + Sync, G: Gate + Sync>(
     )?;
     let job = Arc::new(alloc, job)?;
     let filled = full_book(rt, alloc, &job, workers, gate);
-    // The memory of the job may be wanted.
+    // Frees the memory of the job, which may be needed.
     drop(job);
     let Ok(closed) = filled else {
         let verdict = check(alloc, intake, credentials, certificate)?;
@@ -81,11 +82,13 @@ fn verdict_of_parts<'a, R: Threads + Wait + Sync, G: Gate + Sync>(
     })
 }
 
-/// The verdict of `check`, by 1 to 256 workers: each lane is judged by one of them, whichever claims it, and the verdict doesn't depend
-/// on which. Round each judging the worker calls the gate.
+/// The verdict of `check`, by 1 to 256 workers: each lane is judged by one of them, whichever
+/// claims it, and the verdict doesn't depend on which. Before and after each judging the worker
+/// calls the gate.
 ///
-/// Its `closed` has one entry for each lane. Where there is no memory for the book, or a worker has none for a lane, this thread judges
-/// every lane alone, and it fails where it has none either. Where no thread can be started, the workers run one after another.
+/// Its `closed` has one entry for each lane. If memory runs out for the book, or for a lane at a
+/// worker, this thread judges every lane alone, and fails if memory runs out for it too. If no
+/// thread can be started, the workers run one after another.
 pub fn check_parallel<'a, R: Threads + Wait + Sync, G: Gate + Sync>(
     rt: &R,
     alloc: Global,
@@ -96,13 +99,15 @@ pub fn check_parallel<'a, R: Threads + Wait + Sync, G: Gate + Sync>(
     gate: &G,
 ) -> Result<Judged<'a>, AllocError>
     requires { (0 < workers) × (workers ≤ 256) }
-    // The least breach of placement, or what the lanes come to.
+    // The least breach of placement, or the verdict of the lanes.
     ensures verdict { IfOk result (λ j. IsVerdict (taken intake.now) (key_for credentials.now) certificate.now j.verdict) }
-    // It conforms exactly where the certificate's one list of moves is a run of the server that explains the captures,
+    // It conforms exactly if the certificate's one list of moves is a run of the server that
+    // explains the captures,
     ensures conforming { IfOk result (λ j. IsConforming j.verdict ↔ Conforms (taken intake.now) (rules_for (taken intake.now) (key_for credentials.now)) certificate.now) }
     // and then the headline holds.
     ensures headline { IfOk result (λ j. IsConforming j.verdict → Headline (taken intake.now) (key_for credentials.now) certificate.now) }
-    // A closed book is of so many seats, has an entry for each lane of the certificate's job, and comes to the verdict.
+    // A closed book has this number of seats and an entry for each lane of the certificate's job,
+    // and its entries have the verdict.
     ensures closed { IfOk result (λ j. IfSome j.closed (λ c. IsFullOf (taken intake.now) (key_for credentials.now) certificate.now workers c.claimants.items c.seats.items c.entries.items j.verdict)) }
 {
     sightings_are_numbered(intake);

@@ -15,7 +15,7 @@ use std::sync::{Arc, Wait};
 use std::thread;
 use std::thread::Threads;
 
-/// What the workers share.
+/// The data that the workers share.
 #[derive(Drop)]
 struct Work<'r, 'w, 'a, E: Audit, R, G> {
     rt: &'r R,
@@ -27,7 +27,8 @@ struct Work<'r, 'w, 'a, E: Audit, R, G> {
 }
 
 impl<'r, 'w, 'a, E: Audit, R: Wait, G: Gate> Work<'r, 'w, 'a, E, R, G> {
-    /// Claims, judges and enters until no lane is left, or memory runs out: of the lanes that it claims, at most the last has no entry of its own.
+    /// Claims, judges and enters until no lane is left, or memory runs out: of the lanes that it
+    /// claims, at most the last has no entry of its own.
     fn run(&self, mut seat: Seat<E>) -> Seat<E>
         ensures number { result.number ≡ seat.number }
         ensures entered { result.claims + length seat.receipts ≤ length result.receipts + seat.claims + 1 }
@@ -43,7 +44,7 @@ impl<'r, 'w, 'a, E: Audit, R: Wait, G: Gate> Work<'r, 'w, 'a, E, R, G> {
         seat
     }
 
-    /// Judges a lane without the lock and enters its finding; none for want of memory.
+    /// Judges a lane without the lock and enters its finding; none if memory runs out.
     fn judge(&self, lane: u32, seat: &mut Seat<E>) -> Option<Receipt>
         requires { lane < length E.inputs }
         ensures some { IfSome result (λ r. (seat.new ≡ with_receipt seat.old r) × (r.lane ≡ lane)) }
@@ -62,7 +63,8 @@ impl<'r, 'w, 'a, E: Audit, R: Wait, G: Gate> Work<'r, 'w, 'a, E, R, G> {
     }
 }
 
-/// The closed book of this many workers. It fails without memory for the book, or for the workers' threads.
+/// The closed book of this many workers. It fails if memory runs out for the book, or for the
+/// workers' threads.
 fn closed_book<'r, 'a, E: Audit + Send + Sync, R: Threads + Wait + Sync, G: Gate + Sync>(
     rt: &'r R,
     alloc: Global,
@@ -94,7 +96,8 @@ fn closed_book<'r, 'a, E: Audit + Send + Sync, R: Threads + Wait + Sync, G: Gate
     Ok(closed)
 }
 
-/// The closed book that 1 to 256 workers filled, each lane judged by one of them. It fails without memory for the book or for a lane.
+/// The closed book that 1 to 256 workers filled, each lane judged by one of them. It fails if
+/// memory runs out for the book or for a lane.
 pub fn full_book<'a, R: Threads + Wait + Sync, G: Gate + Sync>(
     rt: &R,
     alloc: Global,

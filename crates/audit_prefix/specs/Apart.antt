@@ -1,5 +1,5 @@
--- The server, where the departures that were given and those that are owed are kept for each lane apart: two lanes may have given one
--- departure, as long as it hasn't left.
+-- The server with sent and owed departures separate for each lane: two lanes may have sent one
+-- departure, while it hasn't left.
 use Rattle.std.specs.Prelude.{ℕ, ◌==◌, Bool, false, Option, None, List, [], ◌∷◌}
 use Rattle.audit_model.specs.declared.sighting.SightId.{SightId}
 use Rattle.audit_rules.specs.Allocation.{Allocation}
@@ -26,7 +26,7 @@ found_by lane st = record { table = st.table; waiting = st.waiting; owed = st.ow
 abbrev pub same_lane : ℕ → ℕ → Bool
 same_lane one other = one == other
 
--- and as a step leaves it that was one of the lane's
+-- and after a step of the lane
 abbrev pub with_lane : Shared → ℕ → State → Shared
 with_lane st lane own = record {
   table = own.table;
@@ -39,7 +39,7 @@ with_lane st lane own = record {
 abbrev pub stepped : Rules → Shared → Placed → Shared
 stepped w st e = with_lane st e.at.lane (after w (found_by e.at.lane st) (step_of e))
 
--- each step may come where the steps before it lead
+-- each step may come in the state after the steps before it
 abbrev pub RunsApart : Rules → Shared → List Placed → Type 0
 RunsApart w st [] = Unit {0}
 RunsApart w st (e ∷ es) = Allowed w (found_by e.at.lane st) (step_of e) × RunsApart w (stepped w st e) es

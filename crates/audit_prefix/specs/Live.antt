@@ -1,4 +1,4 @@
--- What a live audit stands for while captures grow, and what an advance makes of it.
+-- The state of a live audit while captures grow, and the effect of an advance.
 use Rattle.std.specs.Prelude.{ℕ, ◌≡◌, ◌≤◌, List, [], ◌∷◌, Option, Some, None, IfSome, length}
 use Rattle.audit_model.specs.declared.certificate.Certificate.{Certificate}
 use Rattle.audit_model.specs.declared.extension.Extension.{Extension}
@@ -16,7 +16,7 @@ use Rattle.audit_prefix.specs.Told.{LiveBreach}
 use Rattle.audit_prefix.specs.Walk.{nothing_yet, remembered_all}
 use Rattle.std.specs.Prelude.{◌+◌}
 
--- what was taken in, what all extensions so far make, and the last horizon
+-- the intake, the certificate of all extensions so far, and the last horizon
 pub record Standing : Type 0 where
   pub taken : Taken
   pub certificate : Certificate
@@ -32,7 +32,7 @@ abbrev pub owed_in : Taken → KeyFor → List (List Placed) → ℕ
 owed_in taken key_for [] = 0
 owed_in taken key_for (lane ∷ lanes) = length (remembered_all (rules_for taken key_for) nothing_yet lane).owing + owed_in taken key_for lanes
 
--- no breach is told of what it has, and all stands at the last horizon
+-- it has no breach, and everything is at or before the last horizon
 pub record IsGoing (key_for : KeyFor) (live : Standing) : Type 0 where
   pub none : LiveBreach live.taken key_for live.certificate None
   pub by_last : StandsByLast live.last live.certificate
@@ -60,14 +60,15 @@ pub record Shows (key_for : KeyFor) (live : Standing) (extension : Extension) (f
   pub extends : Extends live.certificate extension certificate
   pub told : LiveBreach live.taken key_for certificate found
 
--- what an advance makes that is accepted
+-- the state after an accepted advance
 pub record Advances (key_for : KeyFor) (old : Standing) (horizon : ℕ) (extension : Extension) (new : Standing) : Type 0 where
   pub taken : new.taken ≡ old.taken
   pub last : new.last ≡ Some horizon
   pub extends : Extends old.certificate extension new.certificate
   pub none : LiveBreach new.taken key_for new.certificate None
 
--- what an accepted advance tells: the horizon, what is placed, the lanes, and what is owed
+-- the progress that an accepted advance returns: the horizon, and how many sightings are placed,
+-- lanes exist and departures are owed
 pub record IsProgress (key_for : KeyFor) (live : Standing) (horizon placed lanes owed : ℕ) : Type 0 where
   pub at : live.last ≡ Some horizon
   pub placed_are : placed ≡ placing_count (entries live.certificate)

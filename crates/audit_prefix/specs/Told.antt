@@ -1,4 +1,4 @@
--- Which breach is told of a certificate as it stands, and which verdict is given at the end.
+-- The breach of a certificate so far, and the verdict at the end.
 use Rattle.std.specs.Prelude.{◌≡◌, ◌⊎◌, List, [], ◌∷◌, Option, Some, None, Contains}
 use Rattle.audit_model.specs.declared.certificate.Certificate.{Certificate}
 use Rattle.audit_model.specs.declared.verdict.Breach.{Breach}
@@ -16,7 +16,7 @@ use Rattle.audit_model.specs.declared.verdict.Tenancy.{Tenancy}
 use Rattle.audit_prefix.specs.Turn.{Turn, turns_of}
 use Rattle.audit_prefix.specs.Walk.{nothing_yet, remembered_all, Walks, end_of}
 
--- what is found, and only where it is none what else is
+-- the first result, or else the second
 abbrev pub OrElse : Option Breach → (Option Breach → Type 0) → Option Breach → Type 0
 OrElse (Some first) Else found = found ≡ Some first
 OrElse None Else found = Else found
@@ -40,7 +40,7 @@ ForEach Outcome (lane ∷ lanes) [] = ⊥
 ForEach Outcome (lane ∷ lanes) (found ∷ others) = Outcome lane found × ForEach Outcome lanes others
 
 module _ (taken : Taken) (key_for : KeyFor) where
-  -- how far the lane has come, whatever it owes
+  -- the outcome of the lane's walk so far, whatever it owes
   abbrev pub OutcomeSoFar : List Placed → Option Breach → Type 0
   OutcomeSoFar lane found = Walks taken key_for nothing_yet lane found
 
@@ -52,22 +52,24 @@ module _ (taken : Taken) (key_for : KeyFor) where
   abbrev pub Outcome : List Placed → Option Breach → Type 0
   Outcome lane found = ((breach : Breach) × OutcomeSoFar lane (Some breach) × (found ≡ Some breach)) ⊎ (OutcomeSoFar lane None × OutcomeOfEnd lane found)
 
-  -- the breach of the certificate as it stands: sightings that are placed nowhere yet and departures that are owed are none
+  -- the breach of the certificate so far: sightings that aren't placed yet and departures that are
+  -- owed are none
   abbrev pub LiveBreach : Certificate → Option Breach → Type 0
   LiveBreach certificate found = InPhases (ShowsPlaced taken certificate) (ForEach OutcomeSoFar (lanes_from 0 certificate.lanes)) (ShowsClash (all_tenancies (rules_for taken key_for) (lanes_from 0 certificate.lanes))) found
 
-  -- the breach by which the certificate doesn't conform: none where it does
+  -- the breach by which the certificate doesn't conform, if there is one
   abbrev pub IsVerdict : Certificate → Option Breach → Type 0
   IsVerdict certificate found = InPhases (Shows taken certificate) (ForEach Outcome (lanes_from 0 certificate.lanes)) (ShowsClash (all_tenancies (rules_for taken key_for) (lanes_from 0 certificate.lanes))) found
 
-  -- what is left to be asked at the end: the least sighting that is placed nowhere, or else the least act whose departure never left
+  -- the checks at the end: the least sighting that isn't placed, or else the least act whose
+  -- departure never left
   abbrev pub LeftAtTheEnd : Certificate → Option Breach → Type 0
   LeftAtTheEnd certificate found =
       (first : Option Breach) × IsLeast (ShowsAnUnplaced taken certificate) first × OrElse first (LeastOf (ForEach OutcomeOfEnd (lanes_from 0 certificate.lanes))) found
 
   -- ---- of a turn
 
-  -- the first breach that a lane's walk meets, from what the lane remembers
+  -- the first breach that a lane's walk meets, from the state of the lane
   abbrev pub OutcomeOfTurn : Turn → Option Breach → Type 0
   OutcomeOfTurn turn found = Walks taken key_for (remembered_all (rules_for taken key_for) nothing_yet turn.before) turn.more found
 
@@ -77,6 +79,7 @@ module _ (taken : Taken) (key_for : KeyFor) where
   ForEachTurn (turn ∷ turns) [] = ⊥
   ForEachTurn (turn ∷ turns) (found ∷ others) = OutcomeOfTurn turn found × ForEachTurn turns others
 
-  -- what a turn shows: of the certificate with the extension by its placement, of each lane by its new events, and of the tenancies by those that are asked
+  -- the breach of a turn: of the placement of the certificate with the extension, of each lane's
+  -- new events, and of the tenancies that are checked
   abbrev pub TurnTells : Certificate → Extension → Certificate → List Tenancy → Option Breach → Type 0
   TurnTells old extension new asked found = InPhases (ShowsPlaced taken new) (ForEachTurn (turns_of old extension)) (ShowsClash asked) found

@@ -1,4 +1,5 @@
--- How a lane is judged by itself, event by event: what it remembers of the events so far, when it goes on, and which rule an event breaks.
+-- How a lane is judged by itself, event by event: its state after the events so far, when it goes
+-- on, and which rule an event breaks.
 use Rattle.std.specs.Prelude.{ℕ, ◌≡◌, ◌≤◌, ◌<◌, ◌⊎◌, Bool, true, false, not, ◌||◌, if◌then◌else◌, List, [], ◌∷◌, ◌++◌, Option, Some, None, is_some, IsSomeAnd}
 use Rattle.std.specs.List.{filter}
 use Rattle.std.specs.Bool.{MatchBool}
@@ -26,14 +27,15 @@ use Rattle.audit_server.specs.Tenancies.{running, ended}
 use Rattle.audit_server.specs.Captured.{situation_at}
 use Rattle.audit_whole.specs.CaptureRun.{rules_for}
 
--- an act, its arrival, and the departure that it gave
+-- an act, its arrival, and the departure that it sent
 pub record Owing : Type 0 where
   pub at : At
   pub sight : SightId
   pub gives : SightId
 
--- What a lane remembers: when each arrival came in first; which of them were acted on; for each departure that an act gave, when the act's
--- arrival came in; the acts whose departures haven't left, in order; what the client has, and the tenancy of that; and those that ended.
+-- The state of a lane: when each arrival first came; which of them were acted on; for each
+-- departure that an act sent, when the act's arrival came; the acts whose departures haven't left,
+-- in order; the client's allocation and its tenancy; and the ended tenancies.
 pub record Memory : Type 0 where
   pub came : SightId → Option ℕ
   pub taken : SightId → Bool
@@ -66,7 +68,7 @@ owing_after m at (In s) = m.owing
 owing_after m at (Act c s t) = m.owing ++ record { at = at; sight = s; gives = t } ∷ []
 owing_after m at (Out t) = filter (λ (o : Owing). not (same_sight t o.gives)) m.owing
 
--- what it remembers after an event more
+-- the state after one more event
 abbrev pub remembered : Rules → Memory → Placed → Memory
 remembered w m e = record {
   came = came_after m e.at.key.moment e.move;
@@ -82,7 +84,7 @@ abbrev pub remembered_all : Rules → Memory → List Placed → Memory
 remembered_all w m [] = m
 remembered_all w m (e ∷ es) = remembered_all w (remembered w m e) es
 
--- what came in may be acted on now, and what it gave may leave now
+-- what arrived may be acted on now, and what was sent for it may leave now
 abbrev pub IsInTime : ℕ → Option ℕ → ℕ → Type 0
 IsInTime hold came moment = IsSomeAnd came (λ m. moment ≤ later m hold)
 
@@ -100,7 +102,7 @@ module _ (taken : Taken) (key_for : KeyFor) where
   abbrev pub rules : Rules
   rules = rules_for taken key_for
 
-  -- the first rule of the answer that it breaks
+  -- the first rule of the act's case that it breaks
   abbrev pub BreaksAnswer : Pair → ℕ → Option Allocation → Option Sighting → Option Sighting → Rule → Type 0
   BreaksAnswer c moment x None leaves rule = ⊥
   BreaksAnswer c moment x (Some arrives) None rule = ⊥
@@ -132,7 +134,7 @@ module _ (taken : Taken) (key_for : KeyFor) where
   abbrev pub lane_breach : At → SightId → Rule → Breach
   lane_breach at sight rule = record { at = at; sight = sight; rule = rule; phase = 2 }
 
-  -- what the walk of events meets first: none, or the breach of the first that breaks a rule
+  -- the outcome of the walk: none, or the breach of the first event that breaks a rule
   abbrev pub Walks : Memory → List Placed → Option Breach → Type 0
   Walks m [] found = found ≡ None
   Walks m (e ∷ es) found =

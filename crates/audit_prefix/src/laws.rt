@@ -1,4 +1,4 @@
-//! What holds of every certificate that grows, by the definitions alone. No program calls these.
+//! Properties of every certificate that grows, by the definitions alone. No program calls these.
 
 ghost use Rattle.std.specs.Prelude.{◌≡◌, ◌≢◌, ◌↔◌, ◌<◌, ◌≤◌, ◌++◌, ℕ, List, [], Option, Some, None, Contains, IfSome, option_to_list};
 ghost use Rattle.std.specs.List.{AllByRecursion};
@@ -27,26 +27,27 @@ ghost use Rattle.audit_prefix.specs.Told.{LiveBreach, IsVerdict, LeftAtTheEnd, T
 ghost use Rattle.audit_prefix.specs.Turn.{turns_of, fresh, AreEnough, HoldsOn, Covers, Turn, whole, fresh_in, runs_after, KnowsHolders, NotesHolders};
 ghost use Rattle.audit_prefix.specs.Walk.{nothing_yet, remembered_all, Walks, HaveBytes};
 
-/// What passes so far is the front of a run that explains the captures.
+/// A certificate that passes so far is a prefix of a run that explains the captures.
 pub fn front_of_a_run()
     ensures { (taken : Taken) (key_for : KeyFor) (certificate : Certificate) (horizon : ℕ) → AreNumbered taken →
         PassesSoFar taken (rules_for taken key_for) certificate → StandsBy horizon certificate → IsPrefix taken (rules_for taken key_for) certificate horizon }
 {}
 
-/// A lane goes on where its new events go on from the state that the old ones led to.
+/// A lane goes on if its new events go on from the state after the old ones.
 pub fn lane_goes_on()
     ensures { (taken : Taken) (key_for : KeyFor) (before more : List Placed) (st : State) →
         Runs (rules_for taken key_for) st (before ++ more) ↔ (Runs (rules_for taken key_for) st before × Runs (rules_for taken key_for) (led (rules_for taken key_for) st before) more) }
 {}
 
-/// What went on by the sightings of an intake goes on, to the same state, as the intake grows.
+/// Events that go on by the sightings of an intake go on, to the same state, as the intake grows.
 pub fn sightings_to_come_change_nothing()
     ensures { (before now : Taken) (key_for : KeyFor) (events : List Placed) (st : State) → Stays before now →
         Runs (rules_for before key_for) st events → Runs (rules_for now key_for) st events × (led (rules_for now key_for) st events ≡ led (rules_for before key_for) st events) }
 {}
 
-/// After an extension that comes past the last horizon, those of the tenancies that end in it or run on are enough to be asked for
-/// clashes: of these, those that are born in it, and those with their address that are not over at the last horizon.
+/// After an extension that comes past the last horizon, it is enough to check for clashes the
+/// tenancies that end in it or are current after it: those that are born in it, and those with
+/// their address that have not expired at the last horizon.
 pub fn enough_are_asked()
     ensures { (taken : Taken) (key_for : KeyFor) (old : Certificate) (extension : Extension) (new : Certificate) (last : ℕ) (asked : List Tenancy) →
         Extends old extension new → StandsBy last old → OfMoments (λ moment. last < moment) extension → EachGoes (rules_for taken key_for) (lanes_from 0 new.lanes) →
@@ -55,45 +56,47 @@ pub fn enough_are_asked()
         (breach : Breach) → ShowsClash (all_tenancies (rules_for taken key_for) (lanes_from 0 new.lanes)) breach ↔ ShowsClash asked breach }
 {}
 
-/// And all stands at the new horizon at the latest.
+/// And everything is at or before the new horizon.
 pub fn stands_by_the_horizon()
     ensures { (old : Certificate) (extension : Extension) (new : Certificate) (horizon : ℕ) → Extends old extension new → StandsBy horizon old →
         OfMoments (λ moment. moment ≤ horizon) extension → StandsBy horizon new }
 {}
 
-/// No breach is told of a certificate as it stands exactly where all passes so far.
+/// A certificate so far has no breach exactly if everything passes so far.
 pub fn none_told()
     ensures { (taken : Taken) (key_for : KeyFor) (certificate : Certificate) → AreNumbered taken →
         LiveBreach taken key_for certificate None ↔ PassesSoFar taken (rules_for taken key_for) certificate }
 {}
 
-/// Where no breach is told of a certificate without skews as it stands, the verdict is what is left to be asked at the end.
+/// If a certificate without skews has no breach so far, the verdict is that of the checks at the
+/// end.
 pub fn verdict_at_the_end()
     ensures { (taken : Taken) (key_for : KeyFor) (certificate : Certificate) (found : Option Breach) → AreNumbered taken → certificate.skews ≡ [] →
         LiveBreach taken key_for certificate None → LeftAtTheEnd taken key_for certificate found → IsVerdict taken key_for certificate found }
 {}
 
-/// The verdict is no breach exactly where all passes.
+/// The verdict is no breach exactly if everything passes.
 pub fn conforming()
     ensures { (taken : Taken) (key_for : KeyFor) (certificate : Certificate) → AreNumbered taken →
         IsVerdict taken key_for certificate None ↔ Passes taken (rules_for taken key_for) certificate }
 {}
 
-/// Where no breach is told, none is told as the intake grows.
+/// If there is no breach, there is none as the intake grows.
 pub fn none_told_later()
     ensures { (before now : Taken) (key_for : KeyFor) (certificate : Certificate) → AreNumbered before → AreNumbered now → Stays before now →
         LiveBreach before key_for certificate None → LiveBreach now key_for certificate None }
 {}
 
-/// Of two tenancies of one address that go on after the horizon, and neither is over, both are of one lane.
+/// If two tenancies of one address go on after the horizon, and neither has expired, both are of
+/// one lane.
 pub fn one_holder()
     ensures { (tenancies : List Tenancy) (horizon : ℕ) (one other : Tenancy) → ((breach : Breach) → ¬ ShowsClash tenancies breach) →
         Contains tenancies one → Contains tenancies other → HoldsOn horizon one → HoldsOn horizon other → one.relayed ≡ other.relayed → one.born.lane ≡ other.born.lane }
 {}
 
-/// Where no breach was told before, an extension that comes past the last horizon needs to be asked for itself alone: its placement,
-/// its events behind what their lanes remember, and its tenancies with those that may clash with them. What these show is the breach
-/// of the whole.
+/// If there was no breach before, it is enough to check an extension that comes past the last
+/// horizon by itself: its placement, its events after the state of their lanes, and its tenancies
+/// with those that may clash with them. The result is the breach of the whole certificate.
 pub fn breach_of_a_turn()
     ensures { (taken : Taken) (key_for : KeyFor) (old : Certificate) (extension : Extension) (new : Certificate) (last : Option ℕ) (asked : List Tenancy) (found : Option Breach) → AreNumbered taken →
         Extends old extension new → StandsByLast last old → OfMoments (λ moment. IfSome last (λ before. before < moment)) extension → LiveBreach taken key_for old None →
@@ -101,8 +104,8 @@ pub fn breach_of_a_turn()
         TurnTells taken key_for old extension new asked found → LiveBreach taken key_for new found }
 {}
 
-/// A lane's tenancies are those that it remembers as ended, and the one that runs; the fresh ones of a turn are those that ended since,
-/// and the one that runs.
+/// A lane's tenancies are the ended ones in its state and the current one; the fresh ones of a turn
+/// are those that ended in the turn and the current one.
 pub fn tenancies_remembered()
     ensures all { (taken : Taken) (key_for : KeyFor) (events : List Placed) →
         tenancies_in (rules_for taken key_for) events ≡ (remembered_all (rules_for taken key_for) nothing_yet events).ended ++ option_to_list (remembered_all (rules_for taken key_for) nothing_yet events).runs }
@@ -111,7 +114,7 @@ pub fn tenancies_remembered()
         fresh_in (rules_for taken key_for) turn ≡ since ++ option_to_list (remembered_all (rules_for taken key_for) nothing_yet (whole turn)).runs }
 {}
 
-/// What a live audit has that goes on is the front of a run, up to its last horizon.
+/// A live audit that goes on is a prefix of a run, up to its last horizon.
 pub fn live_front()
     ensures { (key_for : KeyFor) (live : Standing) → AreNumbered live.taken → IsGoing key_for live →
         IsPrefix live.taken (rules_for live.taken key_for) live.certificate (horizon_of live.last) }
@@ -123,15 +126,15 @@ pub fn live_goes_on()
         Advances key_for old horizon extension new → IsGoing key_for new }
 {}
 
-/// A tenancy that goes on is over where another lane is given its address later: so the one that was born last is the only one that can
-/// hold on.
+/// A tenancy that goes on has expired when its address is granted to another lane later: so only
+/// the tenancy that was born last can hold the address.
 pub fn over_before_the_next()
     ensures { (tenancies : List Tenancy) (one next : Tenancy) → ((breach : Breach) → ¬ ShowsClash tenancies breach) → Contains tenancies one → Contains tenancies next →
         one.relayed ≡ next.relayed → one.born.lane ≢ next.born.lane → Precedes one.born.key one.born.lane next.born.key next.born.lane → one.stopped ≡ None →
         one.last < next.born.key.moment }
 {}
 
-/// Where the lanes that hold addresses are noted as they are to be, the notes are right at the next horizon.
+/// If the holders of addresses are noted as defined, the notes are right at the next horizon.
 pub fn holders_stay_known()
     ensures { (taken : Taken) (key_for : KeyFor) (old : Certificate) (extension : Extension) (new : Certificate) (last horizon : ℕ) (noted then_noted : Addr → Option ℕ) →
         Extends old extension new → StandsBy last old → OfMoments (λ moment. last < moment) extension → StandsBy horizon new → last ≤ horizon → EachGoes (rules_for taken key_for) (lanes_from 0 new.lanes) →
@@ -140,7 +143,8 @@ pub fn holders_stay_known()
         (turn : Turn) → Contains (turns_of old extension) turn → KnowsHolders (rules_for taken key_for) horizon then_noted (whole turn) }
 {}
 
-/// Of lanes without events in a turn it is enough to ask those that are noted with the address of one that is born in it.
+/// Of lanes without events in a turn it is enough to check those that are noted for the address of
+/// a tenancy born in it.
 pub fn noted_holders_are_enough()
     ensures { (taken : Taken) (key_for : KeyFor) (last : ℕ) (turns : List Turn) (noted : Addr → Option ℕ) (asked : List Tenancy) →
         AllByRecursion (λ (turn : Turn). KnowsHolders (rules_for taken key_for) last noted turn.before) turns →
@@ -150,13 +154,14 @@ pub fn noted_holders_are_enough()
         Covers (rules_for taken key_for) (Some last) turns asked }
 {}
 
-/// A walk has one outcome: what may come breaks no rule, and the first rule that is broken is one.
+/// A walk has one outcome: an event that may come breaks no rule, and the first broken rule is
+/// unique.
 pub fn one_outcome()
     ensures { (taken : Taken) (key_for : KeyFor) (events : List Placed) (one other : Option Breach) → HaveBytes taken →
         Walks taken key_for nothing_yet events one → Walks taken key_for nothing_yet events other → one ≡ other }
 {}
 
-/// A live audit goes on that has nothing yet.
+/// A live audit with an empty certificate goes on.
 pub fn live_begins()
     ensures { (key_for : KeyFor) (live : Standing) → AreNumbered live.taken → live.certificate.lanes ≡ [] → live.certificate.drops ≡ [] → live.last ≡ None → IsGoing key_for live }
 {}

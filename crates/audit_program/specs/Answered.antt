@@ -1,4 +1,4 @@
--- What a request comes to, from the bytes of its files to what is written and the status.
+-- The result of a request, from the bytes of its files to what is written and the status.
 use Rattle.std.specs.Prelude.{◌≡◌, ◌⊎◌, ℕ, Bool, List, [], Option, Some, Ok, Err, Result, IfNone, IfSome, MatchResult, OnOk, length, string_bytes}
 use Rattle.std.specs.List.{AllZip}
 use Rattle.audit_cert.specs.CertText.{cert_of}
@@ -19,7 +19,7 @@ use Rattle.audit_program.specs.Watched.{EndsLive, IsWatched}
 use Rattle.audit_program.specs.Words.{Asks, turnaudit}
 use Rattle.clap.specs.Words.{Text, fault_of, subcommand_of}
 
--- the policy and the users that are named have these texts; where no users are named there are none
+-- the policy and the users that are named have these texts; if no users are named there are none
 pub record HaveTexts (holds : List ℕ → Option (List ℕ)) (inputs : Inputs) (policy users : List ℕ) : Type 0 where
   pub policy' : holds inputs.policy.now ≡ Some policy
   pub users' : IfSome inputs.credentials (λ name. holds name.now ≡ Some users)
@@ -42,11 +42,11 @@ pub record Failures : Type 0 where
   pub said_before : Option ℕ
   pub said_after : Option ℕ
 
--- nothing was said on standard error
+-- nothing was written to standard error
 abbrev pub IsSilent : Streams → Type 0
 IsSilent streams = streams.said_after ≡ streams.said_before
 
--- What the finder finds of what these files' bytes say was written, by its one spelling.
+-- The finder's certificate for the captures in these files' bytes was written, by its one spelling.
 pub record IsWritten (finds : Taken → Certificate → Type 0) (policy users : List ℕ) (captures : List (List ℕ)) (before after : Option (List ℕ)) (status : ℕ) : Type 0 where
   pub taken : Taken
   pub key_for : KeyFor
@@ -57,13 +57,16 @@ pub record IsWritten (finds : Taken → Certificate → Type 0) (policy users : 
   pub told : status ≡ 0
 
 module _ (holds : List ℕ → Option (List ℕ)) (may_fail : List ℕ → Bool) (given reads : ℕ → Option (List ℕ)) (finds : Taken → Certificate → Type 0) (streams : Streams) (failures : Failures) where
-  -- what ends a command before its answer: the first of its files that can't be read or is refused, in their order, or standard output
+  -- what ends a command before its answer: the first of its files that can't be read or is refused,
+  -- in their order, or standard output
   abbrev pub EndsRequest : (Stop → Type 0) → Stop → Type 0
   EndsRequest Ends stop = Ends stop ⊎ EndsWriting failures.before failures.after stop
 
-  -- Each command is its own: `check` reports the verdict by the certificate that is named, `audit` by one that is found, `live` that on what the
-  -- captures gave; `find` writes what is found by its one spelling; a page of help, or the line of the release, goes to standard output alone, and what is no
-  -- request to standard error alone, with status 5. What ends one before that is a fault of its files, the first in their order, or of what is written to.
+  -- Each command has its own answer: `check` reports the verdict by the certificate that is named,
+  -- `audit` by one that is found, `live` that on the bytes that were read of the captures; `find`
+  -- writes what is found by its one spelling; a page of help, or the line of the release, goes to
+  -- standard output alone, and a usage error to standard error alone, with status 5. What ends a
+  -- command before that is a fault of its files, the first in their order, or of its outputs.
   abbrev pub Answers : Request → Result ℕ Stop → Type 0
   Answers (Check inputs certificate workers) done =
       IsSilent streams × ((policy users text : List ℕ) (captures : List (List ℕ)) → HaveTexts holds inputs policy users → HaveCaptures holds inputs captures → holds certificate.now ≡ Some text →
@@ -88,12 +91,13 @@ module _ (holds : List ℕ → Option (List ℕ)) (may_fail : List ℕ → Bool)
   Answers (Usage text) done =
       (streams.after ≡ streams.before) × MatchResult done (λ status. (status ≡ 5) × (streams.said_after ≡ followed_by streams.said_before (string_bytes text))) (EndsWriting failures.said_before failures.said_after)
 
--- the exit status of an answer, or of what stopped it
+-- the exit status of an answer, or of its failure
 abbrev pub status_told : Result ℕ Stop → ℕ
 status_told (Ok status) = status
 status_told (Err stop) = status_of_stop stop
 
--- The request is what the arguments are, and was answered; a line about what stopped it may follow on standard error. Or there was no memory for the words.
+-- The request is that of the arguments, and was answered; a line about the failure may follow on
+-- standard error. Or memory ran out for the arguments.
 abbrev pub IsRun : List Text → (List ℕ → Option (List ℕ)) → (List ℕ → Bool) → (ℕ → Option (List ℕ)) → (ℕ → Option (List ℕ)) → (Taken → Certificate → Type 0) → Streams → Option ℕ → Option ℕ → Option ℕ → ℕ → Type 0
 IsRun words holds may_fail given reads finds streams before after said_before status =
     ((request : Request) × Asks (subcommand_of turnaudit words) (fault_of turnaudit words) request × (done : Result ℕ Stop) × (said : Option (List ℕ)) × (said_after : Option ℕ)

@@ -1,4 +1,4 @@
--- What the verdict by one certificate tells of all certificates.
+-- What the verdict by one certificate implies for all certificates.
 use Rattle.audit_model.specs.declared.certificate.Certificate.{Certificate}
 use Rattle.audit_rules.specs.Keys.{KeyFor}
 use Rattle.audit_sightings.specs.Intake.{Taken}
@@ -7,7 +7,7 @@ use Rattle.audit_whole.specs.Conforms.{Conforms}
 use Rattle.audit_program.specs.declared.outlook.Outlook.{Outlook}
 use Rattle.audit_program.specs.declared.outlook.Outlook.TheVariants.{Decided, DecidedBehind, Open}
 
--- where any certificate explains the captures, this one does
+-- if any certificate explains the captures, this one does
 abbrev pub Decides : Taken → KeyFor → Certificate → Type 0
 Decides taken key_for found = (other : Certificate) → Conforms taken (rules_for taken key_for) other → Conforms taken (rules_for taken key_for) found
 

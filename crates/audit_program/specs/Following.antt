@@ -1,4 +1,4 @@
--- What is known of an audit while it follows the captures.
+-- The invariant of an audit while it follows the captures.
 use Rattle.std.specs.Prelude.{◌≡◌, ◌≢◌, ◌<◌, [], ℕ, List, Option, None, Some, Ok, IfSome, length, vec_len}
 use Rattle.audit_files.specs.Judged.{AreUsers}
 use Rattle.audit_keys.specs.KeyFor.{key_for}
@@ -16,11 +16,11 @@ use Rattle.audit_live.specs.Audit.{Audit}
 use Rattle.audit_program.specs.declared.live.Turn.{Turn}
 use Rattle.audit_program.specs.declared.live.Turn.TheVariants as turns
 
--- what is known of the bytes that were given of each file is what it was fed
+-- each file was fed the bytes that were read of it, as far as these are known
 abbrev pub WereGiven : (ℕ → Option (List ℕ)) → List Fed → Type 0
 WereGiven given files = (file : ℕ) → file < length files → IfSome (given file) (λ bytes. (fed_at files file).text ≡ bytes)
 
--- the intake took in what was given of the captures
+-- the intake has the bytes that were read of the captures
 pub record TookIn (given : ℕ → Option (List ℕ)) (intake : Intake) : Type 0 where
   pub files : List Fed
   pub stands : StandsFor intake files
@@ -30,7 +30,8 @@ pub record TookIn (given : ℕ → Option (List ℕ)) (intake : Intake) : Type 0
 abbrev pub NoneRefused : Audit → Type 0
 NoneRefused live = (fault : IntakeFault) → live.ended ≢ Some (Refused fault)
 
--- Bytes of a capture were refused. Before them these were taken in of each capture, and then came this piece, which shows the capture's first fault.
+-- Bytes of a capture were refused. These were fed of each capture before, and then came this piece,
+-- which shows the capture's first fault.
 pub record WereRefused (given : ℕ → Option (List ℕ)) (policy : Policy) (fault : IntakeFault) : Type 0 where
   pub before : List Fed
   pub piece : List ℕ
@@ -42,12 +43,12 @@ pub record WereRefused (given : ℕ → Option (List ℕ)) (policy : Policy) (fa
 abbrev pub ShowsItsRefusal : (ℕ → Option (List ℕ)) → Audit → Type 0
 ShowsItsRefusal given live = (fault : IntakeFault) → live.ended ≡ Some (Refused fault) → WereRefused given live.intake.policy fault
 
--- a breach that ended it is told of the certificate
+-- a breach that ended it is one of the certificate
 abbrev pub ShowsItsBreach : Audit → Type 0
 ShowsItsBreach live = (breach : Breach) → live.ended ≡ Some (Broke breach) → LiveBreach (taken live.intake) (key_for live.credentials) live.front.placing.certificate (Some breach)
 
--- It has the policy and the users of two texts, and so many captures; a breach that ended it is told of its certificate; and unless bytes
--- were refused it took in all that was given.
+-- It has the policy and the users of two texts, and this number of captures; a breach that ended it
+-- is one of its certificate; and unless bytes were refused its intake has all bytes that were read.
 pub record Follows (policy users : List ℕ) (count : ℕ) (given : ℕ → Option (List ℕ)) (live : Audit) : Type 0 where
   pub policy' : policy_of policy ≡ Ok live.intake.policy
   pub users' : AreUsers users (key_for live.credentials)
@@ -60,7 +61,7 @@ pub record Follows (policy users : List ℕ) (count : ℕ) (given : ℕ → Opti
 abbrev pub Goes : List ℕ → List ℕ → ℕ → (ℕ → Option (List ℕ)) → Audit → Type 0
 Goes policy users count given live = (live.ended ≡ None) × Follows policy users count given live
 
--- it may have ended only where something was refused
+-- it may have ended only if something was refused
 abbrev pub LeftBy : Turn → List ℕ → List ℕ → ℕ → (ℕ → Option (List ℕ)) → Audit → Type 0
 LeftBy turns.Fed policy users count given live = Goes policy users count given live
 LeftBy turns.Quiet policy users count given live = Goes policy users count given live

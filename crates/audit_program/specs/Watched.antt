@@ -1,4 +1,4 @@
--- What the command `live` comes to, from the bytes that its captures gave to its report.
+-- The result of the command `live`, from the bytes that were read of its captures to its report.
 use Rattle.std.specs.Prelude.{◌≡◌, ◌<◌, ◌↔◌, ◌⊎◌, ℕ, Bool, List, Option, Some, Ok, Err, length}
 use Rattle.std.proofs.Common.{Bor}
 use Rattle.audit_files.specs.declared.stop.Stop.{Stop}
@@ -31,8 +31,8 @@ use Rattle.audit_program.specs.declared.command_line.Turns.{Turns}
 use Rattle.audit_program.specs.Following.{TookIn, WereRefused}
 use Rattle.audit_program.specs.Reads.{AreReadOut}
 
--- The captures were read out; each ended after a whole block; and this is the verdict by the certificate: conforming exactly if that explains
--- the sightings by one run of the server.
+-- The captures were read out; each ended after a whole block; and this is the verdict by the
+-- certificate: conforming exactly if that explains the sightings by one run of the server.
 pub record AtTheEnd (turns : Turns) (given reads : ℕ → Option (List ℕ)) (intake : Intake) (key_for : KeyFor) (certificate : Certificate) (verdict : Verdict) : Type 0 where
   pub took : TookIn given intake
   pub read_out : AreReadOut turns (taken intake).files reads
@@ -40,7 +40,8 @@ pub record AtTheEnd (turns : Turns) (given reads : ℕ → Option (List ℕ)) (i
   pub is : IsVerdict (taken intake) key_for certificate verdict
   pub conforming : IsConforming verdict ↔ Conforms (taken intake) (rules_for (taken intake) key_for) certificate
 
--- A turn broke a rule. Sightings without an event and departures that haven't left were no breach of it yet.
+-- A turn broke a rule. Sightings without an event and departures that haven't left were no breach
+-- yet.
 pub record OnTheWay (given : ℕ → Option (List ℕ)) (intake : Intake) (key_for : KeyFor) (certificate : Certificate) (verdict : Verdict) : Type 0 where
   pub took : TookIn given intake
   pub breach : Breach
@@ -50,8 +51,8 @@ pub record OnTheWay (given : ℕ → Option (List ℕ)) (intake : Intake) (key_f
 abbrev pub IsToldOf : Turns → (ℕ → Option (List ℕ)) → (ℕ → Option (List ℕ)) → Intake → KeyFor → Certificate → Verdict → Type 0
 IsToldOf turns given reads intake key_for certificate verdict = AtTheEnd turns given reads intake key_for certificate verdict ⊎ OnTheWay given intake key_for certificate verdict
 
--- The policy and the users are those of two texts, the captures gave these bytes, and the verdict that the status repeats was reported.
--- Where it conforms, the headline holds.
+-- The policy and the users are those of two texts, these bytes were read of the captures, and the
+-- verdict that the status repeats was reported. If it conforms, the headline holds.
 pub record IsWatched (policy users : List ℕ) (captures : ℕ) (turns : Turns) (given reads : ℕ → Option (List ℕ)) (certificate : Certificate) (before after : Option (List ℕ)) (status : ℕ) : Type 0 where
   pub intake : Intake
   pub key_for : KeyFor
@@ -64,14 +65,16 @@ pub record IsWatched (policy users : List ℕ) (captures : ℕ) (turns : Turns) 
   pub written : after ≡ followed_by before (report_text verdict (taken intake))
   pub told : status ≡ status_of verdict
 
--- no bytes of the captures were refused, and this is the first that ends inside a block, or has none
+-- no bytes of the captures were refused, and this is the first that ends inside a block, or has
+-- none
 pub record MayNotEnd (given : ℕ → Option (List ℕ)) (policy : Policy) (fault : IntakeFault) : Type 0 where
   pub intake : Intake
   pub policy' : intake.policy ≡ policy
   pub took : TookIn given intake
   pub ends : FilesEnd (Err fault) took.files
 
--- a capture is refused: for the first fault of its bytes as they were given by turns; since it is a 17th; or for how it ends
+-- a capture is refused: for the first fault of the bytes that were read of it; because it is the
+-- 17th; or for how it ends
 abbrev pub IsGivenFault : ℕ → (ℕ → Option (List ℕ)) → Policy → IntakeFault → Type 0
 IsGivenFault captures given policy fault = WereRefused given policy fault ⊎ (((fault ≡ record { kind = Limit; file = 16 }) × (16 < captures)) ⊎ MayNotEnd given policy fault)
 
@@ -85,7 +88,8 @@ abbrev pub EndsByLive : LiveEnd → Stop → Type 0
 EndsByLive (ends.Input fault) stop = EndsByIntake fault stop
 EndsByLive ends.Memory stop = stop ≡ Memory
 
--- what ends the captures' turns: want of memory, a capture that can't be read, or one that is refused
+-- what ends the captures' turns: exhausted memory, a capture that can't be read, or one that is
+-- refused
 abbrev pub EndsTurns : ℕ → (ℕ → Option (List ℕ)) → Policy → Stop → Type 0
 EndsTurns captures given policy stop = (stop ≡ Memory) ⊎ ((stop ≡ Read) ⊎ ((fault : IntakeFault) × EndsByIntake fault stop × IsGivenFault captures given policy fault))
 

@@ -1,4 +1,5 @@
--- What words ask for: the program's commands as they are written, and their values by what `clap` says of such commands.
+-- The request of the arguments: the program's commands as they are declared, and their values by
+-- the definitions of `clap` for such commands.
 use Rattle.std.specs.Prelude.{◌≡◌, ◌≢◌, ◌⊎◌, ⊤, ℕ, pos, true, List, [], ◌∷◌, Option, Some, Ok, map, option_map, codes}
 use Rattle.std.specs.Str.Parse.{ParsesUnsigned}
 use Rattle.clap.specs.Lexer.{usize_max}
@@ -37,7 +38,7 @@ idle = counted (codes "idle") (codes "1") 1000000
 abbrev pub most : Rule
 most = counted (codes "turns") (codes "1000000") 1000000
 
--- one capture or more, which are what is no option
+-- one capture or more, which are the positional arguments
 abbrev pub captures : Rule
 captures = record (new_rule (codes "captures")) {
   value_names = 1;
@@ -46,7 +47,7 @@ captures = record (new_rule (codes "captures")) {
   range = Some (record { start_inclusive = 1; end_inclusive = usize_max });
 }
 
--- a command with what all commands have
+-- a command with the options that all commands have
 abbrev pub command_of : Text → App
 command_of name = with_rule (with_rule (with_rule (new_app name) policy) users) captures
 
@@ -68,7 +69,7 @@ program =
 abbrev pub turnaudit : App
 turnaudit = with_subcommand (with_subcommand (with_subcommand (with_subcommand program (finding (codes "audit")).top) (finding (codes "find")).top) live.top) check.top
 
--- the number that an option has, as `u32` reads it
+-- the number that an option has, as `u32` parses it
 abbrev pub HasNumber : Text → List Row → ℕ → Type 0
 HasNumber name rows number = (text : Text) × (one_of name rows ≡ Some text) × ParsesUnsigned {E = ⊤} 32 10 text (Ok number)
 
@@ -78,7 +79,7 @@ pub record AreNamed (rows : List Row) (inputs : Inputs) : Type 0 where
   pub users' : first_of (codes "creds") rows ≡ option_map (λ name. name.now) inputs.credentials
   pub captures' : all_of (codes "captures") rows ≡ Some (map (λ name. name.now) inputs.captures.items)
 
--- The command that the words name, and what they name for it, is the request.
+-- The request is the command that the arguments name, with the values that they have for it.
 abbrev pub Names : Option (Text × List Row) → Request → Type 0
 Names asked (Check inputs certificate workers) = (rows : List Row) × (asked ≡ Some (codes "check", rows)) × AreNamed rows inputs
     × (first_of (codes "cert") rows ≡ Some certificate.now) × HasNumber (codes "workers") rows workers.count
@@ -90,7 +91,7 @@ Names asked (Help page) = ⊥
 Names asked Release = ⊥
 Names asked (Usage text) = ⊥
 
--- no command is named with all that it needs
+-- the arguments name no command with all that it needs
 abbrev pub NamesNothing : Option (Text × List Row) → Type 0
 NamesNothing asked = (request : Request) → Names asked request → ⊥
 
@@ -98,8 +99,9 @@ NamesNothing asked = (request : Request) → Names asked request → ⊥
 abbrev pub IsRefused : Kinds → Type 0
 IsRefused kinds = (k : ErrorKind) × IsAmong k kinds × (k ≢ kind.DisplayHelp) × (k ≢ kind.DisplayVersion)
 
--- A command is requested by its name, and help and the release by what stands for them. Words are no request where `clap` refuses them for one
--- of these kinds, or they name no command with all that it needs.
+-- A command is requested by its name, and help and the release by their options. Arguments are a
+-- usage error if `clap` refuses them for one of these kinds, or they name no command with all that
+-- it needs.
 abbrev pub Asks : Option (Text × List Row) → Kinds → Request → Type 0
 Asks asked kinds (Help page) = IsAmong kind.DisplayHelp kinds
 Asks asked kinds Release = IsAmong kind.DisplayVersion kinds

@@ -1,4 +1,4 @@
-//! The command line, as clap reads it. Only this file and that of the commands know clap.
+//! The command line, as clap parses it. Only this file and `commands.rt` use clap.
 
 ghost use Rattle.std.specs.Prelude.{◌≡◌, ℕ, IfNone, IfOk, IfSome, List, Option, Some, codes, map};
 ghost use Rattle.clap.specs.Words.{HasKind, Kinds, Row, Text, fault_of, found_of, rows_of, subcommand_of, subcommand_rows_of};
@@ -38,11 +38,11 @@ pub enum Request<'a> {
         inputs: Inputs<'a>,
         turns: Turns,
     },
-    /// Tell how to use the program, on standard output.
+    /// Print how to use the program, on standard output.
     Help(Page),
-    /// Tell the release, on standard output.
+    /// Print the release, on standard output.
     Release,
-    /// The words are no request; what clap says of it, for standard error.
+    /// A usage error, with clap's message for standard error.
     Usage(String),
 }
 
@@ -58,13 +58,13 @@ pub struct Inputs<'a> {
 /// When captures that grow have ended, 1 to 1,000,000 each.
 #[derive(Clone, Copy, Debug, PartialEq, Eq)]
 pub struct Turns {
-    /// After so many turns in a row in which none of them gave a byte.
+    /// After this number of turns in a row in which no capture had a new byte.
     pub idle: u32,
-    /// After so many turns.
+    /// After this number of turns.
     pub most: u32,
 }
 
-/// The request that an error of clap stands for, which is no command's.
+/// The request for an error of clap: help, the release or a usage error.
 fn refused<'a>(alloc: Global, error: Error) -> Result<Request<'a>, AllocError>
     ensures { (asked : Option (Text × List Row)) (kinds : Kinds) → HasKind kinds error → IfOk result (Asks asked kinds) }
 {
@@ -81,7 +81,7 @@ fn refused<'a>(alloc: Global, error: Error) -> Result<Request<'a>, AllocError>
     Ok(Request::Usage(text))
 }
 
-/// The files that the words of a command name.
+/// The files that the arguments of a command name.
 fn inputs_of<'a>(alloc: Global, matches: &ArgMatches<'a>) -> Result<Option<Inputs<'a>>, AllocError>
     ensures named { IfOk result (λ inputs. IfSome inputs (AreNamed (rows_of (found_of matches.now)))) }
     ensures none { IfOk result (λ inputs. IfNone inputs ((any : AnyInputs) → AreNamed (rows_of (found_of matches.now)) any → ⊥)) }
@@ -99,7 +99,7 @@ fn inputs_of<'a>(alloc: Global, matches: &ArgMatches<'a>) -> Result<Option<Input
     }))
 }
 
-/// The number that the words of a command give an option.
+/// The number that the arguments of a command have for an option.
 fn number_of(matches: &ArgMatches<'_>, name: &str) -> Option<u32>
     ensures some { IfSome result (HasNumber name.now (rows_of (found_of matches.now))) }
     ensures none { IfNone result ((number : ℕ) → HasNumber name.now (rows_of (found_of matches.now)) number → ⊥) }
@@ -107,7 +107,7 @@ fn number_of(matches: &ArgMatches<'_>, name: &str) -> Option<u32>
     matches.get_one::<u32>(name)
 }
 
-/// How many workers the words of a command ask for.
+/// The number of workers in the arguments of a command.
 fn workers_of(matches: &ArgMatches<'_>) -> Option<Workers>
     ensures some { IfSome result (λ workers. HasNumber (codes "workers") (rows_of (found_of matches.now)) workers.count) }
     ensures none { IfNone result ((any : AnyWorkers) → HasNumber (codes "workers") (rows_of (found_of matches.now)) any.count → ⊥) }
@@ -118,7 +118,7 @@ fn workers_of(matches: &ArgMatches<'_>) -> Option<Workers>
     Workers::of(number)
 }
 
-/// When captures that grow have ended, by the words of a command.
+/// When captures that grow have ended, by the arguments of a command.
 fn turns_of(matches: &ArgMatches<'_>) -> Option<Turns>
     ensures some { IfSome result (λ turns. HasNumber (codes "idle") (rows_of (found_of matches.now)) turns.idle
         × HasNumber (codes "turns") (rows_of (found_of matches.now)) turns.most) }
@@ -134,7 +134,7 @@ fn turns_of(matches: &ArgMatches<'_>) -> Option<Turns>
     Some(Turns { idle, most })
 }
 
-/// The words of a command, where it is the one of this name.
+/// The arguments of a command, if it is the one of this name.
 fn words_of<'m, 'a>(matches: &'m ArgMatches<'a>, name: &str) -> Option<&'m ArgMatches<'a>>
     ensures some { IfSome result (λ command. subcommand_rows_of matches.now ≡ Some (name.now, rows_of (found_of command.now))) }
     ensures none { IfNone result ((rows : List Row) → subcommand_rows_of matches.now ≡ Some (name.now, rows) → ⊥) }
@@ -142,7 +142,7 @@ fn words_of<'m, 'a>(matches: &'m ArgMatches<'a>, name: &str) -> Option<&'m ArgMa
     matches.subcommand_matches(name)
 }
 
-/// The request that the words of the command `audit` are.
+/// The request of the arguments of the command `audit`.
 fn audit_request<'a>(
     alloc: Global,
     matches: &ArgMatches<'a>,
@@ -159,7 +159,7 @@ fn audit_request<'a>(
     Ok(Some(Request::Audit { inputs, workers }))
 }
 
-/// The request that the words of the command `find` are.
+/// The request of the arguments of the command `find`.
 fn find_request<'a>(
     alloc: Global,
     matches: &ArgMatches<'a>,
@@ -176,7 +176,7 @@ fn find_request<'a>(
     Ok(Some(Request::Find { inputs, workers }))
 }
 
-/// The request that the words of the command `live` are.
+/// The request of the arguments of the command `live`.
 fn live_request<'a>(
     alloc: Global,
     matches: &ArgMatches<'a>,
@@ -193,7 +193,7 @@ fn live_request<'a>(
     Ok(Some(Request::Live { inputs, turns }))
 }
 
-/// The request that the words of the command `check` are.
+/// The request of the arguments of the command `check`.
 fn check_request<'a>(
     alloc: Global,
     matches: &ArgMatches<'a>,
@@ -217,7 +217,7 @@ fn check_request<'a>(
     }))
 }
 
-/// The request that the words of a command are.
+/// The request of the arguments of a command.
 fn request_of<'a>(
     alloc: Global,
     matches: &ArgMatches<'a>,
@@ -240,7 +240,7 @@ fn request_of<'a>(
     Ok(None)
 }
 
-/// Reads the words, the first of which is the program's name.
+/// Parses the arguments, the first of which is the program's name.
 pub fn read<'a, N: AsStr>(alloc: Global, words: &'a [N]) -> Result<Request<'a>, AllocError>
     ensures { IfOk result (Asks (subcommand_of turnaudit (map N.text words.now)) (fault_of turnaudit (map N.text words.now))) }
 {

@@ -1,4 +1,4 @@
-//! The commands and their options, as clap has them. Their help is that of the pages.
+//! The commands and their options, as clap has them. Their help texts are in `pages.rt`.
 
 ghost use Rattle.std.specs.Prelude.{◌≡◌, ◌≤◌, pos, false, IfOk};
 ghost use Rattle.clap.specs.Words.{app_of, rule_of};
@@ -56,8 +56,9 @@ fn certificate_option<'a>(alloc: Global) -> Arg<'a>
     file_option(alloc, "cert", "CERTIFICATE").required(true)
 }
 
-/// The command of that name, with the options that all commands have. Each is made where it is added: one that waits in a variable would
-/// be let go on each way out of the function, and each of these is proved.
+/// The command of that name, with the options that all commands have. Each option is created where
+/// it is added: one in a variable would be dropped on each way out of the function, and each such
+/// drop needs a proof.
 fn command_of<'a>(alloc: Global, name: &'a str, page: Page) -> Result<Command<'a>, AllocError>
     ensures app { IfOk result (λ command. app_of command ≡ words.command_of name.entry.now) }
     ensures local { IfOk result (λ command. (fields_of command).has_globals ≡ false) }
@@ -95,7 +96,7 @@ fn turns_option<'a>(alloc: Global, name: &'a str, default: &'a str) -> Arg<'a>
         .value_parser(clap::value_parser!(u32).range(1..=1_000_000))
 }
 
-/// The option of `live` by which captures end that don't grow.
+/// The option of `live` after whose number of quiet turns captures end.
 fn idle_option<'a>(alloc: Global) -> Arg<'a>
     ensures rule { rule_of result ≡ words.idle }
     ensures local { result.global ≡ false }
@@ -103,7 +104,7 @@ fn idle_option<'a>(alloc: Global) -> Arg<'a>
     turns_option(alloc, "idle", "1")
 }
 
-/// The option of `live` by which captures end that grow on.
+/// The option of `live` after whose number of turns captures end that still grow.
 fn most_option<'a>(alloc: Global) -> Arg<'a>
     ensures rule { rule_of result ≡ words.most }
     ensures local { result.global ≡ false }

@@ -1,4 +1,4 @@
-//! A certificate for captures, and the verdict by it.
+//! Finds a certificate for captures, and the verdict by it.
 
 ghost use Rattle.std.specs.Prelude.{◌≡◌, IfOk, IfSome};
 ghost use Rattle.audit_files.specs.Judged.{Judges};
@@ -14,7 +14,8 @@ use std::alloc::{AllocError, Global};
 use std::sync::Wait;
 use std::thread::Threads;
 
-/// How wide a part of a window is at the least, in nanoseconds, so that it is worth a search: the window of a policy that says nothing of skews.
+/// The least width of a window, in nanoseconds, that is worth a search by a part of it: the window
+/// of a policy without skews.
 const LEAST_WINDOW: u64 = 1_000_000;
 
 /// A certificate that was found, and the verdict by it.
@@ -24,7 +25,7 @@ pub struct Found {
     pub verdict: Verdict,
 }
 
-/// A way to look for a certificate: by one walk over the sightings, or in passes over all of them.
+/// A way to search for a certificate: one walk over the sightings, or passes over all of them.
 #[derive(Clone, Copy, Debug, PartialEq, Eq)]
 enum Way {
     Walk,
@@ -56,7 +57,7 @@ fn judged<R: Threads + Wait + Sync>(
     })
 }
 
-/// What one walk finds in which leases last as long as they may.
+/// The result of one walk in which leases last as long as possible.
 fn found_late<R: Threads + Wait + Sync, F: CertificateFinder>(
     rt: &R,
     alloc: Global,
@@ -71,7 +72,7 @@ fn found_late<R: Threads + Wait + Sync, F: CertificateFinder>(
     judged(rt, alloc, files, certificate, workers)
 }
 
-/// What is found in this way by so much of each window.
+/// The result of a search in this way by this part of each window.
 fn found_in<R: Threads + Wait + Sync, F: CertificateFinder>(
     rt: &R,
     alloc: Global,
@@ -90,7 +91,7 @@ fn found_in<R: Threads + Wait + Sync, F: CertificateFinder>(
     }
 }
 
-/// What is found by a part of each window, if the captures conform by it.
+/// The result of a search by a part of each window, if the captures conform by it.
 fn found_by_part<R: Threads + Wait + Sync, F: CertificateFinder>(
     rt: &R,
     alloc: Global,
@@ -114,8 +115,9 @@ fn found_by_part<R: Threads + Wait + Sync, F: CertificateFinder>(
     }
 }
 
-/// What is found by a part of each window, the widest first, if the captures conform by one. Where windows are wide, much that happened in
-/// turn stands at one moment, and a search by all of them may take it in another order.
+/// The result of a search by a part of each window, the widest part first, if the captures conform
+/// by one. If windows are wide, many datagrams that came one after another may have one moment, and
+/// a search by whole windows may take them in another order.
 fn found_by_parts<R: Threads + Wait + Sync, F: CertificateFinder>(
     rt: &R,
     alloc: Global,
@@ -139,7 +141,8 @@ fn found_by_parts<R: Threads + Wait + Sync, F: CertificateFinder>(
     Ok(None)
 }
 
-/// What is found with all that can be tried: by a part of each window where the captures conform by that, else by the passes over whole windows.
+/// The result of all searches: by a part of each window if the captures conform by that, otherwise
+/// by passes over whole windows.
 fn found_at_last<R: Threads + Wait + Sync, F: CertificateFinder>(
     rt: &R,
     alloc: Global,
@@ -165,11 +168,12 @@ fn found_at_last<R: Threads + Wait + Sync, F: CertificateFinder>(
     }
 }
 
-/// The walk's certificate with the verdict by it, or that of a late walk, where no other certificate has to be looked for: it conforms, or
-/// what was captured shows a fault of the server, so that none does.
+/// The certificate of the walk with the verdict by it, or that of a late walk, if no other search
+/// is needed: it conforms, or the captures show a fault of the server, so that none does.
 ///
-/// Where the fault is of a departure close behind the one at which the walk's certificate breaks a rule, the lease that is over there
-/// may last longer in another order: then the late walk tells where it is over in every order.
+/// The fault may be of a departure soon after the one at which the walk's certificate breaks a
+/// rule. Then the lease that has expired at the first may last longer in another order. So the late
+/// walk is used, which finds where it has expired in every order.
 fn decided<R: Threads + Wait + Sync, F: CertificateFinder>(
     rt: &R,
     alloc: Global,
@@ -179,7 +183,7 @@ fn decided<R: Threads + Wait + Sync, F: CertificateFinder>(
     workers: Workers,
 ) -> Result<Option<Found>, AllocError>
     ensures judged { IfOk result (λ walk. IfSome walk (λ found. Judges (taken files.now.intake) (key_for files.now.users) found.certificate found.verdict)) }
-    // Where any certificate conforms, this one does.
+    // If any certificate conforms, this one does.
     ensures decides { IfOk result (λ walk. IfSome walk (λ found. Decides (taken files.now.intake) (key_for files.now.users) found.certificate)) }
     ensures finds { F.finds (taken files.now.intake) certificate → IfOk result (λ walk. IfSome walk (λ found. F.finds (taken files.now.intake) found.certificate)) }
 {
@@ -188,7 +192,7 @@ fn decided<R: Threads + Wait + Sync, F: CertificateFinder>(
         Outlook::Decided => Ok(Some(once)),
         Outlook::Open => Ok(None),
         Outlook::DecidedBehind => {
-            // The late walk may want the memory of the other's certificate.
+            // Frees the certificate: the late walk may need its memory.
             drop(once);
             let late = found_late(rt, alloc, finder, files, workers)?;
             if outlook_by(alloc, files, &late.certificate, &late.verdict)? == Outlook::Open {
@@ -199,8 +203,8 @@ fn decided<R: Threads + Wait + Sync, F: CertificateFinder>(
     }
 }
 
-/// What a walk over the sightings finds, where that decides; else what is found with all that can be tried, which takes longer and finds
-/// more.
+/// The result of a walk over the sightings if that decides; otherwise the result of all searches,
+/// which take longer and find more.
 pub fn found_either_way<R: Threads + Wait + Sync, F: CertificateFinder>(
     rt: &R,
     alloc: Global,
@@ -218,7 +222,8 @@ pub fn found_either_way<R: Threads + Wait + Sync, F: CertificateFinder>(
     }
 }
 
-/// The certificate by which `found_either_way` judges. What one walk finds isn't judged where it seems to conform.
+/// The certificate by which `found_either_way` judges. The result of one walk isn't judged if it
+/// seems to conform.
 pub fn certificate_for<R: Threads + Wait + Sync, F: CertificateFinder>(
     rt: &R,
     alloc: Global,

@@ -1,4 +1,4 @@
-//! Up to which moment the certificate of captures that grow can be found.
+//! The moment up to which the certificate of captures that grow can be found.
 
 ghost use Rattle.std.specs.Prelude.{◌≡◌};
 ghost use Rattle.audit_program.specs.Horizon.{IsEarliest, IsHorizon, sooner_of};
@@ -6,7 +6,7 @@ ghost use Rattle.audit_sightings.specs.Intake.{taken};
 
 use audit_sightings::Intake;
 
-/// The sooner of two moments, where there is a first.
+/// The sooner of two moments, if there is a first.
 fn sooner(before: Option<u64>, moment: u64) -> Option<u64>
     ensures { result ≡ sooner_of before moment }
 {
@@ -16,7 +16,8 @@ fn sooner(before: Option<u64>, moment: u64) -> Option<u64>
     }
 }
 
-/// The least of the moments from which on the newest sighting of each capture may have come; None where one has no sighting, or there is none.
+/// The least of the moments from which on the newest sighting of each capture may have come; None
+/// if a capture has no sighting, or there is no capture.
 fn earliest(intake: &Intake) -> Option<u64>
     ensures { IsEarliest (taken intake.now) result }
 {
@@ -29,8 +30,8 @@ fn earliest(intake: &Intake) -> Option<u64>
     earliest
 }
 
-/// The next horizon: what comes later of any capture may be answers to what came `hold` before, and nothing older. None where a capture
-/// has no sighting, or that isn't past the last horizon.
+/// The next horizon. What comes later in any capture may be sent for arrivals up to `hold` before,
+/// and for none older. None if a capture has no sighting, or the horizon isn't past the last one.
 pub fn next_horizon(intake: &Intake, last: Option<u64>) -> Option<u64>
     ensures { IsHorizon (taken intake.now) last result }
 {

@@ -1,4 +1,5 @@
-//! The whole program as a function: words in, files by a source, the answer and what is said of a refusal by two sinks, and the exit status.
+//! The whole program as a function of its arguments and its files. It writes the answer and the
+//! reason of a refusal to two sinks, and returns the exit status.
 #![tactic(auto)]
 
 mod command_line;

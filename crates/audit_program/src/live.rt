@@ -1,4 +1,4 @@
-//! The command `live`: captures are judged while they grow.
+//! The command `live`: judges captures while they grow.
 
 ghost use Rattle.std.specs.Prelude.{◌≡◌, ◌≢◌, ◌<◌, ◌≤◌, ◌+◌, ◌⊎◌, false, ℕ, List, [], ◌∷◌, Option, None, Some, IfErr, IfNone, IfOk, IfSome, OnOk, length, vec_len, replicate};
 ghost use Rattle.audit_keys.specs.KeyFor.{key_for};
@@ -34,30 +34,31 @@ use std::alloc::{AllocError, Global};
 /// How many bytes of each capture are read in a turn.
 const PIECE: usize = 65_536;
 
-/// The last horizon, behind all that is captured.
+/// The last horizon, after all that is captured.
 const END: u64 = u64::MAX;
 
-/// An audit with what finds its certificate.
+/// An audit with the finder of its certificate.
 #[derive(Drop)]
 struct Watch<F: Drop> {
     live: Live,
     finder: F,
-    /// The finder's extension didn't fit, so none is taken from it any more. The captures are read on, and judged by what was found.
+    /// Whether the finder's extension didn't fit, so that none of its extensions is used any more.
+    /// The captures are still read, and judged by what was found.
     is_stuck: bool,
 }
 
-/// What a turn has come to.
+/// The result of a turn.
 #[derive(Clone, Copy, Debug, PartialEq, Eq)]
 pub enum Turn {
-    /// Some capture gave a byte.
+    /// Some capture had a byte.
     Fed,
-    /// None did.
+    /// No capture had a byte.
     Quiet,
     /// Bytes or an advance were refused.
     Refused,
 }
 
-/// What a turn has come to in which so many bytes were taken.
+/// The result of a turn in which this number of bytes was read.
 fn turn_of(read: usize) -> Turn
     ensures taken { result ≢ Refused }
     ensures quiet { result ≡ Quiet → read ≡ 0 }
@@ -65,7 +66,7 @@ fn turn_of(read: usize) -> Turn
     if read > 0 { Turn::Fed } else { Turn::Quiet }
 }
 
-/// Pauses where there were turns without a byte.
+/// Pauses if there were turns without a byte.
 fn pause_after<S: Growing>(source: &mut S, idle: u32)
     ensures given { S.given source.new ≡ S.given source.old }
     ensures reads { S.reads source.new ≡ S.reads source.old }
@@ -75,7 +76,7 @@ fn pause_after<S: Growing>(source: &mut S, idle: u32)
     }
 }
 
-/// Why a run ends that has no verdict.
+/// The reason for the end of a run without a verdict.
 fn stop_of(end: LiveEnd) -> Stop
     ensures { EndsByLive end result }
 {
@@ -85,7 +86,7 @@ fn stop_of(end: LiveEnd) -> Stop
     }
 }
 
-/// Adds so many captures to an audit of none.
+/// Adds this number of captures to an audit of none.
 fn add_captures(live: &mut Live, count: usize) -> Result<(), Stop>
     ensures policy { OnOk result (live.new.intake.policy ≡ live.old.intake.policy) }
     ensures stands { StandsFor live.old.intake [] → OnOk result (StandsFor live.new.intake (replicate count not_fed)) }
@@ -103,7 +104,7 @@ fn add_captures(live: &mut Live, count: usize) -> Result<(), Stop>
 }
 
 impl<F: ExtensionFinder + Drop> Watch<F> {
-    /// The captures, of which nothing was read.
+    /// Opens an audit of the captures, of which nothing was read.
     fn open<S: Source + Growing>(
         alloc: Global,
         finder: F,
@@ -136,7 +137,7 @@ impl<F: ExtensionFinder + Drop> Watch<F> {
         })
     }
 
-    /// Feeds what a capture has next.
+    /// Feeds the next bytes of a capture.
     fn feed<S: Growing>(
         &mut self,
         file: u32,
@@ -162,7 +163,7 @@ impl<F: ExtensionFinder + Drop> Watch<F> {
         }
     }
 
-    /// Feeds what each capture has next.
+    /// Feeds the next bytes of each capture.
     fn feed_each<S: Growing>(
         &mut self,
         names: &[&str],
@@ -192,7 +193,8 @@ impl<F: ExtensionFinder + Drop> Watch<F> {
         Ok(turn)
     }
 
-    /// What the finder gives up to a horizon. It is never out of turn, so no advance by it is refused for that (G2).
+    /// The finder's extension up to a horizon. It is never out of turn, so no advance by it is
+    /// refused for that (G2).
     fn extension(&mut self, horizon: u64) -> Result<Extension, AllocError>
         requires { F.given_to self.old.finder ≡ self.old.live.last }
         ensures in_turn { IfOk result (λ extension. ¬ IsOutOfTurn (standing_of self.old.live) horizon extension) }
@@ -203,7 +205,7 @@ impl<F: ExtensionFinder + Drop> Watch<F> {
             .extend(self.live.intake(), self.live.credentials(), horizon)
     }
 
-    /// Finds the certificate up to a horizon, and reports what came of it.
+    /// Finds the certificate up to a horizon, and advances the audit by it.
     fn advance(&mut self, horizon: u64) -> Result<Turn, AllocError>
         requires { self.old.is_stuck ≡ false → F.given_to self.old.finder ≡ self.old.live.last }
         ensures left { (policy users : List ℕ) (count : ℕ) (given : ℕ → Option (List ℕ)) → Goes policy users count given self.old.live
@@ -230,7 +232,7 @@ impl<F: ExtensionFinder + Drop> Watch<F> {
         }
     }
 
-    /// Reads each capture on, and finds the certificate as far as that lets it.
+    /// Reads each capture on, and finds the certificate up to the next horizon.
     fn turn<S: Growing>(
         &mut self,
         names: &[&str],
@@ -260,7 +262,7 @@ impl<F: ExtensionFinder + Drop> Watch<F> {
         }
     }
 
-    /// A turn, and how many turns without a byte there were in a row then; None where something was refused.
+    /// Runs a turn, and returns how many turns in a row had no byte; None if something was refused.
     fn turn_on<S: Growing>(
         &mut self,
         names: &[&str],
@@ -291,7 +293,8 @@ impl<F: ExtensionFinder + Drop> Watch<F> {
         }
     }
 
-    /// Takes turns until the captures have ended, and the rest of the certificate; all of it unless something is refused.
+    /// Runs turns until the captures have ended, and then finds the rest of the certificate, unless
+    /// something is refused.
     fn go<S: Growing>(
         &mut self,
         alloc: Global,
@@ -339,7 +342,7 @@ impl<F: ExtensionFinder + Drop> Watch<F> {
         }
     }
 
-    /// Writes the report, and gives the exit status.
+    /// Writes the report, and returns the exit status.
     fn tell<O: Sink>(&self, alloc: Global, out: &mut O) -> Result<u8, Stop>
         ensures told { (policy users : List ℕ) (count : ℕ) (given reads : ℕ → Option (List ℕ)) (turns : AnyTurns)
             → Follows policy users count given self.now.live → HasEnded turns count reads self.now.live
@@ -356,8 +359,8 @@ impl<F: ExtensionFinder + Drop> Watch<F> {
     }
 }
 
-/// Judges captures while they grow, and writes the report. Files are read in this order: policy, users, captures by turns. It gives 0 where the
-/// captures conform, and 1 where that isn't shown.
+/// Judges captures while they grow, and writes the report. Files are read in this order: policy,
+/// users, captures by turns. It returns 0 if the captures conform, and 1 if that isn't shown.
 pub fn run_live<F: CertificateFinder, S: Source + Growing, O: Sink>(
     alloc: Global,
     finder: &F,

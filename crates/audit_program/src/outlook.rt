@@ -1,4 +1,4 @@
-//! Whether another certificate may conform than one that breaks a rule.
+//! Whether another certificate may conform if one breaks a rule.
 
 ghost use Rattle.std.specs.Prelude.{IfOk};
 ghost use Rattle.audit_files.specs.Judged.{Judges};
@@ -11,21 +11,22 @@ use audit_files::Files;
 use audit_model::{Breach, CertLane, Certificate, Event, Rule, SightId, Verdict};
 use std::alloc::{AllocError, Global};
 
-/// How many departures behind a breach are looked at: the first, the second, the fourth, and so on.
+/// How many departures after a breach are tried: the first, the second, the fourth, and so on.
 const LOOKED_AT: usize = 6;
 
-/// What the verdict by a certificate tells of all certificates.
+/// What the verdict by a certificate implies for all certificates.
 #[derive(Clone, Copy, Debug, PartialEq, Eq)]
 pub enum Outlook {
-    /// It conforms, or the departure at which it breaks a rule is explained by no order of what was captured, so that none conforms.
+    /// It conforms, or no order of the captures explains the departure at which it breaks a rule,
+    /// so that none conforms.
     Decided,
-    /// Such a departure is close behind that one, so that none conforms either.
+    /// No order explains a departure soon after that one, so that none conforms either.
     DecidedBehind,
     /// Another certificate may conform.
     Open,
 }
 
-/// The departure of an event that gives one or lets one out.
+/// The departure of an act, or of an event at which one leaves.
 fn departure_of(event: &Event) -> Option<SightId> {
     match event {
         Event::Act { gives, .. } => Some(*gives),
@@ -34,7 +35,7 @@ fn departure_of(event: &Event) -> Option<SightId> {
     }
 }
 
-/// The lane of a certificate at whose events a rule is broken.
+/// The lane of a certificate in whose events a rule is broken.
 fn lane_of<'a>(certificate: &'a Certificate, breach: &Breach) -> Option<&'a CertLane> {
     if breach.phase != 2 {
         return None;
@@ -42,7 +43,8 @@ fn lane_of<'a>(certificate: &'a Certificate, breach: &Breach) -> Option<&'a Cert
     certificate.lanes.as_slice().get(breach.at.lane as usize)
 }
 
-/// The departure at which a certificate breaks a rule: that of the event, or the one that stands nowhere.
+/// The departure at which a certificate breaks a rule: that of the event, or the one that isn't
+/// placed.
 fn departure_at(certificate: &Certificate, breach: &Breach) -> Option<SightId> {
     if breach.phase == 1 && breach.rule == Rule::Unplaced {
         return Some(breach.sight);
@@ -51,7 +53,7 @@ fn departure_at(certificate: &Certificate, breach: &Breach) -> Option<SightId> {
     departure_of(lane.events.as_slice().get(breach.at.place as usize)?)
 }
 
-/// Adds some departures that are given in the lane behind a breach of a lease.
+/// Adds some departures that the lane's acts send after a breach by an expired lease.
 fn add_behind(
     certificate: &Certificate,
     breach: &Breach,
@@ -84,7 +86,7 @@ fn add_behind(
     Ok(())
 }
 
-/// What the breach of a certificate tells of all certificates.
+/// What the breach of a certificate implies for all certificates.
 fn outlook_of(
     alloc: Global,
     files: &Files,
@@ -111,7 +113,8 @@ fn outlook_of(
     }
 }
 
-/// What the verdict by a certificate tells of all certificates. It takes n log n in the sightings.
+/// What the verdict by a certificate implies for all certificates. It takes n log n time in the
+/// sightings.
 pub fn outlook_by(
     alloc: Global,
     files: &Files,

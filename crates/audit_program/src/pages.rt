@@ -150,7 +150,7 @@ Example:
 ";
 
 impl Page {
-    /// What is printed, with its last LF. It is the front of no report.
+    /// The text of the page, with its last LF. No report begins with it.
     pub fn text(self) -> &'static str
         ensures text { result.now ≡ page_text self }
         ensures no_report { begins_a_report result.now ≡ false }
@@ -165,7 +165,7 @@ impl Page {
     }
 }
 
-/// The line of the release, with its LF. It is the front of no report.
+/// The line of the release, with its LF. No report begins with it.
 pub fn release() -> &'static str
     ensures text { result.now ≡ release_text }
     ensures no_report { begins_a_report result.now ≡ false }

@@ -1,4 +1,4 @@
-//! The whole program as a function.
+//! Runs the program as a function.
 
 ghost use Rattle.std.specs.Prelude.{◌≡◌, ◌⊎◌, [], ℕ, IfErr, IfNone, IfOk, IfSome, List, Some, map};
 ghost use Rattle.std.specs.List.{AllZip};
@@ -22,9 +22,9 @@ use std::convert::AsStr;
 use std::sync::Wait;
 use std::thread::Threads;
 
-/// Judges captures by a certificate that is found, and writes the report. Files are read in this order: policy, users, captures; each is
-/// judged before the next is read. It gives 0 where they conform, and 1 where that isn't shown. The memory of the captures isn't freed
-/// then.
+/// Judges captures by a certificate that it finds, and writes the report. Files are read in this
+/// order: policy, users, captures; each is checked before the next is read. It returns 0 if they
+/// conform, and 1 if that isn't shown. The memory of the captures isn't freed then.
 pub fn audit_captures<R: Threads + Wait + Sync, F: CertificateFinder, S: Source, O: Sink>(
     rt: &R,
     alloc: Global,
@@ -88,7 +88,7 @@ fn run_find<R: Threads + Wait + Sync, F: CertificateFinder, S: Source, O: Sink>(
     Ok(0)
 }
 
-/// Does what is asked for, and gives the exit status.
+/// Serves the request, and returns the exit status.
 fn run_request<
     R: Threads + Wait + Sync,
     F: CertificateFinder,
@@ -163,9 +163,10 @@ fn run_request<
     }
 }
 
-/// Runs the program on its words, the first of which is its name, and gives its exit status: 0 conforming, a certificate, help or the
-/// release; 1 not shown; 2 input refused; 3 out of memory; 4 a file that can't be read or an answer that can't be written; 5 words that
-/// are no request. What ended it before its answer is one line on `err`.
+/// Runs the program on its arguments, the first of which is its name, and returns its exit status:
+/// 0 conforming, a certificate, help or the release; 1 not shown; 2 input refused; 3 out of memory;
+/// 4 a file that can't be read or an answer that can't be written; 5 usage error. The reason for an
+/// end before the answer is one line on `err`.
 pub fn run<
     R: Threads + Wait + Sync,
     F: CertificateFinder,

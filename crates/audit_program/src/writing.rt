@@ -1,4 +1,4 @@
-//! What a run writes besides the report.
+//! Writes texts other than the report.
 
 ghost use Rattle.std.specs.Prelude.{◌≡◌, IfErr, OnOk};
 ghost use Rattle.audit_files.specs.Ends.{EndsWriting};
@@ -8,7 +8,7 @@ use audit_files::Stop;
 use audit_model::{Sink, put_all};
 use std::alloc::Global;
 
-/// Puts a text.
+/// Writes a text.
 pub fn put_text<W: Sink>(sink: &mut W, text: &str) -> Result<(), Stop>
     ensures put { OnOk result (W.taken sink.new ≡ followed_by (W.taken sink.old) text.now) }
     ensures failed { IfErr result (EndsWriting (W.failures sink.old) (W.failures sink.new)) }
@@ -17,7 +17,7 @@ pub fn put_text<W: Sink>(sink: &mut W, text: &str) -> Result<(), Stop>
     Ok(())
 }
 
-/// Puts the line that says why the run ended. Nothing more can be done where that fails.
+/// Writes the line with the reason for the run's end. If that fails, nothing more can be done.
 pub fn put_line<W: Sink>(alloc: Global, sink: &mut W, stop: &Stop) {
     match format!(in alloc; "turnaudit: {stop}\n") {
         Ok(line) => {

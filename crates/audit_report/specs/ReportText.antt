@@ -36,7 +36,7 @@ place_line b =
 abbrev pub rule_line : Breach → List ℕ
 rule_line b = codes "not shown\nrule " ++ (text_of_rule b.rule ++ codes "\n")
 
--- what follows the heading
+-- the lines after the heading
 abbrev pub verdict_lines : Verdict → Taken → List ℕ
 verdict_lines (Conforming datagrams lanes) taken =
     codes "conforming " ++ (decimal datagrams ++ (codes " datagrams " ++ (decimal lanes ++ codes " lanes\n")))

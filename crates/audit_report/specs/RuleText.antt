@@ -1,4 +1,4 @@
--- The texts of the rules, as a report has them.
+-- The texts of the rules in a report.
 use Rattle.std.specs.Prelude.{ℕ, List, codes}
 use Rattle.audit_model.specs.declared.rule.Rule.{Rule}
 use Rattle.audit_model.specs.declared.rule.Rule.TheVariants as rules

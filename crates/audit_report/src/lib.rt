@@ -1,4 +1,4 @@
-//! The report of a verdict.
+//! Writes the report of a verdict.
 #![tactic(auto)]
 
 mod reporting;

@@ -1,4 +1,4 @@
-//! The report, line by line.
+//! Formats the report, line by line.
 
 ghost use Rattle.std.specs.Prelude.{◌≡◌, ◌++◌, IfOk, OnOk, OnErr, IfErr, option_copied, string_bytes};
 ghost use Rattle.audit_model.specs.Sink.{followed_by, raised_by, IsFollowedByFront};
@@ -10,7 +10,7 @@ use audit_model::{Breach, SightId, Sink, Verdict, WriteFault, put_all};
 use audit_sightings::{Intake, Sighting};
 use std::alloc::{AllocError, Global};
 
-/// The ends and the size of a datagram.
+/// The endpoints and the size of a datagram.
 fn text_of_datagram(alloc: Global, sighting: &Sighting) -> Result<String, AllocError>
     ensures { IfOk result (λ text. string_bytes text ≡ datagram_text sighting.now) }
 {
@@ -20,7 +20,7 @@ fn text_of_datagram(alloc: Global, sighting: &Sighting) -> Result<String, AllocE
     format!(in alloc; "{from} to {to} {length} bytes\n")
 }
 
-/// The name of the sighting that shows a breach.
+/// The id of the sighting that shows a breach.
 fn text_of_name(alloc: Global, id: SightId) -> Result<String, AllocError>
     ensures { IfOk result (λ text. string_bytes text ≡ name_text id) }
 {
@@ -45,7 +45,7 @@ fn line_of_sighting(
     Ok(line)
 }
 
-/// The line of the place where a breach is.
+/// The line of the place of a breach.
 fn line_of_place(alloc: Global, breach: &Breach) -> Result<String, AllocError>
     ensures { IfOk result (λ line. string_bytes line ≡ place_line breach.now) }
 {
@@ -57,7 +57,7 @@ fn line_of_place(alloc: Global, breach: &Breach) -> Result<String, AllocError>
     format!(in alloc; "phase {phase} lane {lane} event {place} moment {moment} tie {tie}\n")
 }
 
-/// The line of the rule that a breach breaks, and the one before it.
+/// The line of the rule of a breach, and the line before it.
 fn line_of_rule(alloc: Global, breach: &Breach) -> Result<String, AllocError>
     ensures { IfOk result (λ line. string_bytes line ≡ rule_line breach.now) }
 {
@@ -65,7 +65,7 @@ fn line_of_rule(alloc: Global, breach: &Breach) -> Result<String, AllocError>
     format!(in alloc; "not shown\nrule {rule}\n")
 }
 
-/// What follows the heading.
+/// The lines after the heading.
 fn lines_of_verdict(alloc: Global, verdict: &Verdict, intake: &Intake) -> Result<String, AllocError>
     ensures { IfOk result (λ lines. string_bytes lines ≡ verdict_lines verdict.now (taken intake.now)) }
 {
@@ -92,8 +92,8 @@ fn whole_report(alloc: Global, verdict: &Verdict, intake: &Intake) -> Result<Str
     Ok(text)
 }
 
-/// Writes the report of a verdict on an intake. After F1, which comes only where the sink failed, a front of it has gone out;
-/// after F2, want of memory, nothing has.
+/// Writes the report of a verdict on an intake. After F1, which comes only if the sink failed, a
+/// prefix of it has been written; after F2, exhausted memory, nothing has.
 pub fn report<W: Sink>(
     alloc: Global,
     verdict: &Verdict,

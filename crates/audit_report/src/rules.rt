@@ -5,7 +5,7 @@ ghost use Rattle.audit_report.specs.RuleText.{text_of_rule};
 
 use audit_model::Rule;
 
-/// The name under which users know a rule, and what it says.
+/// The code under which users know a rule, and its text.
 pub fn rule_text(rule: Rule) -> &'static str
     ensures { result.now ≡ text_of_rule rule }
 {

@@ -1,5 +1,6 @@
 -- docs/RULES.md, New allocation, Repeated allocation and Refresh.
--- When an allocation may be made, told again, renewed or removed (RFC 8656, sections 6 to 8).
+-- When an allocation may be made, its response repeated, renewed or removed (RFC 8656, sections 6
+-- to 8).
 use Rattle.std.specs.Prelude.{◌≡◌, ◌⊎◌, ◌↔◌, ℕ, ◌*◌, ◌%◌, ◌<◌, ◌==◌, if◌then◌else◌, List, Some, None, IsSome, IsTrue}
 use Rattle.audit_model.specs.declared.address.Addr.{Addr}
 use Rattle.audit_model.specs.Policy.{relays}
@@ -14,15 +15,15 @@ use Rattle.audit_rules.specs.Situation.{Situation, asked, answered}
 use Rattle.audit_rules.specs.Values.{Names, lifetime_of, transport_of, family_of}
 use Rattle.audit_rules.specs.Standing.{IsResponse, IsSignedBack, WithUsable, NothingLasts, IsOwn}
 
--- so many seconds after the moment
+-- this number of seconds after the moment
 abbrev pub seconds_after : ℕ → ℕ → ℕ
 seconds_after moment seconds = later moment (seconds * 1000000000)
 
--- the request asks for UDP, and for IPv4 or for no family
+-- the request is for UDP, and for IPv4 or for no family
 abbrev pub AsksServed : Situation → Type 0
 AsksServed x = (transport_of (asked x) ≡ Some 17) × ((family_of (asked x) ≡ None) ⊎ (family_of (asked x) ≡ Some 1))
 
--- an address of a relay range, with an even port where EVEN-PORT was asked for
+-- an address of a relay range, with an even port if EVEN-PORT was requested
 abbrev pub MayBeRelayed : Situation → Addr → Type 0
 MayBeRelayed x relayed = IsTrue (relays x.policy relayed) × (IsSome (first_of EVEN_PORT (asked x).attributes) → relayed.port % 2 ≡ 0)
 
@@ -35,7 +36,8 @@ made_by x relayed user seconds =
 abbrev pub IsAgain : Situation → Type 0
 IsAgain x = WithUsable x (λ a. a.id ≡ (asked x).tid)
 
--- A new allocation (RFC 8656, section 7.2): for a user, where none lasts. That its address is nobody else's is asked of the whole server.
+-- A new allocation (RFC 8656, section 7.2): for a user, while none lasts. That no other client has
+-- its address is checked over the whole server.
 pub record AnswersNew (x : Situation) (change : Change) : Type 0 where
   pub response : IsResponse x Success ALLOCATE
   pub first : IsAgain x → ⊥
@@ -52,7 +54,8 @@ pub record AnswersNew (x : Situation) (change : Change) : Type 0 where
   pub signed : IsSignedBack x
   pub changes : change ≡ Makes (made_by x relayed user seconds)
 
--- The same request again (RFC 8656, section 7.2; RFC 8489, section 6.3.1): it is told the same address.
+-- The same request again (RFC 8656, section 7.2; RFC 8489, section 6.3.1): the response has the
+-- same address.
 pub record AnswersAgain (x : Situation) : Type 0 where
   pub response : IsResponse x Success ALLOCATE
   pub user : List ℕ
@@ -61,15 +64,18 @@ pub record AnswersAgain (x : Situation) : Type 0 where
   pub mapped : Names XOR_MAPPED_ADDRESS (answered x) x.client
   pub signed : IsSignedBack x
 
--- both ask for the end of an allocation that isn't usable any more (own: RFC 8656 answers 437, which is accepted too)
+-- both have LIFETIME 0, and no allocation is usable (own: RFC 8656 requires error 437, which is
+-- accepted too)
 abbrev pub EndsNothing : Situation → Type 0
 EndsNothing x = (WithUsable x (λ a. Unit {0}) → ⊥) × (lifetime_of (asked x) ≡ Some 0) × (lifetime_of (answered x) ≡ Some 0)
 
--- its user asks, and the answer is 0 exactly where the request asks 0; a request without a lifetime doesn't
+-- it is a request of the allocation's user, and the response has LIFETIME 0 exactly if the request
+-- has LIFETIME 0; a request without LIFETIME doesn't
 abbrev pub IsRefreshed : Situation → Type 0
 IsRefreshed x = WithUsable x (IsOwn x) × ((lifetime_of (asked x) ≡ Some 0) ↔ (lifetime_of (answered x) ≡ Some 0))
 
--- A Refresh (RFC 8656, section 8.2): the allocation lasts for the seconds that it says, and is removed where these are 0.
+-- A Refresh (RFC 8656, section 8.2): the allocation lasts for the seconds of the response, and is
+-- removed if these are 0.
 pub record AnswersRefresh (x : Situation) (change : Change) : Type 0 where
   pub response : IsResponse x Success REFRESH
   pub user : List ℕ

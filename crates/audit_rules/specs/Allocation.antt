@@ -1,12 +1,14 @@
--- What the server has for one client at one listen address, and how an answer changes it (RFC 8656, section 6).
+-- The server's state for one client at one listen address, and how an act changes it (RFC 8656,
+-- section 6).
 use Rattle.std.specs.Prelude.{ℕ, ◌==◌, if◌then◌else◌, List, [], ◌∷◌, Option, Some, None, option_map}
 use Rattle.std.specs.List.{list_any}
 use Rattle.audit_model.specs.declared.address.Addr.{Addr}
 use Rattle.audit_expiry.specs.declared.lease.Lease.{Lease}
 use Rattle.audit_rules.specs.declared.table.Channel.{Channel}
 
--- the relayed address, the user, the transaction id of the request that made it, and until when it lasts; until when each
--- peer's IP has a permission (section 9), and what each channel number is bound to (section 12)
+-- the relayed address, the user, the transaction id of the request that made it, and its end; the
+-- end of the permission of each peer's IP (section 9), and the peer that each channel number is
+-- bound to (section 12)
 pub record Allocation : Type 0 where
   pub relayed : Addr
   pub user : List ℕ
@@ -15,7 +17,7 @@ pub record Allocation : Type 0 where
   pub permissions : ℕ → Option Lease
   pub channels : ℕ → Option Channel
 
--- what an answer does to the client's allocation
+-- the effect of an act on the client's allocation
 pub data Change : Type 0 where
   Same : Change
   Makes : Allocation → Change
@@ -38,12 +40,12 @@ renewed until a = record a { until = until }
 abbrev pub with_granted : List ℕ → ℕ → Allocation → Allocation
 with_granted ips until a = record a { permissions = granted a.permissions ips until }
 
--- a channel goes with a permission, each until its own moment
+-- a channel comes with a permission, each until its own moment
 abbrev pub with_bound : ℕ → Addr → ℕ → ℕ → Allocation → Allocation
 with_bound number peer until permitted a =
     record a { permissions = granted a.permissions (peer.ip ∷ []) permitted; channels = bound a.channels number peer until }
 
--- the allocation after the answer
+-- the allocation after the act
 abbrev pub applied : Change → Option Allocation → Option Allocation
 applied Same found = found
 applied (Makes made) found = Some made

@@ -1,4 +1,5 @@
--- The answer of a TURN server (RFC 8656): when a departure may answer an arrival, and what it changes.
+-- The acts of a TURN server (RFC 8656): when it may send a departure for an arrival, and what that
+-- changes.
 use Rattle.std.specs.Prelude.{◌≡◌}
 use Rattle.audit_rules.specs.Allocation.{Change, Same}
 use Rattle.audit_rules.specs.Situation.{Situation, IsServed}
@@ -7,7 +8,7 @@ use Rattle.audit_rules.specs.Allocating.{AnswersNew, AnswersAgain, AnswersRefres
 use Rattle.audit_rules.specs.Granting.{AnswersPermission, AnswersChannelBind}
 use Rattle.audit_rules.specs.Relaying.{AnswersSend, AnswersChannelUp, AnswersData, AnswersChannelDown}
 
--- the eleven answers
+-- the eleven cases of an act
 pub data Case : Type 0 where
   Binding : Case
   Error : Case
@@ -21,7 +22,7 @@ pub data Case : Type 0 where
   Data : Case
   ChannelDown : Case
 
--- the departure is this answer to the arrival, and changes the client's allocation so
+-- the departure is sent for the arrival by this case, and changes the client's allocation so
 abbrev pub Answers : Case → Situation → Change → Type 0
 Answers Binding x change = AnswersBinding x × (change ≡ Same)
 Answers Error x change = AnswersError x × (change ≡ Same)
@@ -35,6 +36,6 @@ Answers ChannelUp x change = AnswersChannelUp x × (change ≡ Same)
 Answers Data x change = AnswersData x × (change ≡ Same)
 Answers ChannelDown x change = AnswersChannelDown x × (change ≡ Same)
 
--- the server may answer so: at a listen address of its policy, by one of the eleven
+-- the server may act so: at a listen address of its policy, by one of the eleven cases
 unfoldable pub MayAnswer : Situation → Change → Type 0
 MayAnswer x change = IsServed x × (case : Case) × Answers case x change

@@ -1,4 +1,4 @@
--- What an act leaves of a table.
+-- A table after an act.
 use Rattle.std.specs.Prelude.{◌≡◌, ℕ, Option, None}
 use Rattle.audit_model.specs.declared.event.At.{At}
 use Rattle.audit_model.specs.declared.sighting.SightId.{SightId}
@@ -14,6 +14,6 @@ pub record IsChanged (grace : ℕ) (at : At) (sight : SightId) (change : Change)
   pub table : new ≡ record old { allocation = applied change old.allocation; tenancy = running_after grace at sight change old.tenancy }
   pub ended' : ended ≡ ended_by at.key change old.tenancy
 
--- one allocation became this, and its tenancy stays
+-- one allocation became this, and its tenancy is unchanged
 abbrev pub Becomes : declared.Allocation → declared.Allocation → Allocation → Type 0
 Becomes old new wanted = (seen new ≡ wanted) × (tenancy_of None new ≡ tenancy_of None old)

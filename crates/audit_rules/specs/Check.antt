@@ -1,4 +1,5 @@
--- The checks of an act in their order: what each asks, and the rule that is told where it fails.
+-- The checks of an act in their order: the condition of each, and the rule that is reported if it
+-- fails.
 use Rattle.std.specs.Prelude.{◌≡◌, ◌⊎◌, List, [], ◌∷◌}
 use Rattle.audit_model.specs.declared.rule.Rule.{Rule}
 
@@ -6,7 +7,7 @@ pub record Check : Type 1 where
   pub holds : Type 0
   pub rule : Rule
 
--- a check of this fact, by this rule
+-- a check of this condition, by this rule
 abbrev pub ask : Type 0 → Rule → Check
 ask holds rule = record { holds = holds; rule = rule }
 

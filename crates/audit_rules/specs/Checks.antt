@@ -1,5 +1,5 @@
 -- docs/RULES.md, The answers.
--- The checks of each of the eleven answers, in the order in which they are told.
+-- The checks of each of the eleven cases of an act, in the order in which they are reported.
 use Rattle.std.specs.Prelude.{◌≡◌, ◌≢◌, ◌⊎◌, ◌↔◌, ℕ, ◌<◌, ◌≤◌, List, [], ◌∷◌, Some, length, IsSome, IsSomeAnd}
 use Rattle.audit_model.specs.declared.address.Addr.{Addr}
 use Rattle.audit_model.specs.declared.rule.Rule.TheVariants.{NotAuthentic, OtherUser, NoAllocation, AllocationOver, NoPermission, PermissionOver, NoChannel, ChannelOver, ChannelNumber, ChannelConflict, PeerDiffers, DataDiffers, RelayedAddress, Lifetime, TransportOrFamily, MappedAddress, ResponseIntegrity, ErrorCondition, AllocationPresent, Malformed}
@@ -15,7 +15,7 @@ use Rattle.audit_rules.specs.Allocating.{AsksServed, MayBeRelayed, EndsNothing}
 use Rattle.audit_rules.specs.Granting.{NoConflict, IsChannelNumber}
 use Rattle.audit_rules.specs.Check.{Check, ask}
 
--- the departure tells some address by this attribute
+-- the departure has an address in this attribute
 abbrev pub tells_address : ℕ → Situation → Check
 tells_address kind x = ask (IsSome (address_named kind (answered x))) Malformed
 
@@ -31,11 +31,11 @@ is_by_user x = ask (IsByUser x) NotAuthentic
 abbrev pub is_signed_back : Situation → Check
 is_signed_back x = ask (IsSignedBack x) ResponseIntegrity
 
--- the fact holds of the allocation that is there
+-- the allocation has the property
 abbrev pub WithAllocation : Situation → (Allocation → Type 0) → Type 0
 WithAllocation x Fact = IsSomeAnd x.allocation Fact
 
--- an allocation is there, and it is usable
+-- there is an allocation, and it is usable
 abbrev pub with_allocation : Situation → List Check → List Check
 with_allocation x more = ask (IsSome x.allocation) NoAllocation ∷ ask (WithUsable x (λ a. Unit {0})) AllocationOver ∷ more
 
@@ -48,7 +48,8 @@ abbrev pub with_permission : Situation → ℕ → List Check → List Check
 with_permission x ip more =
     ask (WithAllocation x (λ a. IsSome (a.permissions ip))) NoPermission ∷ ask (WithAllocation x (λ a. Permits x a ip)) PermissionOver ∷ more
 
--- the payload is ChannelData, and the fact holds of its number, its data and how many bytes come after
+-- the payload is ChannelData, and its number, its data and the number of bytes after that have the
+-- property
 abbrev pub SaysChannel : List ℕ → (ℕ → List ℕ → ℕ → Type 0) → Type 0
 SaysChannel payload Fact = IsSomeAnd (channel_data_of payload) (λ said. Fact said.0 said.1 said.2)
 
@@ -94,7 +95,7 @@ again_checks x =
     ∷ is_signed_back x
     ∷ []
 
--- of a Refresh that ends nothing no allocation is asked for
+-- a Refresh that ends nothing requires no allocation
 abbrev pub refresh_checks : Situation → List Check
 refresh_checks x =
     is_by_user x
@@ -109,7 +110,7 @@ refresh_checks x =
 abbrev pub permission_checks : Situation → List Check
 permission_checks x = is_by_user x ∷ with_own x (ask (IsSomeAnd (peer_ips_of (asked x)) (λ ips. 0 < length ips)) PeerDiffers ∷ is_signed_back x ∷ [])
 
--- the number and the peer that are asked for are in no conflict
+-- the requested number and peer have no conflict
 abbrev pub MayBind : Situation → Type 0
 MayBind x = IsSomeAnd (address_named XOR_PEER_ADDRESS (asked x)) (λ peer. IsSomeAnd (channel_number_of (asked x)) (λ number. WithAllocation x (NoConflict x number peer)))
 

@@ -1,4 +1,4 @@
--- What the code does to a table, as the definitions see it.
+-- The code's effect on a table, as the definitions see it.
 use Rattle.std.specs.Prelude.{ℕ, ◌==◌, if◌then◌else◌, Option, None, option_map}
 use Rattle.audit_model.specs.declared.address.Addr.{Addr}
 use Rattle.audit_model.specs.declared.event.Key.{Key}
@@ -11,7 +11,7 @@ use Rattle.audit_rules.specs.Allocation.{Allocation, Change, Same, Makes, Renews
 use Rattle.audit_rules.specs.Allocating.{seconds_after}
 use Rattle.audit_rules.specs.Seen.{seen}
 
--- a Refresh of 0 seconds removes the allocation
+-- a Refresh with LIFETIME 0 removes the allocation
 abbrev pub refreshed : ℕ → ℕ → Change
 refreshed moment seconds = if seconds == 0 then Removes else Renews (seconds_after moment seconds)
 
@@ -23,11 +23,11 @@ change_of moment (effects.Refreshes seconds) = refreshed moment seconds
 change_of moment (effects.Grants ips) = Grants ips.items (seconds_after moment 300)
 change_of moment (effects.Binds bound) = Binds bound.number bound.peer (seconds_after moment 600) (seconds_after moment 300)
 
--- the tenancy of an allocation, stopped or running
+-- the tenancy of an allocation, ended or current
 abbrev pub tenancy_of : Option Key → declared.Allocation → Tenancy
 tenancy_of stopped a = record { born = a.born; stopped = stopped; last = a.last; relayed = a.relayed; sight = a.sight }
 
--- What a table has: the allocation, and its tenancy so far.
+-- The state of a table: the allocation, and its tenancy so far.
 pub record Standing : Type 0 where
   pub client : Addr
   pub listen : Addr

@@ -1,5 +1,5 @@
--- docs/RULES.md, Which answer.
--- The first rule that an act breaks: which answer it is by its paths and its first bytes, and then that answer's checks.
+-- docs/RULES.md, Which answer. The first rule that an act breaks: its paths and first bytes
+-- determine the case, and then that case's checks apply.
 use Rattle.std.specs.Prelude.{◌≡◌, ◌⊎◌, ℕ, ◌/◌, Bool, true, false, ◌&&◌, ◌==◌, List, [], ◌∷◌, Option, Some, None}
 use Rattle.std.specs.Str.{bytes_eq}
 use Rattle.audit_model.specs.declared.rule.Rule.{Rule}
@@ -16,7 +16,7 @@ use Rattle.audit_rules.specs.Situation.{Situation, IsServed, asked, answered, Is
 use Rattle.audit_rules.specs.Check.{Check, ask, FirstFails}
 use Rattle.audit_rules.specs.Checks.{SaysChannel, binding_checks, error_checks, new_checks, again_checks, refresh_checks, permission_checks, channel_bind_checks, send_checks, channel_up_checks, data_checks, channel_down_checks}
 
--- it is none of the answers
+-- it is none of the cases
 abbrev pub is_none : List Check
 is_none = ask ⊥ NotAnAnswer ∷ []
 
@@ -25,7 +25,7 @@ abbrev pub made_it : Situation → Option Allocation → Bool
 made_it x None = false
 made_it x (Some a) = is_usable a.until x.moment x.policy.grace && bytes_eq a.id (asked x).tid
 
--- the first list where the test passes, else the second
+-- the first list if the test holds, else the second
 abbrev pub choose : Bool → List Check → List Check → List Check
 choose true these those = these
 choose false these those = those
@@ -45,7 +45,7 @@ class_checks x Error = error_checks x
 class_checks x Request = []
 class_checks x Indication = []
 
--- a request of the client and what goes back to it
+-- a request of the client and its response
 abbrev pub IsRequest : Situation → Type 0
 IsRequest x = IsMessage x.arrives.payload (asked x) × ((asked x).class ≡ Request)
 

@@ -26,16 +26,16 @@ pub record AnswersPermission (x : Situation) (change : Change) : Type 0 where
   pub signed : IsSignedBack x
   pub changes : change ≡ Grants ips (seconds_after x.moment 300)
 
--- a number of a channel (section 12)
+-- a channel number (section 12)
 abbrev pub IsChannelNumber : ℕ → Type 0
 IsChannelNumber number = (0x4000 ≤ number) × (number ≤ 0x4FFF)
 
--- each binding that isn't gone is of both, the number and the peer, or of neither
+-- each binding that isn't gone has both the number and the peer, or neither
 abbrev pub NoConflict : Situation → ℕ → Addr → Allocation → Type 0
 NoConflict x number peer a = (n : ℕ) (channel : Channel) → a.channels n ≡ Some channel → (IsGone channel.lease.until x.moment → ⊥) → (n ≡ number) ↔ (channel.peer ≡ peer)
 
--- ChannelBind (RFC 8656, section 12.2): the number is the peer's for 600 seconds, and the peer's IP has a permission for 300.
--- Of several peers the first counts.
+-- ChannelBind (RFC 8656, section 12.2): the number is bound to the peer for 600 seconds, and the
+-- peer's IP has a permission for 300. Of several peers the first counts.
 pub record AnswersChannelBind (x : Situation) (change : Change) : Type 0 where
   pub response : IsResponse x Success CHANNEL_BIND
   pub user : List ℕ

@@ -1,4 +1,5 @@
--- The keys that an act goes by: those of the user and the realm that its request names, and no others.
+-- The keys that an act depends on: those of the user and the realm that its request names, and no
+-- others.
 use Rattle.std.specs.Prelude.{◌≡◌, ℕ, List, Some}
 use Rattle.audit_stun.specs.declared.numbers.attribute.TheConstants.{USERNAME, REALM}
 use Rattle.audit_stun.specs.Counted.{first_of}

@@ -8,7 +8,8 @@ use Rattle.audit_stun.specs.Parts.{parts_of}
 use Rattle.audit_keys.specs.declared.keys.Keys.{Keys}
 use Rattle.audit_keys.specs.Keys.{KeyFor}
 
--- the payload is a message whose USERNAME and REALM are these, and these are the long-term keys of that user of that realm (RFC 8489, section 9.2)
+-- the payload is a message whose USERNAME and REALM are these, and these are the long-term keys of
+-- that user of that realm (RFC 8489, section 9.2)
 pub record Names (key_for : KeyFor) (payload user realm : List ℕ) (keys : Keys) : Type 0 where
   pub parts : Parts
   pub message : IsMessage payload parts
@@ -19,6 +20,6 @@ pub record Names (key_for : KeyFor) (payload user realm : List ℕ) (keys : Keys
 abbrev pub NamesNobody : KeyFor → List ℕ → Type 0
 NamesNobody key_for payload = (user realm : List ℕ) (keys : Keys) → Names key_for payload user realm keys → ⊥
 
--- where the payload is a request (RFC 8489, section 5), it names nobody
+-- if the payload is a request (RFC 8489, section 5), it names nobody
 abbrev pub RequestNamesNobody : KeyFor → List ℕ → Type 0
 RequestNamesNobody key_for payload = IsMessage payload (parts_of payload) → (parts_of payload).class ≡ Request → NamesNobody key_for payload

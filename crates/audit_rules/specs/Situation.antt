@@ -1,4 +1,4 @@
--- One act of the server, and what it goes by.
+-- One act of the server, and all that it depends on.
 use Rattle.std.specs.Prelude.{◌≡◌, ℕ, if◌then◌else◌, IsTrue, List, Option, Some, None}
 use Rattle.audit_model.specs.declared.address.Addr.{Addr}
 use Rattle.audit_model.specs.declared.policy.Policy.{Policy}
@@ -13,8 +13,8 @@ use Rattle.audit_rules.specs.declared.path.Path.{Path}
 use Rattle.audit_rules.specs.declared.path.Path.TheVariants.{Client, Relay}
 use Rattle.audit_rules.specs.Allocation.{Allocation}
 
--- the client and the listen address, the policy, the keys of the users by user and realm, what the server has for the
--- client, what arrives, what leaves for it, and when
+-- the client and the listen address, the policy, the keys of the users by user and realm, the
+-- server's state for the client, the arrival, the departure, and the moment
 pub record Situation : Type 0 where
   pub client : Addr
   pub listen : Addr
@@ -25,11 +25,11 @@ pub record Situation : Type 0 where
   pub leaves : Sighting
   pub moment : ℕ
 
--- the policy listens at the lane's listen address
+-- the lane's listen address is one of the policy's
 abbrev pub IsServed : Situation → Type 0
 IsServed x = IsTrue (listens x.policy x.listen)
 
--- what the arrival and the departure say, where they are STUN messages
+-- the contents of the arrival and the departure, if they are STUN messages
 abbrev pub asked : Situation → Parts
 asked x = parts_of x.arrives.payload
 

@@ -1,4 +1,5 @@
--- What several answers ask for: who asks, and what is usable (RFC 8489, section 9.2; RFC 8656, sections 5, 6, 9 and 12).
+-- What several cases require: the request's user, and usable leases (RFC 8489, section 9.2; RFC
+-- 8656, sections 5, 6, 9 and 12).
 use Rattle.std.specs.Prelude.{◌≡◌, ℕ, List, Option, Some, IsSome, IsSomeAnd, MatchOption}
 use Rattle.std.specs.Option.{option_and_then}
 use Rattle.audit_model.specs.declared.address.Addr.{Addr}
@@ -16,7 +17,8 @@ use Rattle.audit_rules.specs.declared.path.Path.TheVariants.{Client}
 use Rattle.audit_rules.specs.Allocation.{Allocation}
 use Rattle.audit_rules.specs.Situation.{Situation, asked, answered, IsOf, arrival_path, departure_path}
 
--- The departure goes back on the request's path, and has its method and transaction id (RFC 8489, section 6.3).
+-- The departure goes back on the request's path, and has its method and transaction id (RFC 8489,
+-- section 6.3).
 pub record IsResponse (x : Situation) (class : Class) (method : ℕ) : Type 0 where
   pub forth : arrival_path x ≡ Some Client
   pub back : departure_path x ≡ Some Client
@@ -32,7 +34,8 @@ keys_named key_for said = option_and_then (λ user. option_and_then (key_for use
 abbrev pub key_named : KeyFor → Parts → Option (List ℕ)
 key_named key_for said = option_and_then (chosen_key said.attributes) (keys_named key_for said)
 
--- the request has a nonce, and is signed under the key that it chooses of the user and the realm that it names: it is authentic by that user
+-- the request has a nonce, and is signed under the key that it chooses, of the user and the realm
+-- that it names: it is authentic by that user
 abbrev pub IsByUser : Situation → Type 0
 IsByUser x = IsSome (first_of NONCE (asked x).attributes) × IsSomeAnd (key_named x.key_for (asked x)) (IsSigned x.arrives.payload)
 
@@ -44,11 +47,11 @@ IsSignedBack x = IsSomeAnd (key_named x.key_for (asked x)) (IsSigned x.leaves.pa
 abbrev pub UsableNow : Situation → ℕ → Type 0
 UsableNow x until = IsUsable until x.moment x.policy.grace
 
--- a usable allocation is there, and the fact holds of it
+-- there is a usable allocation, and it has the property
 abbrev pub WithUsable : Situation → (Allocation → Type 0) → Type 0
 WithUsable x Fact = IsSomeAnd x.allocation (λ a. UsableNow x a.until × Fact a)
 
--- no allocation, or one that is over
+-- no allocation, or one that has expired
 abbrev pub NothingLasts : Situation → Type 0
 NothingLasts x = MatchOption x.allocation (Unit {0}) (λ a. IsGone a.until x.moment)
 

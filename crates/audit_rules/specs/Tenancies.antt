@@ -1,4 +1,5 @@
--- The tenancy of a table's allocation: from the act that makes it to the one that replaces or removes it.
+-- The tenancy of a table's allocation: from the act that makes it to the one that replaces or
+-- removes it.
 use Rattle.std.specs.Prelude.{ℕ, Option, Some, None, option_map}
 use Rattle.audit_model.specs.declared.event.At.{At}
 use Rattle.audit_model.specs.declared.event.Key.{Key}
@@ -13,7 +14,8 @@ lasting_to last tenancy = record tenancy { last = last }
 abbrev pub stopped_at : Key → Tenancy → Tenancy
 stopped_at key tenancy = record tenancy { stopped = Some key }
 
--- the tenancy that runs after a change at this place, by this arrival; it lasts until the allocation's end and the grace
+-- the current tenancy after a change at this place, by this arrival; it lasts until the
+-- allocation's end plus the grace
 abbrev pub running_after : ℕ → At → SightId → Change → Option Tenancy → Option Tenancy
 running_after grace at sight Same found = found
 running_after grace at sight (Makes made) found = Some (record { born = at; stopped = None; last = later made.until grace; relayed = made.relayed; sight = sight })

@@ -1,4 +1,4 @@
--- What the attributes of a message say (RFC 8656, section 18; RFC 8489, section 14).
+-- The attributes of a message (RFC 8656, section 18; RFC 8489, section 14).
 use Rattle.std.specs.Prelude.{◌≡◌, ℕ, List, [], ◌∷◌, Option, Some, None, option_map, ◌<◌, slice_index_or}
 use Rattle.std.specs.Int.{w16, w32, from_be_bytes}
 use Rattle.std.specs.Option.{option_and_then}
@@ -25,7 +25,7 @@ address_named kind said = option_and_then address_of (first_of kind said.attribu
 abbrev pub Names : ℕ → Parts → Addr → Type 0
 Names kind said addr = address_named kind said ≡ Some addr
 
--- the code of an error, if it can be read
+-- the code of an error response, if it can be read
 abbrev pub code_of : Parts → Option ℕ
 code_of said = option_and_then error_code_of (first_of ERROR_CODE said.attributes)
 
@@ -57,7 +57,7 @@ transport_of said = option_and_then one (first_of REQUESTED_TRANSPORT said.attri
 abbrev pub family_of : Parts → Option ℕ
 family_of said = option_and_then one (first_of REQUESTED_ADDRESS_FAMILY said.attributes)
 
--- the IP of an address in front of others, where all can be read
+-- the IP of an address before others, if all can be read
 abbrev pub and_ip : Option Addr → Option (List ℕ) → Option (List ℕ)
 and_ip addr ips = option_and_then (λ one. option_map (λ others. one.ip ∷ others) ips) addr
 

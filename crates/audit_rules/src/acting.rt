@@ -1,4 +1,4 @@
-//! Judging an act, and changing the table by it.
+//! Judges an act, and changes the table by it.
 
 ghost use Rattle.std.specs.Prelude.{◌≡◌, IfOk, IfErr, OnErr};
 ghost use Rattle.audit_rules.specs.Answer.{MayAnswer};
@@ -18,13 +18,15 @@ use crate::table::LaneTable;
 use audit_model::{At, Policy, Sighting, Tenancy};
 use std::alloc::Global;
 
-/// Judges the act that answers an arrival by a departure, and changes the table as the server does (RFC 8656).
+/// Judges the act that sends a departure for an arrival, and changes the table as the server does
+/// (RFC 8656).
 ///
-/// It gives the tenancy that the act ended, if any. It fails by the first rule, R1 to R21, that the act breaks, or for
-/// want of memory; the table stays as it was then. It looks through all users, of whom the one that the request names
-/// matters alone (of two of one user and realm the first counts): give it that one, by `CredRow::of`, and its time doesn't grow
-/// with the users. For a ChannelBind it looks through the channels; it hashes only what the case asks to be signed, and takes
-/// memory only for what the table gains.
+/// Returns the tenancy that the act ended, if any. It fails by the first rule, R1 to R21, that the
+/// act breaks, or if memory is exhausted; the table is then unchanged. It searches all users, of
+/// whom only the one that the request names matters (of two rows of one user and realm the first
+/// counts). Pass that one alone, by `CredRow::of`, and the time doesn't depend on the number of
+/// users. For a ChannelBind it searches the channels. It hashes only what the case requires to be
+/// signed, and allocates memory only for what is added to the table.
 pub fn act(
     alloc: Global,
     table: &mut LaneTable,
@@ -34,7 +36,7 @@ pub fn act(
     leaves: &Sighting,
     at: At,
 ) -> Result<Option<Tenancy>, ActFault>
-    // The server may answer so, and the table is changed as the departure says.
+    // The server may act so, and the table is changed by the departure.
     ensures ok { IfOk result (λ ended. let x = situation_of table.old users.now policy.now arrives.now leaves.now at.key.moment in
         MayAnswer x (change_in x) × IsChanged policy.now.grace at arrives.now.id (change_in x) (standing table.old) (standing table.new) ended) }
     // The rule is that of the first check that fails.

@@ -1,13 +1,13 @@
-//! One act, and what it is judged by.
+//! An act, and all that it is judged by.
 
 use crate::credentials::CredRow;
 use crate::table::LaneTable;
 use audit_model::{Policy, Sighting};
 
-/// A departure that answers an arrival.
+/// An act: a departure that is sent for an arrival.
 #[derive(Clone, Copy)]
 pub struct Act<'t, 'a> {
-    /// What the server has for the client before it.
+    /// The server's state for the client before it.
     pub table: &'t LaneTable,
     /// Of two rows of one user and realm the first counts.
     pub users: &'a [CredRow<'a>],

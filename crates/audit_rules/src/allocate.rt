@@ -1,4 +1,5 @@
-//! An Allocate request and its success (RFC 8656, sections 6 and 7). See docs/RULES.md, New allocation and Repeated allocation.
+//! An Allocate request and its success response (RFC 8656, sections 6 and 7). See docs/RULES.md,
+//! New allocation and Repeated allocation.
 
 ghost use Rattle.std.specs.Prelude.{◌≡◌, ◌↔◌, IsTrue, Some, None, MatchResult, MatchOption};
 ghost use Rattle.audit_stun.specs.declared.numbers.attribute.TheConstants.{XOR_RELAYED_ADDRESS};
@@ -26,7 +27,7 @@ use audit_stun::numbers::attribute::{EVEN_PORT, XOR_MAPPED_ADDRESS, XOR_RELAYED_
 /// The family of IPv4 addresses (RFC 8656, section 18.6).
 const IPV4: u8 = 1;
 
-/// What a new allocation is made of.
+/// The content of a new allocation.
 #[derive(Clone, Copy)]
 pub struct Made<'a> {
     pub user: &'a [u8],
@@ -46,7 +47,7 @@ pub fn is_again(act: &Act<'_, '_>, request: &Message<'_>) -> bool
     }
 }
 
-/// Whether no allocation is there, or one that is over.
+/// Whether there is no allocation, or one that has expired.
 pub fn nothing_lasts(act: &Act<'_, '_>) -> bool
     ensures { IsTrue result ↔ NothingLasts (situation act.now) }
 {
@@ -56,7 +57,7 @@ pub fn nothing_lasts(act: &Act<'_, '_>) -> bool
     }
 }
 
-/// Whether the request asks for UDP over IPv4. A value that can't be read counts as absent (own).
+/// Whether the request is for UDP over IPv4. A value that can't be read counts as absent (own).
 fn asks_served(act: &Act<'_, '_>, request: &Message<'_>) -> bool
     requires { request.now ≡ (situation act.now).arrives.payload }
     ensures { IsTrue result ↔ AsksServed (situation act.now) }
@@ -65,7 +66,7 @@ fn asks_served(act: &Act<'_, '_>, request: &Message<'_>) -> bool
     transport_in(request) == Some(UDP) && (family == None || family == Some(IPV4))
 }
 
-/// Whether the address is in a relay range, and even where EVEN-PORT was asked for.
+/// Whether the address is in a relay range, and even if EVEN-PORT was requested.
 fn may_be_relayed(act: &Act<'_, '_>, request: &Message<'_>, relayed: Addr) -> bool
     requires { request.now ≡ (situation act.now).arrives.payload }
     ensures { IsTrue result ↔ MayBeRelayed (situation act.now) relayed }
@@ -73,7 +74,7 @@ fn may_be_relayed(act: &Act<'_, '_>, request: &Message<'_>, relayed: Addr) -> bo
     act.policy.relays(relayed) && (request.first(EVEN_PORT).is_none() || relayed.port % 2 == 0)
 }
 
-/// A new allocation (RFC 8656, section 7.2).
+/// Checks a new allocation (RFC 8656, section 7.2).
 pub fn new_allocation<'a>(
     act: &Act<'_, '_>,
     request: &Message<'a>,
@@ -125,7 +126,8 @@ pub fn new_allocation<'a>(
     })
 }
 
-/// The success of the request that made the allocation, told again (RFC 8656, section 7.2).
+/// Checks a repeated success response to the request that made the allocation (RFC 8656, section
+/// 7.2).
 pub fn repeated_allocation(
     act: &Act<'_, '_>,
     allocation: &Allocation,

@@ -1,4 +1,4 @@
-//! A Binding request and its success (RFC 8489, section 2). See docs/RULES.md, Binding.
+//! A Binding request and its success response (RFC 8489, section 2). See docs/RULES.md, Binding.
 
 ghost use Rattle.std.specs.Prelude.{◌≡◌, MatchResult};
 ghost use Rattle.audit_stun.specs.declared.numbers.attribute.TheConstants.{XOR_MAPPED_ADDRESS};
@@ -14,7 +14,7 @@ use audit_model::Rule;
 use audit_stun::Message;
 use audit_stun::numbers::attribute::XOR_MAPPED_ADDRESS;
 
-/// The client is told its own address.
+/// Checks that the response has the client's own address.
 pub fn binding(act: &Act<'_, '_>, success: &Message<'_>) -> Result<(), Rule>
     requires { success.now ≡ (situation act.now).leaves.payload }
     ensures { MatchResult result (λ _. Names XOR_MAPPED_ADDRESS (answered (situation act.now)) (situation act.now).client)

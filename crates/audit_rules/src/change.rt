@@ -1,4 +1,4 @@
-//! How a table changes.
+//! Changes a table.
 
 ghost use Rattle.std.specs.Prelude.{◌≡◌, Some, None, option_map, OnOk, OnErr, IfOk, IfSome, IsSome};
 ghost use Rattle.std.specs.Ordering.{nat_cmp};
@@ -28,7 +28,7 @@ const PERMISSION_SECONDS: u32 = 300;
 /// How long a channel lasts (RFC 8656, section 12).
 const CHANNEL_SECONDS: u32 = 600;
 
-/// The act that changes a table: where it stands.
+/// The place of the act that changes a table.
 #[derive(Clone, Copy)]
 pub struct ActAt {
     pub at: At,
@@ -38,14 +38,14 @@ pub struct ActAt {
     pub grace: u64,
 }
 
-/// The lease that lasts for so many seconds from the moment on.
+/// The lease that lasts for this number of seconds from the moment on.
 fn lease_for(moment: u64, seconds: u32) -> Lease
     ensures { result ≡ record { until = seconds_after moment seconds } }
 {
     Lease::lasting(moment, u64::from(seconds) * NANOSECONDS)
 }
 
-/// The tenancy of the allocation that is there, ended at this key.
+/// The tenancy of the current allocation, ended at this key.
 fn stopped(table: &LaneTable, key: Key) -> Option<Tenancy>
     ensures { result ≡ option_map (stopped_at key) (standing table.now).tenancy }
 {
@@ -59,7 +59,7 @@ fn stopped(table: &LaneTable, key: Key) -> Option<Tenancy>
     })
 }
 
-/// Puts a new allocation in place of any other.
+/// Makes a new allocation in place of any other.
 fn make(
     alloc: Global,
     table: &mut LaneTable,
@@ -104,7 +104,7 @@ fn refresh(table: &mut LaneTable, act: ActAt, seconds: u32) -> Option<Tenancy>
     None
 }
 
-/// Gives each of the IPs a permission.
+/// Grants each of the IPs a permission.
 fn grant(found: &mut Allocation, moment: u64, ips: &[u32]) -> Result<(), AllocError>
     ensures ok { OnOk result (Becomes found.old found.new (with_granted ips.now (seconds_after moment 300) (seen found.old))) }
     ensures err { OnErr result (Becomes found.old found.new (seen found.old)) }
@@ -114,7 +114,7 @@ fn grant(found: &mut Allocation, moment: u64, ips: &[u32]) -> Result<(), AllocEr
         .put_all(ips, lease_for(moment, PERMISSION_SECONDS))
 }
 
-/// Puts the channel of a number back as it was.
+/// Restores the previous channel of a number.
 fn unbind(channels: &mut Leases<u16, Channel>, number: u16, before: Option<Channel>)
     requires there { IsSome (value_at nat_cmp channels.old number) }
     ensures some { IfSome before (λ channel. Puts nat_cmp channels.old channels.new number channel) }
@@ -128,7 +128,7 @@ fn unbind(channels: &mut Leases<u16, Channel>, number: u16, before: Option<Chann
     }
 }
 
-/// Binds a channel, and gives its peer's IP a permission; or neither.
+/// Binds a channel, and grants its peer's IP a permission; or neither.
 #[tactic(auto, using(crate::proofs::Tables::put_there))]
 fn bind(found: &mut Allocation, moment: u64, bound: Bound) -> Result<(), AllocError>
     ensures ok { OnOk result (Becomes found.old found.new (with_bound bound.number bound.peer (seconds_after moment 600) (seconds_after moment 300) (seen found.old))) }
@@ -148,7 +148,8 @@ fn bind(found: &mut Allocation, moment: u64, bound: Bound) -> Result<(), AllocEr
     Ok(())
 }
 
-/// Changes the table by an answer, and gives the tenancy that it ended. Where memory is refused, nothing changes.
+/// Changes the table by a departure, and returns the tenancy that it ended. If memory is exhausted,
+/// nothing changes.
 pub fn change(
     alloc: Global,
     table: &mut LaneTable,

@@ -1,4 +1,5 @@
-//! A ChannelBind request and its success (RFC 8656, section 12). See docs/RULES.md, ChannelBind.
+//! A ChannelBind request and its success response (RFC 8656, section 12). See docs/RULES.md,
+//! ChannelBind.
 
 ghost use Rattle.std.specs.Prelude.{◌≡◌, ◌↔◌, Some, false, IsTrue, MatchResult};
 ghost use Rattle.audit_stun.specs.declared.numbers.attribute.TheConstants as attributes;
@@ -18,19 +19,20 @@ use audit_model::{Addr, Rule};
 use audit_stun::Message;
 use audit_stun::numbers::attribute::XOR_PEER_ADDRESS;
 
-/// The first and the last number of a channel (RFC 8656, section 12).
+/// The first and the last channel number (RFC 8656, section 12).
 const FIRST_CHANNEL: u16 = 0x4000;
 
 const LAST_CHANNEL: u16 = 0x4FFF;
 
-/// What is bound to what.
+/// A channel number and the peer that it is bound to.
 #[derive(Clone, Copy)]
 pub struct Bound {
     pub number: u16,
     pub peer: Addr,
 }
 
-/// Whether the number is bound to another peer, or the peer to another number, and the binding isn't gone.
+/// Whether the number is bound to another peer, or the peer to another number, and the binding
+/// isn't gone.
 fn conflicts(act: &Act<'_, '_>, allocation: &Allocation, bound: Bound) -> bool
     ensures yes { IsTrue result → NoConflict (situation act.now) bound.number bound.peer (seen allocation.now) → ⊥ }
     ensures no { result ≡ false → NoConflict (situation act.now) bound.number bound.peer (seen allocation.now) }
@@ -41,7 +43,7 @@ fn conflicts(act: &Act<'_, '_>, allocation: &Allocation, bound: Bound) -> bool
     })
 }
 
-/// Whether the binding that is asked for is in no conflict.
+/// Whether the requested binding has no conflict.
 fn may_bind(act: &Act<'_, '_>, allocation: &Allocation, bound: Bound) -> bool
     requires found { act.now.table.now.allocation ≡ Some allocation.now }
     requires number { channel_number_of (asked (situation act.now)) ≡ Some bound.number }

@@ -1,4 +1,5 @@
-//! A peer's datagram and the ChannelData that takes it to the client (RFC 8656, section 12.7). See docs/RULES.md, Channel data down.
+//! A peer's datagram and the ChannelData that relays it to the client (RFC 8656, section 12.7). See
+//! docs/RULES.md, Channel data down.
 
 ghost use Rattle.std.specs.Prelude.{◌≡◌, ℕ, List, Some, MatchResult};
 ghost use Rattle.audit_stun.specs.ChannelData.{channel_data_of};
@@ -10,10 +11,10 @@ use crate::acts::Act;
 use crate::usable::usable_allocation;
 use audit_model::Rule;
 
-/// How many bytes of padding may follow the data (RFC 8656, section 12.5).
+/// The most bytes of padding that may follow the data (RFC 8656, section 12.5).
 const MOST_PADDING: usize = 3;
 
-/// The data is the peer's payload, in the channel that is bound to the peer.
+/// Checks that the data is the peer's payload, in the channel that is bound to the peer.
 pub fn channel_down(act: &Act<'_, '_>, number: u16, bytes: &[u8], past: usize) -> Result<(), Rule>
     requires { channel_data_of (situation act.now).leaves.payload ≡ Some (number, bytes.now, past) }
     ensures { MatchResult result (λ _. AllHold (channel_down_checks (situation act.now))) (λ rule. FirstFails (channel_down_checks (situation act.now)) rule) }

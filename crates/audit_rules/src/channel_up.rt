@@ -1,4 +1,5 @@
-//! ChannelData of the client and the datagram that it sends to a peer (RFC 8656, section 12.6). See docs/RULES.md, Channel data up.
+//! ChannelData of the client and the datagram that relays it to a peer (RFC 8656, section 12.6).
+//! See docs/RULES.md, Channel data up.
 
 ghost use Rattle.std.specs.Prelude.{◌≡◌, ℕ, List, Some, MatchResult};
 ghost use Rattle.audit_stun.specs.ChannelData.{channel_data_of};
@@ -10,7 +11,8 @@ use crate::acts::Act;
 use crate::usable::usable_allocation;
 use audit_model::Rule;
 
-/// The data goes from the relayed address to the channel's peer. No permission is asked for (own).
+/// Checks that the data goes from the relayed address to the channel's peer. No permission is
+/// required (own).
 pub fn channel_up(act: &Act<'_, '_>, number: u16, bytes: &[u8], past: usize) -> Result<(), Rule>
     requires { channel_data_of (situation act.now).arrives.payload ≡ Some (number, bytes.now, past) }
     ensures { MatchResult result (λ _. AllHold (channel_up_checks (situation act.now))) (λ rule. FirstFails (channel_up_checks (situation act.now)) rule) }

@@ -27,8 +27,10 @@ impl<'a> CredRow<'a> {
     ghost use Rattle.audit_keys.specs.KeyFor.{key_for};
     ghost use Rattle.audit_rules.specs.Named.{Names, NamesNobody, RequestNamesNobody};
 
-    /// The row of the user and the realm that a message names in USERNAME and REALM, with their long-term keys (RFC 8489, section 9.2). None where the
-    /// payload is no message, has no such attributes, or the credentials have no keys for both. It takes log n in the credentials, and no memory.
+    /// The row of the user and the realm that a message names in USERNAME and REALM, with their
+    /// long-term keys (RFC 8489, section 9.2). None if the payload is no message, has no such
+    /// attributes, or the credentials have no keys for both. It takes log n time in the
+    /// credentials, and allocates no memory.
     pub fn of(credentials: &Credentials, payload: &'a [u8]) -> Option<CredRow<'a>>
         ensures { MatchOption result (NamesNobody (key_for credentials.now) payload.now)
             (λ row. Names (key_for credentials.now) payload.now row.user.now row.realm.now row.key) }
@@ -40,7 +42,8 @@ impl<'a> CredRow<'a> {
         Some(CredRow { user, realm, key })
     }
 
-    /// The same of a request, of which alone judging asks for a user: of any other payload it reads the first two bytes, or finds the row as `of` does.
+    /// The row that a request names, as `of` finds it; only requests are judged by a user. If the
+    /// first two bytes of a payload can't begin a request, it reads no more and returns None.
     pub fn of_request(credentials: &Credentials, payload: &'a [u8]) -> Option<CredRow<'a>>
         ensures { MatchOption result (RequestNamesNobody (key_for credentials.now) payload.now)
             (λ row. Names (key_for credentials.now) payload.now row.user.now row.realm.now row.key) }
@@ -52,7 +55,8 @@ impl<'a> CredRow<'a> {
     }
 }
 
-/// Whether the first two bytes may be a request's message type: two zero bits, and zero for both bits of the class (RFC 8489, section 5).
+/// Whether the first two bytes may be a request's message type: two zero bits, and zero for both
+/// bits of the class (RFC 8489, section 5).
 fn begins_request(payload: &[u8]) -> bool
     ensures { IsMessage payload.now (parts_of payload.now) → (parts_of payload.now).class ≡ Request → IsTrue result }
 {
@@ -63,14 +67,14 @@ fn begins_request(payload: &[u8]) -> bool
     message_type < 1 << 14 && message_type / 256 % 2 == 0 && message_type / 16 % 2 == 0
 }
 
-/// Who signed a request.
+/// The signer of a request.
 #[derive(Clone, Copy)]
 pub struct Signer<'u, 'k> {
     pub user: &'u [u8],
     pub key: &'k [u8],
 }
 
-/// The keys of the first row of the user and the realm. It looks through the rows.
+/// The keys of the first row of the user and the realm. It searches the rows.
 fn keys_of<'k>(users: &'k [CredRow<'_>], user: &[u8], realm: &[u8]) -> Option<&'k Keys>
     ensures { option_copied result ≡ key_in users.now user.now realm.now }
 {
@@ -80,7 +84,8 @@ fn keys_of<'k>(users: &'k [CredRow<'_>], user: &[u8], realm: &[u8]) -> Option<&'
     Some(&row.key)
 }
 
-/// The user that the request names, with the key that it chooses of those for the realm that it names.
+/// The user that the request names, with the key that it chooses of those for the realm that it
+/// names.
 fn named<'u, 'k>(users: &'k [CredRow<'_>], request: &Message<'u>) -> Option<Signer<'u, 'k>>
     ensures { MatchOption result (key_named (key_in users.now) (parts_of request.now) ≡ None)
         (λ signer. (first_of USERNAME (parts_of request.now).attributes ≡ Some signer.user.now)
@@ -92,8 +97,8 @@ fn named<'u, 'k>(users: &'k [CredRow<'_>], request: &Message<'u>) -> Option<Sign
     Some(Signer { user, key })
 }
 
-/// Whose request it is, if it is authentic: it has a nonce, and is signed under the key that it chooses of the user and the realm that it names
-/// (RFC 8489, section 9.2.4).
+/// The user of a request that is authentic: it has a nonce, and is signed under the key that it
+/// chooses, of the user and the realm that it names (RFC 8489, section 9.2.4).
 pub fn authenticated<'u, 'k>(act: &Act<'_, 'k>, request: &Message<'u>) -> Option<Signer<'u, 'k>>
     requires { request.now ≡ (situation act.now).arrives.payload }
     ensures { MatchOption result (IsByUser (situation act.now) → ⊥)

@@ -1,4 +1,5 @@
-//! A peer's datagram and the Data indication that takes it to the client (RFC 8656, section 11.3). See docs/RULES.md, Data.
+//! A peer's datagram and the Data indication that relays it to the client (RFC 8656, section 11.3).
+//! See docs/RULES.md, Data.
 
 ghost use Rattle.std.specs.Prelude.{◌≡◌, MatchResult};
 ghost use Rattle.audit_rules.specs.Check.{AllHold, FirstFails};
@@ -12,7 +13,8 @@ use audit_model::Rule;
 use audit_stun::Message;
 use audit_stun::numbers::attribute::{DATA, XOR_PEER_ADDRESS};
 
-/// The indication names the peer and has its payload. That a channel is bound to the peer doesn't matter (own).
+/// Checks that the indication names the peer and has its payload. Whether a channel is bound to the
+/// peer doesn't matter (own).
 pub fn data(act: &Act<'_, '_>, indication: &Message<'_>) -> Result<(), Rule>
     requires { indication.now ≡ (situation act.now).leaves.payload }
     ensures { MatchResult result (λ _. AllHold (data_checks (situation act.now))) (λ rule. FirstFails (data_checks (situation act.now)) rule) }

@@ -1,4 +1,5 @@
-//! An error response (RFC 8489, section 6.3.4; RFC 8656, sections 5, 7.2 and 8.2). See docs/RULES.md, Error.
+//! An error response (RFC 8489, section 6.3.4; RFC 8656, sections 5, 7.2 and 8.2). See
+//! docs/RULES.md, Error.
 
 ghost use Rattle.std.specs.Prelude.{◌≡◌, ◌↔◌, IsTrue, MatchResult};
 ghost use Rattle.audit_rules.specs.Situation.{asked};
@@ -17,7 +18,7 @@ use audit_stun::Message;
 use audit_stun::numbers::attribute::{NONCE, REALM, UNKNOWN_ATTRIBUTES};
 use audit_stun::numbers::method::ALLOCATE;
 
-/// Whether another transport than UDP is asked for.
+/// Whether another transport than UDP is requested.
 fn asks_other_transport(act: &Act<'_, '_>, request: &Message<'_>) -> bool
     requires { request.now ≡ (situation act.now).arrives.payload }
     ensures { IsTrue result ↔ AsksOtherTransport (situation act.now) }
@@ -28,7 +29,8 @@ fn asks_other_transport(act: &Act<'_, '_>, request: &Message<'_>) -> bool
     }
 }
 
-/// 437, Allocation Mismatch: an Allocate where an allocation is usable, or another request where none lasts.
+/// 437, Allocation Mismatch: an Allocate while an allocation is usable, or another request while
+/// none lasts.
 fn is_mismatch(act: &Act<'_, '_>, request: &Message<'_>) -> bool
     requires { request.now ≡ (situation act.now).arrives.payload }
     ensures { IsTrue result ↔ IsMismatch (situation act.now) }
@@ -40,7 +42,7 @@ fn is_mismatch(act: &Act<'_, '_>, request: &Message<'_>) -> bool
     }
 }
 
-/// 441, Wrong Credentials: another user asks for the usable allocation.
+/// 441, Wrong Credentials: another user requests a change of the usable allocation.
 fn is_by_other(act: &Act<'_, '_>, request: &Message<'_>) -> bool
     requires { request.now ≡ (situation act.now).arrives.payload }
     ensures { IsTrue result ↔ IsByOther (situation act.now) }
@@ -54,7 +56,7 @@ fn is_by_other(act: &Act<'_, '_>, request: &Message<'_>) -> bool
     }
 }
 
-/// Whether the server's state is what the code says.
+/// Whether the server's state fits the code.
 fn fits(act: &Act<'_, '_>, request: &Message<'_>, response: &Message<'_>, code: u16) -> bool
     requires request { request.now ≡ (situation act.now).arrives.payload }
     requires response { response.now ≡ (situation act.now).leaves.payload }
@@ -70,7 +72,7 @@ fn fits(act: &Act<'_, '_>, request: &Message<'_>, response: &Message<'_>, code: 
     }
 }
 
-/// An error of any method: its code can be read, and the server's state is what it says.
+/// Checks an error response of any method: its code can be read, and the server's state fits it.
 pub fn error(act: &Act<'_, '_>, request: &Message<'_>, response: &Message<'_>) -> Result<(), Rule>
     requires request { request.now ≡ (situation act.now).arrives.payload }
     requires response { response.now ≡ (situation act.now).leaves.payload }

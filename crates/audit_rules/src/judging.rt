@@ -1,4 +1,4 @@
-//! One act, by its paths.
+//! Judges one act, by its paths.
 
 ghost use Rattle.std.specs.Prelude.{◌≡◌, false, Some, IsTrue, MatchResult};
 ghost use Rattle.audit_rules.specs.declared.path.Path.TheVariants as paths;
@@ -25,8 +25,8 @@ use audit_stun::numbers::method::{DATA, SEND};
 use audit_stun::{Class, channel_data, message};
 use std::alloc::Global;
 
-/// A request of the client and what goes back to it: a success or an error with the request's method and transaction id
-/// (RFC 8489, section 6.3).
+/// Judges a request of the client and its response: a success or error response with the request's
+/// method and transaction id (RFC 8489, section 6.3).
 fn response<'a>(alloc: Global, act: &Act<'_, 'a>) -> Result<Effect<'a>, ActFault>
     requires served { IsServed (situation act.now) }
     requires forth { arrival_path (situation act.now) ≡ Some paths.Client }
@@ -64,7 +64,7 @@ fn begins_channel(payload: &[u8]) -> bool
     }
 }
 
-/// ChannelData of the client.
+/// Judges ChannelData of the client.
 #[tactic(auto, using(crate::proofs::Answered::channel_up_may))]
 fn sent_in_channel<'a>(act: &Act<'_, '_>) -> Result<Effect<'a>, Rule>
     requires served { IsServed (situation act.now) }
@@ -81,7 +81,7 @@ fn sent_in_channel<'a>(act: &Act<'_, '_>) -> Result<Effect<'a>, Rule>
     Ok(Effect::Same)
 }
 
-/// A Send indication.
+/// Judges a Send indication.
 #[tactic(auto, using(crate::proofs::Answered::send_may))]
 fn sent_in_indication<'a>(act: &Act<'_, '_>) -> Result<Effect<'a>, Rule>
     requires served { IsServed (situation act.now) }
@@ -101,7 +101,7 @@ fn sent_in_indication<'a>(act: &Act<'_, '_>) -> Result<Effect<'a>, Rule>
     Ok(Effect::Same)
 }
 
-/// ChannelData to the client.
+/// Judges ChannelData to the client.
 #[tactic(auto, using(crate::proofs::Answered::channel_down_may))]
 fn told_in_channel<'a>(act: &Act<'_, '_>) -> Result<Effect<'a>, Rule>
     requires served { IsServed (situation act.now) }
@@ -118,7 +118,7 @@ fn told_in_channel<'a>(act: &Act<'_, '_>) -> Result<Effect<'a>, Rule>
     Ok(Effect::Same)
 }
 
-/// A Data indication.
+/// Judges a Data indication.
 #[tactic(auto, using(crate::proofs::Answered::data_may))]
 fn told_in_indication<'a>(act: &Act<'_, '_>) -> Result<Effect<'a>, Rule>
     requires served { IsServed (situation act.now) }
@@ -138,7 +138,7 @@ fn told_in_indication<'a>(act: &Act<'_, '_>) -> Result<Effect<'a>, Rule>
     Ok(Effect::Same)
 }
 
-/// What the act does to the table, or the first rule that it breaks.
+/// The effect of the act on the table, or the first rule that it breaks.
 pub fn judged<'a>(alloc: Global, act: &Act<'_, 'a>) -> Result<Effect<'a>, ActFault>
     ensures { MatchResult result
         (MayTakeEffect act.now)

@@ -1,4 +1,5 @@
-//! One act of the server: whether a departure may answer an arrival (RFC 8656, RFC 8489).
+//! The rules of one act of the server: whether it may send a departure for an arrival (RFC 8656,
+//! RFC 8489).
 #![tactic(auto)]
 
 mod acting;

@@ -1,4 +1,5 @@
-//! A CreatePermission request and its success (RFC 8656, section 10). See docs/RULES.md, CreatePermission.
+//! A CreatePermission request and its success response (RFC 8656, section 10). See docs/RULES.md,
+//! CreatePermission.
 
 ghost use Rattle.std.specs.Prelude.{◌≡◌, Some, IfOk, MatchResult, option_map};
 ghost use Rattle.audit_stun.specs.Parts.{parts_of};
@@ -18,10 +19,10 @@ use audit_stun::{Message, address};
 use smallvec::SmallVec;
 use std::alloc::{AllocError, Global};
 
-/// The IPs of the peers that a request names. Those of most requests take no memory.
+/// The IPs of the peers that a request names. Up to 16 need no allocation.
 pub type PeerIps = SmallVec<u32, 16>;
 
-/// The IPs of all peers that the request names; None where one of them can't be read.
+/// The IPs of all peers that the request names; None if one of them can't be read.
 #[tactic(auto, unfolding(crate::specs::Values::ips_of))]
 fn peer_ips(alloc: Global, request: &Message<'_>) -> Result<Option<PeerIps>, AllocError>
     ensures { IfOk result (λ found. option_map (λ ips. ips.items) found ≡ peer_ips_of (parts_of request.now)) }

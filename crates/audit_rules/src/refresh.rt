@@ -1,4 +1,4 @@
-//! A Refresh request and its success (RFC 8656, section 8). See docs/RULES.md, Refresh.
+//! A Refresh request and its success response (RFC 8656, section 8). See docs/RULES.md, Refresh.
 
 ghost use Rattle.std.specs.Prelude.{◌≡◌, ◌↔◌, IsTrue, Some, MatchResult};
 ghost use Rattle.audit_rules.specs.Situation.{asked, answered};
@@ -16,8 +16,9 @@ use crate::values::lifetime_in;
 use audit_model::Rule;
 use audit_stun::Message;
 
-/// The seconds for which the allocation lasts from now on; 0 where it is removed. A success of 0 to a request of 0 is accepted
-/// where no usable allocation is there (own: RFC 8656 answers 437).
+/// The seconds for which the allocation lasts from now on; 0 if it is removed. A success response
+/// with LIFETIME 0 to a request with LIFETIME 0 is accepted if there is no usable allocation (own:
+/// RFC 8656 requires error 437).
 pub fn refresh(act: &Act<'_, '_>, request: &Message<'_>, success: &Message<'_>) -> Result<u32, Rule>
     requires request { request.now ≡ (situation act.now).arrives.payload }
     requires success { success.now ≡ (situation act.now).leaves.payload }

@@ -1,4 +1,4 @@
-//! A response to a request of the client: which of the answers it is.
+//! Judges a response to a request of the client, by its class and method.
 
 ghost use Rattle.std.specs.Prelude.{◌≡◌, false, IsTrue, MatchResult};
 ghost use Rattle.audit_stun.specs.declared.class.Class.TheVariants.{Success, Error};
@@ -40,7 +40,7 @@ fn binding_success<'a>(act: &Act<'_, '_>, success: &Message<'_>) -> Result<Effec
     Ok(Effect::Same)
 }
 
-/// The answer of an allocation that this very request made, told again.
+/// The repeated response for an allocation that this request made.
 #[tactic(auto, using(crate::proofs::Answered::again_may))]
 fn allocation_again<'a>(
     act: &Act<'_, '_>,
@@ -140,7 +140,7 @@ fn channel_bind_success<'a>(
     Ok(Effect::Binds { bound })
 }
 
-/// An error, to a request of any method.
+/// An error response, to a request of any method.
 #[tactic(auto, using(crate::proofs::Answered::error_may))]
 pub fn error_response<'a>(
     act: &Act<'_, '_>,
@@ -159,7 +159,7 @@ pub fn error_response<'a>(
     Ok(Effect::Same)
 }
 
-/// A success, by its method.
+/// A success response, by its method.
 pub fn success_response<'a>(
     alloc: Global,
     act: &Act<'_, '_>,

@@ -1,4 +1,5 @@
-//! A Send indication and the datagram that it sends to a peer (RFC 8656, sections 11.1 and 11.2). See docs/RULES.md, Send.
+//! A Send indication and the datagram that relays it to a peer (RFC 8656, sections 11.1 and 11.2).
+//! See docs/RULES.md, Send.
 
 ghost use Rattle.std.specs.Prelude.{◌≡◌, MatchResult};
 ghost use Rattle.audit_rules.specs.Check.{AllHold, FirstFails};
@@ -12,7 +13,7 @@ use audit_model::Rule;
 use audit_stun::Message;
 use audit_stun::numbers::attribute::{DATA, XOR_PEER_ADDRESS};
 
-/// The data goes from the relayed address to the peer that the indication names.
+/// Checks that the data goes from the relayed address to the peer that the indication names.
 pub fn send(act: &Act<'_, '_>, indication: &Message<'_>) -> Result<(), Rule>
     requires { indication.now ≡ (situation act.now).arrives.payload }
     ensures { MatchResult result (λ _. AllHold (send_checks (situation act.now))) (λ rule. FirstFails (send_checks (situation act.now)) rule) }

@@ -1,10 +1,10 @@
-//! What the server has for one client at one listen address.
+//! The server's state for one client at one listen address.
 
 use audit_expiry::{Lease, Leases};
 use audit_model::{Addr, At, Listed, SightId, Tenancy};
 use std::alloc::{AllocError, Global};
 
-/// What a channel number is bound to (RFC 8656, section 12).
+/// The peer that a channel number is bound to (RFC 8656, section 12).
 #[derive(Clone, Copy, Debug, PartialEq, Eq)]
 pub struct Channel {
     pub lease: Lease,
@@ -35,7 +35,7 @@ impl Allocation {
     ghost use Rattle.audit_rules.specs.Effect.{tenancy_of};
     ghost use Rattle.audit_rules.specs.Seen.{seen};
 
-    /// The same once more.
+    /// Copies the allocation.
     fn copied(&self, alloc: Global) -> Result<Allocation, AllocError>
         ensures tenancy { IfOk result (λ same. tenancy_of None same ≡ tenancy_of None self.now) }
         ensures seen { IfOk result (λ same. seen same ≡ seen self.now) }
@@ -54,7 +54,7 @@ impl Allocation {
     }
 }
 
-/// The table of one lane: what the server has for its client at its listen address.
+/// The table of one lane: the server's state for its client at its listen address.
 #[derive(Debug, Drop)]
 pub struct LaneTable {
     pub(crate) allocation: Option<Allocation>,
@@ -69,7 +69,7 @@ impl LaneTable {
     ghost use Rattle.audit_rules.specs.Effect.{standing};
     ghost use Rattle.audit_rules.specs.Seen.{seen};
 
-    /// A table with no allocation. It takes no memory.
+    /// A table with no allocation. Allocates no memory.
     pub fn new(lane: u32, client: Addr, listen: Addr) -> LaneTable
         ensures { standing result ≡ record { client = client; listen = listen; lane = lane; allocation = None; tenancy = None } }
     {
@@ -81,7 +81,7 @@ impl LaneTable {
         }
     }
 
-    /// The same table once more. It takes time and memory in proportion to its permissions and channels.
+    /// Copies the table. It takes time and memory in proportion to its permissions and channels.
     pub fn copied(&self, alloc: Global) -> Result<LaneTable, AllocError>
         ensures { IfOk result (λ same. standing same ≡ standing self.now) }
     {
@@ -97,8 +97,8 @@ impl LaneTable {
         })
     }
 
-    /// The client's allocation as the acts so far left it, with its permissions and channels, whether or not they still last. It takes
-    /// no memory.
+    /// The client's allocation after the acts so far, with its permissions and channels, whether or
+    /// not they still last. Allocates no memory.
     pub fn allocation(&self) -> Option<&Allocation>
         ensures exact { option_copied result ≡ self.now.allocation }
         ensures seen { option_map seen (option_copied result) ≡ (standing self.now).allocation }
@@ -106,7 +106,7 @@ impl LaneTable {
         self.allocation.as_ref()
     }
 
-    /// The tenancy of the allocation that is there, from the act that made it. It takes no memory.
+    /// The tenancy of the current allocation, from the act that made it. Allocates no memory.
     pub fn running(&self) -> Option<Tenancy>
         ensures { result ≡ (standing self.now).tenancy }
     {

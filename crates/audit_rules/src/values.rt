@@ -1,4 +1,4 @@
-//! What the attributes of a message say.
+//! Reads the attributes of a message.
 
 ghost use Rattle.std.specs.Prelude.{◌≡◌};
 ghost use Rattle.audit_stun.specs.Parts.{parts_of};
@@ -13,7 +13,7 @@ use audit_stun::{Message, address, error_code};
 /// The protocol number of UDP in REQUESTED-TRANSPORT (RFC 8656, section 18.8).
 pub const UDP: u8 = 17;
 
-/// The address in the first attribute of this type; None where there is none that can be read.
+/// The address in the first attribute of this type; None if there is none that can be read.
 pub fn address_in(message: &Message<'_>, kind: u16) -> Option<Addr>
     ensures { result ≡ address_named kind (parts_of message.now) }
 {
@@ -57,14 +57,14 @@ fn first_of_four(value: &[u8]) -> Option<u8>
     }
 }
 
-/// The protocol number of the transport that is asked for.
+/// The protocol number of the requested transport.
 pub fn transport_in(message: &Message<'_>) -> Option<u8>
     ensures { result ≡ transport_of (parts_of message.now) }
 {
     first_of_four(message.first(REQUESTED_TRANSPORT)?)
 }
 
-/// The address family that is asked for.
+/// The requested address family.
 pub fn family_in(message: &Message<'_>) -> Option<u8>
     ensures { result ≡ family_of (parts_of message.now) }
 {

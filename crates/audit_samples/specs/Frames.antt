@@ -7,7 +7,7 @@ use Rattle.audit_samples.specs.Layout.{ipv4_bytes}
 use Rattle.audit_model.specs.declared.sighting.Side.{Side}
 use Rattle.audit_model.specs.declared.sighting.Side.TheVariants.{Arrives, Leaves}
 
--- the Ethernet address of the server ends with 1, and that of whoever it speaks with with 2
+-- the Ethernet address of the server ends with 1, and the other one with 2
 abbrev pub server : List ℕ
 server = 2 ∷ 0 ∷ 0 ∷ 0 ∷ 0 ∷ 1 ∷ []
 

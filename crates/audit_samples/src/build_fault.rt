@@ -1,4 +1,4 @@
-//! Why something could not be built.
+//! Why a message or a datagram could not be built.
 
 ghost use Rattle.std.specs.Prelude.{◌≡◌};
 ghost use Rattle.audit_samples.specs.declared.build_fault.BuildFault.TheVariants.{Memory};
@@ -9,10 +9,10 @@ use thiserror::Error;
 /// A message or a datagram was not built.
 #[derive(Clone, Copy, Debug, PartialEq, Eq, Error)]
 pub enum BuildFault {
-    /// There was no memory.
+    /// Out of memory.
     #[error("memory")]
     Memory,
-    /// A length does not fit the two bytes that say it.
+    /// A length doesn't fit its two bytes.
     #[error("too long")]
     TooLong,
 }

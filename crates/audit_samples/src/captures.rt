@@ -16,18 +16,18 @@ const SECTION: [u8; 28] = [
     0xff, 0xff, 0xff, 0xff, 0xff, 28, 0, 0, 0,
 ];
 
-/// An Ethernet interface with stamps of microseconds, as every interface is that does not say otherwise.
+/// An Ethernet interface with stamps in microseconds, the default.
 const INTERFACE: [u8; 20] = [1, 0, 0, 0, 20, 0, 0, 0, 1, 0, 0, 0, 0, 0, 4, 0, 20, 0, 0, 0];
 
-/// Bytes of a UDP header, and of an IPv4 header with it.
+/// The size of a UDP header, and of an IPv4 header with it, in bytes.
 const UDP_LENGTH: usize = 8;
 
 const IPV4_UDP_LENGTH: usize = 28;
 
-/// Bytes of a packet block beside its data.
+/// The size of a packet block without its data, in bytes.
 const PACKET_LENGTH: usize = 32;
 
-/// A UDP datagram between an endpoint of the service and another, and which way it goes.
+/// A UDP datagram between an endpoint of the service and another one, and its direction.
 #[derive(Clone, Copy)]
 pub struct UdpDatagram<'a> {
     pub side: Side,
@@ -36,7 +36,8 @@ pub struct UdpDatagram<'a> {
     pub payload: &'a [u8],
 }
 
-/// The Ethernet addresses of the receiver and of the sender. That of the server ends with 1, that of whoever it speaks with with 2.
+/// The Ethernet addresses of the receiver and of the sender. The server's ends with 1, the other
+/// one's with 2.
 fn ethernet_addresses(side: Side) -> [u8; 12]
     ensures { result ≡ ethernet_bytes side }
 {
@@ -120,7 +121,8 @@ impl Capture {
         Ok(Capture { bytes })
     }
 
-    /// Adds the packet of a datagram, seen at this many microseconds since 1970. TooLong for a payload of over 65,507 bytes. A fault changes nothing.
+    /// Adds the packet of a datagram, seen at this many microseconds since 1970. `TooLong` for a
+    /// payload of over 65,507 bytes. A fault changes nothing.
     pub fn add(
         &mut self,
         alloc: Global,

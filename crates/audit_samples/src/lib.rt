@@ -1,5 +1,5 @@
-//! Captures for tests and benchmarks: STUN messages and ChannelData, the datagrams of a server with its clients and peers, and the bytes of a capture of them.
-//! Nothing else calls this.
+//! Captures for tests and benchmarks: STUN messages and ChannelData, the datagrams of a server with
+//! its clients and peers, and the bytes of a capture of them. Only tests and benchmarks use it.
 #![tactic(auto)]
 
 mod build_fault;

@@ -1,4 +1,4 @@
-//! STUN messages and ChannelData as they stand on the wire.
+//! STUN messages and ChannelData in their wire format.
 
 ghost use Rattle.std.specs.Prelude.{◌≡◌, ◌+◌, ◌<◌, ◌++◌, ◌⊎◌, [], length, IfOk, OnOk, IfErr};
 ghost use Rattle.std.specs.Int.{w16, to_be_bytes};
@@ -14,10 +14,11 @@ use audit_stun::numbers::attribute::{MESSAGE_INTEGRITY, NONCE, REALM, USERNAME};
 use audit_stun::numbers::{FAMILY_IPV4, MAGIC_COOKIE};
 use std::alloc::Global;
 
-/// Bytes of a MESSAGE-INTEGRITY with its type and its length.
+/// The size of a MESSAGE-INTEGRITY with its type and its length, in bytes.
 const INTEGRITY_LENGTH: usize = 24;
 
-/// The class and the method in fourteen bits (RFC 8489, section 5). Of the method the lowest twelve bits count.
+/// The class and the method in fourteen bits (RFC 8489, section 5). Only the lowest twelve bits of
+/// the method count.
 fn message_type(class: Class, method: u16) -> u16
     ensures { result ≡ type_of class method }
 {
@@ -75,7 +76,8 @@ impl MessageBuilder {
         }
     }
 
-    /// With an attribute more, its value padded with zeros. TooLong for a value of over 65,535 bytes.
+    /// With one more attribute, its value padded with zeros. `TooLong` for a value of over 65,535
+    /// bytes.
     pub fn with(mut self, kind: u16, value: &[u8]) -> Result<MessageBuilder, BuildFault>
         ensures ok { IfOk result (λ builder. IsExtended self (attribute_bytes kind value.now) builder) }
         ensures err { IfErr result (λ fault. fault ≡ TooLong → 65535 < length value.now) }
@@ -84,7 +86,8 @@ impl MessageBuilder {
         Ok(self)
     }
 
-    /// With an attribute more that says an address: XOR-MAPPED-ADDRESS, XOR-PEER-ADDRESS or XOR-RELAYED-ADDRESS.
+    /// With one more attribute that has an address: XOR-MAPPED-ADDRESS, XOR-PEER-ADDRESS or
+    /// XOR-RELAYED-ADDRESS.
     pub fn with_address(self, kind: u16, addr: Addr) -> Result<MessageBuilder, BuildFault>
         ensures ok { IfOk result (λ builder. IsExtended self (attribute_bytes kind (xor_address_bytes addr)) builder) }
         ensures err { IfErr result (λ fault. fault ≡ Memory) }
@@ -92,7 +95,7 @@ impl MessageBuilder {
         self.with(kind, &xor_address(addr))
     }
 
-    /// With USERNAME, REALM and NONCE. TooLong for a value of over 65,535 bytes.
+    /// With USERNAME, REALM and NONCE. `TooLong` for a value of over 65,535 bytes.
     pub fn with_user(
         self,
         user: &[u8],
@@ -108,7 +111,8 @@ impl MessageBuilder {
             .with(NONCE, nonce)
     }
 
-    /// With the MESSAGE-INTEGRITY under the key over all that is there (RFC 8489, section 14.5). TooLong for attributes of over 65,511 bytes.
+    /// With the MESSAGE-INTEGRITY with this key over the message so far (RFC 8489, section 14.5).
+    /// `TooLong` for attributes of over 65,511 bytes.
     pub fn signed(self, key: &[u8]) -> Result<MessageBuilder, BuildFault>
         ensures ok { IfOk result (λ builder. IsExtended self (integrity_bytes key.now self) builder) }
         ensures err { IfErr result (λ fault. fault ≡ TooLong → 65511 < size self) }
@@ -127,7 +131,7 @@ impl MessageBuilder {
         self.with(MESSAGE_INTEGRITY, &value)
     }
 
-    /// The bytes of the message. TooLong for attributes of over 65,535 bytes.
+    /// The bytes of the message. `TooLong` for attributes of over 65,535 bytes.
     pub fn payload(&self, alloc: Global) -> Result<Vec<u8>, BuildFault>
         ensures ok { IfOk result (λ payload. payload.items ≡ message_bytes self.now) }
         ensures err { IfErr result (λ fault. fault ≡ TooLong → 65535 < size self.now) }
@@ -142,7 +146,8 @@ impl MessageBuilder {
     }
 }
 
-/// The bytes of ChannelData without padding (RFC 8656, section 12.4). TooLong for over 65,535 bytes of data.
+/// The bytes of ChannelData without padding (RFC 8656, section 12.4). `TooLong` for over 65,535
+/// bytes of data.
 pub fn channel_data(alloc: Global, number: u16, body: &[u8]) -> Result<Vec<u8>, BuildFault>
     ensures ok { IfOk result (λ payload. payload.items ≡ to_be_bytes w16 number ++ to_be_bytes w16 (length body.now) ++ body.now) }
     ensures err { IfErr result (λ fault. fault ≡ TooLong → 65535 < length body.now) }

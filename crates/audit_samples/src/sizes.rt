@@ -1,4 +1,4 @@
-//! Lengths, and what fills up to them.
+//! Lengths, and padding.
 
 ghost use Rattle.std.specs.Prelude.{◌≡◌, ◌<◌, MatchResult};
 ghost use Rattle.audit_samples.specs.declared.build_fault.BuildFault.TheVariants.{TooLong};
@@ -8,7 +8,7 @@ use crate::build_fault::BuildFault;
 
 const ZEROS: [u8; 3] = [0; 3];
 
-/// A length as two bytes say it, up to 65,535.
+/// A length in two bytes, up to 65,535.
 pub(crate) fn two_bytes(length: usize) -> Result<u16, BuildFault>
     ensures { MatchResult result (λ said. said ≡ length) (λ fault. (fault ≡ TooLong) × (65535 < length)) }
 {
@@ -18,7 +18,7 @@ pub(crate) fn two_bytes(length: usize) -> Result<u16, BuildFault>
     Ok(length as u16)
 }
 
-/// As many zeros as are missing to a multiple of four.
+/// The zeros that pad to a multiple of four.
 pub(crate) fn zeros_after(length: usize) -> &'static [u8]
     ensures { result.now ≡ filling length }
 {

@@ -12,10 +12,11 @@ use std::collections::{BTreeMap, VecDeque};
 /// How many steps are spent on one conflict.
 const STEPS: u64 = 8000;
 
-/// How many steps all lanes have together, whatever their departures; each has so many as one conflict takes at the most.
+/// How many steps all lanes share, whatever their departures; each lane gets at most as many as one
+/// conflict takes.
 const FREE_STEPS: u64 = 1_000_000;
 
-/// How many steps a lane has for each departure, beside those.
+/// How many steps a lane has for each departure, in addition to those.
 const STEPS_EACH: u64 = 64;
 
 /// How many choices are kept for backtracking.
@@ -24,51 +25,53 @@ const STACK: usize = 64;
 /// A choice between several ways to act on a departure.
 #[derive(Clone, Copy)]
 struct Choice {
-    /// The place of the departure.
+    /// The index of the departure.
     place: usize,
     /// How many ways were tried.
     tried: usize,
     /// Where the acts before it end.
     mark: usize,
-    /// How many deadlines were passed.
+    /// How many deadlines were passed before it.
     passed: usize,
     /// Whether one of the ways makes or ends an allocation.
     is_of_end: bool,
 }
 
-/// The farthest departure that no way led past.
+/// The farthest departure that no way passed.
 #[derive(Drop)]
 struct Farthest {
     place: usize,
     /// The ways that led there.
     chosen: BTreeMap<usize, usize>,
-    /// The steps when it came there.
+    /// The number of steps when the search came there.
     steps: u64,
 }
 
-/// The search of a lane: where it is, and how it came there.
+/// The search of a lane: its position, and the choices that led there.
 #[derive(Drop)]
 struct LaneSearch<'a> {
     lane: Lane<'a>,
-    /// The place of the departure that it is at.
+    /// The index of the present departure.
     place: usize,
     /// How many deadlines were passed.
     passed: usize,
-    /// How many ways were tried at the place where it went back to.
+    /// How many ways were tried at the position to which it went back.
     skip: usize,
     stack: VecDeque<Choice>,
-    /// Which of the ways was taken, where it wasn't the first.
+    /// Which way was taken, if it wasn't the first.
     chosen: BTreeMap<usize, usize>,
-    /// The farthest departure that no way led past.
+    /// The farthest departure that no way passed.
     far: Option<Farthest>,
-    /// The ways to the farthest departure are taken again.
+    /// Whether the ways to the farthest departure are taken again.
     is_replaying: bool,
     fault: Option<Fault>,
-    /// Departures on which it couldn't act in some order, and what it would have needed.
+    /// Departures on which it couldn't act in some order, and the constraints that might have
+    /// helped.
     asked: Vec<(SeenNumber, Vec<Constraint>)>,
 }
 
-/// Finds the acts of a lane: an order in which the server kept to its rules, where it finds one; else the farthest one.
+/// Finds the acts of a lane: an order in which the server kept to its rules, if it finds one; else
+/// the order that leads farthest.
 pub(crate) fn search_lane(
     input: &SearchInput<'_>,
     number: LaneNumber,
@@ -79,7 +82,7 @@ pub(crate) fn search_lane(
     let free = (FREE_STEPS / lanes).min(STEPS);
     let budget = free.saturating_add(count.saturating_mul(STEPS_EACH));
     search.lane.set_budget(budget);
-    // Each departure twice, and those that are swept again, each of which is a step.
+    // Each departure twice, and the departures that are visited again, each of which is a step.
     let turns = budget.saturating_add(count).saturating_mul(2);
     for _ in 0..turns.saturating_add(2) {
         if !search.step(budget)? {
@@ -90,7 +93,7 @@ pub(crate) fn search_lane(
 }
 
 impl<'a> LaneSearch<'a> {
-    /// At the first departure of a lane.
+    /// Starts at the first departure of a lane.
     fn new(input: &'a SearchInput<'a>, number: LaneNumber) -> Result<LaneSearch<'a>, AllocError> {
         let alloc = input.alloc();
         Ok(LaneSearch {
@@ -107,7 +110,7 @@ impl<'a> LaneSearch<'a> {
         })
     }
 
-    /// What it found.
+    /// The result.
     fn found(&self) -> Result<Found, AllocError> {
         let mut acts = Vec::new(self.lane.input().alloc());
         for (departure, acted) in self.lane.state().acts() {
@@ -116,7 +119,7 @@ impl<'a> LaneSearch<'a> {
         Ok(Found::new(acts, self.fault, self.constraints()?))
     }
 
-    /// Goes one departure on, or back; tells whether there was one.
+    /// Moves to the next departure, or back; returns whether there was one.
     fn step(&mut self, budget: u64) -> Result<bool, AllocError> {
         let Some(departure) = self.lane.departure(self.place) else {
             return Ok(false);
@@ -149,7 +152,7 @@ impl<'a> LaneSearch<'a> {
         Ok(true)
     }
 
-    /// Ends the allocations that have to be over before a departure.
+    /// Ends the allocations that must end before a departure.
     fn meet_deadlines(&mut self, departure: SeenNumber) -> Result<(), AllocError> {
         let input = self.lane.input();
         let before = Slot::before(input.rank(departure));
@@ -170,7 +173,7 @@ impl<'a> LaneSearch<'a> {
         self.skip = 0;
     }
 
-    /// Acts on a departure in the next way that wasn't tried; tells whether there was one.
+    /// Acts on a departure in the next way that wasn't tried; returns whether there was one.
     fn act(&mut self, departure: SeenNumber, budget: u64) -> Result<bool, AllocError> {
         if self.is_replaying {
             self.skip = self.chosen_before();
@@ -209,7 +212,7 @@ impl<'a> LaneSearch<'a> {
         Ok(false)
     }
 
-    /// Acts on a departure as it leaves, without another way; tells whether it could.
+    /// Acts on a departure as it leaves, without a choice; returns whether it could.
     fn act_plainly(&mut self, departure: SeenNumber) -> Result<bool, AllocError> {
         let slot = Slot::before(self.lane.input().rank(departure));
         if self.lane.is_rather_earlier(departure)? {
@@ -219,7 +222,7 @@ impl<'a> LaneSearch<'a> {
         Ok(self.lane.act_now(departure, slot, moment)?.is_none())
     }
 
-    /// Keeps a choice of which a way was taken.
+    /// Keeps a choice whose way was taken.
     fn keep(&mut self, number: usize, mark: usize, is_of_end: bool) -> Result<(), AllocError> {
         self.stack.push_back(Choice {
             place: self.place,

@@ -1,4 +1,4 @@
-//! Rounds, each with what lanes of the one before would have needed.
+//! Rounds of searches, each with the constraints that the lanes of the previous one needed.
 
 use crate::searching::{search, search_by};
 use audit_constraints::{AllSearched, Prepared, Reading, Round, Settling};
@@ -6,26 +6,27 @@ use std::alloc::AllocError;
 use std::cmp::Reverse;
 use std::thread::Threads;
 
-/// How many rounds there are at the most, each time that the clocks are told anew.
+/// The most rounds after each computation of the clocks.
 const ROUNDS: u32 = 16;
 
-/// How many rounds there are at the least.
+/// The fewest rounds.
 const FEWEST: u32 = 2;
 
-/// How many sightings all rounds of a turn go over, unless they are fewer than that.
+/// How many sightings all rounds of a turn search in total, unless `FEWEST` rounds need more.
 const SIGHTINGS: usize = 100_000;
 
-/// How often the clocks are told anew.
+/// How often the clocks are computed again.
 const TURNS: u32 = 3;
 
-/// How good a round is.
+/// The score of a round.
 #[derive(Clone, Copy, PartialEq, Eq, PartialOrd, Ord)]
 struct Score {
-    /// The lanes that fail: the fewer, the better.
+    /// The number of lanes that fail: fewer is better.
     faults: Reverse<usize>,
-    /// The arrivals that two lanes act on and the addresses that two hold: the fewer, the better.
+    /// The number of arrivals on which two lanes act and of addresses that two have: fewer is
+    /// better.
     shared: Reverse<usize>,
-    /// The least moment at which a lane fails: the later, the better.
+    /// The least moment at which a lane fails: later is better.
     low: u64,
 }
 
@@ -43,9 +44,10 @@ struct Climb<'a> {
     settling: Settling<'a>,
     searched: AllSearched,
     best: Option<BestRound>,
-    /// How often the clocks were told anew.
+    /// How often the clocks were computed again.
     turn: u32,
-    /// How many rounds this turn has left behind its first one, and whether that is to come.
+    /// How many rounds this turn has left after its first one, and whether the first one is to
+    /// come.
     left: u32,
     is_first: bool,
     is_over: bool,
@@ -65,7 +67,8 @@ pub fn best_round(reading: &Reading<'_>) -> Result<BestRound, AllocError> {
     climb.end()
 }
 
-/// The same, where lanes are searched by so many threads at the most. The round is the same for every number of them.
+/// The same, with lanes searched by at most this number of threads. The round is the same for every
+/// number of them.
 pub fn best_round_by<R: Threads + Sync>(
     rt: &R,
     workers: u32,
@@ -102,12 +105,13 @@ impl BestRound {
         &self.round
     }
 
-    /// Whether no lane fails, and no two lanes act on an arrival or hold an address at a time.
+    /// Whether no lane fails, and no two lanes act on the same arrival or have an address at the
+    /// same time.
     pub fn is_whole(&self) -> bool {
         self.score.faults == Reverse(0) && self.score.shared == Reverse(0)
     }
 
-    /// Whether no order helps any of its lanes that fail, and nothing else is wrong.
+    /// Whether no order helps any lane that fails, and nothing else is wrong.
     fn is_hopeless(&self) -> bool {
         let is_shared = self.score.shared != Reverse(0);
         !is_shared
@@ -118,7 +122,7 @@ impl BestRound {
                 .all(|failed| failed.fault().is_hopeless())
     }
 
-    /// The better one of the two, the older one of two that are alike.
+    /// The better one of the two; the older one of two equal ones.
     fn or_older(self, older: Option<BestRound>) -> BestRound {
         match older {
             Some(older) if older.score >= self.score => older,
@@ -141,13 +145,13 @@ impl<'a> Climb<'a> {
         })
     }
 
-    /// How many rounds there are at the most.
+    /// The most rounds.
     fn most(&self) -> u32 {
         let each = rounds_of(self.reading).saturating_add(1);
         each.saturating_mul(TURNS.saturating_add(1))
     }
 
-    /// What the next round's searches go by.
+    /// The input of the next round's searches.
     fn prepared(&self) -> Result<Prepared, AllocError> {
         self.settling.prepared()
     }
@@ -167,7 +171,7 @@ impl<'a> Climb<'a> {
         search_by(rt, workers, &mut self.searched, &input)
     }
 
-    /// Takes in a round whose lanes are searched, and what they ask of the next one.
+    /// Records a round whose lanes are searched, and adds their constraints for the next one.
     fn take(&mut self, prepared: Prepared) -> Result<(), AllocError> {
         let alloc = self.reading.alloc();
         let round = prepared.round(alloc, &self.searched)?;
@@ -182,7 +186,8 @@ impl<'a> Climb<'a> {
         Ok(())
     }
 
-    /// Goes to the next round, or to the next turn where lanes ask for nothing more; ends where nothing is wrong, or nothing that an order helps.
+    /// Goes to the next round, or to the next turn if lanes need nothing more; ends if nothing is
+    /// wrong, or nothing that an order helps.
     fn go_on(&mut self, best: &BestRound, is_more: bool) -> Result<(), AllocError> {
         if best.is_whole() || best.is_hopeless() {
             self.is_over = true;
@@ -194,7 +199,7 @@ impl<'a> Climb<'a> {
         Ok(())
     }
 
-    /// Goes to the next turn in which something is told anew.
+    /// Goes to the next turn that changes something.
     fn turn_on(&mut self, best: &Round) -> Result<(), AllocError> {
         for turn in self.turn.saturating_add(1)..=TURNS {
             self.turn = turn;
@@ -209,7 +214,7 @@ impl<'a> Climb<'a> {
         Ok(())
     }
 
-    /// Forgets what is asked for, and tells the keys anew.
+    /// Forgets the constraints, and computes the keys again.
     fn start_again(&mut self) -> Result<(), AllocError> {
         self.searched.clear();
         self.settling.start_again()?;
@@ -218,13 +223,13 @@ impl<'a> Climb<'a> {
         Ok(())
     }
 
-    /// The best of the rounds; no memory, if there was none.
+    /// The best of the rounds; fails with `AllocError` if there was none.
     fn end(self) -> Result<BestRound, AllocError> {
         self.best.ok_or(AllocError)
     }
 }
 
-/// How many rounds a turn has behind its first one: fewer, where there are many sightings.
+/// How many rounds a turn has after its first one: fewer if there are many sightings.
 fn rounds_of(reading: &Reading<'_>) -> u32 {
     let count = reading.sights().as_slice().len();
     let rounds = SIGHTINGS / count.max(1);

@@ -1,4 +1,4 @@
-//! The search of each lane of which something changed, one by one or by threads.
+//! The search of each lane whose input changed, one by one or by threads.
 
 use crate::lane_search::search_lane;
 use audit_constraints::{AllSearched, Searched};
@@ -20,7 +20,7 @@ pub(crate) fn search(
     searched.all_are_there()
 }
 
-/// The same, by so many threads at the most. What is found is the same for every number of them.
+/// The same, by at most this number of threads. The result is the same for every number of them.
 pub(crate) fn search_by<R: Threads + Sync>(
     rt: &R,
     workers: u32,

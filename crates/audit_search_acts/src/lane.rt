@@ -1,4 +1,4 @@
-//! One lane: what it may act on.
+//! The search of one lane.
 
 ghost use Rattle.std.specs.Prelude.{◌≡◌};
 
@@ -27,14 +27,14 @@ use std::alloc::AllocError;
 /// How many arrivals of a pool are tried for one departure.
 const COPIES: usize = 16;
 
-/// What came of trying to act on a departure.
+/// The result of an attempt to act on a departure.
 #[derive(Clone, Copy, Debug)]
 enum Attempt {
     Accepted(SeenNumber),
     Refused(Refused),
 }
 
-/// A departure that is acted on at a slot and its moment, whichever arrival it answers.
+/// A departure, and the slot and the moment at which it is tried with several arrivals.
 #[derive(Clone, Copy)]
 struct Trial {
     departure: SeenNumber,
@@ -46,24 +46,24 @@ struct Trial {
 /// The search of one lane.
 #[derive(Drop)]
 pub struct Lane<'a> {
-    /// What the search reads.
+    /// The input of the search.
     input: &'a SearchInput<'a>,
     number: LaneNumber,
-    /// The departures, by rank, and those of them that change the table.
+    /// The departures, by rank, and those that change the table.
     departures: &'a [Ranked],
     changes: Vec<(u32, SeenNumber)>,
-    /// How far its acts have come.
+    /// The state after its acts so far.
     state: State,
-    /// The moment of the departure that the search is at.
+    /// The moment of the current departure of the search.
     clock: u64,
-    /// How many acts were judged beyond one for each departure.
+    /// How many acts were judged in addition to one for each departure.
     steps: u64,
-    /// How many steps there may be.
+    /// The most steps that are allowed.
     budget: u64,
 }
 
 impl<'a> Lane<'a> {
-    /// A lane on whose departures nothing has acted yet.
+    /// A lane whose departures have no acts yet.
     pub fn new(input: &'a SearchInput<'a>, number: LaneNumber) -> Result<Lane<'a>, AllocError> {
         let departures = input.views().departures(number);
         let mut changes = Vec::new(input.alloc());
@@ -88,7 +88,7 @@ impl<'a> Lane<'a> {
         })
     }
 
-    /// What the search reads.
+    /// The input of the search.
     pub fn input(&self) -> &'a SearchInput<'a> {
         self.input
     }
@@ -100,12 +100,12 @@ impl<'a> Lane<'a> {
         self.number
     }
 
-    /// The departure at a place among the lane's, which are by rank.
+    /// The departure at an index among the lane's departures, which are in the order of rank.
     pub fn departure(&self, place: usize) -> Option<SeenNumber> {
         Some(self.departures.get(place)?.number())
     }
 
-    /// How many departures there are.
+    /// The number of departures.
     pub fn departures(&self) -> usize {
         self.departures.len()
     }
@@ -115,28 +115,28 @@ impl<'a> Lane<'a> {
         self.changes.as_slice()
     }
 
-    /// How far its acts have come.
+    /// The state after its acts so far.
     pub fn state(&self) -> &State {
         &self.state
     }
 
-    /// The same, to go back in it.
+    /// The same, mutable, to undo steps.
     pub fn state_mut(&mut self) -> &mut State {
         &mut self.state
     }
 
-    /// Begins anew, with no act.
+    /// Starts again, with no act.
     pub fn start_again(&mut self) {
         let (client, listen) = self.input.pair(self.number);
         self.state = State::new(self.input.alloc(), self.number, client, listen);
     }
 
-    /// Comes to a departure.
+    /// Makes a departure the current one.
     pub fn come_to(&mut self, departure: SeenNumber) {
         self.clock = self.input.at(departure);
     }
 
-    /// How many acts were judged beyond one for each departure.
+    /// How many acts were judged in addition to one for each departure.
     pub fn steps(&self) -> u64
         ensures { result ≡ self.now.steps }
     {
@@ -148,19 +148,19 @@ impl<'a> Lane<'a> {
         self.steps = self.steps.saturating_add(1);
     }
 
-    /// Has so many steps at the most.
+    /// Sets the most steps that are allowed.
     pub fn set_budget(&mut self, budget: u64) {
         self.budget = budget;
     }
 
-    /// A table with nothing in it.
+    /// An empty table.
     fn empty_table(&self) -> LaneTable {
         let (client, listen) = self.input.pair(self.number);
         LaneTable::new(self.number.value(), client, listen)
     }
 
-    /// The arrivals of a pool that stand before a slot, aren't used, and came no longer than the hold before the departure; the oldest
-    /// first, so many at the most.
+    /// The arrivals of a pool before a slot that are unused and within the hold before the
+    /// departure, the oldest first; at most `COPIES`.
     fn unused(
         &mut self,
         departure: SeenNumber,
@@ -212,7 +212,8 @@ impl<'a> Lane<'a> {
         }
     }
 
-    /// Acts on a departure in a table by the oldest arrival that the rules accept. Data of one pool is alike: its first one is tried alone.
+    /// Acts on a departure in a table by the oldest arrival that the rules accept. Data of one pool
+    /// is alike: only its first arrival is tried.
     fn attempt(
         &mut self,
         table: &mut LaneTable,
@@ -247,7 +248,7 @@ impl<'a> Lane<'a> {
         }
     }
 
-    /// Acts by an arrival of a pool that stands before the best one so far.
+    /// Acts by an arrival of a pool that is older than the best one so far.
     fn attempt_of(
         &mut self,
         table: &mut LaneTable,
@@ -271,7 +272,7 @@ impl<'a> Lane<'a> {
         Ok(Attempt::Refused(refused))
     }
 
-    /// Whether a departure tells again of the allocation that a table has.
+    /// Whether a departure repeats the response for the allocation that a table has.
     fn is_repeated(&self, table: &LaneTable, departure: &Seen, moment: u64) -> bool {
         let (Some(Gives::Allocated { .. }), Some(tenancy)) = (departure.gives(), table.running())
         else {

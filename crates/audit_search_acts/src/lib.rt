@@ -1,7 +1,9 @@
-//! The acts of one lane: in which ways a departure may be given such that the server keeps to its rules, and giving it in one of them.
+//! The acts of one lane: the ways to act on a departure by which the server keeps to its rules.
 //!
-//! `Lane` is the search of one lane. `Lane::act_now` gives a departure as it leaves; `Lane::plans` has all ways that there are, earlier ones and those behind answers that
-//! are pending, and `Lane::follow` goes by one of them. Each act is judged by `audit_rules`. Nothing rests on any of it.
+//! `Lane` is the search of one lane. `Lane::act_now` acts on a departure as it leaves.
+//! `Lane::plans` returns all ways, also earlier ones and those after pending responses, and
+//! `Lane::follow` acts in one of them. `audit_rules` judges each act. No verdict depends on any of
+//! it.
 #![tactic(auto)]
 
 mod lane;

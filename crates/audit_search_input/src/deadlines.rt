@@ -1,4 +1,4 @@
-//! When addresses change hands: by when a lane's allocation has to be over, and when one may begin.
+//! Handovers of addresses: the deadline of a lane's allocation, and the earliest start of the next.
 
 ghost use Rattle.std.specs.Prelude.{◌≡◌};
 
@@ -8,7 +8,7 @@ use audit_seen::{LaneNumber, SeenNumber, Sights, Slot};
 use std::alloc::{AllocError, Global};
 use std::collections::{BTreeMap, BTreeSet};
 
-/// By when an allocation has to be over.
+/// The deadline by which an allocation must end.
 #[derive(Clone, Copy, Debug, PartialEq, Eq, PartialOrd, Ord)]
 pub struct Deadline {
     slot: Slot,
@@ -17,21 +17,21 @@ pub struct Deadline {
 }
 
 impl Deadline {
-    /// The slot by which it has to be over.
+    /// The slot by which it must end.
     pub fn slot(&self) -> Slot
         ensures { result ≡ self.now.slot }
     {
         self.slot
     }
 
-    /// The answer that tells of the allocation.
+    /// The response that granted the allocation.
     pub fn maker(&self) -> SeenNumber
         ensures { result ≡ self.now.maker }
     {
         self.maker
     }
 
-    /// The moment by which it has to be over, in nanoseconds since 1970.
+    /// The moment by which it must end, in nanoseconds since 1970.
     pub fn moment(&self) -> u64
         ensures { result ≡ self.now.moment }
     {
@@ -39,17 +39,17 @@ impl Deadline {
     }
 }
 
-/// The deadlines of each lane, in order, and the slots before which allocations mayn't begin.
+/// The deadlines of each lane, in order, and the slots before which allocations may not begin.
 #[derive(Drop)]
 pub struct Deadlines {
     list: Vec<(LaneNumber, Deadline)>,
     not_before: BTreeMap<SeenNumber, Slot>,
-    /// The answers that tell of the second allocation of an address.
+    /// The responses that grant the second allocation of an address.
     seconds: BTreeSet<SeenNumber>,
 }
 
 impl Deadlines {
-    /// Those of handovers, and of allocations that are asked to be over before others.
+    /// The deadlines by handovers, and by constraints that an allocation ends before another one.
     pub fn of(
         alloc: Global,
         sights: &Sights,
@@ -90,7 +90,8 @@ impl Deadlines {
         Ok(deadlines)
     }
 
-    /// Adds the deadline of a handover whose first allocation is deleted by a request before the second one's answer.
+    /// Adds the deadline of a handover, if the request that deletes the first allocation comes
+    /// before the second one's response.
     fn add_handover(
         &mut self,
         handover: &Handover,
@@ -99,7 +100,7 @@ impl Deadlines {
         constraints: &Constraints,
     ) -> Result<(), AllocError> {
         let answer = handover.next();
-        // A handover stands before the answer, or before a departure where that is asked.
+        // A handover is before the response, or before a departure if a constraint requires that.
         let by = constraints.handed_over_before(answer).unwrap_or(answer);
         let next = placed.rank(by).min(placed.rank(answer));
         let Some(ender) = handover.ender() else {
@@ -132,7 +133,7 @@ impl Deadlines {
         Ok(())
     }
 
-    /// The slot before which an allocation mayn't begin.
+    /// The slot before which an allocation may not begin.
     pub fn not_before(&self, maker: SeenNumber) -> Slot {
         self.not_before
             .get(&maker)
@@ -145,7 +146,7 @@ impl Deadlines {
         self.seconds.contains(&maker)
     }
 
-    /// The deadline of a lane at a place among them.
+    /// The deadline of a lane at an index among its deadlines.
     pub fn get(&self, lane: LaneNumber, place: usize) -> Option<Deadline> {
         let start = self.list.partition_point(|one| one.0 < lane);
         let (of, deadline) = self.list.get(start.checked_add(place)?)?;

@@ -1,4 +1,4 @@
-//! What the search of a lane goes by.
+//! The input of a lane's search.
 
 mod leases;
 mod needs;
@@ -53,7 +53,7 @@ impl<'a> Captured<'a> {
     }
 }
 
-/// What the searches of all lanes read.
+/// The input of all lanes' searches.
 #[derive(Clone, Copy)]
 pub struct SearchInput<'a> {
     captured: Captured<'a>,
@@ -67,8 +67,9 @@ pub struct SearchInput<'a> {
 }
 
 impl<'a> SearchInput<'a> {
-    /// The captures, what is known of their sightings, where each stands, the arrivals and departures of each lane, when addresses change
-    /// hands, the arrival that each departure most likely answers, and what is asked for beside what the sightings say.
+    /// The captures, the facts of their sightings, the placement, the arrivals and departures of
+    /// each lane, the deadlines of handovers, the arrival that each departure most likely answers,
+    /// and the constraints.
     pub fn new(
         captured: Captured<'a>,
         known: Known<'a>,
@@ -89,7 +90,7 @@ impl<'a> SearchInput<'a> {
         }
     }
 
-    /// The memory of the search.
+    /// The allocator of the search.
     pub fn alloc(&self) -> Global {
         self.known.alloc()
     }
@@ -104,7 +105,7 @@ impl<'a> SearchInput<'a> {
         self.captured.credentials
     }
 
-    /// What departures are matched by.
+    /// The facts by which departures are matched.
     pub fn known(&self) -> &Known<'a> {
         &self.known
     }
@@ -114,17 +115,17 @@ impl<'a> SearchInput<'a> {
         self.views
     }
 
-    /// When addresses change hands.
+    /// The deadlines of handovers.
     pub fn deadlines(&self) -> &'a Deadlines {
         self.deadlines
     }
 
-    /// What is asked for beside what the sightings say.
+    /// The constraints, in addition to the captures.
     pub fn constraints(&self) -> &'a Constraints {
         self.constraints
     }
 
-    /// How many lanes there are.
+    /// The number of lanes.
     pub fn lanes(&self) -> usize {
         self.captured.pairs.len()
     }
@@ -134,17 +135,18 @@ impl<'a> SearchInput<'a> {
         self.placed.in_order()
     }
 
-    /// The arrival that a departure most likely answers, or the departure that most likely answers an arrival.
+    /// The arrival that a departure most likely answers, or the departure that most likely answers
+    /// an arrival.
     pub fn matched_to(&self, number: SeenNumber) -> Option<SeenNumber> {
         self.matches.of(number)
     }
 
-    /// How long an arrival may wait for its answer, in nanoseconds.
+    /// The longest time from an arrival to its departure, in nanoseconds.
     pub fn hold(&self) -> u64 {
         self.known.hold()
     }
 
-    /// What a sighting says.
+    /// The content of a sighting.
     pub fn seen(&self, number: SeenNumber) -> Option<&'a Seen> {
         self.known.sights().get(number)
     }
@@ -164,12 +166,12 @@ impl<'a> SearchInput<'a> {
         self.placed.low(number)
     }
 
-    /// The place of a sighting in the order of all.
+    /// The rank of a sighting in the order of all.
     pub fn rank(&self, number: SeenNumber) -> u32 {
         self.placed.rank(number)
     }
 
-    /// What a departure gives.
+    /// The content of a departure.
     pub fn gives(&self, number: SeenNumber) -> Option<Gives> {
         self.seen(number)?.gives()
     }
@@ -189,12 +191,13 @@ impl<'a> SearchInput<'a> {
         self.known.sights().at(sight.iface as usize, sight.index)
     }
 
-    /// The last moment at which what answers an arrival may leave.
+    /// The last moment at which the response to an arrival may leave.
     pub fn held_until(&self, arrival: SeenNumber) -> u64 {
         self.at(arrival).saturating_add(self.known.hold())
     }
 
-    /// The pools of a lane that a departure may answer. `relayed` is the address that the lane has.
+    /// The pools of a lane that a departure may answer. `relayed` is the lane's present relayed
+    /// address.
     pub fn pools_of(
         &self,
         lane: LaneNumber,

@@ -1,7 +1,9 @@
-//! What the searches of all lanes read.
+//! The input of all lanes' searches.
 //!
-//! `SearchInput` is all of it, by `&`: the arrivals and the departures of each lane (`Views`), when addresses change hands (`Deadlines`), and what is asked for. Beside that it
-//! tells which answers may help a departure that is refused, and which arrivals a departure may answer. Nothing rests on any of it.
+//! `SearchInput` is all of it, shared by reference: the arrivals and the departures of each lane
+//! (`Views`), the deadlines of handovers (`Deadlines`), and the constraints. It also computes which
+//! responses may help a departure that is refused, and which arrivals a departure may answer. No
+//! verdict depends on any of it.
 #![tactic(auto)]
 
 mod deadlines;

@@ -1,11 +1,11 @@
-//! Sightings of a lane, by their places in the order of all.
+//! Sightings of a lane, with their ranks in the order of all.
 
 ghost use Rattle.std.specs.Prelude.{◌≡◌};
 
 use audit_search_state::PoolRef;
 use audit_seen::{LaneNumber, SeenNumber};
 
-/// An arrival of a lane's pool. Those of a lane are by pool and then by rank.
+/// An arrival of a lane's pool. The arrivals of a lane are ordered by pool, then by rank.
 #[derive(Clone, Copy, Debug, PartialEq, Eq, PartialOrd, Ord)]
 pub struct Arriving {
     lane: LaneNumber,
@@ -15,7 +15,7 @@ pub struct Arriving {
 }
 
 impl Arriving {
-    /// Of a lane's pool, at a place in the order of all.
+    /// An arrival in a lane's pool, with its rank in the order of all.
     pub fn new(lane: LaneNumber, pool: PoolRef, rank: u32, number: SeenNumber) -> Arriving {
         Arriving {
             lane,
@@ -39,7 +39,7 @@ impl Arriving {
         self.pool
     }
 
-    /// Its place in the order of all.
+    /// Its rank in the order of all.
     pub fn rank(&self) -> u32
         ensures { result ≡ self.now.rank }
     {
@@ -54,7 +54,7 @@ impl Arriving {
     }
 }
 
-/// A sighting of a lane. Those of a lane are by rank.
+/// A sighting of a lane. The sightings of a lane are ordered by rank.
 #[derive(Clone, Copy, Debug, PartialEq, Eq, PartialOrd, Ord)]
 pub struct Ranked {
     lane: LaneNumber,
@@ -63,7 +63,7 @@ pub struct Ranked {
 }
 
 impl Ranked {
-    /// Of a lane, at a place in the order of all.
+    /// A sighting of a lane, with its rank in the order of all.
     pub fn new(lane: LaneNumber, rank: u32, number: SeenNumber) -> Ranked {
         Ranked { lane, rank, number }
     }
@@ -75,7 +75,7 @@ impl Ranked {
         self.lane
     }
 
-    /// Its place in the order of all.
+    /// Its rank in the order of all.
     pub fn rank(&self) -> u32
         ensures { result ≡ self.now.rank }
     {

@@ -1,17 +1,17 @@
-//! Sightings of one lane by which another one goes, too.
+//! Sightings of one lane on which the search of another lane depends, too.
 
 use audit_known::{Handover, Known, Matches};
 use audit_seen::{LaneNumber, SeenNumber};
 use std::alloc::{AllocError, Global};
 
-/// Sightings of one lane by which another one goes, too.
+/// Sightings of one lane on which the search of another lane depends, too.
 #[derive(Drop)]
 pub struct Shared {
     list: Vec<(SeenNumber, LaneNumber)>,
 }
 
 impl Shared {
-    /// Those of addresses that change hands.
+    /// The sightings of addresses that are handed over.
     pub fn of(
         alloc: Global,
         known: &Known<'_>,
@@ -36,7 +36,7 @@ impl Shared {
         Ok(Shared { list })
     }
 
-    /// The lanes that go by a sighting, beside its own.
+    /// The lanes that depend on a sighting, in addition to its own lane.
     pub fn of_sighting(&self, number: SeenNumber) -> &[(SeenNumber, LaneNumber)] {
         let start = self.list.partition_point(|one| one.0 < number);
         let rest = self.list.get(start..).unwrap_or(&[]);

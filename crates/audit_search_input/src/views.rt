@@ -11,7 +11,7 @@ use std::alloc::{AllocError, Global};
 /// An odd number whose bits look random.
 const FACTOR: u64 = 0x9E37_79B9_7F4A_7C15;
 
-/// Where the arrivals of a lane begin, and its departures, and its data.
+/// The starts of the arrivals, the departures and the data of a lane.
 #[derive(Clone, Copy)]
 struct Start {
     arrivals: usize,
@@ -24,15 +24,15 @@ struct Start {
 pub struct Views {
     arrivals: Vec<Arriving>,
     departures: Vec<Ranked>,
-    /// The data of clients that arrives.
+    /// The arriving data of clients.
     sent: Vec<Ranked>,
-    /// Where each lane begins, and what is behind the last one.
+    /// The starts of each lane, and the ends of the last one.
     starts: Vec<Start>,
-    /// A digest of all that the search of each lane goes by.
+    /// A digest of all that the search of each lane depends on.
     fingerprints: Vec<u64>,
 }
 
-/// What the views of lanes are made of.
+/// The inputs of the views.
 #[derive(Clone, Copy)]
 pub struct Viewed<'a> {
     captured: Captured<'a>,
@@ -45,8 +45,9 @@ pub struct Viewed<'a> {
 }
 
 impl<'a> Viewed<'a> {
-    /// The captures, what is known of their sightings, where each stands, the arrival that each departure most likely answers, the lane of each
-    /// departure from a relayed address, what is asked for, and sightings by which other lanes go, too.
+    /// The captures, the facts of their sightings, the placement, the arrival that each departure
+    /// most likely answers, the lane of each departure from a relayed address, the constraints, and
+    /// sightings on which other lanes depend, too.
     pub fn new(
         captured: Captured<'a>,
         known: Known<'a>,
@@ -69,7 +70,7 @@ impl<'a> Viewed<'a> {
 }
 
 impl Views {
-    /// Those of all lanes. It takes n log n.
+    /// The views of all lanes. It takes n log n.
     pub fn of(alloc: Global, viewed: &Viewed<'_>) -> Result<Views, AllocError> {
         let lanes = viewed.captured.pairs().len();
         let mut views = Views {
@@ -93,7 +94,7 @@ impl Views {
         Ok(views)
     }
 
-    /// Notes where a lane begins.
+    /// Records where a lane begins.
     fn start(&mut self, lane: usize) -> Result<(), AllocError> {
         let arrivals = self
             .arrivals
@@ -110,7 +111,7 @@ impl Views {
         Ok(())
     }
 
-    /// Where the arrivals, the departures and the data of a lane begin, and those behind it.
+    /// The starts of a lane, and those of the next one.
     fn bounds(&self, lane: LaneNumber) -> Option<(Start, Start)> {
         let start = self.starts.get(lane.index())?;
         let end = self.starts.get(lane.index().saturating_add(1))?;
@@ -228,12 +229,13 @@ impl Views {
         }
     }
 
-    /// A digest of all that the search of a lane goes by.
+    /// A digest of all that the search of a lane depends on.
     pub fn fingerprint(&self, lane: LaneNumber) -> u64 {
         self.fingerprints.get(lane.index()).copied().unwrap_or(0)
     }
 
-    /// The arrivals of a lane's pool, by rank. The cost is the logarithm of the number of the lane's arrivals.
+    /// The arrivals of a lane's pool, by rank. The cost is the logarithm of the number of the
+    /// lane's arrivals.
     pub fn arrivals(&self, lane: LaneNumber, pool: PoolRef) -> &[Arriving] {
         let Some((start, end)) = self.bounds(lane) else {
             return &[];
@@ -259,7 +261,7 @@ impl Views {
         }
     }
 
-    /// The data of a lane's client that arrives, by rank.
+    /// The arriving data of a lane's client, by rank.
     pub fn sent(&self, lane: LaneNumber) -> &[Ranked] {
         match self.bounds(lane) {
             Some((start, end)) => self.sent.get(start.sent..end.sent).unwrap_or(&[]),

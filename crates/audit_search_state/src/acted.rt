@@ -1,11 +1,11 @@
-//! The act that gives a departure.
+//! The act that sends a departure.
 
 ghost use Rattle.std.specs.Prelude.{◌≡◌};
 
 use crate::previous::End;
 use audit_seen::{SeenNumber, Slot};
 
-/// Which of the acts of one slot comes first: by the act that they stand behind, and then by their own turns.
+/// The order of the acts of one slot: by the act that they follow, and then by their own turns.
 #[derive(Clone, Copy, Debug, PartialEq, Eq, PartialOrd, Ord)]
 pub struct Turn {
     behind: u32,
@@ -13,7 +13,7 @@ pub struct Turn {
 }
 
 impl Turn {
-    /// Of an act in the table as it is, the next one.
+    /// The turn of the next act in the present table.
     pub fn now(turn: u32) -> Turn {
         Turn {
             behind: turn,
@@ -21,7 +21,8 @@ impl Turn {
         }
     }
 
-    /// Of an act that stands right before the one that ended a table, behind all that stand there already.
+    /// The turn of an act right before the act that ended a table, after all acts that are already
+    /// there.
     pub fn before_end(end: End, own: u32) -> Turn {
         Turn {
             behind: end.turn().saturating_sub(1),
@@ -30,7 +31,7 @@ impl Turn {
     }
 }
 
-/// The act that gives a departure.
+/// The act that sends a departure.
 #[derive(Clone, Copy, Debug)]
 pub struct Acted {
     slot: Slot,
@@ -39,7 +40,7 @@ pub struct Acted {
 }
 
 impl Acted {
-    /// The act at a slot, by its turn there, that answers an arrival.
+    /// An act in a slot, by its turn there and the arrival that it answers.
     pub fn new(slot: Slot, turn: Turn, arrival: SeenNumber) -> Acted {
         Acted {
             slot,
@@ -48,7 +49,7 @@ impl Acted {
         }
     }
 
-    /// Where it stands.
+    /// The slot of the act.
     pub fn slot(&self) -> Slot
         ensures { result ≡ self.now.slot }
     {
@@ -69,7 +70,7 @@ impl Acted {
         self.arrival
     }
 
-    /// Whether it stands before the act that ended a table.
+    /// Whether the act comes before the act that ended a table.
     pub fn is_before(&self, end: End) -> bool {
         (self.slot, self.turn.behind) < (end.slot(), end.turn())
     }

@@ -1,50 +1,53 @@
-//! What a lane may ask of a round beside what the sightings say.
+//! The constraints of a lane on the search, in addition to the captures.
 
 use audit_seen::{LaneNumber, SeenNumber};
 
-/// A constraint on where arrivals stand, what departures answer, when acts are, or whose a sighting is. Constraints of a kind stand
-/// together, by the sighting that they are about.
+/// A constraint on where arrivals are placed, which arrivals departures answer, when acts are, or
+/// whose a sighting is. Constraints are ordered by kind, then by the sighting that they are about.
 #[derive(Clone, Copy, Debug, PartialEq, Eq, PartialOrd, Ord, Hash)]
 pub enum Constraint {
-    /// A departure answers this arrival, which stands late enough for that.
+    /// A departure answers this arrival, which is placed late enough for that.
     Answers {
         departure: SeenNumber,
         arrival: SeenNumber,
     },
-    /// An arrival stands before a departure.
+    /// An arrival is placed before a departure.
     Before {
         arrival: SeenNumber,
         departure: SeenNumber,
     },
-    /// The act of an answer that gives a lease stands at its request, so that the lease ends as early as it may.
+    /// The act of a response that grants a lease is at its request, so that the lease ends as early
+    /// as possible.
     AtRequest {
         answer: SeenNumber,
     },
-    /// The lease which an answer gives is over before a departure, and no earlier than it has to be.
+    /// The lease that a response grants expires before a departure, but no earlier than necessary.
     OverBefore {
         answer: SeenNumber,
         departure: SeenNumber,
     },
-    /// An allocation was over before another lane's of the same address began, wherever the answers leave that tell of the two.
+    /// An allocation ends before another lane's allocation of the same address begins, wherever the
+    /// two responses that granted them leave.
     Precedes {
         maker: SeenNumber,
         next: SeenNumber,
     },
-    /// An answer is given in the allocation that was ended before it left, rather than in the one that is there then.
+    /// A response is sent in the allocation that ended before it left, not in the present one.
     Earlier {
         answer: SeenNumber,
     },
-    /// An address which another client had before is given to this one before a departure, rather than when the answer leaves.
+    /// An address which another client had before is granted to this one before a departure, not
+    /// when the response leaves.
     HandedOver {
         answer: SeenNumber,
         departure: SeenNumber,
     },
-    /// An answer is given in the allocation that another answer tells of, rather than in one before.
+    /// A response is sent in the allocation that another response granted, not in an earlier one.
     Within {
         answer: SeenNumber,
         maker: SeenNumber,
     },
-    /// A sighting of a relayed address is another lane's.
+    /// A sighting of a relayed address belongs to another lane.
     NotHere {
         sighting: SeenNumber,
         lane: LaneNumber,
@@ -52,7 +55,7 @@ pub enum Constraint {
 }
 
 impl Constraint {
-    /// Whether the act of an answer stands earlier by it than where the answer leaves.
+    /// Whether the constraint moves the act of a response before the response leaves.
     pub fn is_of_early_act(self) -> bool {
         matches!(
             self,
@@ -62,7 +65,8 @@ impl Constraint {
         )
     }
 
-    /// Whether it moves another departure's arrival, so that a lane may get further only by the next one of the kind.
+    /// Whether it moves another departure's arrival, so that a lane may get further only by the
+    /// next constraint of the kind.
     pub fn is_of_answers(self) -> bool {
         matches!(self, Constraint::Answers { .. })
     }

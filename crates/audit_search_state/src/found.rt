@@ -1,4 +1,4 @@
-//! What the search of a lane found.
+//! The result of a lane's search.
 
 ghost use Rattle.std.specs.Prelude.{◌≡◌};
 
@@ -17,7 +17,7 @@ pub struct Fault {
 }
 
 impl Fault {
-    /// Of a departure that is refused, by its least moment, and whether no order helps.
+    /// A departure that is refused, with its least moment, and whether no order helps.
     pub fn new(departure: SeenNumber, refused: Refused, low: u64, is_hopeless: bool) -> Fault {
         Fault {
             departure,
@@ -56,8 +56,8 @@ impl Fault {
     }
 }
 
-/// What the search of a lane found: the act for each departure, and the first departure on which the lane couldn't act in any order that
-/// was tried.
+/// The result of a lane's search: the act for each departure, and the first departure on which the
+/// lane couldn't act in any order that was tried.
 #[derive(Drop)]
 pub struct Found {
     acts: Vec<(SeenNumber, Acted)>,
@@ -66,7 +66,8 @@ pub struct Found {
 }
 
 impl Found {
-    /// The acts of departures, the first departure that the lane couldn't act on, and what it would need to go on, the likeliest first.
+    /// The acts of departures, the first departure that the lane couldn't act on, and the
+    /// constraints that may help, the likeliest first.
     pub fn new(
         acts: Vec<(SeenNumber, Acted)>,
         fault: Option<Fault>,
@@ -91,7 +92,7 @@ impl Found {
         self.fault
     }
 
-    /// What the lane would need to go on, the likeliest first.
+    /// The constraints that may help the lane, the likeliest first.
     pub fn into_constraints(self) -> Vec<Constraint> {
         self.constraints
     }

@@ -1,7 +1,8 @@
-//! How far the search of a lane has come, and what it may ask for.
+//! The state of a lane's search, and the constraints on it.
 //!
-//! `State` is the lane's table, the tables that ended, and the acts so far, all of which can be taken back. `Constraint` is what a lane would need, `Constraints` what is
-//! asked of all lanes, and `Found` what the search of a lane came to. Nothing rests on any of it.
+//! `State` is the lane's table, the tables that ended, and the acts so far, all of which can be
+//! undone. `Constraint` is what a lane may need, `Constraints` is the set for all lanes, and
+//! `Found` is the result of a lane's search. No verdict depends on any of it.
 #![tactic(auto)]
 
 mod acted;

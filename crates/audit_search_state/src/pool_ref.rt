@@ -4,7 +4,8 @@ ghost use Rattle.std.specs.Prelude.{◌≡◌};
 
 use audit_seen::PoolNumber;
 
-/// The arrivals of a pool that a lane may act on. Of a peer's datagrams those are apart that are more likely another lane's.
+/// The arrivals of a pool that a lane may act on. Of a peer's datagrams, those that more likely
+/// belong to another lane are separate.
 #[derive(Clone, Copy, Debug, PartialEq, Eq, PartialOrd, Ord)]
 pub struct PoolRef {
     pool: PoolNumber,
@@ -12,7 +13,7 @@ pub struct PoolRef {
 }
 
 impl PoolRef {
-    /// Those that are most likely this lane's.
+    /// Those that most likely belong to this lane.
     pub fn own(pool: PoolNumber) -> PoolRef {
         PoolRef {
             pool,
@@ -20,7 +21,7 @@ impl PoolRef {
         }
     }
 
-    /// Those that are more likely another lane's.
+    /// Those that more likely belong to another lane.
     pub fn shared(pool: PoolNumber) -> PoolRef {
         PoolRef {
             pool,
@@ -28,7 +29,7 @@ impl PoolRef {
         }
     }
 
-    /// Whether they are more likely another lane's.
+    /// Whether they more likely belong to another lane.
     pub fn is_shared(&self) -> bool
         ensures { result ≡ self.now.is_shared }
     {

@@ -16,7 +16,7 @@ pub struct End {
 }
 
 impl End {
-    /// The act at a slot, by its turn among all acts and its moment, that answers an arrival.
+    /// An act in a slot, by its turn among all acts, its moment, and the arrival that it answers.
     pub fn new(slot: Slot, turn: u32, moment: u64, arrival: SeenNumber) -> End {
         End {
             slot,
@@ -26,7 +26,7 @@ impl End {
         }
     }
 
-    /// Where it stands.
+    /// The slot of the act.
     pub fn slot(&self) -> Slot
         ensures { result ≡ self.now.slot }
     {
@@ -65,7 +65,7 @@ pub struct Previous {
 }
 
 impl Previous {
-    /// This table before an act, which had changed last at a slot and a moment.
+    /// The table before an act, and the slot and the moment of its last change.
     pub fn new(table: LaneTable, end: End, changed: (Slot, u64)) -> Previous {
         Previous {
             table,
@@ -79,12 +79,12 @@ impl Previous {
         &self.table
     }
 
-    /// The same, and nothing else of it.
+    /// The table, by value.
     pub(crate) fn into_table(self) -> LaneTable {
         self.table
     }
 
-    /// Puts another table in its place, and gives that.
+    /// Replaces the table, and returns the old one.
     pub(crate) fn swap_table(&mut self, table: LaneTable) -> LaneTable {
         mem::replace(&mut self.table, table)
     }

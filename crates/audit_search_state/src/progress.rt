@@ -1,21 +1,21 @@
-//! How far the acts of a lane have come.
+//! The progress of a lane's acts.
 
 ghost use Rattle.std.specs.Prelude.{◌≡◌};
 
 use audit_seen::Slot;
 
-/// How far the acts have come.
+/// The progress of the acts.
 #[derive(Clone, Copy)]
 pub struct Progress {
     turn: u32,
     changed: (Slot, u64),
-    /// How many entries the table has, about.
+    /// The approximate number of entries in the table.
     weight: u64,
     last: (Slot, u64),
 }
 
 impl Progress {
-    /// There was no act.
+    /// No act.
     pub fn none() -> Progress {
         Progress {
             turn: 0,
@@ -39,7 +39,7 @@ impl Progress {
         self.changed
     }
 
-    /// How many entries the table has, about.
+    /// The approximate number of entries in the table.
     pub fn weight(&self) -> u64
         ensures { result ≡ self.now.weight }
     {
@@ -53,7 +53,7 @@ impl Progress {
         self.last
     }
 
-    /// With one act more, in a table that was ended.
+    /// After one more act, in a table that ended.
     pub fn with_act(self) -> Progress {
         Progress {
             turn: self.turn.saturating_add(1),
@@ -61,7 +61,7 @@ impl Progress {
         }
     }
 
-    /// With one act more, at a slot and its moment.
+    /// After one more act, at a slot and its moment.
     pub fn with_act_at(self, slot: Slot, moment: u64) -> Progress {
         Progress {
             turn: self.turn.saturating_add(1),
@@ -70,7 +70,8 @@ impl Progress {
         }
     }
 
-    /// With a change of the table at a slot and its moment, by which it has about so many entries more.
+    /// After a change of the table at a slot and its moment, by which it has about `weight` entries
+    /// more.
     pub fn with_change(self, slot: Slot, moment: u64, weight: u64) -> Progress {
         Progress {
             changed: (slot, moment),
@@ -79,7 +80,7 @@ impl Progress {
         }
     }
 
-    /// With a table that was ended at a slot and its moment.
+    /// After the end of a table at a slot and its moment.
     pub fn with_end(self, slot: Slot, moment: u64) -> Progress {
         Progress {
             changed: (slot, moment),

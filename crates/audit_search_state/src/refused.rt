@@ -7,12 +7,12 @@ use audit_model::Rule;
 pub enum Refused {
     /// The act breaks the rule.
     Rule(Rule),
-    /// No arrival is there for it.
+    /// There is no arrival for it.
     NoArrival,
 }
 
 impl Refused {
-    /// Why two arrivals are refused: the reason for which more can be done.
+    /// The reason of two refusals by which more can be done.
     pub fn or(self, other: Refused) -> Refused {
         match self {
             Refused::Rule(Rule::NoPermission | Rule::PermissionOver) => self,

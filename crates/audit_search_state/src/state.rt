@@ -1,4 +1,4 @@
-//! What a lane's search has done so far.
+//! The state of a lane's search.
 
 ghost use Rattle.std.specs.Prelude.{◌≡◌};
 
@@ -14,28 +14,28 @@ use std::alloc::{AllocError, Global};
 use std::collections::{BTreeMap, BTreeSet, VecDeque};
 use std::mem;
 
-/// The table of a lane, those that ended, and the acts so far.
+/// The table of a lane, the tables that ended, and the acts so far.
 #[derive(Drop)]
 pub struct State {
-    /// The table as the acts so far left it.
+    /// The table after the acts so far.
     table: LaneTable,
-    /// The tables that ended, but for the oldest ones, which are forgotten.
+    /// The tables that ended, except the oldest ones, which are forgotten.
     previous: VecDeque<Previous>,
-    /// How many of them are forgotten.
+    /// How many tables are forgotten.
     forgotten: usize,
-    /// How far the acts have come.
+    /// The progress of the acts.
     progress: Progress,
     acts: BTreeMap<SeenNumber, Acted>,
     used: BTreeSet<SeenNumber>,
     /// The place in each pool of the first arrival that may be unused.
     first: BTreeMap<PoolRef, usize>,
     trail: Trail,
-    /// Whether steps are noted, so that they can be taken back.
+    /// Whether steps are recorded, so that they can be undone.
     is_noting: bool,
 }
 
 impl State {
-    /// No acts, and a table with nothing in it.
+    /// No acts, and an empty table.
     pub fn new(alloc: Global, lane: LaneNumber, client: Addr, listen: Addr) -> State {
         State {
             table: LaneTable::new(lane.value(), client, listen),
@@ -50,12 +50,12 @@ impl State {
         }
     }
 
-    /// The table as the acts so far left it.
+    /// The table after the acts so far.
     pub fn table(&self) -> &LaneTable {
         &self.table
     }
 
-    /// Takes the table out, and leaves another one until it is put back.
+    /// Takes the table out, and puts in another one until it is put back.
     pub fn take_table(&mut self, other: LaneTable) -> LaneTable {
         mem::replace(&mut self.table, other)
     }
@@ -65,27 +65,27 @@ impl State {
         self.table = table;
     }
 
-    /// How far the acts have come.
+    /// The progress of the acts.
     pub fn progress(&self) -> Progress
         ensures { result ≡ self.now.progress }
     {
         self.progress
     }
 
-    /// The turn of the next act, which isn't taken back.
+    /// The turn of the next act. It isn't undone.
     pub fn take_turn(&mut self) -> u32 {
         self.progress = self.progress.with_act();
         self.progress.turn()
     }
 
-    /// Whether steps are noted, so that they can be taken back.
+    /// Whether steps are recorded, so that they can be undone.
     pub fn is_noting(&self) -> bool
         ensures { result ≡ self.now.is_noting }
     {
         self.is_noting
     }
 
-    /// Has steps be noted or not, and tells whether they were.
+    /// Sets whether steps are recorded, and returns whether they were.
     pub fn set_noting(&mut self, is_noting: bool) -> bool
         ensures was { result ≡ self.old.is_noting }
         ensures set { self.new.is_noting ≡ is_noting }
@@ -113,7 +113,7 @@ impl State {
         self.first.get(&pool).copied().unwrap_or(0)
     }
 
-    /// How many tables ended.
+    /// The number of tables that ended.
     pub fn ended(&self) -> usize {
         self.forgotten.saturating_add(self.previous.len())
     }
@@ -128,12 +128,12 @@ impl State {
         self.previous.back()
     }
 
-    /// A mark to go back to.
+    /// A mark to which `undo` can go back.
     pub fn mark(&self) -> usize {
         self.trail.mark()
     }
 
-    /// About how much memory the trail takes.
+    /// The approximate memory of the trail.
     pub fn trail_weight(&self) -> u64 {
         self.trail.weight()
     }
@@ -145,18 +145,19 @@ impl State {
         Ok(())
     }
 
-    /// Forgets how to go back.
+    /// Forgets the recorded steps, and records none.
     pub fn forget(&mut self) {
         self.trail.clear();
         self.is_noting = false;
     }
 
-    /// Forgets how to go back behind a mark.
+    /// Forgets the recorded steps before a mark.
     pub fn forget_before(&mut self, mark: usize) {
         self.trail.forget_before(mark);
     }
 
-    /// Forgets the oldest tables that ended, but for so many, and those that may come back.
+    /// Forgets the oldest tables that ended, except `count` of them and those that `undo` may
+    /// restore.
     pub fn keep_previous(&mut self, count: usize) {
         let kept = count.saturating_add(self.trail.ends());
         for _ in kept..self.previous.len() {
@@ -166,19 +167,19 @@ impl State {
         }
     }
 
-    /// Notes that place.
+    /// Sets that place.
     pub fn set_first(&mut self, pool: PoolRef, place: usize) -> Result<(), AllocError> {
         let before = self.first.insert(pool, place)?;
         self.note(Undo::First(pool, before), 1)
     }
 
-    /// Notes how far the acts have come.
+    /// Sets the progress of the acts.
     pub fn set_progress(&mut self, progress: Progress) -> Result<(), AllocError> {
         let before = mem::replace(&mut self.progress, progress);
         self.note(Undo::Progress(before), 1)
     }
 
-    /// Notes what the table was before it changed, where that was kept.
+    /// Records the table before a change, if it was kept.
     pub fn changed_from(&mut self, before: Option<LaneTable>) -> Result<(), AllocError> {
         let weight = self.progress.weight().saturating_add(1);
         match before {
@@ -187,7 +188,7 @@ impl State {
         }
     }
 
-    /// Notes what the table was before it was ended.
+    /// Records the table before its end.
     pub fn ended_from(&mut self, previous: Previous) -> Result<(), AllocError> {
         self.previous.push_back(previous)?;
         self.note(Undo::Ended, 1)
@@ -198,14 +199,14 @@ impl State {
         Some(self.previous(which)?.end())
     }
 
-    /// Puts a table in the place of one that was ended, and gives that, unless it is forgotten.
+    /// Replaces a table that ended, and returns the old one, unless it is forgotten.
     pub fn swap_previous(&mut self, which: usize, table: LaneTable) -> Option<LaneTable> {
         let place = which.checked_sub(self.forgotten)?;
         let previous = self.previous.get_mut(place)?;
         Some(previous.swap_table(table))
     }
 
-    /// Notes what a table that was ended was before it changed.
+    /// Records a table that ended as it was before a change.
     pub fn previous_changed_from(
         &mut self,
         which: usize,
@@ -215,7 +216,7 @@ impl State {
         self.note(Undo::Previous(which, before), weight)
     }
 
-    /// Notes the act that gives a departure.
+    /// Records the act that sends a departure.
     pub fn act(&mut self, departure: SeenNumber, acted: Acted) -> Result<(), AllocError> {
         self.acts.insert(departure, acted)?;
         self.used.insert(acted.arrival())?;

@@ -1,4 +1,4 @@
-//! The steps of a lane's search that can be taken back.
+//! The steps of a lane's search that can be undone.
 
 use crate::pool_ref::PoolRef;
 use crate::progress::Progress;
@@ -7,16 +7,16 @@ use audit_seen::SeenNumber;
 use std::alloc::{AllocError, Global};
 use std::collections::VecDeque;
 
-/// What takes one step back.
+/// The undoing of one step.
 #[derive(Drop)]
 pub(crate) enum Undo {
-    /// How far the acts had come.
+    /// The progress of the acts before.
     Progress(Progress),
-    /// What the table was.
+    /// The table before.
     Table(LaneTable),
-    /// The table was ended.
+    /// A table ended.
     Ended,
-    /// What a table that had ended was.
+    /// A table that had ended, as it was before.
     Previous(usize, LaneTable),
     /// A departure was acted on by an arrival.
     Acted(SeenNumber, SeenNumber),
@@ -30,7 +30,7 @@ impl Undo {
     }
 }
 
-/// A step, and about how much memory it takes.
+/// A step, and its approximate memory.
 #[derive(Drop)]
 struct Noted {
     undo: Undo,
@@ -59,7 +59,7 @@ impl Trail {
         }
     }
 
-    /// How many steps there were so far.
+    /// The number of steps so far.
     pub(crate) fn mark(&self) -> usize {
         self.forgotten.saturating_add(self.steps.len())
     }

@@ -1,4 +1,4 @@
--- What a sighting says, and the pool that it is in or answers.
+-- The content of a sighting, and the pool that it is in or answers.
 use Rattle.std.specs.Prelude.{Bool, true, false, Option, None, Some}
 use Rattle.audit_seen.specs.declared.content.Gives.{Gives}
 use Rattle.audit_seen.specs.declared.numbers.PoolNumber.{PoolNumber}
@@ -29,7 +29,7 @@ answered_pool (says.Received pool) = None
 answered_pool says.Nothing = None
 answered_pool (says.Gives gives pool) = pool
 
--- what a departure gives
+-- the content of a departure
 abbrev pub given_by : Says → Option Gives
 given_by (says.Request pool) = None
 given_by (says.Sent pool) = None

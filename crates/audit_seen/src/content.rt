@@ -1,22 +1,22 @@
-//! What a datagram asks for, or gives.
+//! The request or the data in a datagram.
 
 use crate::numbers::LaneNumber;
 use audit_content::{Given, Success};
 use audit_model::{Addr, Sighting};
 use std::hash::{DefaultHasher, Hasher};
 
-/// What arrivals ask for: those that ask for the same are alike for an answer. Data stands by its digest; two that have one are
-/// told apart when they are judged.
+/// The key of arrivals that are alike for a departure. Data is in the key by its digest; different
+/// data of one digest is told apart when an act is judged.
 #[derive(Clone, Copy, Debug, PartialEq, Eq, PartialOrd, Ord)]
 pub struct PoolKey {
     digest: u64,
     asked: Asked,
 }
 
-/// What arrivals of one digest ask for.
+/// The kind of arrivals of one digest.
 #[derive(Clone, Copy, Debug, PartialEq, Eq, PartialOrd, Ord)]
 pub enum Asked {
-    /// A request of that method and transaction id.
+    /// A request with this method and transaction id.
     Request {
         lane: LaneNumber,
         method: u16,
@@ -39,27 +39,27 @@ pub enum Asked {
     },
 }
 
-/// What a departure gives.
+/// The content of a departure.
 #[derive(Clone, Copy, Debug, PartialEq, Eq)]
 pub enum Gives {
-    /// An error.
+    /// An error response.
     Error,
-    /// A success that tells of an allocation, and its lifetime in seconds.
+    /// An Allocate success response, with its lifetime in seconds.
     Allocated {
         relayed: Addr,
         seconds: u32,
     },
-    /// A success to a Refresh.
+    /// A Refresh success response.
     Refreshed {
         seconds: u32,
     },
-    /// A success to a Refresh, of no seconds (RFC 8656, section 8.2).
+    /// A Refresh success response with LIFETIME 0 (RFC 8656, section 8.2).
     Deleted,
-    /// A success to a CreatePermission.
+    /// A CreatePermission success response.
     Permitted,
-    /// A success to a ChannelBind.
+    /// A ChannelBind success response.
     Bound,
-    /// Another success.
+    /// Another success response.
     Answered,
     /// A Data indication (RFC 8656, section 11).
     Data {
@@ -77,7 +77,7 @@ pub enum Gives {
         peer: Addr,
         digest: u64,
     },
-    /// Nothing that can be read.
+    /// Bytes that can't be parsed.
     Other,
 }
 
@@ -117,7 +117,7 @@ impl PoolKey {
         }
     }
 
-    /// Of data; of a request the first bytes of its transaction id.
+    /// The digest of data; of a request, the first bytes of its transaction id.
     pub fn digest(&self) -> u64
         ensures { result ≡ self.now.digest }
     {
@@ -136,7 +136,7 @@ impl PoolKey {
 }
 
 impl Gives {
-    /// Whether it changes what the server has for the client: the others leave the table as it is.
+    /// Whether it changes the client's leases: the others leave the table unchanged.
     pub fn is_change(&self) -> bool {
         matches!(
             self,
@@ -149,14 +149,15 @@ impl Gives {
     }
 }
 
-/// A digest of data, by which equal data is found: by SipHash, since arrivals of one digest are taken as alike.
+/// A digest of data, to find equal data. It is SipHash, because arrivals of one digest count as
+/// alike.
 pub(crate) fn digest_of(data: &[u8]) -> u64 {
     let mut hasher = DefaultHasher::new();
     hasher.write(data);
     hasher.finish()
 }
 
-/// What a client's datagram asks for, if anything is answered to it.
+/// The key of a client's datagram, if the server may answer or relay it.
 pub(crate) fn asked_by_client(lane: LaneNumber, payload: &[u8]) -> Option<PoolKey> {
     match audit_content::asked_by_client(payload)? {
         audit_content::Asked::Request { method, id } => Some(PoolKey::request(lane, method, id)),
@@ -169,19 +170,19 @@ pub(crate) fn asked_by_client(lane: LaneNumber, payload: &[u8]) -> Option<PoolKe
     }
 }
 
-/// What a peer's datagram asks for.
+/// The key of a peer's datagram.
 pub(crate) fn asked_by_peer(arrives: &Sighting) -> PoolKey {
     let digest = digest_of(arrives.payload.as_slice());
     PoolKey::peer(arrives.to, arrives.from, digest)
 }
 
-/// The channel that a ChannelBind asks for, and its peer.
+/// The channel that a ChannelBind requests, and its peer.
 pub fn asked_channel(payload: &[u8]) -> Option<(u16, Addr)> {
     let channel = audit_content::asked_channel(payload)?;
     Some((channel.number(), channel.peer()))
 }
 
-/// What leaves from a relayed address.
+/// The content of a departure from a relayed address.
 pub(crate) fn given_to_peer(leaves: &Sighting) -> Gives {
     Gives::Relayed {
         relayed: leaves.from,
@@ -190,7 +191,7 @@ pub(crate) fn given_to_peer(leaves: &Sighting) -> Gives {
     }
 }
 
-/// What a client is given; of a response also which requests it answers.
+/// The content of a departure to a client; of a response also the key of its requests.
 pub(crate) fn given_to_client(lane: LaneNumber, payload: &[u8]) -> (Gives, Option<PoolKey>) {
     match audit_content::given_to_client(payload) {
         Some(

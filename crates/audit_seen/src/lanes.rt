@@ -12,7 +12,7 @@ pub struct Lanes {
 }
 
 impl Lanes {
-    /// The lanes of these pairs of a client and a listen address, in their order.
+    /// The lanes of these pairs of a client and a listen address, in order.
     pub fn of(alloc: Global, pairs: &[(Addr, Addr)]) -> Result<Lanes, AllocError> {
         let mut numbers = BTreeMap::new(alloc);
         for (place, pair) in pairs.iter().enumerate() {

@@ -1,7 +1,7 @@
-//! What the sightings of captures say, each read once.
+//! The contents of the captured sightings, each read once.
 //!
-//! `Sights::read` reads them, and numbers the pools of arrivals that ask for the same. `Slot` is a place in an order of all of them. Nothing rests on any of it: what is
-//! found by it is checked.
+//! `Sights::read` reads them, and numbers the pools of alike arrivals. `Slot` is a place in an
+//! order of all of them. No verdict depends on any of it: the result is checked.
 #![tactic(auto)]
 
 mod content;

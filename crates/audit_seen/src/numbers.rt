@@ -2,7 +2,7 @@
 
 ghost use Rattle.std.specs.Prelude.{◌≡◌};
 
-/// The number of a lane, as certificates have it.
+/// The number of a lane, as in certificates.
 #[derive(Clone, Copy, Debug, PartialEq, Eq, PartialOrd, Ord, Hash)]
 pub struct LaneNumber(u32);
 
@@ -15,21 +15,21 @@ pub struct SeenNumber(u32);
 pub struct PoolNumber(u32);
 
 impl LaneNumber {
-    /// That number.
+    /// The lane number of an integer.
     pub fn new(number: u32) -> LaneNumber
         ensures { result.0 ≡ number }
     {
         LaneNumber(number)
     }
 
-    /// It as a number.
+    /// The number as an integer.
     pub fn value(self) -> u32
         ensures { result ≡ self.0 }
     {
         self.0
     }
 
-    /// Its place among the lanes.
+    /// Its index among the lanes.
     pub fn index(self) -> usize
         ensures { result ≡ self.0 }
     {
@@ -39,21 +39,21 @@ impl LaneNumber {
 }
 
 impl SeenNumber {
-    /// That number.
+    /// The sighting number of an integer.
     pub fn new(number: u32) -> SeenNumber
         ensures { result.0 ≡ number }
     {
         SeenNumber(number)
     }
 
-    /// It as a number.
+    /// The number as an integer.
     pub fn value(self) -> u32
         ensures { result ≡ self.0 }
     {
         self.0
     }
 
-    /// Its place among the sightings.
+    /// Its index among the sightings.
     pub fn index(self) -> usize
         ensures { result ≡ self.0 }
     {
@@ -63,24 +63,24 @@ impl SeenNumber {
 }
 
 impl PoolNumber {
-    /// That of the first pool.
+    /// The number of the first pool.
     pub(crate) const FIRST: PoolNumber = PoolNumber(0);
 
-    /// That number.
+    /// The pool number of an integer.
     pub fn new(number: u32) -> PoolNumber
         ensures { result.0 ≡ number }
     {
         PoolNumber(number)
     }
 
-    /// It as a number.
+    /// The number as an integer.
     pub fn value(self) -> u32
         ensures { result ≡ self.0 }
     {
         self.0
     }
 
-    /// Its place among the pools.
+    /// Its index among the pools.
     pub fn index(self) -> usize
         ensures { result ≡ self.0 }
     {

@@ -1,15 +1,16 @@
-//! The number of each pool, by what its arrivals ask for.
+//! The number of each pool, by the key of its arrivals.
 
 use crate::content::{Asked, PoolKey};
 use crate::numbers::{LaneNumber, PoolNumber, SeenNumber};
 use audit_model::Addr;
 use std::alloc::{AllocError, Global};
 
-/// The number of each pool: the place of its key among all, which are in order.
+/// The number of each pool: the index of its key among all, which are in order.
 #[derive(Drop)]
 pub struct PoolNumbers {
     keys: Vec<PoolKey>,
-    /// The place of the first key whose digest begins with a number of 16 bits, or with a greater one.
+    /// The index of the first key whose digest begins with a number of 16 bits, or with a greater
+    /// one.
     starts: Vec<usize>,
 }
 
@@ -31,14 +32,14 @@ impl PoolNumbers {
         }
     }
 
-    /// How many there are.
+    /// The number of pools.
     pub fn count(&self) -> usize
         ensures { result ≡ vec_len self.now.keys }
     {
         self.keys.len()
     }
 
-    /// The pool of what is asked for. The cost is the logarithm of their number.
+    /// The pool of a key. The cost is the logarithm of their number.
     pub fn get(&self, key: &PoolKey) -> Option<PoolNumber> {
         let bits = first_bits(key.digest());
         let start = self.start(bits);
@@ -62,7 +63,7 @@ impl PoolNumbers {
         }
     }
 
-    /// Takes in the next key, and gives the number of its pool. Keys come in their order.
+    /// Adds the next key, and returns the number of its pool. Keys come in order.
     pub(crate) fn take(&mut self, key: PoolKey) -> Result<PoolNumber, AllocError> {
         if self.keys.last() != Some(&key) {
             let place = self.keys.len();
@@ -76,7 +77,7 @@ impl PoolNumbers {
         Ok(PoolNumber::new(number.map_err(|_| AllocError)?))
     }
 
-    /// The place of the first key whose digest begins with these bits, or with greater ones.
+    /// The index of the first key whose digest begins with these bits, or with greater ones.
     fn start(&self, bits: usize) -> usize {
         self.starts.get(bits).copied().unwrap_or(self.keys.len())
     }

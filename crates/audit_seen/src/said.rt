@@ -1,4 +1,4 @@
-//! What a sighting says, before pools have numbers.
+//! The content of a sighting, before pools have numbers.
 
 use crate::content::{
     Gives, PoolKey, asked_by_client, asked_by_peer, given_to_client, given_to_peer,
@@ -8,7 +8,7 @@ use crate::numbers::{LaneNumber, PoolNumber};
 use crate::seen::Says;
 use audit_model::{Policy, Side, Sighting};
 
-/// What a sighting says, while pools have no numbers yet.
+/// The content of a sighting, while pools have no numbers yet.
 #[derive(Clone, Copy)]
 pub(crate) struct Said {
     says: Says,
@@ -25,14 +25,14 @@ impl Said {
         self.says
     }
 
-    /// The lane of what goes between a client and its listen address.
+    /// The lane of a datagram between a client and its listen address.
     pub(crate) fn lane(&self) -> Option<LaneNumber>
         ensures { result ≡ self.now.lane }
     {
         self.lane
     }
 
-    /// What it asks for, or what the requests that it answers ask for.
+    /// Its key, or the key of the requests that it answers.
     pub(crate) fn key(&self) -> Option<PoolKey>
         ensures { result ≡ self.now.key }
     {
@@ -43,7 +43,7 @@ impl Said {
 /// The pool of each sighting until all keys are in order.
 const NO_POOL: PoolNumber = PoolNumber::FIRST;
 
-/// What a sighting says.
+/// The content of a sighting.
 pub(crate) fn said_by(policy: &Policy, sighting: &Sighting, lanes: &Lanes) -> Said {
     match sighting.side {
         Side::Arrives if !policy.listens(sighting.to) => Said {
@@ -75,7 +75,7 @@ pub(crate) fn said_by(policy: &Policy, sighting: &Sighting, lanes: &Lanes) -> Sa
     }
 }
 
-/// What a client's datagram says.
+/// The content of a client's datagram.
 fn asked(lane: LaneNumber, sighting: &Sighting) -> Said {
     let key = asked_by_client(lane, sighting.payload.as_slice());
     let says = match &key {
@@ -90,7 +90,7 @@ fn asked(lane: LaneNumber, sighting: &Sighting) -> Said {
     }
 }
 
-/// What a datagram to a client says.
+/// The content of a datagram to a client.
 fn given(lane: LaneNumber, sighting: &Sighting) -> Said {
     let (gives, key) = given_to_client(lane, sighting.payload.as_slice());
     Said {

@@ -10,7 +10,7 @@ use audit_model::{Policy, SightId, Sighting};
 use audit_sightings::Intake;
 use std::alloc::{AllocError, Global};
 
-/// What a sighting says.
+/// The content of a sighting.
 #[derive(Clone, Copy, Debug, PartialEq, Eq)]
 pub enum Says {
     /// A request that arrives, and its pool.
@@ -19,13 +19,13 @@ pub enum Says {
     Sent(PoolNumber),
     /// A peer's datagram that arrives, and its pool.
     Received(PoolNumber),
-    /// An arrival that nothing answers.
+    /// An arrival that no departure answers.
     Nothing,
-    /// A departure; that of a response with the pool of its requests.
+    /// A departure; a response with the pool of its requests.
     Gives(Gives, Option<PoolNumber>),
 }
 
-/// A sighting, as far as its order goes by it.
+/// The facts of a sighting that its order depends on.
 #[derive(Clone, Copy, Debug)]
 pub struct Seen {
     first_moment: u64,
@@ -53,42 +53,42 @@ impl Seen {
     ghost use Rattle.std.specs.Prelude.{◌≡◌};
     ghost use Rattle.audit_seen.specs.Says.{is_arrival, pool_in, answered_pool, given_by};
 
-    /// The first moment at which it may stand, in nanoseconds since 1970.
+    /// The first moment at which it may be placed, in nanoseconds since 1970.
     pub fn first_moment(&self) -> u64
         ensures { result ≡ self.now.first_moment }
     {
         self.first_moment
     }
 
-    /// The last moment at which it may stand, in nanoseconds since 1970.
+    /// The last moment at which it may be placed, in nanoseconds since 1970.
     pub fn last_moment(&self) -> u64
         ensures { result ≡ self.now.last_moment }
     {
         self.last_moment
     }
 
-    /// When the capture says that it was seen, in nanoseconds since 1970.
+    /// The stamp in the capture, in nanoseconds since 1970.
     pub fn stamp(&self) -> u64
         ensures { result ≡ self.now.stamp }
     {
         self.stamp
     }
 
-    /// What it says.
+    /// Its content.
     pub fn says(&self) -> Says
         ensures { result ≡ self.now.says }
     {
         self.says
     }
 
-    /// The lane, of what goes between a client and its listen address.
+    /// The lane of a datagram between a client and its listen address.
     pub fn lane(&self) -> Option<LaneNumber>
         ensures { result ≡ self.now.lane }
     {
         self.lane
     }
 
-    /// Its interface, and its place there.
+    /// Its interface, and its index there.
     pub fn id(&self) -> SightId
         ensures { result ≡ self.now.id }
     {
@@ -125,7 +125,7 @@ impl Seen {
         }
     }
 
-    /// What a departure gives.
+    /// The content of a departure.
     pub fn gives(&self) -> Option<Gives>
         ensures { result ≡ given_by self.now.says }
     {
@@ -135,13 +135,13 @@ impl Seen {
         }
     }
 
-    /// Whether the other one stands before it on the same interface.
+    /// Whether the other one comes before it on the same interface.
     pub fn is_behind(&self, other: &Seen) -> bool {
         self.id.iface == other.id.iface && self.id.index > other.id.index
     }
 }
 
-/// What sightings are read by.
+/// The inputs for reading sightings.
 #[derive(Clone, Copy)]
 struct Reader<'a> {
     policy: &'a Policy,
@@ -160,7 +160,8 @@ pub struct Sights {
 impl Sights {
     ghost use Rattle.std.specs.Prelude.{◌≡◌, ◌<◌, IfSome, vec_len, length};
 
-    /// Reads each sighting, which may stand in so much of its window. It takes n log n, and for each sighting as many steps as it has bytes.
+    /// Reads each sighting. `windows` limits the moments that it may have. It takes n log n, and
+    /// for each sighting as many steps as it has bytes.
     pub fn read(
         alloc: Global,
         intake: &Intake,
@@ -189,7 +190,8 @@ impl Sights {
         Ok((sights, numbers))
     }
 
-    /// Reads the sightings of an interface, and notes what each asks for or answers. The numbers of pools come later.
+    /// Reads the sightings of an interface, and collects the key of each. The numbers of pools come
+    /// later.
     fn read_row(
         &mut self,
         reader: Reader<'_>,
@@ -226,33 +228,33 @@ impl Sights {
         Ok(())
     }
 
-    /// Puts a sighting into a pool.
+    /// Sets the pool of a sighting.
     fn set_pool(&mut self, number: SeenNumber, pool: PoolNumber) {
         if let Some(seen) = self.list.get_mut(number.index()) {
             seen.says = seen.says.with_pool(pool);
         }
     }
 
-    /// One of them, by its number.
+    /// A sighting by its number.
     pub fn get(&self, number: SeenNumber) -> Option<&Seen> {
         self.list.get(number.index())
     }
 
-    /// All of them, in the order of their numbers.
+    /// All sightings, in the order of their numbers.
     pub fn as_slice(&self) -> &[Seen]
         ensures { length result.now ≡ vec_len self.now.list }
     {
         self.list.as_slice()
     }
 
-    /// How many interfaces there are.
+    /// The number of interfaces.
     pub fn interfaces(&self) -> usize
         ensures { result ≡ vec_len self.now.starts }
     {
         self.starts.len()
     }
 
-    /// The number of the sighting at a place of an interface; none behind its last one.
+    /// The number of the sighting at an index of an interface; `None` after its last one.
     pub fn at(&self, iface: usize, place: u32) -> Option<SeenNumber>
         ensures { IfSome result (λ number. number.0 < vec_len self.now.list) }
     {

@@ -2,7 +2,7 @@
 
 ghost use Rattle.std.specs.Prelude.{◌≡◌, ◌/◌, ◌%◌, ◌<◌};
 
-/// A place right before or right behind a sighting, in the order of all: four for each sighting.
+/// A place right before or right after a sighting, in the order of all: four for each sighting.
 #[derive(Clone, Copy, Debug, PartialEq, Eq, PartialOrd, Ord)]
 pub struct Slot(u32);
 
@@ -14,19 +14,19 @@ impl Slot {
         Slot(0)
     }
 
-    /// Its place among all slots.
+    /// The slot's number among all slots.
     pub fn value(self) -> u32
         ensures { result ≡ self.0 }
     {
         self.0
     }
 
-    /// One of the four slots of a rank: two before the sighting, its own, and one behind it.
+    /// One of the four slots of a rank: two before the sighting, its own, and one after it.
     pub fn part(rank: u32, place: u32) -> Slot {
         Slot(rank.saturating_mul(4).saturating_add(place))
     }
 
-    /// Before all else of a rank.
+    /// The first slot of a rank.
     pub fn first(rank: u32) -> Slot {
         Slot::part(rank, 0)
     }
@@ -36,12 +36,12 @@ impl Slot {
         Slot::part(rank, 1)
     }
 
-    /// The sighting's own.
+    /// The slot of the sighting.
     pub fn own(rank: u32) -> Slot {
         Slot::part(rank, 2)
     }
 
-    /// Right behind the sighting of a rank.
+    /// The slot right after the sighting of a rank.
     pub fn behind(rank: u32) -> Slot {
         Slot::part(rank, 3)
     }

@@ -20,7 +20,8 @@ abbrev pub next_index : List Step → ℕ → ℕ
 next_index [] iface = 0
 next_index (e ∷ es) iface = next_index_by iface (placed e.move) (next_index es iface)
 
--- the state to which the steps lead from the empty table, reduced to what is kept, with how many sightings of each interface they place
+-- the state to which the steps lead from the empty table, reduced to what is kept, with how many
+-- sightings of each interface they place
 abbrev pub cut_after : Taken → KeyFor → List Step → Cut
 cut_after taken key_for steps = record {
   state = kept_state taken.policy.hold taken.policy.grace (fold (after (rules_for taken key_for)) at_first steps);

@@ -18,9 +18,10 @@ AreAlikeTimes hold now one other = (one ≡ other) ⊎ (IsTooOld hold now one ×
 abbrev pub is_placed : (ℕ → ℕ) → SightId → Bool
 is_placed placed s = nat_lt s.index (placed s.iface)
 
--- Both states are at the same moment, and each client has equal allocations in them, except for what is past the grace. Of the sightings that
--- are not excluded, the same arrivals wait, except for those that are older than the hold; the same departures are owed; and of those that are
--- not placed the same were sent.
+-- Both states are at the same moment, and each client has equal allocations in them, except for
+-- what is past the grace. Of the sightings that are not excluded, the same arrivals wait, except
+-- for those that are older than the hold; the same departures are owed; and of those that are not
+-- placed the same were sent.
 pub record AreAlike (hold grace : ℕ) (placed : ℕ → ℕ) (excluded : SightId → Bool) (one other : State) : Type 0 where
   pub now : one.now ≡ other.now
   pub table : (c : Pair) → AreAlikeEntries grace one.now (one.table c) (other.table c)

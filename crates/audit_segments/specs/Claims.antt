@@ -1,4 +1,4 @@
--- The claims about all that was captured: to the end, or up to a moment.
+-- The claims about all captured datagrams of the service: to the end, or up to a moment.
 use Rattle.std.specs.Prelude.{ℕ, ◌≡◌, ◌≤◌, ◌<◌, ◌&&◌, Bool, true, false, not, if◌then◌else◌, Some, None, List, is_some}
 use Rattle.std.specs.List.{AllByRecursion, fold}
 use Rattle.audit_model.specs.declared.sighting.SightId.{SightId}
@@ -17,13 +17,14 @@ use Rattle.audit_whole.specs.Grounded.{IsGrounded}
 use Rattle.audit_segments.specs.Alike.{is_placed}
 use Rattle.audit_segments.specs.Cut.{Cut}
 
--- The headline, of a list of moves. The headline of a certificate is that of the moves it stands for.
+-- The headline, of a list of moves. The headline of a certificate is that of its moves.
 pub record HeadlineOf (taken : Taken) (key_for : KeyFor) (steps : List Step) : Type 0 where
   pub run : IsCaptureRun taken (rules_for taken key_for) steps
   pub grounded : IsGrounded taken key_for steps
   pub relayed : AreApart taken.policy → AreRelayed taken key_for steps
 
--- The same of all sightings that are not excluded: each of them comes in or leaves once, and none of them is owed at the end.
+-- The headline of a list of moves, for all sightings that are not excluded: each of them arrives or
+-- leaves once, and none of them is owed at the end.
 pub record HeadlineExcept (taken : Taken) (key_for : KeyFor) (excluded : SightId → Bool) (steps : List Step) : Type 0 where
   pub placed : (s : SightId) → times_placed s steps ≡ (if is_some (sighting_at taken s) && not (excluded s) then 1 else 0)
   pub seen : AllByRecursion (λ (e : Step). MayBePlaced taken e.moment e.move) steps
@@ -38,15 +39,17 @@ pub record IsComplete (taken : Taken) (cut : Cut) : Type 0 where
   pub all : (s : SightId) → is_some (sighting_at taken s) ≡ true → is_placed cut.placed s ≡ true
   pub owed : (t : SightId) → cut.excluded t ≡ false → cut.state.owed t ≡ None
 
--- each sighting whose window ends before the moment is placed, and each owed departure may still leave at the moment
+-- each sighting whose window ends before the moment is placed, and each owed departure may still
+-- leave at the moment
 pub record IsJudgedUpTo (taken : Taken) (moment : ℕ) (cut : Cut) : Type 0 where
   pub all : (s : SightId) (x : Sighting) → sighting_at taken s ≡ Some x → x.hi < moment → is_placed cut.placed s ≡ true
   pub owed : (t : SightId) (came : ℕ) → cut.excluded t ≡ false → cut.state.owed t ≡ Some came → moment ≤ later came taken.policy.hold
 
--- Conforming up to a moment. The steps place the first sightings of each interface, except for the excluded ones, each once, in its window and
--- in order. Each sighting whose window ends before the moment is among them. The steps are a run of the server from an empty table. At their
--- end departures may be owed, if they may still leave at the moment. The run is grounded, and whatever left so far was relayed as the headline
--- requires.
+-- Conforming up to a moment. The steps place the first sightings of each interface, except for the
+-- excluded ones, each once, in its window and in order. Each sighting whose window ends before the
+-- moment is among them. The steps are a run of the server from an empty table. At their end
+-- departures may be owed, if they may still leave at the moment. The run is grounded, and every
+-- departure so far was relayed as the headline requires.
 pub record ConformsUpTo (taken : Taken) (key_for : KeyFor) (moment : ℕ) (cut : Cut) (steps : List Step) : Type 0 where
   pub all : (s : SightId) (x : Sighting) → sighting_at taken s ≡ Some x → x.hi < moment → is_placed cut.placed s ≡ true
   pub placed : (s : SightId) → times_placed s steps ≡ (if is_some (sighting_at taken s) && not (cut.excluded s) && is_placed cut.placed s then 1 else 0)

@@ -32,8 +32,9 @@ module _ (grace now : ℕ) where
   kept_allocation None = None
   kept_allocation (Some a) = if is_past_grace a.until then None else Some (kept_leases_of a)
 
--- Allocations, permissions and channels that are not past the grace, arrivals that are not older than the hold, and the departures that are owed.
--- Of the departures that were sent only the owed ones are kept.
+-- Allocations, permissions and channels that are not past the grace, arrivals that are not older
+-- than the hold, and the departures that are owed. Of the departures that were sent only the owed
+-- ones are kept.
 abbrev pub kept_state : ℕ → ℕ → State → State
 kept_state hold grace st = record {
   table = λ c. kept_allocation grace st.now (st.table c);

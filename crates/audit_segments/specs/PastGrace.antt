@@ -1,5 +1,6 @@
--- When no act from a moment on distinguishes what two clients have: they are equal except for allocations, permissions (RFC 8656, sections 6
--- and 9) and channels (section 12) that are past the grace.
+-- When no act from a moment on distinguishes the leases of two clients: they are equal except for
+-- allocations, permissions (RFC 8656, sections 6 and 9) and channels (section 12) that are past the
+-- grace.
 use Rattle.std.specs.Prelude.{ℕ, ◌≡◌, ◌<◌, ◌⊎◌, Option, Some, None}
 use Rattle.audit_model.specs.Window.{later}
 use Rattle.audit_expiry.specs.declared.lease.Lease.{Lease}

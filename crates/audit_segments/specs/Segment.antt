@@ -15,11 +15,11 @@ use Rattle.audit_server.specs.Step.{Step, Move, In, Act, Out}
 use Rattle.audit_segments.specs.Alike.{AreAlike, is_placed}
 use Rattle.audit_segments.specs.Cut.{Cut, Extends, MayName}
 
--- the sightings by which a segment is judged, with their names among all that were captured
+-- the sightings by which a segment is judged, with their ids among all captured ones
 abbrev pub View : Type 0
 View = SightId → Option Sighting
 
--- the view has the sighting, it goes that way, and the moment is in its window
+-- the view has the sighting, with that direction, and the moment is in its window
 abbrev pub IsSeenIn : View → Side → SightId → ℕ → Type 0
 IsSeenIn view side sight moment = IsSomeAnd (view sight) (λ s. (s.side ≡ side) × (s.lo ≤ moment) × (moment ≤ s.hi))
 
@@ -28,14 +28,15 @@ MayBePlacedIn view moment (In s) = IsSeenIn view Arrives s moment
 MayBePlacedIn view moment (Act c s t) = Unit {0}
 MayBePlacedIn view moment (Out t) = IsSeenIn view Leaves t moment
 
--- how often the steps between two cuts have to place a sighting: once if the view has it, it is not excluded, and the new cut has it placed
--- and the old one has not; otherwise never
+-- how often the steps between two cuts have to place a sighting: once if the view has it, it is not
+-- excluded, and the new cut has it placed and the old one has not; otherwise never
 abbrev pub due : View → Cut → Cut → SightId → ℕ
 due view old new s = if (is_some (view s) && not (new.excluded s)) && (not (is_placed old.placed s) && is_placed new.placed s) then 1 else 0
 
--- From the old cut's state the steps are a run of the server over the sightings of the view. They place what is due, each sighting in its window
--- and each interface in its order. They name no sighting that the old cut excludes, and no act sends a departure that the old cut has placed.
--- The state to which they lead is alike to the new cut's.
+-- From the old cut's state the steps are a run of the server over the sightings of the view. They
+-- place what is due, each sighting in its window and each interface in its order. They name no
+-- sighting that the old cut excludes, and no act sends a departure that the old cut has placed. The
+-- state to which they lead is alike to the new cut's.
 pub record IsSegment (policy : Policy) (key_for : KeyFor) (view : View) (old : Cut) (steps : List Step) (new : Cut) : Type 0 where
   pub placed : (s : SightId) → times_placed s steps ≡ due view old new s
   pub seen : AllByRecursion (λ (e : Step). MayBePlacedIn view e.moment e.move) steps
@@ -53,7 +54,8 @@ pub record Segment : Type 0 where
   pub steps : List Step
   pub cut : Cut
 
--- the view has only captured sightings, and has each captured sighting that is placed between the two cuts and not excluded
+-- the view has only captured sightings, and has each captured sighting that is placed between the
+-- two cuts and not excluded
 pub record IsViewOf (all view : View) (old new : Cut) : Type 0 where
   pub there : (s : SightId) (x : Sighting) → view s ≡ Some x → all s ≡ Some x
   pub due : (s : SightId) → new.excluded s ≡ false → is_placed old.placed s ≡ false → is_placed new.placed s ≡ true → is_some (view s) ≡ is_some (all s)

@@ -1,4 +1,5 @@
--- The names of a segment that counts the sightings of each interface from a base, translated to names that count from the first sighting.
+-- The ids of a segment that counts the sightings of each interface from a base, translated to ids
+-- that count from the first sighting.
 use Rattle.std.specs.Prelude.{ℕ, ◌+◌, ◌-◌, Bool, false, if◌then◌else◌, None, List, map, nat_lt}
 use Rattle.audit_model.specs.declared.sighting.SightId.{SightId}
 use Rattle.audit_server.specs.State.{State}
@@ -8,23 +9,23 @@ use Rattle.audit_segments.specs.Renamed.{renamed_if}
 use Rattle.audit_segments.specs.Segment.{View}
 
 module _ (base : ℕ → ℕ) where
-  -- the name among all sightings, from the name that counts from the base
+  -- the id among all sightings, from the id that counts from the base
   abbrev pub shifted : SightId → SightId
   shifted s = record { iface = s.iface; index = base s.iface + s.index }
 
-  -- whether a name is of a sighting before the base
+  -- whether an id is of a sighting before the base
   abbrev pub is_below : SightId → Bool
   is_below s = nat_lt s.index (base s.iface)
 
-  -- the name that counts from the base
+  -- the id that counts from the base
   abbrev pub unshifted : SightId → SightId
   unshifted s = record { iface = s.iface; index = s.index - base s.iface }
 
-  -- a function of names that count from the base, and a constant for the names below the base
+  -- a function of ids that count from the base, and a constant for the ids below the base
   abbrev pub from_base : {A : Type 0} → A → (SightId → A) → SightId → A
   from_base below f s = if is_below s then below else f (unshifted s)
 
-  -- the sightings with their names among all sightings
+  -- the sightings with their ids among all sightings
   abbrev pub shifted_view : View → View
   shifted_view view s = renamed_if s (from_base None view s)
 
@@ -42,7 +43,8 @@ module _ (base : ℕ → ℕ) where
   abbrev pub shifted_state : State → State
   shifted_state st = record { table = st.table; waiting = from_base None st.waiting; owed = from_base None st.owed; given = from_base false st.given; now = st.now }
 
-  -- all sightings below the base are placed, and those of them that are excluded are the ones that were excluded earlier
+  -- all sightings below the base are placed, and those of them that are excluded are the ones that
+  -- were excluded earlier
   abbrev pub shifted_cut : (SightId → Bool) → Cut → Cut
   shifted_cut excluded cut = record {
     state = shifted_state cut.state;

@@ -17,7 +17,7 @@ abbrev pub acting : SightId → List Step → Option Pair
 acting x [] = None
 acting x (e ∷ es) = acting_by x e.move (acting x es)
 
--- with a client, where it is not there yet
+-- with a client, if it is not there yet
 abbrev pub with_pair : Pair → List Pair → List Pair
 with_pair p ps = if list_any (λ q. same_client p q) ps then ps else p ∷ ps
 

@@ -1,4 +1,5 @@
--- The rules of a server with a policy and its users' keys, over the datagrams that were captured (RFC 8656).
+-- The rules of a server with a policy and its users' keys, over the datagrams that were captured
+-- (RFC 8656).
 use Rattle.std.specs.Prelude.{ℕ, Option, Some, None}
 use Rattle.audit_model.specs.declared.pair.Pair.{Pair}
 use Rattle.audit_model.specs.declared.policy.Policy.{Policy}
@@ -12,7 +13,7 @@ use Rattle.audit_rules.specs.Situation.{Situation}
 use Rattle.audit_server.specs.Rules.{Rules}
 
 module _ (policy : Policy) (key_for : KeyFor) where
-  -- the server answers an arrival by a departure for a client that has this
+  -- the server sends a departure for an arrival, for a client with this allocation
   abbrev pub situation_at : Pair → ℕ → Option Allocation → Sighting → Sighting → Situation
   situation_at c moment x arrives leaves = record {
     client = c.client;
@@ -25,19 +26,20 @@ module _ (policy : Policy) (key_for : KeyFor) where
     moment = moment;
   }
 
-  -- the change that the departure says; none where one of the two wasn't captured
+  -- the change that the departure says; none if one of the two wasn't captured
   abbrev pub change_between : Pair → ℕ → Option Allocation → Option Sighting → Option Sighting → Change
   change_between c moment x None leaves = Same
   change_between c moment x (Some arrives) None = Same
   change_between c moment x (Some arrives) (Some leaves) = change_in (situation_at c moment x arrives leaves)
 
-  -- the server may answer so, but for the uniqueness of relayed addresses, which the whole table shows
+  -- the server may act so, apart from the uniqueness of relayed addresses, which needs the whole
+  -- table
   abbrev pub MayBetween : Pair → ℕ → Option Allocation → Option Sighting → Option Sighting → Type 0
   MayBetween c moment x None leaves = ⊥
   MayBetween c moment x (Some arrives) None = ⊥
   MayBetween c moment x (Some arrives) (Some leaves) = MayAnswer (situation_at c moment x arrives leaves) (change_in (situation_at c moment x arrives leaves))
 
-  -- by a look-up of the sightings
+  -- the rules, from a look-up of the sightings
   abbrev pub rules_of : (SightId → Option Sighting) → Rules
   rules_of sighting = record {
     grace = policy.grace;

@@ -1,4 +1,4 @@
--- The one list that lanes make.
+-- The one list of all lanes.
 use Rattle.std.specs.Prelude.{ℕ, ◌+◌, ◌≡◌, List, [], ◌∷◌, ◌++◌, if◌then◌else◌}
 use Rattle.std.specs.List.{AllByRecursion}
 use Rattle.std.specs.Ordering.{is_lt}
@@ -14,7 +14,7 @@ abbrev pub Numbered : ℕ → List (List Placed) → Type 0
 Numbered n [] = Unit {0}
 Numbered n (l ∷ ls) = AllByRecursion (λ (e : Placed). e.at.lane ≡ n) l × Numbered (n + 1) ls
 
--- a move put in front of the first that stands after it
+-- a move inserted before the first that comes after it
 abbrev pub inserted : Placed → List Placed → List Placed
 inserted e [] = e ∷ []
 inserted e (d ∷ ds) = if is_lt (at_cmp e.at d.at) then e ∷ d ∷ ds else d ∷ inserted e ds

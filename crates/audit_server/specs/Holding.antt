@@ -15,12 +15,12 @@ pub record HoldsAt (at : At) (relayed : Addr) (t : Tenancy) : Type 0 where
   pub born : Precedes t.born.key t.born.lane at.key at.lane
   pub still : StillHeld t at.key at.lane
 
--- the fact holds of one of them
+-- one of them has the property
 abbrev pub AnyOf : {A : Type 0} → (A → Type 0) → List A → Type 0
 AnyOf P [] = ⊥
 AnyOf P (x ∷ xs) = P x ⊎ AnyOf P xs
 
--- no tenancy begins where one of another lane holds its address
+-- no tenancy begins while one of another lane holds its address
 abbrev pub NoClash : Rules → List Placed → Type 0
 NoClash w steps =
     (one other : ℕ) → one ≢ other → AllByRecursion (λ t. AnyOf (HoldsAt t.born t.relayed) (tenancies w other steps) → ⊥) (tenancies w one steps)

@@ -1,4 +1,4 @@
--- Which lane a sighting is of, and which client a lane is of.
+-- The lane of a sighting, and the client of a lane.
 use Rattle.std.specs.Prelude.{ℕ, ◌≡◌, Option, Some, List}
 use Rattle.std.specs.List.{AllByRecursion}
 use Rattle.audit_model.specs.declared.pair.Pair.{Pair}
@@ -12,15 +12,15 @@ NamesAtHome home lane (In s) = home s ≡ lane
 NamesAtHome home lane (Act c s t) = (home s ≡ lane) × (home t ≡ lane)
 NamesAtHome home lane (Out t) = home t ≡ lane
 
--- each move stands in the lane of what it names
+-- each move is in the lane of the sightings that it names
 abbrev pub StandAtHome : (SightId → ℕ) → List Placed → Type 0
 StandAtHome home steps = AllByRecursion (λ e. NamesAtHome home e.at.lane e.move) steps
 
--- all moves that name a sighting stand in one lane
+-- all moves that name a sighting are in one lane
 abbrev pub InOneLane : List Placed → Type 0
 InOneLane steps = (home : SightId → ℕ) × StandAtHome home steps
 
--- an act stands in its arrival's lane, and a departure in the lane of its act
+-- an act is in its arrival's lane, and a departure in the lane of its act
 abbrev pub Meets : Placed → Placed → Type 0
 Meets act other = (c : Pair) (s t : SightId) → act.move ≡ Act c s t → (other.move ≡ In s → other.at.lane ≡ act.at.lane) × (other.move ≡ Out t → other.at.lane ≡ act.at.lane)
 

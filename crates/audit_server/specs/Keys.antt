@@ -1,4 +1,4 @@
--- Look-ups of keys that are alike for a move.
+-- Look-ups of keys that are equal for a move.
 use Rattle.std.specs.Prelude.{◌≡◌, Option, Some}
 use Rattle.audit_model.specs.declared.sighting.SightId.{SightId}
 use Rattle.audit_model.specs.declared.sighting.Sighting.{Sighting}

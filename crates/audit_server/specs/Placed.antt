@@ -1,4 +1,4 @@
--- Moves with the places at which they stand, in the lanes of their clients.
+-- Moves with their places, in the lanes of their clients.
 use Rattle.std.specs.Prelude.{ℕ, ◌==◌, List, map}
 use Rattle.std.specs.List.{fold, filter}
 use Rattle.std.specs.List.Sorted.{IsStrictlySortedBy}
@@ -18,7 +18,7 @@ pub record Placed : Type 0 where
   pub at : At
   pub move : Move
 
--- what the server does there: it knows neither lanes nor ties
+-- the server's step there, which has neither lanes nor ties
 abbrev pub step_of : Placed → Step
 step_of e = record { moment = e.at.key.moment; move = e.move }
 
@@ -26,7 +26,7 @@ step_of e = record { moment = e.at.key.moment; move = e.move }
 abbrev pub Runs : Rules → State → List Placed → Type 0
 Runs w st events = RunFrom w st (map step_of events)
 
--- the state that they lead to from another
+-- the state after them, from another
 abbrev pub led : Rules → State → List Placed → State
 led w st events = fold (after w) st (map step_of events)
 
@@ -38,6 +38,6 @@ state_after w events = led w at_first events
 abbrev pub of_lane : ℕ → List Placed → List Placed
 of_lane lane steps = filter (λ e. e.at.lane == lane) steps
 
--- they stand in order, no two at one place
+-- they are in order, no two at one place
 abbrev pub Rises : List Placed → Type 0
 Rises steps = IsStrictlySortedBy (λ (d e : Placed). at_cmp d.at e.at) steps

@@ -1,4 +1,4 @@
--- Where sightings come in and leave.
+-- Where sightings arrive and leave.
 use Rattle.std.specs.Prelude.{ℕ, ◌≡◌, ◌<◌, Bool, false, Option, Some, None, List, [], ◌∷◌, count_by}
 use Rattle.std.specs.List.{AllByRecursion}
 use Rattle.std.specs.declared.cmp.Ordering.TheVariants.{Less}
@@ -8,17 +8,17 @@ use Rattle.audit_model.specs.Sames.{same_sight}
 use Rattle.audit_server.specs.Placed.{Placed}
 use Rattle.audit_server.specs.Step.{Step, Move, In, Act, Out}
 
--- the sighting comes in or leaves by this move
+-- the sighting arrives or leaves by this move
 abbrev pub places : SightId → Move → Bool
 places s (In x) = same_sight x s
 places s (Act c x y) = false
 places s (Out x) = same_sight x s
 
--- how often it comes in or leaves
+-- how often it arrives or leaves
 abbrev pub times_placed : SightId → List Step → ℕ
 times_placed s steps = count_by (λ (e : Step). places s e.move) steps
 
--- the sighting that comes in or leaves
+-- the sighting that arrives or leaves
 abbrev pub placed : Move → Option SightId
 placed (In s) = Some s
 placed (Act c s t) = None
@@ -28,7 +28,7 @@ placed (Out t) = Some t
 abbrev pub Follow : Move → Move → Type 0
 Follow a b = (s t : SightId) → placed a ≡ Some s → placed b ≡ Some t → s.iface ≡ t.iface → s.index < t.index
 
--- each interface's sightings stand in its order
+-- each interface's sightings are in its order
 abbrev pub KeepOrder : List Step → Type 0
 KeepOrder [] = Unit {0}
 KeepOrder (e ∷ es) = AllByRecursion (λ (d : Step). Follow e.move d.move) es × KeepOrder es

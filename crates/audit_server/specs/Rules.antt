@@ -1,11 +1,11 @@
--- What a server goes by, whatever the datagrams are.
+-- The rules of a server, whatever the datagrams are.
 use Rattle.std.specs.Prelude.{ℕ, Option}
 use Rattle.audit_model.specs.declared.pair.Pair.{Pair}
 use Rattle.audit_model.specs.declared.sighting.SightId.{SightId}
 use Rattle.audit_rules.specs.Allocation.{Allocation, Change}
 
--- The two tolerances; what a departure that answers an arrival for a client at a moment changes, by the client's allocation; and
--- whether the server may answer so, by that allocation alone.
+-- The two tolerances; the change of an act, by the client, the arrival, the departure, the moment
+-- and the client's allocation; and whether the server may act so, by that allocation alone.
 pub record Rules : Type 1 where
   pub grace : ℕ
   pub hold : ℕ

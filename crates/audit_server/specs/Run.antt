@@ -11,12 +11,13 @@ use Rattle.audit_server.specs.Rules.{Rules}
 use Rattle.audit_server.specs.State.{State, at_first, after}
 use Rattle.audit_server.specs.Step.{Step, Move, In, Act, Out}
 
--- it came in, at most hold ago
+-- it arrived, at most hold ago
 abbrev pub InTime : Rules → Option ℕ → ℕ → Type 0
 InTime w None moment = ⊥
 InTime w (Some came) moment = moment ≤ later came w.hold
 
--- what a move needs beside the other clients: an arrival that waits, a departure not given before, and an answer by the rules
+-- the conditions of a move apart from other clients: an arrival that waits, a departure not sent
+-- before, and an act that the rules allow
 abbrev pub MayMove : Rules → State → ℕ → Move → Type 0
 MayMove w st moment (In s) = Unit {0}
 MayMove w st moment (Act c s t) = InTime w (st.waiting s) moment × (st.given t ≡ false) × w.MayAnswer c s t moment (st.table c)
@@ -27,7 +28,7 @@ abbrev pub HasAddress : ℕ → ℕ → Addr → Option Allocation → Type 0
 HasAddress grace moment relayed None = ⊥
 HasAddress grace moment relayed (Some a) = (a.relayed ≡ relayed) × IsUsable a.until moment grace
 
--- no other client has a usable allocation with the address that is handed out (RFC 8656, section 6)
+-- no other client has a usable allocation with the address that is granted (RFC 8656, section 6)
 abbrev pub IsFree : Rules → State → ℕ → Pair → Change → Type 0
 IsFree w st moment c Same = Unit {0}
 IsFree w st moment c (Makes made) = (other : Pair) → other ≢ c → HasAddress w.grace moment made.relayed (st.table other) → ⊥
@@ -36,7 +37,7 @@ IsFree w st moment c (Grants ips until) = Unit {0}
 IsFree w st moment c (Binds number peer until permitted) = Unit {0}
 IsFree w st moment c Removes = Unit {0}
 
--- of the address that an act hands out, if it does
+-- for the address that an act grants, if it grants one
 abbrev pub HandsOutFree : Rules → State → ℕ → Move → Type 0
 HandsOutFree w st moment (In s) = Unit {0}
 HandsOutFree w st moment (Act c s t) = IsFree w st moment c (w.change c s t moment (st.table c))
@@ -48,7 +49,7 @@ pub record Allowed (w : Rules) (st : State) (e : Step) : Type 0 where
   pub may : MayMove w st e.moment e.move
   pub free : HandsOutFree w st e.moment e.move
 
--- each step may come where the steps before it lead
+-- each step may come in the state after the steps before it
 abbrev pub RunFrom : Rules → State → List Step → Type 0
 RunFrom w st [] = Unit {0}
 RunFrom w st (e ∷ es) = Allowed w st e × RunFrom w (after w st e) es

@@ -1,4 +1,5 @@
--- What one TURN server keeps (RFC 8656, section 6), with one table for all clients, and what a step leaves of it.
+-- The state of one TURN server (RFC 8656, section 6), with one table for all clients, and how a
+-- step changes it.
 use Rattle.std.specs.Prelude.{ℕ, Bool, true, false, Option, Some, None, if◌then◌else◌}
 use Rattle.audit_model.specs.declared.pair.Pair.{Pair}
 use Rattle.audit_model.specs.declared.sighting.SightId.{SightId}
@@ -7,12 +8,13 @@ use Rattle.audit_rules.specs.Allocation.{Allocation, applied}
 use Rattle.audit_server.specs.Rules.{Rules}
 use Rattle.audit_server.specs.Step.{Step, Move, In, Act, Out}
 
--- f with x at k
+-- the function f, with the value x at k
 abbrev pub put : {K A : Type 0} → (K → K → Bool) → (K → A) → K → A → K → A
 put same f k x i = if same i k then x else f i
 
--- What each client has; the arrivals that wait, with their moments; the departures that are owed, with the moments of their
--- arrivals; the departures that were given; and the moment of the last step.
+-- The allocation of each client; the arrivals that wait, with their moments; the departures that
+-- are owed, with the moments of their arrivals; the departures that were sent; and the moment of
+-- the last step.
 pub record State : Type 0 where
   pub table : Pair → Option Allocation
   pub waiting : SightId → Option ℕ
@@ -24,7 +26,7 @@ pub record State : Type 0 where
 abbrev pub at_first : State
 at_first = record { table = λ _. None; waiting = λ _. None; owed = λ _. None; given = λ _. false; now = 0 }
 
--- what a move for a client leaves of its allocation
+-- a client's allocation after a move for the client
 abbrev pub acted : Rules → ℕ → Move → Option Allocation → Option Allocation
 acted w moment (In s) x = x
 acted w moment (Act c s t) x = applied (w.change c s t moment x) x
@@ -36,19 +38,19 @@ table_after w st moment (In s) = st.table
 table_after w st moment (Act c s t) = put same_client st.table c (acted w moment (Act c s t) (st.table c))
 table_after w st moment (Out t) = st.table
 
--- what comes in waits until an act takes it
+-- an arrival waits until an act uses it
 abbrev pub waiting_after : State → ℕ → Move → SightId → Option ℕ
 waiting_after st moment (In s) = put same_sight st.waiting s (Some moment)
 waiting_after st moment (Act c s t) = put same_sight st.waiting s None
 waiting_after st moment (Out t) = st.waiting
 
--- what an act gives is owed until it leaves
+-- a departure is owed from its act until it leaves
 abbrev pub owed_after : State → ℕ → Move → SightId → Option ℕ
 owed_after st moment (In s) = st.owed
 owed_after st moment (Act c s t) = put same_sight st.owed t (st.waiting s)
 owed_after st moment (Out t) = put same_sight st.owed t None
 
--- and was given from then on
+-- and was sent from then on
 abbrev pub given_after : State → Move → SightId → Bool
 given_after st (In s) = st.given
 given_after st (Act c s t) = put same_sight st.given t true

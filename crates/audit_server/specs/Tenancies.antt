@@ -1,4 +1,4 @@
--- The tenancies of relayed addresses that a lane's moves make.
+-- The tenancies of relayed addresses by a lane's moves.
 use Rattle.std.specs.Prelude.{ℕ, Option, None, List, [], ◌∷◌, ◌++◌, option_to_list}
 use Rattle.audit_model.specs.declared.event.At.{At}
 use Rattle.audit_model.specs.declared.verdict.Tenancy.{Tenancy}
@@ -9,7 +9,7 @@ use Rattle.audit_server.specs.State.{acted}
 use Rattle.audit_server.specs.Step.{Move, In, Act, Out}
 use Rattle.audit_server.specs.Placed.{Placed, of_lane}
 
--- the tenancy that runs after a move, by the client's allocation and the one that ran
+-- the current tenancy after a move, by the client's allocation and the tenancy before
 abbrev pub running : Rules → At → Move → Option Allocation → Option Tenancy → Option Tenancy
 running w at (In s) x ten = ten
 running w at (Act c s t) x ten = running_after w.grace at s (w.change c s t at.key.moment x) ten
@@ -21,7 +21,7 @@ ended w at (In s) x ten = None
 ended w at (Act c s t) x ten = ended_by at.key (w.change c s t at.key.moment x) ten
 ended w at (Out t) x ten = None
 
--- the tenancies of one lane in order of birth, from the allocation that its client has and the tenancy of that
+-- the tenancies of one lane in order of birth, from the client's allocation and its tenancy
 abbrev pub tenancies_from : Rules → Option Allocation → Option Tenancy → List Placed → List Tenancy
 tenancies_from w x ten [] = option_to_list ten
 tenancies_from w x ten (e ∷ es) =

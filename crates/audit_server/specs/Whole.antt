@@ -1,4 +1,4 @@
--- What is asked of lanes so that they make a run of one server.
+-- The conditions for lanes to be a run of one server.
 use Rattle.std.specs.Prelude.{List, [], ◌∷◌, ◌++◌, map}
 use Rattle.std.specs.List.{AllByRecursion}
 use Rattle.audit_model.specs.declared.verdict.Tenancy.{Tenancy}
@@ -18,6 +18,6 @@ abbrev pub all_tenancies : Rules → List (List Placed) → List Tenancy
 all_tenancies w [] = []
 all_tenancies w (l ∷ ls) = tenancies_in w l ++ all_tenancies w ls
 
--- no allocation is given an address that a client of another lane holds
+-- no allocation is granted an address that a client of another lane holds
 abbrev pub ClashNowhere : List Tenancy → Type 0
 ClashNowhere ts = AllByRecursion (λ new. AnyOf (Clashes new) ts → ⊥) ts

@@ -1,4 +1,4 @@
-//! What holds of every server, by the definitions alone. No program calls these.
+//! Properties of every server, by the definitions alone. No program calls these.
 
 ghost use Rattle.std.specs.Prelude.{◌≡◌, ◌≢◌, ◌≤◌, ◌⊎◌, ◌↔◌, ◌++◌, ◌∷◌, ℕ, List, Option, Some, map};
 ghost use Rattle.std.specs.List.{AllByRecursion};
@@ -23,21 +23,22 @@ ghost use Rattle.audit_server.specs.Step.{Step, Act};
 ghost use Rattle.audit_server.specs.Tenancies.{tenancies};
 ghost use Rattle.audit_server.specs.Whole.{ClashNowhere, EachRuns, all_tenancies};
 
-/// Only a usable allocation is renewed, and from the moment on.
+/// Only a usable allocation is renewed, and its new lifetime counts from the moment.
 pub fn rules_are_lawful()
     ensures { (policy : Policy) (key_for : KeyFor) (sighting : SightId → Option Sighting) → AreLawful (rules_of policy key_for sighting) }
 {}
 
-/// A list is a run by some keys exactly where it is one by others that are the same for the users and realms that the
-/// arrivals of its acts name.
+/// A list is a run by some keys exactly if it is one by others that are the same for the users and
+/// realms that the arrivals of its acts name.
 pub fn keys_that_matter()
     ensures { (policy : Policy) (one other : KeyFor) (sighting : SightId → Option Sighting) (steps : List Step) →
         AllByRecursion (λ (e : Step). AgreeAt one other sighting e.move) steps →
         IsRun (rules_of policy one sighting) steps ↔ IsRun (rules_of policy other sighting) steps }
 {}
 
-/// At each event of a list in order, another lane's client has a usable allocation with an address in the server's
-/// table exactly where a tenancy of that lane, taken by its final end, holds the address there.
+/// At each event of a list in order, another lane's client has a usable allocation with an address
+/// in the server's table exactly if a tenancy of that lane, taken by its final end, holds the
+/// address there.
 pub fn held()
     ensures { (policy : Policy) (key_for : KeyFor) (sighting : SightId → Option Sighting) (pairs : ℕ → Option Pair) (before : List Placed) (event : Placed) (rest : List Placed) →
         let rules = rules_of policy key_for sighting in let all = before ++ event ∷ rest in
@@ -46,8 +47,9 @@ pub fn held()
         HasAddress policy.grace event.at.key.moment relayed ((state_after rules before).table pair) ↔ AnyOf (HoldsAt event.at relayed) (tenancies rules other all) }
 {}
 
-/// The one list that lanes make, by moment, tie and lane: it is in order, has of each lane what the lane has, and is the
-/// only such list. Where keys rise along an interface and each sighting is placed once, it keeps the interface's order.
+/// The one list of all lanes, by moment, tie and lane: it is in order, has the events of each lane,
+/// and is the only such list. If keys rise along an interface and each sighting is placed once, it
+/// keeps the interface's order.
 pub fn one_list()
     ensures order { (lanes : List (List Placed)) → Numbered 0 lanes → AllByRecursion Rises lanes → Rises (sorted (joined lanes)) }
     ensures each { (lanes : List (List Placed)) → Numbered 0 lanes → AllByRecursion Rises lanes →
@@ -57,8 +59,9 @@ pub fn one_list()
         ((s : SightId) → times_placed s (map step_of events) ≤ 1) → KeepOrder (map step_of events) }
 {}
 
-/// Lanes of one client each are runs, and no two tenancies of theirs clash, exactly where the one list that they make is
-/// a run of one server for all clients, in which all moves that name a sighting stand in one lane.
+/// Lanes of one client each are runs, and no two of their tenancies clash, exactly if their one
+/// list is a run of one server for all clients, in which all moves that name a sighting are in one
+/// lane.
 pub fn lanes_are_the_whole()
     ensures whole { (policy : Policy) (key_for : KeyFor) (sighting : SightId → Option Sighting) (pairs : ℕ → Option Pair) (lanes : List (List Placed)) →
         let rules = rules_of policy key_for sighting in
@@ -73,16 +76,16 @@ pub fn lanes_are_the_whole()
         EachRuns rules lanes × ClashNowhere (all_tenancies rules lanes) }
 {}
 
-/// In a run that places each sighting at most once, an act stands in the lane of its arrival and in that of its
-/// departure exactly where all moves that name a sighting stand in one lane.
+/// In a run that places each sighting at most once, an act is in the lane of its arrival and in
+/// that of its departure exactly if all moves that name a sighting are in one lane.
 pub fn meeting_in_lanes()
     ensures { (policy : Policy) (key_for : KeyFor) (sighting : SightId → Option Sighting) (events : List Placed) →
         IsRun (rules_of policy key_for sighting) (map step_of events) → ((s : SightId) → times_placed s (map step_of events) ≤ 1) →
         MeetInLanes events ↔ InOneLane events }
 {}
 
-/// In a run that places each sighting at most once, the first act that names a sighting is for the client of each act
-/// that does.
+/// In a run that places each sighting at most once, the first act that names a sighting is for the
+/// client of each act that does.
 pub fn one_client_acts()
     ensures { (policy : Policy) (key_for : KeyFor) (sighting : SightId → Option Sighting) (before : List Step) (act : Step) (rest : List Step) →
         IsRun (rules_of policy key_for sighting) (before ++ act ∷ rest) → ((s : SightId) → times_placed s (before ++ act ∷ rest) ≤ 1) →

@@ -1,4 +1,4 @@
--- What an intake keeps: its limits, and numbers of the types that its sightings are read into.
+-- The invariant of an intake: its limits, and numbers that fit the types of its sightings.
 use Rattle.std.specs.Prelude.{◌≡◌, ◌≤◌, Some, length}
 use Rattle.audit_model.specs.declared.sighting.SightId.{SightId}
 use Rattle.audit_model.specs.declared.sighting.Sighting.{Sighting}

@@ -1,4 +1,4 @@
--- Sightings of some files, and of others behind them.
+-- Sightings of some files, and of others after them.
 use Rattle.std.specs.Prelude.{◌≡◌, ℕ, ◌+◌, ◌<◌, ◌≤◌, max, List, length}
 use Rattle.audit_model.specs.declared.sighting.Sighting.{Sighting}
 use Rattle.audit_sightings.specs.ByInterface.{of_interface, count_of, IsTight}

@@ -1,4 +1,4 @@
--- What a packet is to the service: a datagram that is kept, nothing, or a reason to refuse the capture.
+-- The result of a packet: a datagram of the service, nothing, or a reason to refuse the capture.
 use Rattle.std.specs.Prelude.{ℕ, Bool, true, false, ◌||◌, List, Option, Some, None, Result, Ok, Err, nat_lt}
 use Rattle.audit_model.specs.declared.address.Addr.{Addr}
 use Rattle.audit_model.specs.declared.policy.Policy.{Policy}
@@ -30,7 +30,7 @@ kept_by_ends true false stamp from to payload = Ok (Some (record { stamp = stamp
 kept_by_ends false true stamp from to payload = Ok (Some (record { stamp = stamp; side = Arrives; from = from; to = to; payload = payload }))
 kept_by_ends false false stamp from to payload = Ok None
 
--- refused where one of the two is an IP of the service
+-- refused if one of the two is an IP of the service
 abbrev pub refused_for : IntakeFaultKind → Bool → Result (Option ServiceDatagram) IntakeFaultKind
 refused_for fault true = Err fault
 refused_for fault false = Ok None

@@ -1,4 +1,4 @@
--- What is read of packets whose payloads lie in one arena.
+-- The results of packets whose payloads are in one arena.
 use Rattle.std.specs.Prelude.{ℕ, ◌+◌, ◌*◌, ◌≤◌, List, map, take, drop, Option, Some, None, Result, Ok, Err, ◌≡◌}
 use Rattle.audit_model.specs.declared.policy.Policy.{Policy}
 use Rattle.audit_pcapng.specs.declared.packet.PacketSlice.{PacketSlice}
@@ -18,17 +18,17 @@ found_in arena (Ok None) = Ok None
 found_in arena (Ok (Some kept)) = Ok (Some (in_arena arena kept))
 found_in arena (Err fault) = Err fault
 
--- the payload, where there is one, lies within so many bytes
+-- the payload, if there is one, is within this number of bytes
 abbrev pub LiesWithin : ℕ → Result (Option ArenaDatagram) IntakeFaultKind → Type 0
 LiesWithin bytes (Ok None) = Unit {0}
 LiesWithin bytes (Ok (Some kept)) = kept.start + kept.len ≤ bytes
 LiesWithin bytes (Err fault) = Unit {0}
 
--- what each packet is to the service
+-- the result of each packet
 abbrev pub read_of : Policy → List PacketSlice → List (Result (Option ServiceDatagram) IntakeFaultKind)
 read_of policy packets = map (λ packet. service_datagram_of policy (packet_of packet)) packets
 
--- the packets of a stretch, of so many from the first on
+-- the packets of the stretch of this number
 abbrev pub stretch_at : List PacketSlice → ℕ → List PacketSlice
 stretch_at packets number = take 2048 (drop (2048 * number) packets)
 
@@ -36,7 +36,7 @@ stretch_at packets number = take 2048 (drop (2048 * number) packets)
 abbrev pub owned : OwnedDatagram → ServiceDatagram
 owned kept = record { stamp = kept.stamp; side = kept.side; from = kept.from; to = kept.to; payload = kept.payload }
 
--- it is what was found, unless there was no memory for it
+-- it is what was found, unless memory ran out for it
 abbrev pub IsOwned : Result (Option ServiceDatagram) IntakeFaultKind → Result (Option OwnedDatagram) IntakeFaultKind → Type 0
 IsOwned found (Ok None) = found ≡ Ok None
 IsOwned found (Ok (Some kept)) = found ≡ Ok (Some (owned kept))

@@ -1,15 +1,17 @@
-//! Sightings that are read before they are needed.
+//! Reads sightings before they are needed.
 //!
-//! The sightings of a lane lie far apart in memory. Where each is read when its event comes, the processor waits for one after the other.
-//! Where those of the next events are read with nothing else between, it waits for many at once, and finds them near when they are needed.
+//! The sightings of a lane are far apart in memory. If each is read when its event comes, the
+//! processor waits for one after the other. If those of the next events are read together, it waits
+//! for many at once, and finds them in the cache when they are needed.
 
 use audit_model::{Side, Sighting};
 use std::sync::atomic::{AtomicU64, Ordering};
 
-/// How many events are read together: more than a processor asks memory for at once, and so few that what they name stays near.
+/// How many events are read together: more than a processor fetches from memory at once, and few
+/// enough for the sightings to stay in the cache.
 const TOGETHER: usize = 64;
 
-/// Reads what an event names, and gives some bits of it.
+/// Reads the sightings that an event names, and returns some of their bits.
 pub trait ReadsAhead<E> {
     fn read(&self, event: &E) -> u64;
 }
@@ -18,9 +20,9 @@ pub trait ReadsAhead<E> {
 #[derive(Drop)]
 pub struct EventsAhead<'e, E, R> {
     reader: R,
-    /// The events behind those that were read.
+    /// The events after those that were read.
     rest: &'e [E],
-    /// How many events that were read the walk hasn't come to.
+    /// How many of the events that were read the walk hasn't reached.
     near: usize,
 }
 
@@ -34,7 +36,8 @@ impl<'e, E, R: ReadsAhead<E>> EventsAhead<'e, E, R> {
         }
     }
 
-    /// Called before each event. Once the walk is through those that were read, it reads the next. It takes no memory.
+    /// Called before each event. Once the walk is through those that were read, it reads the next
+    /// ones. Allocates no memory.
     pub fn advance(&mut self) {
         if self.near == 0 {
             self.read_more();
@@ -54,12 +57,13 @@ impl<'e, E, R: ReadsAhead<E>> EventsAhead<'e, E, R> {
     }
 }
 
-/// Takes what was read. A compiler that sees that nobody needs it leaves out reading it, but not this step of an atomic.
+/// Uses what was read. A compiler may omit reads whose result is unused, but not this atomic
+/// operation.
 fn keep(bits: u64) {
     AtomicU64::new(0).fetch_xor(bits, Ordering::SeqCst);
 }
 
-/// Reads the first and the last of a sighting, and gives some bits of both.
+/// Reads the first and the last of a sighting, and returns some bits of both.
 pub fn read_sighting(sighting: &Sighting) -> u64 {
     let side = match sighting.side {
         Side::Arrives => 0,
@@ -68,7 +72,7 @@ pub fn read_sighting(sighting: &Sighting) -> u64 {
     sighting.stamp ^ sighting.hi ^ side
 }
 
-/// Reads a sighting and the ends of its payload, and gives some bits of them.
+/// Reads a sighting and the ends of its payload, and returns some bits of them.
 pub fn read_payload(sighting: &Sighting) -> u64 {
     let payload = sighting.payload.as_slice();
     let (Some(first), Some(last)) = (payload.first(), payload.last()) else {

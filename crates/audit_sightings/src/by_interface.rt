@@ -14,10 +14,10 @@ use audit_model::{Listed, SightId, Sighting, window};
 use std::alloc::{AllocError, Global};
 use std::marker::Model;
 
-/// How many sightings there may be.
+/// The most sightings of an intake.
 pub const MAX_SIGHTINGS: u32 = 16_777_216;
 
-/// How many interface numbers each file has.
+/// The number of interface numbers of each file.
 pub const INTERFACES_OF_FILE: u32 = 64;
 
 /// The sightings of each interface, by the interface's number.
@@ -25,7 +25,7 @@ pub const INTERFACES_OF_FILE: u32 = 64;
 pub struct ByInterface {
     interfaces: Vec<Listed<Sighting>>,
     count: u32,
-    /// By file, from which moment on its newest sighting may have come.
+    /// By file, the moment from which on its newest sighting may have come.
     newest: [Option<u64>; MAX_FILES],
     alloc: Global,
 }
@@ -50,7 +50,7 @@ impl ByInterface {
     ghost use Rattle.audit_sightings.specs.Stretch.{owned};
     ghost use Rattle.audit_sightings.specs.Sightings.{sighting_of};
 
-    /// No sightings. It takes no memory.
+    /// No sightings. Allocates no memory.
     pub fn new(alloc: Global) -> ByInterface
         ensures { result ≡ [] }
     {
@@ -73,7 +73,7 @@ impl ByInterface {
         }
     }
 
-    /// The sighting of that name.
+    /// The sighting of that id.
     pub fn sighting(&self, id: SightId) -> Option<&Sighting>
         ensures exact { option_copied result
             ≡ option_and_then (λ interface. slice_get interface id.index) (slice_get self.now id.iface) }
@@ -82,14 +82,14 @@ impl ByInterface {
         interface.as_slice().get(id.index as usize)
     }
 
-    /// How many interfaces there are.
+    /// The number of interfaces.
     pub fn len(&self) -> u32
         ensures { result ≡ length self.now }
     {
         self.interfaces.len() as u32
     }
 
-    /// How many sightings there are in all interfaces.
+    /// The number of sightings of all interfaces.
     pub fn count(&self) -> u32
         ensures count { result ≡ count_of self.now }
         ensures numbered { (iface : ℕ) → IsNumbered iface (of_interface self.now iface) }
@@ -99,14 +99,14 @@ impl ByInterface {
         self.count
     }
 
-    /// From which moment on the newest sighting of a file may have come.
+    /// The moment from which on the newest sighting of a file may have come.
     pub fn newest(&self, file: u32) -> Option<u64>
         ensures { IsNewest self.now file result }
     {
         self.newest.get(file as usize).copied().flatten()
     }
 
-    /// Adds a sighting behind those of its interface. After a fault nothing is changed.
+    /// Adds a sighting after those of its interface. After a fault nothing is changed.
     pub fn push(
         &mut self,
         iface: u32,
@@ -145,7 +145,7 @@ impl ByInterface {
     }
 }
 
-/// The later of two moments, where there is a first.
+/// The later of two moments, if there is a first.
 fn later(before: Option<u64>, moment: u64) -> Option<u64>
     ensures { result ≡ later_of before moment }
 {
@@ -162,7 +162,7 @@ fn bytes(payload: &[u8])
     let _length = payload.len();
 }
 
-/// Adds a sighting behind those of its interface. Without memory nothing is changed.
+/// Adds a sighting after those of its interface. If memory runs out nothing is changed.
 fn add(
     alloc: Global,
     interfaces: &mut Vec<Listed<Sighting>>,
@@ -181,7 +181,8 @@ fn add(
     added
 }
 
-/// Adds a sighting behind those of its interface. Without memory empty interfaces may stand behind the others.
+/// Adds a sighting after those of its interface. If memory runs out, empty interfaces may be added
+/// after the others.
 fn add_behind(
     alloc: Global,
     interfaces: &mut Vec<Listed<Sighting>>,

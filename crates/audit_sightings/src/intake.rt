@@ -1,4 +1,4 @@
-//! What is taken in of the captures.
+//! The intake: the sightings of the captures.
 
 mod joining;
 
@@ -13,13 +13,14 @@ use audit_pcapng::BlockReader;
 use std::alloc::Global;
 use std::thread::Threads;
 
-/// From how many bytes on the frames of a piece are read by many threads. Below that threads cost more than they save.
+/// From this number of bytes on, many threads read the frames of a piece. Below it threads cost
+/// more than they save.
 const PARALLEL_FROM: usize = 4_194_304;
 
-/// How many files there may be.
+/// The most files of an intake.
 pub const MAX_FILES: usize = 16;
 
-/// The sightings of the captures that it was fed, and the policy that says what the service is.
+/// The sightings of the captures that it was fed, and the policy that defines the service.
 #[derive(Drop)]
 pub struct Intake {
     policy: Policy,
@@ -40,7 +41,7 @@ impl Intake {
     ghost use Rattle.audit_sightings.specs.Newest.{IsNewest};
     ghost use Rattle.audit_sightings.specs.Files.{Fed, not_fed, StandsFor, GoesOn, Refuses, FilesEnd};
 
-    /// An intake of no files. It takes no memory.
+    /// An intake of no files. Allocates no memory.
     pub fn new(alloc: Global, policy: Policy) -> Intake
         ensures empty { taken result ≡ record { policy = policy; files = 0; interfaces = [] } }
         ensures stands { StandsFor result [] }
@@ -54,8 +55,8 @@ impl Intake {
         }
     }
 
-    /// One file more, whose number is given: from 0 in order.
-    /// It fails by V6 after a fault of a feed, by V4 after 16 files, and by V5; nothing changes then.
+    /// Adds a file, and returns its number, from 0 in order. It fails by V6 after a fault of a
+    /// feed, by V4 after 16 files, and by V5; nothing changes then.
     pub fn add_file(&mut self) -> Result<u32, IntakeFault>
         ensures number { IfOk result (λ file. file ≡ vec_len self.old.files) }
         ensures ok { OnOk result (taken self.new ≡ record (taken self.old) { files = vec_len self.old.files + 1 }) }
@@ -93,9 +94,10 @@ impl Intake {
         }
     }
 
-    /// Takes the next bytes of a file, cut anywhere: its packets in order, up to the first fault of a block or a frame.
-    /// What was taken in before a fault stays, and every later call then fails by V6 with this file's number.
-    /// It holds some 100 bytes for each packet of the piece while it runs.
+    /// Feeds the next bytes of a file, split anywhere: it adds its packets in order, up to the
+    /// first fault of a block or a frame. What was added before a fault stays, and every later call
+    /// then fails by V6 with this file's number. While it runs it holds about 100 bytes for each
+    /// packet of the piece.
     pub fn feed(&mut self, file: u32, piece: &[u8]) -> Result<(), IntakeFault>
         requires { file < vec_len self.old.files }
         ensures ok { (files : List Fed) → StandsFor self.old files → OnOk result (GoesOn self.new files file piece.now) }
@@ -135,7 +137,8 @@ impl Intake {
         }
     }
 
-    /// Takes in the packet of the block that was held, once the piece makes it whole, and gives the bytes behind it.
+    /// Adds the packet of the block that was held, once the piece makes it whole, and returns the
+    /// bytes after it.
     fn start_piece<'a>(&mut self, file: u32, piece: &'a [u8]) -> Result<&'a [u8], IntakeFaultKind>
         requires { file < vec_len self.old.files }
         ensures ok { (files : List Fed) → StandsFor self.old files → IfOk result (λ rest. Amid self.new files file piece.now rest.now) }
@@ -157,9 +160,10 @@ impl Intake {
         }
     }
 
-    /// As `feed`, but that the frames of a piece of 4 MiB or more are read by as many threads as there are processors, some thousand packets
-    /// by each at a time, and then taken in in order. What it saves is a sixth at the most, and of pieces that were just read from a file
-    /// nothing (docs/DECISIONS.md).
+    /// As `feed`, except that the frames of a piece of 4 MiB or more are read by as many threads as
+    /// there are processors, about a thousand packets by each at a time, and then added in order.
+    /// It saves at most a sixth of the time, and nothing for pieces that were just read from a file
+    /// (docs/DECISIONS.md).
     pub fn feed_parallel<R: Threads + Sync>(
         &mut self,
         rt: &R,
@@ -192,7 +196,7 @@ impl Intake {
         }
     }
 
-    /// Every later call fails because of this file.
+    /// Makes every later call fail because of this file.
     fn fail(&mut self, file: u32, kind: IntakeFaultKind) -> IntakeFault
         ensures fault { result ≡ record { kind = kind; file = file } }
         ensures failed { self.new ≡ record self.old { failed = Some file } }
@@ -221,7 +225,7 @@ impl Intake {
         }
     }
 
-    /// Takes in the packets of what is left of a piece, whose frames are read by many threads.
+    /// Adds the packets of the rest of a piece, whose frames are read by many threads.
     fn take_large_rest<R: Threads + Sync>(
         &mut self,
         rt: &R,
@@ -254,7 +258,7 @@ impl Intake {
         }
     }
 
-    /// Takes in the packets of what is left of a piece.
+    /// Adds the packets of the rest of a piece.
     fn take_rest(&mut self, file: u32, rest: &[u8]) -> Result<(), IntakeFaultKind>
         requires { file < vec_len self.old.files }
         ensures ok { (files : List Fed) (piece : List ℕ) → Amid self.old files file piece rest.now →
@@ -281,7 +285,7 @@ impl Intake {
         }
     }
 
-    /// Whether each file may end where it does, asked in the order of the files. It takes no memory.
+    /// Checks that each file may end where it does, in the order of the files. Allocates no memory.
     pub fn finish(&self) -> Result<(), IntakeFault>
         ensures ends { (files : List Fed) → StandsFor self.now files → FilesEnd result files }
         ensures again { (failed : ℕ) → self.now.failed ≡ Some failed →
@@ -304,14 +308,15 @@ impl Intake {
         Ok(())
     }
 
-    /// The sighting of that name. It takes no memory.
+    /// The sighting of that id. Allocates no memory.
     pub fn sighting(&self, id: SightId) -> Option<&Sighting>
         ensures { option_copied result ≡ sighting_at (taken self.now) id }
     {
         self.interfaces.sighting(id)
     }
 
-    /// The sightings of the interface of that number, in block order; none where there is no such interface.
+    /// The sightings of the interface of that number, in block order; none if there is no such
+    /// interface.
     pub fn interface(&self, iface: u32) -> &[Sighting]
         ensures exact { result.now ≡ interface_at (taken self.now) iface }
         ensures numbered { IsNumbered iface result.now }
@@ -319,14 +324,14 @@ impl Intake {
         self.interfaces.interface(iface)
     }
 
-    /// How many interface numbers there are, the greatest that has a sighting and those below it.
+    /// The number of interface numbers: the greatest that has a sighting and those below it.
     pub fn interfaces(&self) -> u32
         ensures { result ≡ length (taken self.now).interfaces }
     {
         self.interfaces.len()
     }
 
-    /// How many files there are, and how many sightings. It takes no memory.
+    /// The number of files and the number of sightings. Allocates no memory.
     pub fn counts(&self) -> (u32, u32)
         ensures files { result.0 ≡ (taken self.now).files }
         ensures sightings { result.1 ≡ count_of (taken self.now).interfaces }
@@ -336,15 +341,16 @@ impl Intake {
         (self.files.len() as u32, self.interfaces.count())
     }
 
-    /// From which moment on the newest sighting of a file may have come, in nanoseconds since 1970: the greatest of what each sighting's
-    /// stamp allows at the least. None where the file has no sighting. It takes no memory.
+    /// The moment from which on the newest sighting of a file may have come, in nanoseconds since
+    /// 1970: the greatest of the first moments of the sightings' windows. None if the file has no
+    /// sighting. Allocates no memory.
     pub fn newest(&self, file: u32) -> Option<u64>
         ensures { IsNewest (taken self.now).interfaces file result }
     {
         self.interfaces.newest(file)
     }
 
-    /// The policy that it was made with. It takes no memory.
+    /// The policy that it was created with. Allocates no memory.
     pub fn policy(&self) -> &Policy
         ensures { result.now ≡ (taken self.now).policy }
     {

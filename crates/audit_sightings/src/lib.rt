@@ -1,4 +1,4 @@
-//! The datagrams of the service that the captures hold, interface by interface.
+//! The intake: the datagrams of the service in the captures, interface by interface.
 #![tactic(auto)]
 
 mod ahead;

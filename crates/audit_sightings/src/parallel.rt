@@ -1,4 +1,4 @@
-//! Packets whose frames many threads read.
+//! Reads the frames of packets by many threads.
 
 ghost use Rattle.std.specs.Prelude.{◌≡◌, ◌<◌, ◌+◌, ◌/◌, [], ◌++◌, ℕ, List, length, map, IfOk, IfErr, OnOk};
 ghost use Rattle.std.specs.List.{AllZip};
@@ -21,7 +21,8 @@ use rayon::prelude::*;
 use std::alloc::{AllocError, Global};
 use std::thread::Threads;
 
-/// The packets of what is left of a piece, up to the first fault of a block. Their bytes are not copied.
+/// The packets of the rest of a piece, up to the first fault of a block. Their bytes are not
+/// copied.
 pub fn gather<'a>(
     reader: &mut BlockReader,
     rest: &'a [u8],
@@ -43,7 +44,7 @@ pub fn gather<'a>(
     Ok(())
 }
 
-/// What is read by many threads.
+/// The input that many threads read.
 #[derive(Clone, Copy)]
 struct Reading<'r, 'p> {
     alloc: Global,
@@ -51,7 +52,7 @@ struct Reading<'r, 'p> {
     packets: &'r [PacketSlice<'p>],
 }
 
-/// What the packets of each stretch are to the service, by as many threads as there are processors.
+/// Reads the packets of each stretch, by as many threads as there are processors.
 fn read_stretches<R: Threads + Sync>(
     rt: &R,
     alloc: Global,
@@ -84,7 +85,8 @@ fn read_stretches<R: Threads + Sync>(
         .collect::<Result<Vec<Stretch>, AllocError>>(rt, alloc)?
 }
 
-/// Takes in packets of a file, in order, up to the first that is refused. Their frames are read by many threads.
+/// Adds packets of a file, in order, up to the first that is refused. Their frames are read by many
+/// threads.
 pub fn take_by_threads<R: Threads + Sync>(
     rt: &R,
     alloc: Global,

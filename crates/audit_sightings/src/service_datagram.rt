@@ -1,4 +1,4 @@
-//! What a packet is to the service.
+//! Finds the datagram of the service in a packet.
 
 ghost use Rattle.std.specs.Prelude.{◌≡◌, ◌||◌};
 ghost use Rattle.audit_model.specs.Policy.{is_of_service};
@@ -23,7 +23,7 @@ pub struct ServiceDatagram<'a> {
     pub payload: &'a [u8],
 }
 
-/// The packet's datagram where it is one of the service, or why the capture is refused.
+/// The packet's datagram if it is one of the service, or why the capture is refused.
 #[tactic(auto, unfolding(crate::specs::ServiceDatagram::service_datagram_of))]
 pub fn service_datagram<'a>(
     policy: &Policy,

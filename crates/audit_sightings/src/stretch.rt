@@ -1,4 +1,4 @@
-//! Packets that are read together, with one arena for their payloads.
+//! Reads packets together, with one arena for their payloads.
 
 ghost use Rattle.std.specs.Prelude.{◌≡◌, ◌+◌, ◌<◌, ◌++◌, ℕ, List, length, IfOk, OnOk, vec_len};
 ghost use Rattle.audit_sightings.specs.Stretch.{found_in, read_of, stretch_at, IsOwned, LiesWithin};
@@ -13,7 +13,8 @@ use std::alloc::{AllocError, Global};
 use std::marker::Model;
 use std::sync::Arc;
 
-/// How many packets are read together at the most. Their payloads have some 130 MiB then, far from 2^32 bytes.
+/// The most packets that are read together. Their payloads have about 130 MiB then, far below 2^32
+/// bytes.
 pub const STRETCH: usize = 2_048;
 
 /// A datagram of the service whose payload is a range of an arena.
@@ -28,7 +29,7 @@ pub struct ArenaDatagram {
     side: Side,
 }
 
-/// What packets are to the service, in their order.
+/// The results of packets, in their order.
 #[derive(Drop)]
 pub struct Stretch {
     arena: Arc<Vec<u8>>,
@@ -48,7 +49,7 @@ impl Model for Stretch {
     ghost invariant = { λ stretch. All (LiesWithin (vec_len stretch.arena.value)) stretch.founds.items };
 }
 
-/// What a packet is to the service, its payload behind those that the arena has.
+/// The result of a packet, with its payload after those of the arena.
 fn store(
     arena: &mut Vec<u8>,
     found: Result<Option<ServiceDatagram<'_>>, IntakeFaultKind>,
@@ -79,7 +80,7 @@ fn store(
     })))
 }
 
-/// How many bytes the packets have, or the greatest number.
+/// The number of bytes of the packets, or the greatest number.
 fn bytes_of(packets: &[PacketSlice<'_>]) -> usize {
     let mut bytes = 0usize;
     'packets: for packet in packets {
@@ -88,7 +89,8 @@ fn bytes_of(packets: &[PacketSlice<'_>]) -> usize {
     bytes
 }
 
-/// What packets are to the service. It allocates three times, and has the bytes of their payloads and 48 for each packet.
+/// Reads packets. It allocates three times, and takes the bytes of their payloads and 48 for each
+/// packet.
 pub fn read_stretch(
     alloc: Global,
     policy: &Policy,
@@ -111,7 +113,7 @@ pub fn read_stretch(
 impl Stretch {
     ghost use Rattle.std.specs.Prelude.{slice_index_or, Ok, None};
 
-    /// What the packet at that place is to the service.
+    /// The result of the packet at that place.
     pub fn found(&self, at: usize) -> Result<Option<OwnedDatagram>, IntakeFaultKind>
         requires { at < length self.now }
         ensures { IsOwned (slice_index_or self.now at (Ok None)) result }
@@ -130,7 +132,7 @@ impl Stretch {
     }
 }
 
-/// The packets of the stretch of that number, none behind the last.
+/// The packets of the stretch of that number; none after the last.
 pub fn part_of<'r, 'p>(packets: &'r [PacketSlice<'p>], number: usize) -> &'r [PacketSlice<'p>]
     ensures { result.now ≡ stretch_at packets.now number }
 {

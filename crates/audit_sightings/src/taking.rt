@@ -1,4 +1,4 @@
-//! Packets that are taken in.
+//! Adds packets to the sightings.
 
 ghost use Rattle.std.specs.Prelude.{◌≡◌, ◌<◌, [], ◌∷◌, map, OnOk, OnErr, IfErr};
 ghost use Rattle.audit_pcapng.specs.Packets.{packet_of};
@@ -14,7 +14,7 @@ use audit_model::Policy;
 use audit_pcapng::{Packet, PacketSlice};
 use std::alloc::Global;
 
-/// Takes in a packet of a file, which is this to the service. After a fault nothing is changed.
+/// Adds the result of a packet of a file. After a fault nothing is changed.
 fn take_found(
     policy: &Policy,
     interfaces: &mut ByInterface,
@@ -42,7 +42,8 @@ fn take_found(
     interfaces.push(iface, policy.skew_for(iface), kept)
 }
 
-/// Takes in packets of a file, of which this was read, in order, up to the first that is refused.
+/// Adds packets of a file, which were read with these results, in order, up to the first that is
+/// refused.
 pub fn take_stretch(
     policy: &Policy,
     interfaces: &mut ByInterface,
@@ -61,7 +62,7 @@ pub fn take_stretch(
     Ok(())
 }
 
-/// Takes in packets of a file, in order, up to the first that is refused. They are read together.
+/// Adds packets of a file, in order, up to the first that is refused. They are read together.
 fn take_together(
     alloc: Global,
     policy: &Policy,
@@ -82,7 +83,7 @@ fn take_together(
     }
 }
 
-/// Takes in packets of a file, in order, up to the first that is refused, stretch by stretch.
+/// Adds packets of a file, in order, up to the first that is refused, stretch by stretch.
 pub fn take_in_turn(
     alloc: Global,
     policy: &Policy,
@@ -100,7 +101,7 @@ pub fn take_in_turn(
     Ok(())
 }
 
-/// Takes in packets of a file, in order, up to the first that is refused.
+/// Adds packets of a file, in order, up to the first that is refused.
 pub fn take_packets(
     alloc: Global,
     policy: &Policy,

@@ -1,4 +1,4 @@
--- What a map has for a sighting.
+-- The value of a map for a sighting.
 use Rattle.std.specs.Prelude.{ℕ, Option, option_and_then}
 use Rattle.std.specs.Option.{option_or}
 use Rattle.std.specs.BTreeMap.{get}
@@ -8,7 +8,7 @@ use Rattle.audit_sights.specs.declared.interface.InterfaceMap.{InterfaceMap}
 use Rattle.audit_sights.specs.declared.map.SightMap.{SightMap}
 use Rattle.audit_sights.specs.Pairs.{value_at}
 
--- of an interface: a value that rose, or else one that did not
+-- for an interface: a value in rising order, or else one that isn't
 abbrev pub found_in : {V : Type 0} → InterfaceMap V → ℕ → Option V
 found_in values index = option_or (value_at values.rising index) (get nat_cmp values.others index)
 

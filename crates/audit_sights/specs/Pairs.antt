@@ -15,7 +15,7 @@ module _ {V : Type 0} where
   abbrev pub Rises : List (ℕ × V) → Type 0
   Rises pairs = (i j : ℕ) → i < j → j < length pairs → index_at pairs i < index_at pairs j
 
-  -- a pair with the index stands nowhere but from `low` on and before `high`
+  -- a pair with the index can only be from `low` on and before `high`
   abbrev pub IsWithin : List (ℕ × V) → ℕ → ℕ → ℕ → Type 0
   IsWithin pairs index low high = (k : ℕ) → k < length pairs → index_at pairs k ≡ index → (low ≤ k) × (k < high)
 

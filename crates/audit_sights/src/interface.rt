@@ -7,7 +7,7 @@ use crate::rising::Rising;
 use std::alloc::{AllocError, Global};
 use std::collections::BTreeMap;
 
-/// Values by index: those that came in rising order, and the others.
+/// Values by index: those that were added in rising order, and the others.
 #[derive(Drop)]
 pub struct InterfaceMap<V> {
     rising: Rising<V>,
@@ -15,7 +15,7 @@ pub struct InterfaceMap<V> {
 }
 
 impl<V: Copy> InterfaceMap<V> {
-    /// No values. It takes no memory.
+    /// No values. Allocates no memory.
     pub fn new(alloc: Global) -> Self
         ensures { (index : ℕ) → found_in result index ≡ None }
     {
@@ -35,7 +35,8 @@ impl<V: Copy> InterfaceMap<V> {
         }
     }
 
-    /// Sets the value at the index. Where memory is refused, nothing changes. It takes logarithmic time.
+    /// Sets the value at the index. If memory is refused, nothing changes. It takes logarithmic
+    /// time.
     pub fn put(&mut self, index: u32, value: V) -> Result<(), AllocError>
         ensures ok { OnOk result ((q : ℕ) → found_in self.new q ≡ (if nat_eq q index then Some value else found_in self.old q)) }
         ensures err { OnErr result ((q : ℕ) → found_in self.new q ≡ found_in self.old q) }

@@ -1,4 +1,4 @@
-//! A value for each of the sightings of one lane.
+//! A map with a value for each of the sightings of one lane.
 #![tactic(auto)]
 
 mod interface;

@@ -1,4 +1,4 @@
-//! A value for each of some sightings.
+//! A map with a value for each of some sightings.
 
 ghost use Rattle.std.specs.Prelude.{◌≡◌, None, Some, if◌then◌else◌, OnOk, OnErr};
 ghost use Rattle.audit_model.specs.declared.sighting.SightId.{SightId};
@@ -10,7 +10,8 @@ use audit_model::SightId;
 use std::alloc::{AllocError, Global};
 use std::collections::BTreeMap;
 
-/// Values by the names of sightings, made for sightings that come in rising order on each interface.
+/// Values by the ids of sightings, for sightings that mostly come in rising order on each
+/// interface.
 #[derive(Drop)]
 pub struct SightMap<V> {
     by_interface: BTreeMap<u32, InterfaceMap<V>>,
@@ -18,7 +19,7 @@ pub struct SightMap<V> {
 }
 
 impl<V: Copy> SightMap<V> {
-    /// No values. It takes no memory.
+    /// No values. Allocates no memory.
     pub fn new(alloc: Global) -> Self
         ensures { (sight : SightId) → found result sight ≡ None }
     {
@@ -28,8 +29,8 @@ impl<V: Copy> SightMap<V> {
         }
     }
 
-    /// The value of the sighting. It takes no memory, and logarithmic time: where indices rose, in the number
-    /// of those of the interface from there on.
+    /// The value of the sighting. It allocates no memory, and takes logarithmic time: if indices
+    /// rose, in the number of those of the interface from there on.
     pub fn get(&self, sight: SightId) -> Option<V>
         ensures { result ≡ found self.now sight }
     {
@@ -37,8 +38,8 @@ impl<V: Copy> SightMap<V> {
         values.get(sight.index)
     }
 
-    /// Gives the sighting the value, in place of any other. Where memory is refused, nothing changes. It takes
-    /// logarithmic time.
+    /// Sets the value of the sighting, in place of any other. If memory is refused, nothing
+    /// changes. It takes logarithmic time.
     pub fn put(&mut self, sight: SightId, value: V) -> Result<(), AllocError>
         ensures ok { OnOk result ((other : SightId) → found self.new other ≡ (if same_sight other sight then Some value else found self.old other)) }
         ensures err { OnErr result ((other : SightId) → found self.new other ≡ found self.old other) }

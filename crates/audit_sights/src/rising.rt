@@ -7,7 +7,8 @@ ghost use Rattle.audit_sights.specs.Pairs.{value_at, index_at, Rises, IsWithin, 
 use std::alloc::{AllocError, Global};
 use std::marker::Model;
 
-/// A place before which no pair has the index. It takes a step for each doubling of the pairs from there on.
+/// A place before which no pair has the index. It takes a step for each doubling of the pairs from
+/// there on.
 fn start<V: Copy>(pairs: &[(u32, V)], index: u32) -> usize
     requires some { 0 < length pairs.now }
     requires rises { Rises pairs.now }
@@ -26,8 +27,8 @@ fn start<V: Copy>(pairs: &[(u32, V)], index: u32) -> usize
     0
 }
 
-/// The last of four places, a quarter apart from `low` on, that is `low` or has no index above this one. It has
-/// no branch, since a processor could not foretell it.
+/// The last of four places, a quarter apart from `low` on, that is `low` or has no index above this
+/// one. It has no branch, since a processor could not predict it.
 fn quarters_on<V: Copy>(pairs: &[(u32, V)], index: u32, low: usize, quarter: usize) -> usize
     requires some { 0 < quarter }
     requires bound { low + 3 * quarter < length pairs.now }
@@ -83,7 +84,8 @@ fn place_from<V: Copy>(pairs: &[(u32, V)], index: u32, start: usize) -> usize
     place_within(pairs, index, low, size)
 }
 
-/// The place of the pair with the index. It takes logarithmic time in the number of pairs from there on.
+/// The place of the pair with the index. It takes logarithmic time in the number of pairs from
+/// there on.
 fn find<V: Copy>(pairs: &[(u32, V)], index: u32) -> Option<usize>
     requires { Rises pairs.now }
     ensures { MatchOption result (IsNowhere pairs.now index) (IsAt pairs.now index) }
@@ -129,7 +131,7 @@ impl<V> Model for Rising<V> {
 }
 
 impl<V: Copy> Rising<V> {
-    /// No values. It takes no memory.
+    /// No values. Allocates no memory.
     pub fn new(alloc: Global) -> Self
         ensures { result ≡ [] }
     {
@@ -149,8 +151,8 @@ impl<V: Copy> Rising<V> {
         }
     }
 
-    /// Sets the value at an index that is there or past the last, and tells whether it is. Where memory is
-    /// refused, nothing changes. It takes the time of `get`.
+    /// Sets the value at an index that is there or past the last. Returns whether it is. If memory
+    /// is refused, nothing changes. It takes the time of `get`.
     pub fn put(&mut self, index: u32, value: V) -> Result<bool, AllocError>
         ensures set { IfOk result (λ is_set. OnTrue is_set ((q : ℕ) → value_at self.new q ≡ (if nat_eq q index then Some value else value_at self.old q))) }
         ensures absent { IfOk result (λ is_set. OnFalse is_set (value_at self.old index ≡ None)) }

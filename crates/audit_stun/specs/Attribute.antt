@@ -7,8 +7,8 @@ pub record Attribute : Type 0 where
   pub kind : ℕ
   pub value : List ℕ
 
--- The bytes begin with the attribute: its type, the length of its value, the value, and at most three
--- bytes of padding up to a multiple of four, which may be any bytes. The rest comes after it.
+-- The bytes begin with the attribute: its type, the length of its value, the value, and at most
+-- three bytes of padding up to a multiple of four, which may be any bytes. The rest comes after it.
 pub record StartsWith (bytes : List ℕ) (a : Attribute) (rest : List ℕ) : Type 0 where
   pub padding : List ℕ
   pub spelled : bytes ≡ to_be_bytes w16 a.kind ++ to_be_bytes w16 (length a.value) ++ a.value ++ padding ++ rest
@@ -22,10 +22,10 @@ abbrev pub AreAttributes : List ℕ → List Attribute → Type 0
 AreAttributes bytes [] = bytes ≡ []
 AreAttributes bytes (a ∷ others) = (rest : List ℕ) × StartsWith bytes a rest × AreAttributes rest others
 
--- how many bytes a value of this length has with its padding
+-- the number of bytes of a value of this length with its padding
 abbrev pub padded : ℕ → ℕ
 padded n = (n + 3) / 4 * 4
 
--- how many bytes an attribute has
+-- the number of bytes of an attribute
 abbrev pub size : Attribute → ℕ
 size a = 4 + padded (length a.value)

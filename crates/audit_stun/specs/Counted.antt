@@ -7,7 +7,7 @@ use Rattle.audit_stun.specs.Attribute.{Attribute}
 abbrev pub fingerprints : List Attribute → List Attribute
 fingerprints attributes = filter (λ a. a.kind == FINGERPRINT) attributes
 
--- after MESSAGE-INTEGRITY: FINGERPRINT, and MESSAGE-INTEGRITY-SHA256 with what counts after it
+-- after MESSAGE-INTEGRITY: FINGERPRINT, and MESSAGE-INTEGRITY-SHA256 with those that count after it
 unfoldable pub after_integrity : List Attribute → List Attribute
 after_integrity [] = []
 after_integrity (a ∷ others) =

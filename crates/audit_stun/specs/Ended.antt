@@ -1,4 +1,5 @@
--- What an integrity attribute covers, said without places (RFC 8489, sections 14.5 and 14.6).
+-- The bytes that an integrity attribute covers, defined without places (RFC 8489, sections 14.5 and
+-- 14.6).
 use Rattle.std.specs.Prelude.{◌≡◌, ◌≢◌, ℕ, List, [], ◌∷◌, ◌++◌, length, All}
 use Rattle.std.specs.Int.{w16, to_be_bytes}
 use Rattle.audit_stun.specs.Attribute.{Attribute}
@@ -8,8 +9,9 @@ use Rattle.audit_stun.specs.Parts.{parts_of}
 abbrev pub integrity : ℕ → List ℕ → Attribute
 integrity kind value = record { kind = kind; value = value }
 
--- The value is that of the first attribute of this type. The text stands in the message behind its first four bytes. And
--- head, text and that attribute are a message, which has the attributes up to this one and otherwise the same parts.
+-- The value is that of the first attribute of this type. The text follows the first four bytes of
+-- the message. And head, text and that attribute are a message, which has the attributes up to this
+-- one and otherwise the same parts.
 pub record IsCovered (kind : ℕ) (message head text value : List ℕ) : Type 0 where
   pub before : List Attribute
   pub after : List Attribute

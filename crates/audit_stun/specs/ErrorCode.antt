@@ -1,7 +1,8 @@
 -- An error code (RFC 8489, section 14.8).
 use Rattle.std.specs.Prelude.{◌≡◌, ℕ, ◌+◌, ◌*◌, ◌%◌, ◌≤◌, ◌&&◌, nat_le, if◌then◌else◌, List, ◌∷◌, Option, Some, None}
 
--- 21 reserved bits, the class in three bits, the number, and a reason. The code is the class and two digits.
+-- 21 reserved bits, the class in three bits, the number, and a reason. The code is the class and
+-- two digits.
 pub record IsErrorCode (value : List ℕ) (code : ℕ) : Type 0 where
   pub first : ℕ
   pub second : ℕ

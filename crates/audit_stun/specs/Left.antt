@@ -1,4 +1,4 @@
--- What the iterators over a message have left.
+-- The items that the iterators over a message have left.
 use Rattle.std.specs.Prelude.{ℕ, Bool, true, ◌==◌, ◌||◌, if◌then◌else◌, List}
 use Rattle.audit_stun.specs.declared.counted.Counted as declared
 use Rattle.audit_stun.specs.declared.counted.Passed.{Passed}
@@ -8,13 +8,13 @@ use Rattle.audit_stun.specs.Attribute.{Attribute}
 use Rattle.audit_stun.specs.Counted.{counted, after_integrity, fingerprints}
 use Rattle.audit_stun.specs.Parts.{attributes_in}
 
--- whether an attribute of a type counts behind what was passed
+-- whether an attribute of a type counts after those that were passed
 abbrev pub counts_behind : Passed → ℕ → Bool
 counts_behind Neither kind = true
 counts_behind Integrity kind = kind == MESSAGE_INTEGRITY_SHA256 || kind == FINGERPRINT
 counts_behind IntegritySha256 kind = kind == FINGERPRINT
 
--- what was passed, with an attribute of a type
+-- those that were passed, with an attribute of a type
 abbrev pub passed_with : Passed → ℕ → Passed
 passed_with passed kind = if kind == MESSAGE_INTEGRITY_SHA256 then IntegritySha256 else (if kind == MESSAGE_INTEGRITY then Integrity else passed)
 

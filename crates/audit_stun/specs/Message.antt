@@ -6,15 +6,15 @@ use Rattle.audit_stun.specs.declared.numbers.TheConstants.{MAGIC_COOKIE}
 use Rattle.audit_stun.specs.Attribute.{Attribute, AreAttributes}
 use Rattle.audit_stun.specs.MessageType.{IsType}
 
--- what a message says
+-- the fields of a message
 pub record Parts : Type 0 where
   pub class : Class
   pub method : ℕ
   pub tid : List ℕ
   pub attributes : List Attribute
 
--- The whole payload is the message with these parts. Its type has two zero bits above it, since `IsType`
--- has fourteen, and its length is a multiple of four, since each attribute's is.
+-- The whole payload is the message with these parts. Its type has two zero bits above it, since
+-- `IsType` has fourteen, and its length is a multiple of four, since each attribute's is.
 pub record IsMessage (payload : List ℕ) (parts : Parts) : Type 0 where
   pub number : ℕ
   pub body : List ℕ

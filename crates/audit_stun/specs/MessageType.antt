@@ -1,5 +1,5 @@
--- The type of a message (RFC 8489, section 5 and figure 3): from the highest bit down M11 to M7, C1, M6 to
--- M4, C0, M3 to M0, where M11 to M0 are the method and C1, C0 the class.
+-- The type of a message (RFC 8489, section 5 and figure 3): from the highest bit down M11 to M7,
+-- C1, M6 to M4, C0, M3 to M0, where M11 to M0 are the method and C1, C0 the class.
 use Rattle.std.specs.Prelude.{◌≡◌, ℕ, ◌+◌, ◌*◌, ◌/◌, ◌%◌, ◌<◌, ◌==◌, if◌then◌else◌}
 use Rattle.audit_stun.specs.declared.class.Class.{Class}
 use Rattle.audit_stun.specs.declared.class.Class.TheVariants.{Request, Indication, Success, Error}

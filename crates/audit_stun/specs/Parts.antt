@@ -1,11 +1,11 @@
--- The parts of a message, read off its bytes. Of bytes that are no message they mean nothing.
+-- The parts of a message, read from its bytes. For bytes that are no message they mean nothing.
 use Rattle.std.specs.Prelude.{ℕ, zero, suc, List, [], ◌∷◌, length, take, drop, nat_le, if◌then◌else◌, slice_range}
 use Rattle.std.specs.Int.{w16, from_be_bytes}
 use Rattle.audit_stun.specs.Attribute.{Attribute, padded}
 use Rattle.audit_stun.specs.Message.{Parts}
 use Rattle.audit_stun.specs.MessageType.{class_of, method_of}
 
--- the attributes that the bytes hold, once so many bytes of an earlier one are passed
+-- the attributes in the bytes, after the first `n` bytes, which are of an earlier one
 unfoldable pub attributes_after : ℕ → List ℕ → List Attribute
 attributes_after (suc n) (_ ∷ bytes) = attributes_after n bytes
 attributes_after zero (a ∷ b ∷ c ∷ d ∷ bytes) =

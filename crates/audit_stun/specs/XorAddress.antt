@@ -4,7 +4,8 @@ use Rattle.std.specs.Int.{w16, w32, to_be_bytes, from_be_bytes}
 use Rattle.audit_model.specs.declared.address.Addr.{Addr}
 use Rattle.audit_stun.specs.declared.numbers.TheConstants.{MAGIC_COOKIE, FAMILY_IPV4}
 
--- A reserved byte, the family, the port with the cookie's upper half upon it, and the address with the cookie.
+-- A reserved byte, the family, the port XORed with the cookie's upper half, and the address XORed
+-- with the cookie.
 pub record IsXorAddress (value : List ℕ) (address : Addr) : Type 0 where
   pub reserved : ℕ
   pub spelled : value ≡ reserved ∷ FAMILY_IPV4 ∷ to_be_bytes w16 (bit_xor address.port (MAGIC_COOKIE / 2 ^ 16)) ++ to_be_bytes w32 (bit_xor address.ip MAGIC_COOKIE)

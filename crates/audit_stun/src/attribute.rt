@@ -1,4 +1,4 @@
-//! One attribute after the other.
+//! Splits the attributes of a message.
 
 ghost use Rattle.std.specs.Prelude.{◌≡◌, ◌+◌, ◌∷◌, [], length, ◌↔◌, IsTrue, IfSome, IfNone};
 ghost use Rattle.audit_stun.specs.Attribute.{StartsWith, AreAttributes, size};
@@ -12,7 +12,7 @@ pub(crate) struct Attribute<'a> {
     pub(crate) value: &'a [u8],
 }
 
-/// The first attribute of these bytes, and the bytes after it. None where they do not begin with a
+/// The first attribute of these bytes, and the bytes after it. None if they do not begin with a
 /// whole one.
 pub(crate) fn split_attribute(bytes: &[u8]) -> Option<(Attribute<'_>, &[u8])>
     ensures first { IfSome result (λ split. StartsWith bytes.now (seen split.0) split.1.now) }

@@ -1,17 +1,17 @@
-//! ChannelData.
+//! Reads ChannelData.
 
 ghost use Rattle.std.specs.Prelude.{◌≡◌, ℕ, List, length, option_map, IfSome, IsSomeAnd};
 ghost use Rattle.audit_stun.specs.ChannelData.{IsChannelData, channel_data_of};
 
-/// The number, the data and how many bytes past the data the payload has, where the payload is
-/// ChannelData (RFC 8656, section 12.4). A number's two highest bits are 01.
+/// The number, the data and the number of bytes past the data, if the payload is ChannelData (RFC
+/// 8656, section 12.4). A number's two highest bits are 01.
 #[tactic(auto, unfolding(crate::specs::ChannelData::channel_data_of))]
 pub fn channel_data(payload: &[u8]) -> Option<(u16, &[u8], usize)>
     ensures value { option_map (λ read. (read.0, read.1.now, read.2)) result
         ≡ channel_data_of payload.now }
     ensures found { IfSome result (λ read. (after : List ℕ)
         × IsChannelData payload.now read.0 read.1.now after × (read.2 ≡ length after)) }
-    // No other number, data and rest fit the payload, and where some do they are found.
+    // No other number, data and rest fit the payload, and if some do they are found.
     ensures only { (number : ℕ) (bytes after : List ℕ)
         → IsChannelData payload.now number bytes after → IsSomeAnd result
         (λ read. (read.0 ≡ number) × (read.1.now ≡ bytes) × (read.2 ≡ length after)) }

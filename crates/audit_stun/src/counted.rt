@@ -1,4 +1,4 @@
-//! Which attributes of a message count.
+//! Iterates over the attributes of a message that count.
 
 ghost use Rattle.std.specs.Prelude.{◌≡◌, ◌∷◌, IsTrue, false};
 ghost use Rattle.std.specs.Iterator.{YieldsFirstBy, item_count};
@@ -18,7 +18,7 @@ pub(crate) enum Passed {
 }
 
 impl Passed {
-    /// Whether an attribute of this type counts behind it.
+    /// Whether an attribute of this type counts after it.
     fn counts(self, kind: u16) -> bool
         ensures { result ≡ counts_behind self kind }
     {
@@ -29,7 +29,7 @@ impl Passed {
         }
     }
 
-    /// With an attribute of this type, which counts behind it.
+    /// With an attribute of this type, which counts after it.
     fn with(self, kind: u16) -> Passed
         ensures { result ≡ passed_with self kind }
     {
@@ -43,7 +43,7 @@ impl Passed {
     }
 }
 
-/// The attributes that count, in order: up to an integrity attribute all, and after it those that
+/// The attributes that count, in order: all up to an integrity attribute, and after it those that
 /// may follow it.
 #[derive(Debug, Drop)]
 pub(crate) struct Counted<'a> {
@@ -54,7 +54,7 @@ pub(crate) struct Counted<'a> {
 impl<'a> Counted<'a> {
     ghost use Rattle.audit_stun.specs.Left.{counted_left};
 
-    /// Of a message whose attributes are these bytes.
+    /// Those of a message whose attributes are these bytes.
     pub(crate) fn new(attributes: &'a [u8]) -> Self
         ensures { counted_left result ≡ counted (attributes_in attributes.now) }
     {

@@ -3,8 +3,8 @@
 ghost use Rattle.std.specs.Prelude.{◌≡◌, ℕ, IfSome, Some};
 ghost use Rattle.audit_stun.specs.ErrorCode.{IsErrorCode, error_code_of};
 
-/// The error code that the value of an ERROR-CODE says, as 438 (RFC 8489, section 14.8). None where
-/// it is shorter than four bytes, its class is not 3 to 6 or its number is over 99.
+/// The error code in the value of an ERROR-CODE, as 438 (RFC 8489, section 14.8). None if it is
+/// shorter than four bytes, its class is not 3 to 6 or its number is over 99.
 #[tactic(auto, unfolding(crate::specs::ErrorCode::error_code_of))]
 pub fn error_code(value: &[u8]) -> Option<u16>
     ensures value { result ≡ error_code_of value.now }

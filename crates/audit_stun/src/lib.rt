@@ -1,5 +1,4 @@
-//! STUN messages (RFC 8489) and ChannelData (RFC 8656), as their bytes say. Nothing here takes
-//! memory.
+//! Reads STUN messages (RFC 8489) and ChannelData (RFC 8656). Nothing here allocates memory.
 #![tactic(auto)]
 
 mod attribute;

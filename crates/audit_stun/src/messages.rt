@@ -1,4 +1,4 @@
-//! A message, and what it says.
+//! A message, and its fields.
 
 ghost use Rattle.std.specs.Prelude.{◌≡◌, ◌⊎◌, option_copied, option_map, IfSome, take, drop};
 ghost use Rattle.std.specs.Int.{w16, from_be_bytes};
@@ -16,7 +16,7 @@ use crate::numbers::attribute::{MESSAGE_INTEGRITY, MESSAGE_INTEGRITY_SHA256, XOR
 use crate::peers::Peers;
 use std::marker::Model;
 
-/// A message (RFC 8489, section 5). Contracts see it as its bytes, of which `parts_of` tells the
+/// A message (RFC 8489, section 5). Contracts see it as its bytes, from which `parts_of` reads the
 /// class, the method, the transaction id and the attributes.
 #[derive(Debug, Drop)]
 pub struct Message<'a> {
@@ -81,9 +81,9 @@ impl<'a> Message<'a> {
         Counted::new(self.body())
     }
 
-    /// The value of the first attribute of this type that counts. What follows MESSAGE-INTEGRITY
-    /// does not count, but for MESSAGE-INTEGRITY-SHA256 and FINGERPRINT, and after
-    /// MESSAGE-INTEGRITY-SHA256 only FINGERPRINT does (RFC 8489, sections 14.5 and 14.6).
+    /// The value of the first attribute of this type that counts. After MESSAGE-INTEGRITY only
+    /// MESSAGE-INTEGRITY-SHA256 and FINGERPRINT count, and after MESSAGE-INTEGRITY-SHA256 only
+    /// FINGERPRINT (RFC 8489, sections 14.5 and 14.6).
     #[tactic(auto, unfolding(crate::specs::Counted::first_of))]
     pub fn first(&self, kind: u16) -> Option<&'a [u8]>
         ensures { option_copied result ≡ first_of kind (parts_of self.now).attributes }
@@ -104,8 +104,8 @@ impl<'a> Message<'a> {
         Peers::new(self.counted())
     }
 
-    /// What MESSAGE-INTEGRITY covers, if it counts: the first four bytes, with the length that the
-    /// message would have if it ended with this attribute, and the bytes from there to the
+    /// The bytes that MESSAGE-INTEGRITY covers, if it counts: the first four bytes, with the length
+    /// that the message would have if it ended with this attribute, and the bytes from there to the
     /// attribute. Then its value (RFC 8489, section 14.5).
     pub fn covered(&self) -> Option<([u8; 4], &'a [u8], &'a [u8])>
         ensures places { option_map (λ found. (found.0, found.1.now, found.2.now)) result
@@ -117,8 +117,8 @@ impl<'a> Message<'a> {
         self.covered_by(MESSAGE_INTEGRITY)
     }
 
-    /// What MESSAGE-INTEGRITY-SHA256 covers, likewise (RFC 8489, section 14.6). A MESSAGE-INTEGRITY
-    /// in front of it is covered too.
+    /// The bytes that MESSAGE-INTEGRITY-SHA256 covers, likewise (RFC 8489, section 14.6). A
+    /// MESSAGE-INTEGRITY before it is covered too.
     pub fn covered256(&self) -> Option<([u8; 4], &'a [u8], &'a [u8])>
         ensures places { option_map (λ found. (found.0, found.1.now, found.2.now)) result
             ≡ covered_of MESSAGE_INTEGRITY_SHA256 self.now }
@@ -128,7 +128,7 @@ impl<'a> Message<'a> {
         self.covered_by(MESSAGE_INTEGRITY_SHA256)
     }
 
-    /// What the integrity attribute of this type covers.
+    /// The bytes that the integrity attribute of this type covers.
     #[tactic(auto, unfolding(crate::specs::Covered::covered_of))]
     fn covered_by(&self, kind: u16) -> Option<([u8; 4], &'a [u8], &'a [u8])>
         requires { (kind ≡ MESSAGE_INTEGRITY) ⊎ (kind ≡ MESSAGE_INTEGRITY_SHA256) }
@@ -146,7 +146,7 @@ impl<'a> Message<'a> {
                 let head = [self.bytes[0], self.bytes[1], high, low];
                 return Some((head, &self.bytes[4..start], attribute.value));
             }
-            // Behind it neither attribute counts.
+            // After it neither attribute counts.
             if attribute.kind == MESSAGE_INTEGRITY_SHA256 {
                 return None;
             }

@@ -1,6 +1,6 @@
-//! The numbers that stand on the wire, in the standards' spelling.
+//! The numbers on the wire, in the standards' spelling.
 
-/// What follows the length of a message (RFC 8489, section 5).
+/// The field after the length of a message (RFC 8489, section 5).
 pub const MAGIC_COOKIE: u32 = 0x2112_A442;
 
 /// Bytes of a message before its attributes (RFC 8489, section 5).

@@ -1,4 +1,4 @@
-//! Whether a payload is a message.
+//! Parses a message.
 
 ghost use Rattle.std.specs.Prelude.{◌≡◌, IsSome, IfSome};
 ghost use Rattle.audit_stun.specs.Message.{Parts, IsMessage};
@@ -8,11 +8,11 @@ use crate::attribute::are_attributes;
 use crate::messages::Message;
 use crate::numbers::{HEADER_LENGTH, MAGIC_COOKIE};
 
-/// The message that the whole payload is.
+/// The message, if the whole payload is one.
 pub fn message(payload: &[u8]) -> Option<Message<'_>>
     ensures found { IfSome result
         (λ message. (message ≡ payload.now) × IsMessage payload.now (parts_of payload.now)) }
-    // No other parts fit the payload, and where some do there is a message.
+    // No other parts fit the payload, and if some do there is a message.
     ensures only { (parts : Parts) → IsMessage payload.now parts
         → IsSome result × (parts ≡ parts_of payload.now) }
 {

@@ -1,4 +1,4 @@
-//! Addresses in attributes.
+//! Reads addresses in attributes.
 
 ghost use Rattle.std.specs.Prelude.{◌≡◌, IfSome, Some};
 ghost use Rattle.audit_model.specs.declared.address.Addr.{Addr};
@@ -7,9 +7,8 @@ ghost use Rattle.audit_stun.specs.XorAddress.{IsXorAddress, address_of};
 use crate::numbers::{FAMILY_IPV4, MAGIC_COOKIE};
 use audit_model::Addr;
 
-/// The IPv4 address that the value of an XOR-MAPPED-ADDRESS, XOR-PEER-ADDRESS or
-/// XOR-RELAYED-ADDRESS says (RFC 8489, section 14.2; RFC 8656, section 18). None where its length or
-/// its family is another.
+/// The IPv4 address in the value of an XOR-MAPPED-ADDRESS, XOR-PEER-ADDRESS or XOR-RELAYED-ADDRESS
+/// (RFC 8489, section 14.2; RFC 8656, section 18). None if it has another length or family.
 #[tactic(auto, unfolding(crate::specs::XorAddress::address_of))]
 pub fn address(value: &[u8]) -> Option<Addr>
     ensures value { result ≡ address_of value.now }

@@ -9,7 +9,7 @@ abbrev pub stop_within : Option Key → ℕ → Option Key
 stop_within None last = None
 stop_within (Some stop) last = if nat_le stop.moment last then Some stop else None
 
--- wherever the other one is still held, this one is
+-- whenever the other one is still held, this one is
 abbrev pub Outlasts : Tenancy → Tenancy → Type 0
 Outlasts one other = (key : Key) (lane : ℕ) → StillHeld other key lane → StillHeld one key lane
 

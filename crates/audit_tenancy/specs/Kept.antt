@@ -1,5 +1,5 @@
--- What is kept of the tenancies so far, taken by address and birth: of the newest address, the one that is held longest, and the one
--- that is held longest among the other lanes.
+-- The tenancies so far, by address and birth, reduced to two: of the newest address, the one that
+-- is held longest, and the one that is held longest among the other lanes.
 use Rattle.std.specs.Prelude.{◌≡◌, ◌≢◌, List, Option, Some, None, Contains, false}
 use Rattle.std.specs.declared.cmp.Ordering.{Ordering}
 use Rattle.std.specs.Ordering.{nat_cmp, ordering_then, is_gt}
@@ -16,11 +16,11 @@ abbrev pub tenancy_cmp : Tenancy → Tenancy → Ordering
 tenancy_cmp one other =
     ordering_then (addr_cmp one.relayed other.relayed) (act_cmp one.born.key one.born.lane other.born.key other.born.lane)
 
--- each of them stands before the new one, or ties with it
+-- each of them comes before the new one, or ties with it
 abbrev pub ComeBefore : List Tenancy → Tenancy → Type 0
 ComeBefore earlier new = (one : Tenancy) → Contains earlier one → is_gt (tenancy_cmp one new) ≡ false
 
--- of those of which the fact holds, one that outlasts each; none where there are none
+-- of those that have the property, one that outlasts each; none if there are none
 abbrev pub IsLongest : (Tenancy → Type 0) → List Tenancy → Option Tenancy → Type 0
 IsLongest Fact earlier None = (one : Tenancy) → Contains earlier one → ¬ Fact one
 IsLongest Fact earlier (Some longest) =

@@ -1,4 +1,4 @@
-//! The first clash.
+//! Finds the first clash.
 
 ghost use Rattle.std.specs.Prelude.{◌≡◌, IfOk, IsSorted};
 ghost use Rattle.audit_model.specs.Clash.{ShowsClash, breach_of};
@@ -10,8 +10,8 @@ use crate::kept::Kept;
 use audit_model::{Breach, Rule, Tenancy};
 use std::alloc::{AllocError, Global};
 
-/// The first breach of R22 in the order in which breaches are told, or none exactly where no tenancy clashes with
-/// an earlier one of another lane. The tenancies may come in any order.
+/// The first breach of R22 in the order in which breaches are reported, or none exactly if no
+/// tenancy clashes with an earlier one of another lane. The tenancies may be in any order.
 ///
 /// It copies and sorts them once: n log n time, and memory for n tenancies.
 pub fn clash(alloc: Global, tenancies: &[Tenancy]) -> Result<Option<Breach>, AllocError>
@@ -22,7 +22,7 @@ pub fn clash(alloc: Global, tenancies: &[Tenancy]) -> Result<Option<Breach>, All
     Ok(first_clash(&sorted))
 }
 
-/// The same of tenancies in order.
+/// The first breach of R22, for tenancies in order.
 fn first_clash(sorted: &[Tenancy]) -> Option<Breach>
     requires { IsSorted tenancy_cmp sorted.now }
     ensures { IsLeast (ShowsClash sorted.now) result }

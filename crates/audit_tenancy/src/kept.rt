@@ -1,4 +1,4 @@
-//! What is kept of the tenancies so far.
+//! The tenancies so far, reduced to the two that may clash with a later one.
 
 ghost use Rattle.std.specs.Prelude.{◌≡◌, ◌++◌, ◌∷◌, [], List, Some, None, IsTrue, false};
 ghost use Rattle.audit_model.specs.declared.verdict.Tenancy.{Tenancy};
@@ -8,8 +8,8 @@ ghost use Rattle.audit_tenancy.specs.Hold.{IsLongerOf};
 use crate::hold::{outlasts, still_held};
 use audit_model::Tenancy;
 
-/// Of the tenancies of the newest address so far, the one that keeps it longest, and the one that keeps it
-/// longest among those of other lanes than that.
+/// Of the tenancies of the newest address so far, the one that keeps it longest, and the one that
+/// keeps it longest among those of other lanes than that.
 #[derive(Clone, Copy)]
 pub(crate) struct Kept {
     pub(crate) longest: Option<Tenancy>,
@@ -17,7 +17,7 @@ pub(crate) struct Kept {
 }
 
 impl Kept {
-    /// Whether the new one clashes with any of those of which this is kept, where it comes after them.
+    /// Whether the new one clashes with any of those so far, if it comes after them.
     pub(crate) fn clashes(&self, new: &Tenancy) -> bool
         ensures some { (earlier : List Tenancy) → Keeps earlier self.now.longest self.now.other → ComeBefore earlier new.now
             → IsTrue result → ClashesWithOne earlier new.now }
@@ -39,7 +39,7 @@ impl Kept {
         }
     }
 
-    /// What is kept once the new one has come after them.
+    /// The state after the new one.
     pub(crate) fn with(self, new: Tenancy) -> Kept
         ensures { (earlier : List Tenancy) → Keeps earlier self.longest self.other → ComeBefore earlier new
             → Keeps (earlier ++ new ∷ []) result.longest result.other }

@@ -1,4 +1,4 @@
-//! Clients that hold one relayed address at once.
+//! Finds clients that hold one relayed address at once.
 #![tactic(auto)]
 
 mod first;

@@ -1,4 +1,4 @@
--- A text cut at its LFs: what stands before the first one, and then what stands after each.
+-- A text split at its LFs: the piece before the first one, and then the piece after each.
 use Rattle.std.specs.Prelude.{ℕ, Bool, ◌==◌, if◌then◌else◌, List, [], ◌∷◌}
 use Rattle.std.specs.List.{list_any}
 

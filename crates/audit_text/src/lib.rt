@@ -1,4 +1,5 @@
-//! Texts of lines: their words, and how they are read line by line. What the lines of a policy, a credentials file or a certificate say is told by their crates.
+//! Texts of lines: their words, and a reader of lines. What the lines of a policy, a credentials
+//! file or a certificate mean is defined in the crates of these.
 #![tactic(auto)]
 
 mod line_fault;

@@ -1,8 +1,8 @@
-//! What is wrong with a text, and in which line.
+//! A fault of a text, with its line.
 
 use std::fmt;
 
-/// A text was refused at a line.
+/// Why a text was refused, with the line.
 #[derive(Clone, Copy, Debug, PartialEq, Eq)]
 pub struct LineFault<K> {
     pub kind: K,

@@ -1,4 +1,4 @@
-//! Reading a text that comes in pieces, line by line.
+//! Reads a text that comes in pieces, line by line.
 
 ghost use Rattle.std.specs.Prelude.{◌≡◌, ◌++◌, [], ℕ, List, true, false, MatchResult, Ok, OnOk, IfOk, IfErr};
 ghost use Rattle.audit_text.specs.Lines.{has_lf};
@@ -10,67 +10,68 @@ use crate::token::cut;
 use std::alloc::Global;
 use std::marker::Model;
 
-/// The maximum length of a line, in bytes without its LF. Every valid line of a policy, a certificate or a credentials text is shorter.
+/// The maximum length of a line, in bytes without its LF. Every valid line of a policy, a
+/// certificate or a credentials text is shorter.
 pub const LONGEST_LINE: usize = 65_536;
 
-/// What takes in a text line by line.
+/// A text's content, to which lines are added one by one.
 pub trait Lines: Drop {
     ghost use Rattle.std.specs.Prelude.{Bool, List, ℕ, Option, Result};
 
-    /// What may be wrong with a line.
+    /// The faults of a line.
     type Kind;
 
-    /// What lines say.
+    /// The content of lines.
     ghost said: { Type 0 };
 
-    /// Whether this is what the lines say that were taken in.
+    /// Whether this is the content of the lines that were added.
     ghost says: { Self → said → Type 0 };
 
-    /// What is said with one line more, or what is wrong with it.
+    /// The content with one more line, or the line's fault.
     ghost after: { said → List ℕ → Result said Self.Kind };
 
-    /// What is wrong with bytes that no LF ends.
+    /// The fault of bytes that no LF ends.
     ghost unended: { said → List ℕ → Self.Kind };
 
-    /// What is wrong with a line of more than `LONGEST_LINE` bytes, whatever it holds.
+    /// The fault of a line of more than `LONGEST_LINE` bytes, whatever it contains.
     ghost overlong: { said → Self.Kind };
 
-    /// What is lacking where the text ends behind the last line.
+    /// What is missing if the text ends after the last line.
     ghost lacks: { said → Option Self.Kind };
 
-    /// Whether a fault is want of memory.
+    /// Whether a fault is exhausted memory.
     ghost is_memory: { Self.Kind → Bool };
 
-    /// Takes in a line, without its LF.
+    /// Adds a line, without its LF.
     fn take_line(&mut self, line: &[u8]) -> Result<(), Self::Kind>
         ensures { (before : said) → says self.old before → MatchResult result
             (λ _. Took says (after before line.now) self.new)
             (λ kind. UnlessMemory is_memory kind (after before line.now)) };
 
-    /// What is wrong with bytes that no LF ends.
+    /// The fault of bytes that no LF ends.
     fn unended(&self, rest: &[u8]) -> Self::Kind
         ensures { (before : said) → says self.now before → result ≡ unended before rest.now };
 
-    /// What is wrong with a line of more than `LONGEST_LINE` bytes.
+    /// The fault of a line of more than `LONGEST_LINE` bytes.
     fn overlong(&self) -> Self::Kind
         ensures { (before : said) → says self.now before → result ≡ overlong before };
 
-    /// What is lacking where the text ends here.
+    /// What is missing if the text ends here.
     fn lacks(&self) -> Option<Self::Kind>
         ensures { (before : said) → says self.now before → result ≡ lacks before };
 
-    /// The fault that is want of memory.
+    /// The fault of exhausted memory.
     fn no_memory() -> Self::Kind
         ensures { is_memory result ≡ true };
 }
 
-/// Reads a text in pieces, cut anywhere. It keeps the line that has not ended yet.
+/// Reads a text in pieces, split anywhere. It keeps the line that has not ended yet.
 #[derive(Drop)]
 pub struct TextReader<L: Lines> {
     lines: L,
-    /// The bytes so far of the line that comes.
+    /// The bytes so far of the line that has not ended yet.
     held: Vec<u8>,
-    /// The number of the line that comes, from 1.
+    /// The number of that line, from 1.
     line: u64,
 }
 
@@ -87,7 +88,7 @@ impl<L: Lines> Model for TextReader<L> {
     ghost invariant = { λ reader. has_lf reader.held.items ≡ false };
 }
 
-/// Takes in a line that is whole.
+/// Adds a whole line.
 fn take<L: Lines>(lines: &mut L, number: u64, line: &[u8]) -> Result<(), LineFault<L::Kind>>
     ensures ok { (before : L.said) → L.says lines.old before → OnOk result (Took L.says (within L.overlong L.after before line.now) lines.new) }
     ensures err { (before : L.said) → L.says lines.old before →
@@ -106,7 +107,7 @@ fn take<L: Lines>(lines: &mut L, number: u64, line: &[u8]) -> Result<(), LineFau
 }
 
 impl<L: Lines> TextReader<L> {
-    /// A reader of no bytes. It takes no memory.
+    /// A reader of no bytes. Allocates no memory.
     pub fn new(alloc: Global, lines: L) -> Self
         ensures { (start : L.said) → L.says lines start → StandsFor L.says (within L.overlong L.after) start result [] }
     {
@@ -126,7 +127,7 @@ impl<L: Lines> TextReader<L> {
         }
     }
 
-    /// Adds bytes to the line that comes.
+    /// Adds bytes to the line that has not ended yet.
     fn hold(&mut self, bytes: &[u8]) -> Result<(), LineFault<L::Kind>>
         requires { has_lf bytes.now ≡ false }
         ensures ok { OnOk result (self.new.rest ≡ self.old.rest ++ bytes.now) }
@@ -140,7 +141,7 @@ impl<L: Lines> TextReader<L> {
         }
     }
 
-    /// Takes in the line that comes, whose last bytes are these.
+    /// Adds the line that ends with these bytes.
     fn end_line(&mut self, bytes: &[u8]) -> Result<(), LineFault<L::Kind>>
         requires { has_lf bytes.now ≡ false }
         ensures ok { (before : L.said) → L.says self.old.said before →
@@ -161,7 +162,7 @@ impl<L: Lines> TextReader<L> {
         Ok(())
     }
 
-    /// Takes in each line that ends in the piece, and holds the rest.
+    /// Adds each line that ends in the piece, and holds the rest.
     fn take_in(&mut self, piece: &[u8]) -> Result<(), LineFault<L::Kind>>
         ensures ok { (before : SoFar L.said) → Stands L.says self.old before →
             OnOk result ((next : SoFar L.said) × (with_more (within L.overlong L.after) before piece.now ≡ Ok next) × Stands L.says self.new next) }
@@ -177,7 +178,7 @@ impl<L: Lines> TextReader<L> {
         self.hold(rest)
     }
 
-    /// What is wrong with the line that comes, where the text ends in it.
+    /// The fault of the line that has not ended, if the text ends in it.
     fn cut_off(&self) -> LineFault<L::Kind>
         ensures { (before : L.said) → L.says self.now.said before →
             result ≡ record { kind = end_within L.overlong L.unended before self.now.rest; line = self.now.line } }
@@ -188,8 +189,9 @@ impl<L: Lines> TextReader<L> {
         self.fault(self.lines.unended(&self.held))
     }
 
-    /// Takes the next piece of the text. A refusal consumes the reader. Every text that continues these bytes has the same fault, however it is cut.
-    /// It keeps at most `LONGEST_LINE` bytes of a line after each call, so that a line without an end takes no more memory.
+    /// Reads the next piece of the text. A refusal consumes the reader. Every text that continues
+    /// these bytes has the same fault, however it is split. It keeps at most `LONGEST_LINE` bytes
+    /// of a line after each call, so that an endless line doesn't use more memory.
     pub fn feed(mut self, piece: &[u8]) -> Result<Self, LineFault<L::Kind>>
         ensures ok { (start : L.said) (text : List ℕ) → StandsFor L.says (within L.overlong L.after) start self text →
             IfOk result (λ reader. StandsFor L.says (within L.overlong L.after) start reader (text ++ piece.now)) }
@@ -203,7 +205,8 @@ impl<L: Lines> TextReader<L> {
         Ok(self)
     }
 
-    /// What takes in the lines, where the text may end here, or what is wrong with a text that ends here. It takes no memory.
+    /// The content of the lines if the text may end here, or the fault of a text that ends here.
+    /// Allocates no memory.
     pub fn finish(self) -> Result<L, LineFault<L::Kind>>
         ensures { (start : L.said) (text : List ℕ) → StandsFor L.says (within L.overlong L.after) start self text → MatchResult result
             (λ lines. Took L.says (read_text L.overlong L.after L.unended L.lacks start text) lines)

@@ -1,4 +1,4 @@
-//! The words of a text: what stands before a separator, and decimal numbers.
+//! The words of a text: splitting at a separator, and decimal numbers.
 
 ghost use Rattle.std.specs.Prelude.{◌≡◌, ℕ, ◌+◌, ◌≤◌, true, length, IfOk, IfSome, Ok, Err, SomeIff, MatchResult, option_map};
 ghost use Rattle.std.specs.Fmt.{decimal};
@@ -7,16 +7,17 @@ ghost use Rattle.std.specs.Char.{is_ascii_digit};
 ghost use Rattle.std.specs.Str.Parse.{digits_value};
 ghost use Rattle.audit_text.specs.Token.{number_of, both_of, cut_of, halves_of, now_both};
 
-/// What is wrong with a word of a text. Of a line's faults the lesser is told: all shapes are asked before any number.
+/// The fault of a word of a text. Of a line's faults the lesser is reported: syntax is checked
+/// before numeric ranges.
 #[derive(Clone, Copy, Debug, PartialEq, Eq, PartialOrd, Ord)]
 pub enum TokenFault {
-    /// The word does not have the form that is due where it stands.
+    /// The word does not have the syntax that its place requires.
     Shape,
-    /// A number has a leading zero, or is past the greatest one that is due.
+    /// A number has a leading zero, or is past its greatest value.
     Number,
 }
 
-/// What stands before the first separator, and what after it; nothing where there is none.
+/// Splits at the first separator: the bytes before it and those after it; None if there is none.
 pub fn cut(bytes: &[u8], separator: u8) -> Option<(&[u8], &[u8])>
     ensures parts { option_map now_both result ≡ cut_of separator bytes.now }
     ensures shorter { IfSome result (λ p. length p.0.now + length p.1.now + 1 ≡ length bytes.now) }
@@ -29,7 +30,7 @@ pub fn cut(bytes: &[u8], separator: u8) -> Option<(&[u8], &[u8])>
     None
 }
 
-/// What stands before and after the first separator, which is due in the word.
+/// Splits a word at the first separator, which the word must have.
 pub fn halves(word: &[u8], separator: u8) -> Result<(&[u8], &[u8]), TokenFault>
     ensures parts { MatchResult result (λ p. halves_of separator word.now ≡ Ok (now_both p)) (λ e. halves_of separator word.now ≡ Err e) }
     ensures shorter { IfOk result (λ p. length p.0.now + length p.1.now + 1 ≡ length word.now) }
@@ -47,7 +48,7 @@ fn are_digits(word: &[u8]) -> bool
     word.iter().all(|byte| byte.is_ascii_digit())
 }
 
-/// The number that the digits write, where it is at most `most`.
+/// The number of the digits, if it is at most `most`.
 fn value_up_to(digits: &[u8], most: u64) -> Option<u64>
     requires { list_all is_ascii_digit digits.now ≡ true }
     ensures { SomeIff result (digits_value 10 digits.now ≤ most) (digits_value 10 digits.now) }
@@ -63,7 +64,7 @@ fn value_up_to(digits: &[u8], most: u64) -> Option<u64>
     Some(value)
 }
 
-/// The number that the word spells, or what is wrong with it.
+/// The number of the word, or the word's fault.
 fn read_number(word: &[u8], most: u64) -> Result<u64, TokenFault>
     ensures { result ≡ number_of most word.now }
 {
@@ -79,18 +80,18 @@ fn read_number(word: &[u8], most: u64) -> Result<u64, TokenFault>
     }
 }
 
-/// The number, at most `most`, that the word spells in decimal without a leading zero.
+/// The number, at most `most`, of a word in decimal without a leading zero.
 pub fn number(word: &[u8], most: u64) -> Result<u64, TokenFault>
     ensures exact { result ≡ number_of most word.now }
-    // What is read is spelled so.
+    // The word is the spelling of the number that is read.
     ensures found { IfOk result (λ n. (n ≤ most) × (word.now ≡ decimal n)) }
-    // What is spelled so is read.
+    // A number is read from its spelling.
     ensures only { (n : ℕ) → n ≤ most → word.now ≡ decimal n → result ≡ Ok n }
 {
     read_number(word, most)
 }
 
-/// Both words, or the fault of the two that is told first.
+/// Both words, or the fault of the two that is reported first.
 pub fn both<A: Drop, B: Drop>(
     first: Result<A, TokenFault>,
     second: Result<B, TokenFault>,

@@ -34,7 +34,7 @@ abbrev pub placed_from : Terms → Pair → ℕ → List Happening → List Plac
 placed_from terms pair place [] = []
 placed_from terms pair place (event ∷ events) = placed_at terms pair place event ∷ placed_from terms pair (place + 1) events
 
--- its sightings are those of their names
+-- its sightings are those of their ids
 abbrev pub IsKnown : (SightId → Option Sighting) → Happening → Type 0
 IsKnown sighting (Came s user key) = sighting s.id ≡ Some s
 IsKnown sighting (Acted arrives leaves key) = (sighting arrives.id ≡ Some arrives) × (sighting leaves.id ≡ Some leaves)
@@ -63,8 +63,9 @@ MomentsRise now (event ∷ events) = (now ≤ (key_at event).moment) × MomentsR
 abbrev pub steps_in : Content → List Placed
 steps_in content = placed_from (terms_of content) (pair_in content) 0 content.events
 
--- Where each sighting is placed at most once and moments rise, a lane whose requests tell their users passes with these tenancies
--- just where it is a run of the server that has this client alone, and these are the tenancies of that run.
+-- If each sighting is placed at most once and moments rise, a lane whose requests have their users
+-- passes with these tenancies exactly if it is a run of the server that has this client alone, and
+-- these are the tenancies of that run.
 abbrev pub PassesAsRun : Content → Type 0
 PassesAsRun content = (key_for : KeyFor) (sighting : SightId → Option Sighting) →
     All (Tells key_for content.users) content.events → AllByRecursion (IsKnown sighting) content.events →

@@ -1,6 +1,7 @@
-//! The verdict as the definitions have it, and what it means: a lane passes just where it is a run of the RFC 8656 server with its
-//! client alone, and a certificate is told to conform just where it explains the captures by one run of that server. The crate is
-//! definitions and what follows from them; no program calls it.
+//! The definition of the verdict, and what it means: a lane passes exactly if it is a run of the
+//! RFC 8656 server with its client alone, and a certificate conforms exactly if it explains the
+//! captures by one run of that server. The crate has definitions and their consequences; no program
+//! calls it.
 #![tactic(auto)]
 
 pub mod laws;

@@ -1,7 +1,9 @@
-//! What sightings are alone, read some time before they are placed.
+//! Reads sightings some time before they are placed, and classifies each of them alone.
 //!
-//! What a departure answers may have come by another interface, and which answer a request has is told by what leaves behind it. So what comes soon
-//! after a moment is read before that moment's sightings are placed; and no more, so that it is still at hand.
+//! The arrival of a departure may be on another interface, and which response a request has is only
+//! known from later departures. So the walk reads the sightings that come soon after a moment
+//! before it places that moment's sightings. It reads no further, so that their payloads are still
+//! in the cache.
 
 use crate::heads::Heads;
 use crate::judge::Judge;
@@ -10,35 +12,36 @@ use audit_model::Sighting;
 use audit_sightings::Intake;
 use std::alloc::{AllocError, Global};
 
-/// How many sightings of an interface are read at once: their payloads stay at hand until they are placed.
+/// How many sightings of an interface are read at once. Their payloads stay in the cache until they
+/// are placed.
 const AT_ONCE: usize = 1_024;
 
-/// What the next sightings are, of all that begin up to a moment.
+/// The kinds of the next sightings, of all whose windows begin up to a moment.
 #[derive(Drop)]
 pub struct Stretch {
     until: u64,
-    /// Interfaces, with what their next sightings are.
+    /// Interfaces, with the kinds of their next sightings.
     rows: Vec<(u32, Vec<Kind>)>,
 }
 
 impl Stretch {
-    /// The moment up to which its sightings begin.
+    /// The last moment at which a window of its sightings begins.
     pub(crate) fn until(&self) -> u64 {
         self.until
     }
 
-    /// Interfaces, with what their next sightings are.
+    /// Interfaces, with the kinds of their next sightings.
     pub(crate) fn rows(&self) -> &[(u32, Vec<Kind>)] {
         self.rows.as_slice()
     }
 
-    /// The same.
+    /// Returns the interfaces, with the kinds of their next sightings.
     pub(crate) fn into_rows(self) -> Vec<(u32, Vec<Kind>)> {
         self.rows
     }
 }
 
-/// How far the sightings were read.
+/// How many sightings were read.
 #[derive(Drop)]
 pub struct Ahead {
     /// Interfaces by their next sighting that wasn't read.
@@ -49,7 +52,7 @@ pub struct Ahead {
 }
 
 impl Ahead {
-    /// Nothing was read yet. It takes no memory.
+    /// Nothing was read yet. Allocates no memory.
     pub fn new(alloc: Global) -> Ahead {
         Ahead {
             heads: Heads::new(alloc),
@@ -58,7 +61,7 @@ impl Ahead {
         }
     }
 
-    /// Begins to read what the intake has gained.
+    /// Begins to read the sightings that were added to the intake.
     pub fn begin(&mut self, judge: &Judge<'_>) -> Result<(), AllocError> {
         for iface in 0..judge.intake().interfaces() {
             if self.read.len() <= iface as usize {
@@ -71,8 +74,9 @@ impl Ahead {
         Ok(())
     }
 
-    /// Reads the next sightings: so many of the interface that has the first of them, and of all what begins before the last of these, or soon
-    /// behind the first. None where all are read.
+    /// Reads the next sightings: up to `AT_ONCE` of the interface that has the first of them, and
+    /// of all interfaces those that begin before the last of these, or soon after the first.
+    /// Returns `None` if all were read.
     pub fn next(&mut self, judge: &Judge<'_>) -> Result<Option<Stretch>, AllocError> {
         let Some(until) = self.next_until(judge) else {
             return Ok(None);
@@ -93,7 +97,7 @@ impl Ahead {
         intake.interface(iface).get(read..).unwrap_or(&[])
     }
 
-    /// Up to which moment the next sightings are read.
+    /// The moment up to which the next sightings are read.
     fn next_until(&self, judge: &Judge<'_>) -> Option<u64> {
         let (first, iface) = self.heads.first()?;
         let unread = self.unread(judge.intake(), iface);
@@ -102,7 +106,8 @@ impl Ahead {
         Some(last.max(first.saturating_add(judge.look_ahead())))
     }
 
-    /// Reads the sightings of an interface that begin up to a moment, and queues it by the next one.
+    /// Reads the sightings of an interface that begin up to a moment, and queues the interface by
+    /// the next sighting.
     fn read_row(
         &mut self,
         judge: &Judge<'_>,
@@ -127,7 +132,7 @@ impl Ahead {
     }
 }
 
-/// What each sighting is.
+/// Classifies each sighting.
 fn all_kinds(
     alloc: Global,
     judge: &Judge<'_>,

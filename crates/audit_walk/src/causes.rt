@@ -1,13 +1,14 @@
-//! What a datagram that arrives asks for, by which the departure that answers it is found.
+//! Causes: what an arriving datagram requests. A departure is matched to its arrival by the cause.
 
 use audit_content::{Asked, asked_by_client};
 use audit_model::{Addr, Sighting};
 use audit_seen::LaneNumber;
 
-/// What an arrival asks for. Data stands by its digest: two that have one are told apart when they are judged.
+/// What an arrival requests. Data is represented by its digest: if two have the same digest, the
+/// judge distinguishes them.
 #[derive(Clone, Copy, Debug, PartialEq, Eq)]
 pub enum Cause {
-    /// A request of that transaction id.
+    /// A request with this transaction id.
     Request {
         lane: LaneNumber,
         id: [u8; 12],
@@ -33,15 +34,16 @@ pub enum Cause {
 }
 
 impl Cause {
-    /// A digest of it, by which those that ask for the same are found. Two others that have one are told apart when they are judged.
+    /// A digest of the cause, by which equal causes are found. If different causes have the same
+    /// digest, the judge distinguishes them.
     pub fn digest(&self) -> u64 {
         let [first, second, third] = self.words();
         let digest = mixed(mixed(mixed(0, first), second), third);
-        // A table goes by the last bits, and the first ones depend on most.
+        // A table uses the last bits; the first bits depend on most of the input.
         digest ^ digest >> 32
     }
 
-    /// All that it has, and which of the four it is.
+    /// All fields, and which of the four variants it is.
     fn words(&self) -> [u64; 3] {
         match *self {
             Cause::Request { lane, id } => {
@@ -67,13 +69,13 @@ impl Cause {
     }
 }
 
-/// An address as the 48 bits that it has.
+/// The 48 bits of an address, in a word.
 fn word_of(address: Addr) -> u64 {
     (address.ip as u64) << 16 | address.port as u64
 }
 
-/// A digest of data, by which equal data is found: a fast one, of which others may choose data, since what it finds is judged each time, and is
-/// tried as often as equal data would be.
+/// A digest by which equal data is found. It is fast and not collision-resistant: each match is
+/// judged, and a collision costs as many tries as equal data would.
 pub fn digest_of(data: &[u8]) -> u64 {
     let (words, rest) = data.as_chunks::<8>();
     let mut digest = data.len() as u64;
@@ -86,12 +88,13 @@ pub fn digest_of(data: &[u8]) -> u64 {
     digest
 }
 
-/// A digest with a word more. The factor is odd and its bits are as good as random, so that each bit of a word changes many.
+/// Mixes a word into a digest. The factor is odd and its bits look random, so that each bit of a
+/// word changes many.
 fn mixed(digest: u64, word: u64) -> u64 {
     (digest.rotate_left(5) ^ word).wrapping_mul(0x517c_c1b7_2722_0a95)
 }
 
-/// What a client's datagram asks for, if anything is answered to it.
+/// What a client's datagram requests, if the server sends anything for it.
 pub fn cause_of_client(lane: LaneNumber, payload: &[u8]) -> Option<Cause> {
     match asked_by_client(payload)? {
         Asked::Request { id, .. } => Some(Cause::Request { lane, id }),
@@ -108,7 +111,7 @@ pub fn cause_of_client(lane: LaneNumber, payload: &[u8]) -> Option<Cause> {
     }
 }
 
-/// What a peer's datagram asks for.
+/// What a peer's datagram requests.
 pub fn cause_of_peer(arrival: &Sighting) -> Cause {
     Cause::Peer {
         relayed: arrival.to,

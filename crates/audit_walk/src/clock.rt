@@ -1,14 +1,14 @@
-//! The keys that events are given: moments that never fall, and a tie for each event of one moment.
+//! Assigns keys to events: moments that never decrease, and a tie for each event of one moment.
 
 use audit_model::Key;
 
-/// The last key that was given, and until when the departure that is placed now can wait.
+/// The last key, and the moment until which the current departure can wait.
 #[derive(Clone, Copy, Debug)]
 pub struct Clock {
     moment: u64,
     /// The next tie.
     tie: u32,
-    /// The latest moment of the departure that is placed now.
+    /// The latest moment of the current departure.
     latest: u64,
 }
 
@@ -26,7 +26,7 @@ impl Clock {
         self.moment
     }
 
-    /// Goes on to a moment, if that is later.
+    /// Advances to a moment, if it is later.
     pub fn reach(&mut self, moment: u64) {
         if moment > self.moment {
             self.moment = moment;
@@ -44,24 +44,24 @@ impl Clock {
         key
     }
 
-    /// The next key at this moment, with so many behind it that are kept free.
+    /// The next key at this moment; the `count` keys after it are kept free.
     pub fn reserve(&mut self, count: u32) -> Key {
         let key = self.tick();
         self.tie = self.tie.saturating_add(count);
         key
     }
 
-    /// Begins to place a departure that can wait until then.
+    /// Begins to place a departure that can wait until `latest`.
     pub fn begin_departure(&mut self, latest: u64) {
         self.latest = latest;
     }
 
-    /// The latest moment of the departure that is placed now.
+    /// The latest moment of the current departure.
     pub fn latest(&self) -> u64 {
         self.latest
     }
 
-    /// Whether the departure that is placed now can still wait.
+    /// Whether the current departure can still wait.
     pub fn has_time(&self) -> bool {
         self.moment < self.latest
     }
@@ -75,12 +75,13 @@ pub fn after(key: Key) -> Key {
     }
 }
 
-/// Whether events may still be given at a key, where they were given up to a horizon.
+/// Whether an event may still be emitted at a key, if events were emitted up to a horizon.
 pub fn is_open(given_to: Option<u64>, key: Key) -> bool {
     given_to.is_none_or(|given_to| key.moment > given_to)
 }
 
-/// The least key behind which an event that follows this one may still be given, where events were given up to a horizon.
+/// The least key after which an event that follows `key` may still be emitted, if events were
+/// emitted up to a horizon.
 pub fn open_behind(given_to: Option<u64>, key: Key) -> Key {
     match given_to {
         Some(moment) if key.moment <= moment => Key {

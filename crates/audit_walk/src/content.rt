@@ -1,4 +1,4 @@
-//! The content of messages that the walk goes by.
+//! The content of the messages that the walk depends on.
 
 use audit_content::{Given, Success};
 use audit_model::Addr;
@@ -7,29 +7,32 @@ use audit_stun::numbers::method;
 /// The error code Allocation Mismatch.
 const ALLOCATION_MISMATCH: u16 = 437;
 
-/// What a success or an error says of the allocation.
+/// What a success or error response says of the allocation.
 #[derive(Clone, Copy, Debug, PartialEq, Eq)]
 pub enum Content {
-    /// There is a new allocation, of that relayed address; or the one that is there was asked for again.
+    /// An Allocate success response with this relayed address: the allocation is new, or the
+    /// request for it was repeated.
     Allocated(Addr),
-    /// The allocation is deleted: a success to a Refresh, of no seconds (RFC 8656, section 8.2).
+    /// A success response to a Refresh with LIFETIME 0: the allocation is deleted (RFC 8656,
+    /// section 8.2).
     Deleted,
     /// A channel is bound.
     Bound,
-    /// There is no allocation: the error 437 to anything but an Allocate (RFC 8656, sections 5 and 19).
+    /// There is no allocation: error 437 to any method except Allocate (RFC 8656, sections 5 and
+    /// 19).
     NoAllocation,
-    /// Something else, or an error.
+    /// Something else, or another error.
     Other,
 }
 
 impl Content {
-    /// Whether an allocation is made or deleted.
+    /// Whether it makes or deletes an allocation.
     pub fn is_change(&self) -> bool {
         matches!(self, Content::Allocated(_) | Content::Deleted)
     }
 }
 
-/// The transaction id of a success or an error, and what it says.
+/// The transaction id of a success or error response, and its content.
 pub fn answer_of(given: &Given<'_>) -> Option<([u8; 12], Content)> {
     match *given {
         Given::Success { id, success, .. } => Some((id, success_content(success))),

@@ -1,4 +1,4 @@
-//! The datagrams that arrive, the successes and errors that leave, and which of these answers which.
+//! The arrivals and the responses that were noted, and which response is to which request.
 
 mod answers;
 mod arrivals;
@@ -17,16 +17,17 @@ use audit_seen::LaneNumber;
 use std::alloc::{AllocError, Global};
 use std::collections::VecDeque;
 
-/// All that were noted.
+/// All arrivals and responses that were noted.
 #[derive(Drop)]
 pub struct Datagrams {
     arrivals: Arrivals,
     answers: Answers,
-    /// Arrivals that have a key, and whose events may not be given yet, in the order of their keys.
+    /// Arrivals that have a key, and whose events may not be emitted yet, in the order of their
+    /// keys.
     undecided: VecDeque<ArrivalNumber>,
-    /// The last data of a client that arrived, of all lanes.
+    /// The last data that a client sent, in any lane.
     last_sent: Option<ArrivalNumber>,
-    /// When what is done was forgotten last.
+    /// The moment of the last `renew`.
     renewed: u64,
 }
 
@@ -49,7 +50,7 @@ impl Datagrams {
         self.answers.get(number)
     }
 
-    /// Adds an arrival that asks for something of that digest, and gives its number.
+    /// Adds an arrival whose cause has this digest, and returns its number.
     pub fn add_arrival(
         &mut self,
         sight: SightId,
@@ -59,7 +60,8 @@ impl Datagrams {
         self.arrivals.add(sight, lane, digest)
     }
 
-    /// Adds an answer of a transaction that leaves until then, notes it with its request if that is known, and gives its number.
+    /// Adds a response that can leave until `until`, links it with its request if that is known,
+    /// and returns its number.
     pub fn add_answer(
         &mut self,
         answer: Answer,
@@ -73,12 +75,14 @@ impl Datagrams {
         Ok(number)
     }
 
-    /// Notes from when the answer leaves that says that the allocation is deleted that an answer makes.
+    /// Notes the earliest moment at which the response leaves that deletes the allocation of
+    /// another response.
     pub fn note_deletion(&mut self, allocation: AnswerNumber, from: u64) {
         self.answers.note_deletion(allocation, from);
     }
 
-    /// Gives an arrival its key, and leaves its event undecided. Something may be given by it until then.
+    /// Sets the key of an arrival, and leaves its event undecided. The server may act on it until
+    /// `until`.
     pub fn place(&mut self, number: ArrivalNumber, key: Key, until: u64) -> Result<(), AllocError> {
         self.arrivals.place(number, key, until);
         self.undecided.push_back(number)?;
@@ -95,27 +99,28 @@ impl Datagrams {
         self.arrivals.get(self.last_sent?)?.lane()
     }
 
-    /// Notes that an arrival is acted on, and tells which that is.
+    /// Marks an arrival as acted on, and returns its sighting.
     pub fn act(&mut self, number: ArrivalNumber) -> Option<SightId> {
         self.arrivals.act(number)
     }
 
-    /// Notes that the event of an arrival that has a key is given, and tells that key unless it was given before.
+    /// Marks the event of an arrival that has a key as emitted. Returns the key, unless the event
+    /// was emitted before.
     pub fn give(&mut self, number: ArrivalNumber) -> Option<Key> {
         self.arrivals.give(number)
     }
 
-    /// Notes that an answer is given, and tells which that is.
+    /// Marks a response as acted on, and returns it.
     pub fn act_answer(&mut self, number: AnswerNumber) -> Option<Answer> {
         self.answers.act(number)
     }
 
-    /// How many arrivals may be undecided.
+    /// The number of arrivals that may be undecided.
     pub fn undecided(&self) -> usize {
         self.undecided.len()
     }
 
-    /// Takes out the first arrival that may be undecided, unless it stands past the horizon.
+    /// Takes out the first arrival that may be undecided, unless its key is past the horizon.
     pub fn take_undecided(&mut self, horizon: u64) -> Option<ArrivalNumber> {
         let number = *self.undecided.front()?;
         if self.is_past(number, horizon) {
@@ -124,7 +129,7 @@ impl Datagrams {
         self.undecided.pop_front()
     }
 
-    /// Whether an arrival stands past the horizon.
+    /// Whether the key of an arrival is past the horizon.
     fn is_past(&self, number: ArrivalNumber, horizon: u64) -> bool {
         match self.arrivals.get(number).and_then(|arrival| arrival.key()) {
             Some(key) => key.moment > horizon,
@@ -137,58 +142,60 @@ impl Datagrams {
         self.arrivals.get(number)?.waiting_since()
     }
 
-    /// What an answer says.
+    /// The content of a response.
     pub fn content(&self, number: AnswerNumber) -> Option<Content> {
         self.answers.content(number)
     }
 
-    /// The relayed address of the allocation that an answer makes, if it makes one.
+    /// The relayed address of the allocation that a response makes, if it makes one.
     pub fn relayed(&self, number: AnswerNumber) -> Option<Addr> {
         self.answers.get(number)?.relayed()
     }
 
-    /// The lane of an arrival; none of a peer's datagram.
+    /// The lane of an arrival; none for a peer's datagram.
     pub fn lane(&self, number: ArrivalNumber) -> Option<LaneNumber> {
         self.arrivals.get(number)?.lane()
     }
 
-    /// The request that an answer is to, if that is known.
+    /// The request that a response is to, if that is known.
     pub fn request(&self, number: AnswerNumber) -> Option<ArrivalNumber> {
         self.answers.get(number)?.request()
     }
 
-    /// The answer that was noted with a request.
+    /// The response that was linked with a request.
     pub fn noted_answer(&self, number: ArrivalNumber) -> Option<AnswerNumber> {
         self.arrivals.get(number)?.answer()
     }
 
-    /// Whether one of the last answers to the same client before it wasn't given yet.
+    /// Whether one of the last responses to the same client before this one wasn't acted on yet.
     pub fn is_behind_another(&self, number: AnswerNumber) -> bool {
         self.answers.is_behind_another(number)
     }
 
-    /// Whether one of the last answers to the same client before it wasn't given yet, and makes or deletes an allocation.
+    /// Whether one of the last responses to the same client before this one wasn't acted on yet,
+    /// and makes or deletes an allocation.
     pub fn is_behind_change(&self, number: AnswerNumber) -> bool {
         self.answers.is_behind_change(number)
     }
 
-    /// Whether one of the next answers to the same client behind it says that there is no allocation, with no deletion between.
+    /// Whether one of the next responses to the same client says that there is no allocation, with
+    /// no deletion before that one.
     pub fn is_before_refusal(&self, number: AnswerNumber) -> bool {
         self.answers.is_before_refusal(number)
     }
 
-    /// Takes out the arrivals that ask for this and were acted on or came too long ago, as far as they come first, and gives the first of the
-    /// others.
+    /// Takes out the first arrivals of a cause while they were acted on or came before `earliest`,
+    /// and returns the first of the others.
     pub fn skip_to_first(&mut self, cause: &Cause, earliest: u64) -> Option<ArrivalNumber> {
         self.arrivals.skip_to_first(cause, earliest)
     }
 
-    /// The next arrival that asks for the same.
+    /// The next arrival of the same cause.
     pub fn next_arrival(&self, number: ArrivalNumber) -> Option<ArrivalNumber> {
         self.arrivals.next(number)
     }
 
-    /// The last arrival that asked for this and was acted on, unless it came too long ago.
+    /// The last arrival of a cause that was acted on, unless it came too long ago.
     pub fn previous(
         &mut self,
         cause: &Cause,
@@ -197,12 +204,12 @@ impl Datagrams {
         self.arrivals.previous(cause, earliest)
     }
 
-    /// Takes out what arrivals and answers are found by, once nothing more is given by them. At that moment no arrival is answered that came
-    /// before the earliest one.
+    /// Removes the index entries of arrivals and responses on which nothing more is done after
+    /// `moment`. At `moment` the server may act on no arrival before `earliest`.
     pub fn tidy(&mut self, moment: u64, earliest: u64) -> Result<(), AllocError> {
         self.arrivals.tidy(moment)?;
         self.answers.tidy(moment)?;
-        // What was done before this may be asked for until `hold` is over.
+        // Arrivals that were acted on before this may be looked up until `hold` has passed.
         if self.renewed < earliest {
             self.arrivals.renew();
             self.answers.renew();

@@ -1,28 +1,29 @@
-//! Numbers by digests that strangers may choose.
+//! A table from digests, which strangers may choose, to numbers.
 
 use std::alloc::{AllocError, Global};
 use std::collections::BTreeMap;
 
-/// How many places of the table may have a digest, its own first.
+/// How many slots of the table may contain a digest, beginning with its own.
 const NEAR: usize = 16;
 
-/// How many places a table has at the least.
+/// The least number of slots of a table.
 const LEAST: usize = 64;
 
-/// A place of the table: a digest, with the number that stands under it.
+/// A slot of the table: a digest and its number.
 #[derive(Clone, Copy)]
 struct Place {
     digest: u64,
     number: Option<u32>,
 }
 
-/// Numbers by digests, each of which has one and keeps it.
+/// A map from digests to numbers. An entry never changes.
 ///
-/// They stand in a table by their last bits, and those that find no place near their own in an ordered map. So a call looks at `NEAR` places and
-/// takes the logarithm of the map at the most, whatever digests are chosen.
+/// The entries are in a table by their last bits. Those that find no free slot near their own are
+/// in an ordered map. So a call looks at up to `NEAR` slots and takes at most the logarithm of the
+/// map's size, whatever digests are chosen.
 #[derive(Drop)]
 pub struct Digests {
-    /// A power of two of places, or none.
+    /// A power of two of slots, or none.
     places: Vec<Place>,
     others: BTreeMap<u64, u32>,
     count: usize,
@@ -39,7 +40,7 @@ impl Digests {
         }
     }
 
-    /// The number that stands under a digest.
+    /// The number of a digest.
     pub fn get(&self, digest: u64) -> Option<u32> {
         for step in 0..NEAR {
             let place = self.places.get(place_of(digest, step, self.places.len()))?;
@@ -53,7 +54,7 @@ impl Digests {
         self.others.get(&digest).copied()
     }
 
-    /// Puts a number under a digest that has none.
+    /// Adds the number of a digest that has none.
     pub fn insert(&mut self, digest: u64, number: u32) -> Result<(), AllocError> {
         if self.count >= self.places.len() / 2 {
             self.grow()?;
@@ -77,7 +78,7 @@ impl Digests {
         Ok(())
     }
 
-    /// Takes a table of twice as many places.
+    /// Doubles the table.
     fn grow(&mut self) -> Result<(), AllocError> {
         let length = self.places.len().saturating_mul(2).max(LEAST);
         let empty = Place {
@@ -99,7 +100,7 @@ impl Digests {
     }
 }
 
-/// The place so many steps behind the own one of a digest, in a table of so many.
+/// The slot `step` steps after a digest's own, in a table of `length` slots.
 fn place_of(digest: u64, step: usize, length: usize) -> usize {
     (digest as usize).wrapping_add(step) & length.wrapping_sub(1)
 }

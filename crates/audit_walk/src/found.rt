@@ -1,4 +1,4 @@
-//! What was found: events, and whether the server kept to its rules by them.
+//! The result of the walk: events, and whether the server seems to conform.
 
 use crate::later::Later;
 use crate::portion::Portion;
@@ -6,14 +6,14 @@ use audit_model::{Event, Key, SightId};
 use audit_seen::LaneNumber;
 use std::alloc::{AllocError, Global};
 
-/// What was found so far.
+/// The events that were found, and whether the server seems to conform.
 #[derive(Drop)]
 pub struct Found {
     /// The events that weren't taken out yet.
     portion: Portion,
-    /// The events past the last horizon that were found before it was reached.
+    /// The events past the last horizon.
     later: Later,
-    /// Whether the server kept to its rules in all that was placed, as far as the walk can tell.
+    /// Whether the server kept its rules in all that was placed, as far as the walk can determine.
     seems_conforming: bool,
     alloc: Global,
 }
@@ -28,17 +28,17 @@ impl Found {
         }
     }
 
-    /// Whether the server kept to its rules in all that was placed, as far as the walk can tell.
+    /// Whether the server kept its rules in all that was placed, as far as the walk can determine.
     pub fn seems_conforming(&self) -> bool {
         self.seems_conforming
     }
 
-    /// Notes that a rule may be broken, whatever is found behind it.
+    /// Notes that a rule may be violated, whatever is found later.
     pub fn mark_suspect(&mut self) {
         self.seems_conforming = false;
     }
 
-    /// Makes room for so many events more.
+    /// Reserves memory for this number of further events.
     pub fn reserve(&mut self, events: usize) -> Result<(), AllocError> {
         self.portion.reserve(events)
     }
@@ -58,7 +58,8 @@ impl Found {
         std::mem::replace(&mut self.portion, Portion::new(self.alloc))
     }
 
-    /// Takes out the events up to the horizon, in the order of their keys. Each is kept till then in logarithmic time.
+    /// Takes out the events up to the horizon, in the order of their keys. To keep an event until
+    /// then takes logarithmic time.
     pub fn take_until(&mut self, horizon: u64) -> Result<Portion, AllocError> {
         let (events, drops) = self.take_portion().into_parts();
         let mut portion = Portion::of_drops(self.alloc, drops);

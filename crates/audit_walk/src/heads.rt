@@ -1,10 +1,10 @@
-//! Which interface's next sighting comes next.
+//! A priority queue of interfaces by their next sightings.
 
 use std::alloc::{AllocError, Global};
 use std::cmp::Reverse;
 use std::collections::BinaryHeap;
 
-/// Interfaces by the least moment of their next sighting, and then by their number.
+/// Interfaces by the first moment of their next sighting, then by number.
 #[derive(Drop)]
 pub struct Heads {
     heap: BinaryHeap<Reverse<(u64, u32)>>,
@@ -17,7 +17,7 @@ impl Heads {
         }
     }
 
-    /// Adds an interface. It takes logarithmic time in their number.
+    /// Adds an interface. It takes logarithmic time in the number of interfaces.
     pub fn push(&mut self, moment: u64, iface: u32) -> Result<(), AllocError> {
         self.heap.push(Reverse((moment, iface)))?;
         Ok(())
@@ -29,7 +29,7 @@ impl Heads {
         Some(*head)
     }
 
-    /// Takes out the first whose moment isn't past the horizon.
+    /// Takes out the first, unless its moment is past the horizon.
     pub fn pop(&mut self, horizon: u64) -> Option<(u64, u32)> {
         let Reverse((moment, _)) = self.heap.peek()?;
         if *moment > horizon {

@@ -1,4 +1,4 @@
-//! The interfaces: how far each has got, which comes next, and which wait.
+//! The interfaces: how far each was placed, which comes next, and which wait.
 
 mod rows;
 mod waiting;
@@ -15,11 +15,11 @@ use std::collections::BTreeMap;
 #[derive(Drop)]
 pub struct Interfaces {
     rows: Vec<Row>,
-    /// Those that are queued, by the moments at which they are.
+    /// The queued interfaces, by the moments at which they are queued.
     heads: Heads,
-    /// Those whose next departure waits for an arrival, by the arrival.
+    /// The interfaces whose next departure waits for an arrival, by that arrival.
     waiting: BTreeMap<ArrivalNumber, u32>,
-    /// Those whose next departure waits for whatever comes next.
+    /// The interfaces whose next departure waits for the next sighting of any interface.
     expecting: Vec<u32>,
     alloc: Global,
 }
@@ -51,7 +51,7 @@ impl Interfaces {
         }
     }
 
-    /// Notes what the next sighting of an interface is.
+    /// Notes the role of the next sighting of an interface.
     pub fn note(&mut self, iface: u32, role: Role) -> Result<(), AllocError> {
         match self.rows.get_mut(iface as usize) {
             Some(row) => row.note(role),
@@ -59,21 +59,22 @@ impl Interfaces {
         }
     }
 
-    /// Begins to place the next sighting of an interface, and tells what it is.
+    /// Begins to place the next sighting of an interface, and returns its role.
     pub fn start_next(&mut self, iface: u32) -> Option<(SightId, Role)> {
         let row = self.rows.get_mut(iface as usize)?;
         row.start();
         row.next(iface)
     }
 
-    /// Goes on behind the next sighting of an interface.
+    /// Goes on after the next sighting of an interface.
     pub fn advance(&mut self, iface: u32) {
         if let Some(row) = self.rows.get_mut(iface as usize) {
             row.advance();
         }
     }
 
-    /// Counts an act that is tried for the next sighting of an interface, whose datagrams have so many bytes, and tells whether it may be tried.
+    /// Counts an act that is tried for the next sighting of an interface, whose datagrams have
+    /// `bytes` bytes. Returns whether it may be tried.
     pub fn count_try(&mut self, iface: u32, is_last_moment: bool, bytes: usize) -> bool {
         match self.rows.get_mut(iface as usize) {
             Some(row) => row.count_try(is_last_moment, bytes),

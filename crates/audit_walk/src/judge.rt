@@ -1,4 +1,4 @@
-//! Whether the server may act so, by the rules.
+//! Judges whether the rules let the server act.
 
 ghost use Rattle.std.specs.Prelude.{◌≡◌, option_map};
 ghost use Rattle.audit_clients.specs.Clients.{lane_in};
@@ -25,7 +25,7 @@ pub struct Judge<'a> {
 }
 
 impl<'a> Judge<'a> {
-    /// Judges what was taken in of these clients, by their credentials, with so much of each window.
+    /// A judge of the intake of these clients, with their credentials and these windows.
     pub fn new(
         alloc: Global,
         intake: &'a Intake,
@@ -45,7 +45,7 @@ impl<'a> Judge<'a> {
         }
     }
 
-    /// What was taken in.
+    /// The intake.
     pub fn intake(&self) -> &'a Intake
         ensures { result.now ≡ self.now.intake.now }
     {
@@ -64,7 +64,7 @@ impl<'a> Judge<'a> {
         self.intake.policy()
     }
 
-    /// The sighting of a name, if it is there.
+    /// The sighting of an id, if there is one.
     pub(crate) fn sighting(&self, sight: SightId) -> Option<&'a Sighting> {
         self.intake.sighting(sight)
     }
@@ -76,7 +76,8 @@ impl<'a> Judge<'a> {
         Some(LaneNumber::new(self.clients.lane_of(client, listen)?))
     }
 
-    /// Answers a request, and tells whether the server may. Where it may not, the table stays.
+    /// Applies a response to the table, and returns whether the rules allow it. If not, the table
+    /// is unchanged.
     pub fn answers(
         &self,
         lane: LaneNumber,
@@ -91,7 +92,7 @@ impl<'a> Judge<'a> {
         }
     }
 
-    /// Relays data, and tells whether the server may. The table stays.
+    /// Returns whether the rules let the server relay data. The table is unchanged.
     pub fn relays(
         &self,
         lane: LaneNumber,

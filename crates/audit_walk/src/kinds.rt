@@ -1,4 +1,4 @@
-//! What sightings are alone, whatever comes before them.
+//! Classifies sightings, each alone.
 
 use crate::causes::{Cause, cause_of_client, cause_of_peer, digest_of};
 use crate::content::{Content, answer_of};
@@ -9,22 +9,23 @@ use audit_content::{Given, given_to_client};
 use audit_model::{Side, Sighting};
 use audit_seen::LaneNumber;
 
-/// What a sighting is, as far as it takes no other to tell.
+/// The kind of a sighting, as far as it is known without any other sighting.
 #[derive(Clone, Copy, Debug)]
 pub enum Kind {
-    /// A datagram that arrives: the client's lane, whether it is a Send indication, and the digest of what it asks for.
+    /// A datagram that arrives: the client's lane, whether it is a Send indication, and the digest
+    /// of its cause.
     Arrival {
         lane: Option<LaneNumber>,
         is_sent_on: bool,
         asks: Option<u64>,
     },
-    /// A success or an error.
+    /// A success or error response.
     Answer(Transaction, Content),
-    /// Data that leaves.
+    /// Relayed data that leaves.
     Data(Data),
 }
 
-/// What a sighting is. It goes once over its payload.
+/// Classifies a sighting. It reads the payload once.
 pub fn kind_of(judge: &Judge<'_>, sighting: &Sighting) -> Kind {
     match sighting.side {
         Side::Arrives => arriving_kind(judge, sighting),

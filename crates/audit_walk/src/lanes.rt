@@ -1,4 +1,4 @@
-//! The lanes, and whose each relayed address is.
+//! The lanes, and the holder of each relayed address.
 
 mod allocations;
 mod holders;
@@ -26,7 +26,7 @@ use std::collections::BTreeMap;
 #[derive(Drop)]
 pub struct Lanes {
     list: Vec<FoundLane>,
-    /// Whose each relayed address is.
+    /// The holders of each relayed address.
     holders: BTreeMap<Addr, Holders>,
     /// The allocations that aren't made yet.
     allocations: Allocations,
@@ -88,8 +88,8 @@ impl Lanes {
         }
     }
 
-    /// Whether another lane may still hold a relayed address that a lane is given at a moment. Those before the last one were asked when that was
-    /// given it.
+    /// Whether another lane may still hold a relayed address that a lane is granted at a moment.
+    /// The holders before the last one were checked when the last one was granted the address.
     pub fn may_be_held(&self, lane: LaneNumber, relayed: Addr, moment: u64) -> bool {
         let Some(last) = self.last_holder(relayed) else {
             return false;
@@ -110,7 +110,7 @@ impl Lanes {
         Ok(())
     }
 
-    /// Notes a peer's datagram to a relayed address with the lane that holds that.
+    /// Notes a peer's datagram to a relayed address with the lane that holds the address.
     pub fn note_received(&mut self, relayed: Addr, number: ArrivalNumber) {
         if let Some(holder) = self.last_holder(relayed) {
             if let Some(client) = self.get_mut(holder) {
@@ -119,7 +119,8 @@ impl Lanes {
         }
     }
 
-    /// Notes an answer that makes an allocation of a relayed address, and leaves at a moment at the least.
+    /// Notes a response that makes an allocation of a relayed address, and leaves at `moment` or
+    /// later.
     pub fn expect_allocation(
         &mut self,
         relayed: Addr,
@@ -129,13 +130,14 @@ impl Lanes {
         self.allocations.insert(relayed, moment, answer)
     }
 
-    /// Forgets an answer that makes an allocation, once it is given.
+    /// Forgets a response that makes an allocation, once the server has acted on its request.
     pub fn forget_allocation(&mut self, relayed: Addr, moment: u64, answer: AnswerNumber) {
         self.allocations.remove(relayed, moment, answer);
     }
 
-    /// Whether another client has to have had an allocation's relayed address before, since it can have given it up before this
-    /// one is made, and this one isn't given up before the other one's is made. Those that leave before the moment aren't looked at.
+    /// Whether another client must have had the relayed address before: its allocation can end
+    /// before this one is made, and this one can't end before that one is made. Responses that
+    /// leave before `earliest` aren't looked at.
     pub fn has_to_follow(
         &self,
         judge: &Judge<'_>,

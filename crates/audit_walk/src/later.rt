@@ -7,17 +7,18 @@ use std::collections::{BTreeMap, VecDeque};
 
 /// Events of lanes, which are taken out in the order of their keys.
 ///
-/// No two have one key: the clock gives each once, and of those that it keeps free one after the other is taken.
+/// No two have one key: the clock issues each key once, and each key that it keeps free is used
+/// once.
 #[derive(Drop)]
 pub struct Later {
-    /// Those that came in the order of their keys, as most do.
+    /// Those that were added in the order of their keys, as most are.
     rising: VecDeque<(LaneNumber, Event)>,
-    /// Those that came behind one of a greater key.
+    /// Those that were added after one with a greater key.
     others: BTreeMap<(Key, LaneNumber), Event>,
 }
 
 impl Later {
-    /// None. It takes no memory.
+    /// No events. Allocates no memory.
     pub fn new(alloc: Global) -> Later {
         Later {
             rising: VecDeque::new(alloc),
@@ -25,7 +26,7 @@ impl Later {
         }
     }
 
-    /// How many there are.
+    /// The number of events.
     pub fn count(&self) -> usize {
         self.rising.len().saturating_add(self.others.len())
     }
@@ -41,7 +42,7 @@ impl Later {
         Ok(())
     }
 
-    /// Takes out the event of the least key, with its lane, unless it stands past the horizon.
+    /// Takes out the event with the least key, with its lane, unless it is past the horizon.
     pub fn take_first(&mut self, horizon: u64) -> Option<(LaneNumber, Event)> {
         let rising = self.rising.front().map(|(_, event)| event.key());
         let other = self.others.first_key_value().map(|(key, _)| key.0);

@@ -1,6 +1,7 @@
-//! Finds events by one walk over the sightings, the least moment first, in which nothing is taken back.
+//! Finds events by one walk over the sightings, the least moment first, without backtracking.
 //!
-//! `Search` keeps what was found so far, so that it goes on where captures grow. Nothing rests on what it finds: that is checked.
+//! `Search` keeps the state, so that the walk continues as captures grow. No verdict depends on the
+//! result, which is checked.
 #![tactic(auto)]
 
 mod ahead;

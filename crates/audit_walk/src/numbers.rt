@@ -1,4 +1,4 @@
-//! The numbers of arrivals and answers, each from 0 in the order in which they came.
+//! The numbers of arrivals and responses, each from 0 in the order in which they were noted.
 
 ghost use Rattle.std.specs.Prelude.{◌≡◌};
 
@@ -6,7 +6,7 @@ ghost use Rattle.std.specs.Prelude.{◌≡◌};
 #[derive(Clone, Copy, Debug, PartialEq, Eq, PartialOrd, Ord)]
 pub struct ArrivalNumber(u32);
 
-/// The number of a success or an error.
+/// The number of a success or error response.
 #[derive(Clone, Copy, Debug, PartialEq, Eq, PartialOrd, Ord)]
 pub struct AnswerNumber(u32);
 
@@ -39,7 +39,7 @@ impl AnswerNumber {
         AnswerNumber(number)
     }
 
-    /// Its place among the answers.
+    /// Its place among the responses.
     pub fn index(self) -> usize
         ensures { result ≡ self.0 }
     {

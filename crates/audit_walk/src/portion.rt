@@ -1,4 +1,4 @@
-//! The events that are found.
+//! A portion of the events that the walk finds.
 
 use audit_model::{CertDrop, Event, Key, SightId};
 use audit_seen::LaneNumber;
@@ -12,7 +12,7 @@ pub struct Portion {
 }
 
 impl Portion {
-    /// No events and no drops. It takes no memory.
+    /// No events and no drops. Allocates no memory.
     pub fn new(alloc: Global) -> Portion {
         Portion::of_drops(alloc, Vec::new(alloc))
     }
@@ -25,7 +25,7 @@ impl Portion {
         }
     }
 
-    /// Makes room for so many events more.
+    /// Reserves memory for this number of further events.
     pub fn reserve(&mut self, events: usize) -> Result<(), AllocError> {
         self.events.reserve(events)
     }
@@ -42,7 +42,7 @@ impl Portion {
         Ok(())
     }
 
-    /// Puts the events in the order of their keys.
+    /// Sorts the events by their keys.
     pub fn sort(&mut self) {
         self.events.sort_unstable_by_key(|(_, event)| event.key());
     }

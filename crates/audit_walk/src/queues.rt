@@ -1,13 +1,13 @@
-//! Items in the order in which they came, by what they are found by.
+//! Queues of items by digest, each in the order of insertion.
 
 use crate::digests::Digests;
 use std::alloc::{AllocError, Global};
 use std::collections::BTreeMap;
 
-/// How many queues may be new before those that are done are looked for.
+/// How many queues may be added before finished ones are removed.
 const NEW: usize = 1_024;
 
-/// A queue, until the queues are tidied.
+/// The number of a queue, valid until the queues are tidied.
 #[derive(Clone, Copy, Debug, PartialEq, Eq)]
 pub struct QueueNumber(u32);
 
@@ -21,19 +21,19 @@ struct Queue {
     previous: Option<u32>,
 }
 
-/// An item, until it is asked for no more.
+/// An item.
 #[derive(Clone, Copy)]
 struct Item {
-    /// The one behind it in its queue.
+    /// The next item in its queue.
     behind: Option<u32>,
-    /// Until when it is waited for.
+    /// The moment until which it is needed.
     until: u64,
 }
 
-/// The last items of queues that are done, by digest.
+/// The last items of finished queues, by digest.
 #[derive(Drop)]
 struct Done {
-    /// Those that weren't asked for since.
+    /// Those that were added after the last look-up.
     noted: Vec<(u64, u32)>,
     found: BTreeMap<u64, u32>,
 }
@@ -46,7 +46,7 @@ impl Done {
         }
     }
 
-    /// The last item of a queue that is done. Most captures never ask for one.
+    /// The last item of a finished queue. Most captures never need one.
     fn get(&mut self, alloc: Global, digest: u64) -> Result<Option<u32>, AllocError> {
         let noted = std::mem::replace(&mut self.noted, Vec::new(alloc));
         for (digest, last) in noted {
@@ -56,20 +56,22 @@ impl Done {
     }
 }
 
-/// Numbers of items, from 0 in the order in which they came, each in the queue of its digest if it has one.
+/// Numbers of items, from 0 in the order of insertion, each in the queue of its digest if it has
+/// one.
 ///
-/// Queues of which no item is waited for are taken out now and then, so that the others stand close together. To find a queue, or to add an item,
-/// takes logarithmic time in the number of digests at the most, and mostly takes the same time.
+/// Queues of which no item is needed are removed from time to time, so that the others are close
+/// together in memory. To find a queue, or to add an item, takes at most logarithmic time in the
+/// number of digests, and mostly constant time.
 #[derive(Drop)]
 pub struct Queues {
     /// The number of the queue of each digest.
     numbers: Digests,
     queues: Vec<Queue>,
-    /// How many there were when they were tidied.
+    /// How many queues there were after the last `tidy`.
     kept: usize,
     items: Vec<Item>,
     done: Done,
-    /// Those that were done before it was renewed.
+    /// The queues that were finished before the last `renew`.
     done_before: Done,
     alloc: Global,
 }
@@ -87,7 +89,7 @@ impl Queues {
         }
     }
 
-    /// Adds an item that is waited for, and gives its number.
+    /// Adds an item that is needed, and returns its number.
     pub fn add(&mut self, digest: Option<u64>) -> Result<u32, AllocError> {
         let Ok(number) = u32::try_from(self.items.len()) else {
             return Err(AllocError);
@@ -102,7 +104,7 @@ impl Queues {
         Ok(number)
     }
 
-    /// Puts an item at the end of its queue.
+    /// Adds an item at the end of its queue.
     fn join(&mut self, digest: u64, number: u32) -> Result<(), AllocError> {
         let Some(queue) = self.numbers.get(digest) else {
             return self.begin(Queue {
@@ -167,7 +169,7 @@ impl Queues {
         self.done_before.get(self.alloc, digest)
     }
 
-    /// The item behind an item in its queue.
+    /// The item after an item in its queue.
     pub fn behind(&self, number: u32) -> Option<u32> {
         self.items.get(number as usize)?.behind
     }
@@ -184,14 +186,14 @@ impl Queues {
         }
     }
 
-    /// Notes until when an item is waited for.
+    /// Notes until when an item is needed.
     pub fn wait_until(&mut self, number: u32, until: u64) {
         if let Some(item) = self.items.get_mut(number as usize) {
             item.until = until;
         }
     }
 
-    /// Whether an item isn't waited for any more at a moment.
+    /// Whether an item is no longer needed at a moment.
     fn is_over(&self, number: u32, moment: u64) -> bool {
         match self.items.get(number as usize) {
             Some(item) => item.until < moment,
@@ -199,7 +201,7 @@ impl Queues {
         }
     }
 
-    /// Takes out the queues of which no item is waited for any more at a moment, where many queues are new.
+    /// Removes the queues of which no item is needed at a moment, if many queues are new.
     pub fn tidy(&mut self, moment: u64) -> Result<(), AllocError> {
         if self.queues.len() < self.kept.saturating_mul(2).saturating_add(NEW) {
             return Ok(());
@@ -213,7 +215,7 @@ impl Queues {
         Ok(())
     }
 
-    /// Keeps a queue, if an item of it is waited for at a moment.
+    /// Keeps a queue, if an item of it is needed at a moment.
     fn keep_waiting(&mut self, queue: Queue, moment: u64) -> Result<(), AllocError> {
         let mut queue = queue;
         for _ in 0..self.items.len() {
@@ -234,7 +236,7 @@ impl Queues {
         Ok(())
     }
 
-    /// Forgets the queues that were done before the last call.
+    /// Forgets the queues that were finished before the last call.
     pub fn renew(&mut self) {
         self.done_before = std::mem::replace(&mut self.done, Done::new(self.alloc));
     }

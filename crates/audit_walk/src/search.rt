@@ -1,4 +1,4 @@
-//! The way through the sightings: the least moment first, interface by interface.
+//! The walk over the sightings: the least moment first, interface by interface.
 
 ghost use Rattle.std.specs.Prelude.{◌≡◌, OnOk};
 
@@ -20,27 +20,27 @@ use crate::lanes::Lanes;
 use crate::portion::Portion;
 use std::alloc::{AllocError, Global};
 
-/// What was found so far, and what it takes to go on.
+/// The state of the walk.
 #[derive(Drop)]
 pub struct Search {
-    /// How far each interface has got.
+    /// How far each interface was placed.
     interfaces: Interfaces,
-    /// What came, and which answers which.
+    /// The arrivals and responses, and which response is to which request.
     datagrams: Datagrams,
-    /// What each client has, and whose each relayed address is.
+    /// The state of each client, and the holder of each relayed address.
     lanes: Lanes,
     /// The events.
     found: Found,
     clock: Clock,
-    /// Whether requests are acted on as their answers leave, and not as they arrive.
+    /// Whether requests are acted on when their responses leave, not when they arrive.
     is_late: bool,
-    /// Events are given past this moment.
+    /// Events are emitted past this moment.
     given_to: Option<u64>,
     alloc: Global,
 }
 
 impl Search {
-    /// Nothing was found yet. It takes no memory.
+    /// Nothing was found yet. Allocates no memory.
     pub fn new(alloc: Global) -> Search
         ensures { result.given_to ≡ None }
     {
@@ -56,8 +56,8 @@ impl Search {
         }
     }
 
-    /// Nothing was found yet. Requests are to be acted on as their answers leave, so that leases last as long as they may. It takes no
-    /// memory.
+    /// A walk that acts on requests when their responses leave, so that leases last as long as
+    /// possible. Nothing was found yet. Allocates no memory.
     pub fn late(alloc: Global) -> Search
         ensures { result.given_to ≡ None }
     {
@@ -66,21 +66,23 @@ impl Search {
         search
     }
 
-    /// The last horizon, past which events are given.
+    /// The last horizon, past which events are emitted.
     pub fn given_to(&self) -> Option<u64>
         ensures { result ≡ self.now.given_to }
     {
         self.given_to
     }
 
-    /// Whether the server kept to its rules in all that was placed, as far as the walk can tell.
+    /// Whether the server kept its rules in all that was placed, as far as the walk can determine.
     pub fn seems_conforming(&self) -> bool {
         self.found.seems_conforming()
     }
 
-    /// Gives the events of the sightings that are new, and of those that were left, up to the horizon, in the order of their keys.
+    /// Returns the events of the new sightings and of earlier ones that weren't emitted, up to the
+    /// horizon, in the order of their keys.
     ///
-    /// Sightings are placed some way past the horizon, so that what leaves soon behind it may still be given by an act before it.
+    /// Sightings are placed some time past the horizon, so that the act of a departure soon after
+    /// the horizon may still be before it.
     pub fn go(
         &mut self,
         judge: &Judge<'_>,
@@ -101,7 +103,7 @@ impl Search {
     /// Places sightings, the least moment first, up to the horizon.
     fn go_on(&mut self, judge: &Judge<'_>, horizon: u64) -> Result<(), AllocError> {
         let (_, sightings) = judge.intake().counts();
-        // Each is queued at first, and twice each time that it waits.
+        // Each sighting is queued once, and twice each time that it waits.
         for _ in 0..(2 * WAITS as u64 + 4) * (sightings as u64 + 1) {
             let Some((moment, iface)) = self.interfaces.pop(horizon) else {
                 return Ok(());

@@ -1,4 +1,5 @@
--- A capture of two datagrams: a Binding request, and the success that tells the client its address (RFC 8489, section 2).
+-- A capture of two datagrams: a Binding request, and the success response with the client's address
+-- (RFC 8489, section 2).
 use Rattle.std.specs.Prelude.{ℕ, List, [], ◌∷◌}
 use Rattle.audit_model.specs.declared.address.Addr.{Addr}
 use Rattle.audit_model.specs.declared.pair.Pair.{Pair}
@@ -49,7 +50,7 @@ the_success = record { payload = success_payload; stamp = 11000000; lo = 1050000
 abbrev pub binding_capture : Taken
 binding_capture = record { policy = the_policy; files = 1; interfaces = (the_request ∷ the_success ∷ []) ∷ [] }
 
--- it comes in, the server acts on it, and the success leaves
+-- it arrives, the server acts on it, and the success response leaves
 abbrev pub binding_steps : List Step
 binding_steps =
     record { moment = 10000000; move = In request_name }

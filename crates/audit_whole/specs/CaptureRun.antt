@@ -16,18 +16,19 @@ use Rattle.audit_server.specs.Step.{Step, Move, In, Act, Out}
 abbrev pub rules_for : Taken → KeyFor → Rules
 rules_for taken key_for = rules_of taken.policy key_for (sighting_at taken)
 
--- the sighting was captured, goes that way, and the moment is in its window
+-- the sighting was captured, has that direction, and the moment is in its window
 abbrev pub IsSeen : Taken → Side → SightId → ℕ → Type 0
 IsSeen taken side sight moment = IsSomeAnd (sighting_at taken sight) (λ s. (s.side ≡ side) × (s.lo ≤ moment) × (moment ≤ s.hi))
 
--- what comes in was seen arriving, and what leaves was seen leaving
+-- an arrival was seen arriving, and a departure was seen leaving
 abbrev pub MayBePlaced : Taken → ℕ → Move → Type 0
 MayBePlaced taken moment (In s) = IsSeen taken Arrives s moment
 MayBePlaced taken moment (Act c s t) = Unit {0}
 MayBePlaced taken moment (Out t) = IsSeen taken Leaves t moment
 
--- Each sighting comes in or leaves once, at a moment in its window; nothing else does; each interface's sightings keep their
--- order; and the list is a run of the server from an empty table that owes nothing at the end.
+-- Each sighting arrives or leaves once, at a moment in its window; nothing else does; each
+-- interface's sightings keep their order; and the list is a run of the server from an empty table
+-- that owes nothing at the end.
 pub record IsCaptureRun (taken : Taken) (w : Rules) (steps : List Step) : Type 0 where
   pub placed : (sight : SightId) → times_placed sight steps ≡ (if is_some (sighting_at taken sight) then 1 else 0)
   pub seen : AllByRecursion (λ (e : Step). MayBePlaced taken e.moment e.move) steps

@@ -1,4 +1,5 @@
--- What a run says of a datagram that left from a relay address, and of data that was sent to a client.
+-- The reasons, in a run, of a departure from a relayed address, and of data that was sent to a
+-- client.
 use Rattle.std.specs.Prelude.{◌≡◌, ◌⊎◌, ℕ, List, ◌∷◌, ◌++◌, IsSome, IsTrue, Some}
 use Rattle.audit_model.specs.declared.pair.Pair.{Pair}
 use Rattle.audit_model.specs.declared.sighting.SightId.{SightId}
@@ -14,7 +15,7 @@ use Rattle.audit_server.specs.Step.{Step, Out}
 use Rattle.audit_whole.specs.Lasting.{IsAct}
 use Rattle.audit_whole.specs.Relayed.{GroundedUp, GroundedDown}
 
--- an earlier act for some client gave it, and has its reasons
+-- an earlier act for some client sent it, and has its reasons
 pub record IsRelayedUp (taken : Taken) (key_for : KeyFor) (t : SightId) (leaves : Sighting) (before : List Step) : Type 0 where
   pub earlier : List Step
   pub act : Step
@@ -26,7 +27,8 @@ pub record IsRelayedUp (taken : Taken) (key_for : KeyFor) (t : SightId) (leaves 
   pub this : is_act.gives ≡ t
   pub grounded : GroundedUp taken key_for client act.moment arrives leaves earlier
 
--- an earlier act for some client gave it: what a peer had sent to the client's relayed address, under its permission
+-- an earlier act for some client sent it: the data that a peer had sent to the client's relayed
+-- address, under its permission
 pub record IsRelayedDown (taken : Taken) (key_for : KeyFor) (t : SightId) (leaves : Sighting) (before : List Step) : Type 0 where
   pub earlier : List Step
   pub act : Step
@@ -42,7 +44,8 @@ pub record IsRelayedDown (taken : Taken) (key_for : KeyFor) (t : SightId) (leave
 abbrev pub CarriesData : List ℕ → Type 0
 CarriesData payload = IsOf payload Indication DATA ⊎ IsSome (channel_data_of payload)
 
--- Whatever leaves from a relay address was relayed for a client, and whatever carries data from a listen address was relayed to one.
+-- Every departure from a relayed address was relayed for a client, and every departure with data
+-- from a listen address was relayed to one.
 abbrev pub AreRelayed : Taken → KeyFor → List Step → Type 0
 AreRelayed taken key_for list =
     (before : List Step) (e : Step) (rest : List Step) → before ++ e ∷ rest ≡ list → (t : SightId) → e.move ≡ Out t → (leaves : Sighting) → sighting_at taken t ≡ Some leaves →

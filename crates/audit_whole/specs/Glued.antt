@@ -1,4 +1,5 @@
--- The one list of moves that a certificate stands for, by moment, tie and lane; the drops count as the lane after the last.
+-- The one list of moves of a certificate, by moment, tie and lane; the drops count as the lane
+-- after the last.
 use Rattle.std.specs.Prelude.{ℕ, ◌+◌, Option, Some, None, List, [], ◌∷◌, ◌++◌, length, map, slice_get}
 use Rattle.audit_model.specs.declared.certificate.Certificate.{Certificate}
 use Rattle.audit_model.specs.declared.certificate.CertLane.{CertLane}
@@ -12,7 +13,7 @@ use Rattle.audit_server.specs.Step.{Step, Move, In, Act, Out}
 use Rattle.audit_server.specs.Placed.{Placed, step_of}
 use Rattle.audit_server.specs.Glued.{sorted}
 
--- what an event of a lane of this pair does; what is dropped comes in
+-- the move of an event in a lane of this pair; a dropped arrival is `In`
 abbrev pub move_of : Option Pair → Event → Move
 move_of None event = In (sight_of event)
 move_of (Some pair) (events.In sight key) = In sight
@@ -33,14 +34,14 @@ the_drops certificate = map placed_of (drop_entries (length certificate.lanes) c
 abbrev pub by_lane : Certificate → List (List Placed)
 by_lane certificate = lanes_from 0 certificate.lanes ++ the_drops certificate ∷ []
 
--- all that a certificate places, by lane and place
+-- everything that a certificate places, by lane and place
 abbrev pub all_placed : Certificate → List Placed
 all_placed certificate = map placed_of (entries certificate)
 
 abbrev pub glued : Certificate → List Placed
 glued certificate = sorted (all_placed certificate)
 
--- and what the server does, which knows neither lanes nor ties
+-- and the server's steps, which have neither lanes nor ties
 abbrev pub glued_steps : Certificate → List Step
 glued_steps certificate = map step_of (glued certificate)
 

@@ -1,4 +1,4 @@
--- Permissions and channels, by what acts say of them; no table is looked at (RFC 8656, sections 9 to 12).
+-- Permissions and channels, by the content of acts, without any table (RFC 8656, sections 9 to 12).
 use Rattle.std.specs.Prelude.{ℕ, ◌≡◌, ◌==◌, IsTrue, List, ◌∷◌, ◌++◌, Option, Some, None}
 use Rattle.std.specs.List.{AllByRecursion, list_any}
 use Rattle.audit_model.specs.declared.address.Addr.{Addr}
@@ -23,7 +23,8 @@ PermitsIp (Channels number None) ip = ⊥
 PermitsIp (Channels number (Some peer)) ip = peer.ip ≡ ip
 
 module _ (taken : Taken) (key_for : KeyFor) (c : Pair) where
-  -- one of the steps is an act for the client, asked for by the user, that permits the IP for 300 seconds
+  -- one of the steps is an act for the client, requested by the user, that permits the IP for 300
+  -- seconds
   pub record Permitted (user : List ℕ) (ip until : ℕ) (since : List Step) : Type 0 where
     pub earlier : List Step
     pub act : Step
@@ -36,12 +37,13 @@ module _ (taken : Taken) (key_for : KeyFor) (c : Pair) where
     pub authentic : IsAuthentic key_for arrives.payload user
     pub until_is : until ≡ seconds_after act.moment 300
 
-  -- it is no ChannelBind success of the client for this number
+  -- it is no ChannelBind success response to the client for this number
   abbrev pub LeavesChannel : ℕ → Step → Type 0
   LeavesChannel number e =
       (arrives leaves : Sighting) → IsAct taken key_for c e arrives leaves → (peer : Option Addr) → says (situation_of taken key_for c e.moment arrives leaves) ≡ Channels (Some number) peer → ⊥
 
-  -- the last ChannelBind of the client for the number, asked for by the user, is to this peer, for 600 seconds
+  -- the last ChannelBind of the client for the number, requested by the user, is to this peer, for
+  -- 600 seconds
   pub record BoundTo (user : List ℕ) (number : ℕ) (peer : Addr) (until : ℕ) (since : List Step) : Type 0 where
     pub earlier : List Step
     pub act : Step

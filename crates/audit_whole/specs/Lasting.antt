@@ -1,4 +1,4 @@
--- An allocation that lasts, by what acts say of it; no table is looked at (RFC 8656, sections 7 and 8).
+-- An allocation that lasts, by the content of acts, without any table (RFC 8656, sections 7 and 8).
 use Rattle.std.specs.Prelude.{ℕ, ◌≡◌, ◌<◌, ◌≤◌, List, [], ◌∷◌, ◌++◌, Option, Some, None}
 use Rattle.std.specs.Bool.{MatchBool}
 use Rattle.audit_model.specs.declared.address.Addr.{Addr}
@@ -17,11 +17,11 @@ use Rattle.audit_server.specs.Step.{Step, Move, In, Act, Out}
 use Rattle.audit_whole.specs.Says.{Said, Nothing, Allocates, Refreshes, Permits, Channels, says}
 
 module _ (taken : Taken) (key_for : KeyFor) (c : Pair) where
-  -- an act for the client, with what arrived and what left
+  -- an act for the client, with this arrival and this departure
   abbrev pub situation_of : ℕ → Sighting → Sighting → Situation
   situation_of moment arrives leaves = situation_at taken.policy key_for c moment None arrives leaves
 
-  -- the step is an act for the client, and this is what arrived and what left
+  -- the step is an act for the client, with this arrival and this departure
   pub record IsAct (e : Step) (arrives leaves : Sighting) : Type 0 where
     pub sight : SightId
     pub gives : SightId
@@ -29,8 +29,9 @@ module _ (taken : Taken) (key_for : KeyFor) (c : Pair) where
     pub arrived : sighting_at taken sight ≡ Some arrives
     pub left : sighting_at taken gives ≡ Some leaves
 
-  -- By what is said at a moment, an allocation of this user, id and address goes on from one end to another: each Allocate
-  -- success tells its id and address again, and each Refresh success is the user's, comes in time, and isn't for 0 seconds.
+  -- By the content of an act, an allocation of this user, id and address goes on from one end to
+  -- another: each Allocate success response repeats its id and address, and each Refresh success
+  -- response is the user's, comes in time, and doesn't have LIFETIME 0.
   abbrev pub GoesOn : List ℕ → List ℕ → Addr → Said → List ℕ → ℕ → ℕ → (ℕ → Type 0) → Type 0
   GoesOn user id relayed Nothing payload moment until rest = rest until
   GoesOn user id relayed (Allocates tid address seconds) payload moment until rest = (tid ≡ id) × (address ≡ Some relayed) × rest until
@@ -46,7 +47,7 @@ module _ (taken : Taken) (key_for : KeyFor) (c : Pair) where
   GoesOnBetween user id relayed (Some arrives) (Some leaves) moment until rest =
       GoesOn user id relayed (says (situation_of moment arrives leaves)) arrives.payload moment until rest
 
-  -- moves of other clients leave it as it is
+  -- moves of other clients don't change it
   abbrev pub GoesOnBy : List ℕ → List ℕ → Addr → Move → ℕ → ℕ → (ℕ → Type 0) → Type 0
   GoesOnBy user id relayed (In s) moment until rest = rest until
   GoesOnBy user id relayed (Act d s t) moment until rest =
@@ -58,7 +59,8 @@ module _ (taken : Taken) (key_for : KeyFor) (c : Pair) where
   Lasts user id relayed [] end until = until ≡ end
   Lasts user id relayed (e ∷ es) end until = GoesOnBy user id relayed e.move e.moment until (Lasts user id relayed es end)
 
-  -- An earlier act, asked for by the user, gave the client the address, and it lasted since then up to an end.
+  -- An earlier act, requested by the user, granted the client the address, and it lasted from then
+  -- up to an end.
   pub record Given (user id : List ℕ) (relayed : Addr) (end : ℕ) (before since : List Step) : Type 0 where
     pub first : List Step
     pub act : Step

@@ -22,7 +22,7 @@ module _ (taken : Taken) (key_for : KeyFor) (c : Pair) where
   abbrev pub InTime : ℕ → ℕ → Type 0
   InTime moment until = moment ≤ later until taken.policy.grace
 
-  -- the client has the address, by one user; and the fact holds of that user and of the steps since
+  -- the client has the address, by one user; and that user and the later steps have the property
   pub record Live (moment : ℕ) (relayed : Addr) (before : List Step) (Fact : List ℕ → List Step → Type 0) : Type 0 where
     pub user : List ℕ
     pub id : List ℕ
@@ -38,7 +38,8 @@ module _ (taken : Taken) (key_for : KeyFor) (c : Pair) where
   abbrev pub HasChannel : ℕ → ℕ → Addr → List ℕ → List Step → Type 0
   HasChannel moment number peer user since = (until : ℕ) × BoundTo taken key_for c user number peer until since × InTime moment until
 
-  -- from the client, by its listen address, to a peer: the data of a Send indication under a permission, or that of ChannelData under its channel
+  -- from the client, by its listen address, to a peer: the data of a Send indication under a
+  -- permission, or that of ChannelData under its channel
   abbrev pub GroundedUp : ℕ → Sighting → Sighting → List Step → Type 0
   GroundedUp moment arrives leaves before =
       let x = situation_of taken key_for c moment arrives leaves in
@@ -48,7 +49,8 @@ module _ (taken : Taken) (key_for : KeyFor) (c : Pair) where
       ⊎ ((number : ℕ) × (past : ℕ) × (channel_data_of arrives.payload ≡ Some (number, leaves.payload, past))
       × Live moment leaves.from before (HasChannel moment number leaves.to)))
 
-  -- from a peer to the client, by its listen address: in a Data indication that names the peer, or in ChannelData of its channel, each under a permission
+  -- from a peer to the client, by its listen address: in a Data indication that names the peer, or
+  -- in ChannelData of its channel, each under a permission
   abbrev pub GroundedDown : ℕ → Sighting → Sighting → List Step → Type 0
   GroundedDown moment arrives leaves before =
       let x = situation_of taken key_for c moment arrives leaves in

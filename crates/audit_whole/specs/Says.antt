@@ -1,4 +1,5 @@
--- What an act says of the client's allocation by its departure, a success to the client; anything else says nothing.
+-- The content of an act for the client's allocation: that of its departure, if it is a success
+-- response to the client, and otherwise nothing.
 use Rattle.std.specs.Prelude.{ℕ, ◌==◌, if◌then◌else◌, List, Option, Some, None}
 use Rattle.audit_model.specs.declared.address.Addr.{Addr}
 use Rattle.audit_stun.specs.declared.class.Class.{Class}
@@ -10,8 +11,9 @@ use Rattle.audit_rules.specs.declared.path.Path.TheVariants.{Client, Relay}
 use Rattle.audit_rules.specs.Situation.{Situation, asked, answered, arrival_path, departure_path}
 use Rattle.audit_rules.specs.Values.{address_named, lifetime_of, channel_number_of, peer_ips_of}
 
--- of an Allocate success the transaction id, the relayed address and the seconds; of a Refresh success the seconds; of a
--- CreatePermission success the IPs, and of a ChannelBind success the number and the peer that were asked for
+-- for an Allocate success response the transaction id, the relayed address and the seconds; for a
+-- Refresh one the seconds; for a CreatePermission one the IPs, and for a ChannelBind one the number
+-- and the peer that were requested
 pub data Said : Type 0 where
   Nothing : Said
   Allocates : List ℕ → Option Addr → Option ℕ → Said

@@ -1,4 +1,4 @@
-//! What holds of every certificate, by the definitions alone. No program calls these.
+//! Properties of every certificate, by the definitions alone. No program calls these.
 
 ghost use Rattle.std.specs.Prelude.{◌≡◌, ◌≢◌, ◌≤◌, ◌↔◌, ◌++◌, ◌∷◌, ℕ, List, [], Some, IsTrue, length};
 ghost use Rattle.std.specs.List.{AllByRecursion};
@@ -35,8 +35,9 @@ ghost use Rattle.audit_whole.specs.Passes.{Passes};
 use audit_sightings::Intake;
 use audit_sightings::laws::sightings_are_bounded;
 
-/// At each move of the glued list, the client of another lane has a usable allocation with an address in the server's one
-/// table exactly where a tenancy of that lane, taken by its final end, holds the address there (RFC 8656, section 6).
+/// At each move of the glued list, the client of another lane has a usable allocation with an
+/// address in the server's one table exactly if a tenancy of that lane, taken by its final end,
+/// holds the address there (RFC 8656, section 6).
 pub fn held()
     ensures { (taken : Taken) (key_for : KeyFor) (certificate : Certificate) → let rules = rules_for taken key_for in
         AllByRecursion Rises (by_lane certificate) → EachRuns rules (lanes_from 0 certificate.lanes) →
@@ -46,42 +47,46 @@ pub fn held()
         ↔ AnyOf (HoldsAt event.at relayed) (tenancies rules other (glued certificate)) }
 {}
 
-/// What is checked part by part is what the whole has to be.
+/// The checks of the parts are equivalent to the conditions of the whole.
 pub fn parts_are_whole()
     ensures { (taken : Taken) (key_for : KeyFor) (certificate : Certificate) → AreNumbered taken →
         Passes taken (rules_for taken key_for) certificate ↔ Conforms taken (rules_for taken key_for) certificate }
 {}
 
-/// Each datagram that a run relays had an allocation that lasted, and a permission or a channel that lasted, asked for by one
-/// user; and each departure was given by an act (RFC 8656, sections 7 to 12).
+/// Each datagram that a run relays had an allocation that lasted, and a permission or a channel
+/// that lasted, requested by one user; and each departure was sent by an act (RFC 8656, sections 7
+/// to 12).
 pub fn grounded()
     ensures { (taken : Taken) (key_for : KeyFor) (list : List Step) → RunFrom (rules_for taken key_for) at_first list → IsGrounded taken key_for list }
 {}
 
-/// Whatever leaves from a relay address in a run was given by an act that has its reasons: it was sent by a client that has the
-/// address, under its permission or channel. `read_policy` gives policies whose listen addresses are in no relay range.
+/// Every departure from a relayed address in a run was sent by an act that has its reasons: the
+/// data came from a client that has the address, under its permission or channel. `read_policy`
+/// returns policies whose listen addresses are in no relay range.
 pub fn relay_addresses()
     ensures { (taken : Taken) (key_for : KeyFor) → AreApart taken.policy → (list : List Step) → RunFrom (rules_for taken key_for) at_first list →
         (before : List Step) (e : Step) (rest : List Step) → before ++ e ∷ rest ≡ list → (t : SightId) → e.move ≡ Out t →
         (leaves : Sighting) → sighting_at taken t ≡ Some leaves → IsTrue (relays taken.policy leaves.from) → IsRelayedUp taken key_for t leaves before }
 {}
 
-/// All data that leaves from a listen address in a run was given by an act that has its reasons, too: a peer sent it to the relayed
-/// address of a client, under its permission, and where it is ChannelData by its channel.
+/// All data that leaves from a listen address in a run was also sent by an act that has its
+/// reasons: a peer sent it to the relayed address of a client, under its permission, and if it is
+/// ChannelData by its channel.
 pub fn data_to_clients()
     ensures { (taken : Taken) (key_for : KeyFor) → AreApart taken.policy → (list : List Step) → RunFrom (rules_for taken key_for) at_first list →
         AreRelayed taken key_for list }
 {}
 
-/// Where all that is checked passes, the headline holds.
+/// If everything that is checked passes, the headline holds.
 pub fn headline()
     ensures { (taken : Taken) (key_for : KeyFor) (certificate : Certificate) → AreNumbered taken →
         Passes taken (rules_for taken key_for) certificate → Headline taken key_for certificate }
 {}
 
-/// Every run that explains the captures, of no more clients than a certificate has lanes, is the glued list of a certificate
-/// without skews that conforms and has a spelling: that a certificate is asked for excludes no run. `read_policy` gives policies whose listen
-/// addresses are in no relay range.
+/// Every run that explains the captures, of at most as many clients as a certificate has lanes, is
+/// the glued list of a certificate without skews that conforms and has a spelling: to require a
+/// certificate excludes no run. `read_policy` returns policies whose listen addresses are in no
+/// relay range.
 pub fn written()
     ensures { (taken : Taken) (key_for : KeyFor) (steps : List Step) → AreApart taken.policy → IsBounded taken →
         IsCaptureRun taken (rules_for taken key_for) steps → length (acting_pairs steps) ≤ MAX_LANES →
@@ -89,7 +94,7 @@ pub fn written()
         × IsCertificate (said_by certificate) × (certificate.skews ≡ []) }
 {}
 
-/// So it is for whatever an intake has taken in: its limits hold.
+/// This holds for the content of every intake, whose limits hold.
 pub fn written_of_intake(intake: &Intake)
     ensures { let taken = taken_of intake.now in (key_for : KeyFor) (steps : List Step) →
         AreApart taken.policy → IsCaptureRun taken (rules_for taken key_for) steps → length (acting_pairs steps) ≤ MAX_LANES →
@@ -100,8 +105,8 @@ pub fn written_of_intake(intake: &Intake)
     sightings_are_bounded(intake);
 }
 
-/// There are captures that a run explains: a Binding request and its success, whoever the users are. And a certificate conforms
-/// to them, whose glued list is that run.
+/// There are captures that a run explains: a Binding request and its success response, whoever the
+/// users are. And a certificate conforms to them, whose glued list is that run.
 pub fn binding_is_explained()
     ensures run { (key_for : KeyFor) → IsCaptureRun binding_capture (rules_for binding_capture key_for) binding_steps }
     ensures certificate { (key_for : KeyFor) →

@@ -1,5 +1,5 @@
-//! The one run that a certificate stands for, and what it says of the server (RFC 8656). The crate is definitions and
-//! what follows from them; no program calls it.
+//! The one run of a certificate, and what it implies about the server (RFC 8656). The crate has
+//! definitions and their consequences; no program calls it.
 #![tactic(auto)]
 
 pub mod laws;

@@ -1,4 +1,5 @@
-//! How long a claim and an entry take in a book of so many lanes. Without a number it prints nothing: `rt run -- 65536`.
+//! Measures how long a claim and an entry take in a book with this number of lanes. Without a
+//! number it prints nothing: `rt run -- 65536`.
 #![tactic(auto)]
 
 ghost use Rattle.std.specs.Prelude.{◌≡◌, IfOk};
@@ -40,7 +41,7 @@ fn input<'a>(
     lane_input(alloc, number, &lane, intake, users)
 }
 
-/// A job of so many such lanes.
+/// A job with this number of such lanes.
 fn job_of<'a>(
     alloc: Global,
     lanes: u32,
@@ -58,7 +59,7 @@ fn job_of<'a>(
     Ok(job)
 }
 
-/// What each lane shows.
+/// The finding of each lane.
 fn findings_of<'a>(alloc: Global, job: &Job<'a>) -> Result<Vec<Finding<'a>>, AllocError> {
     let mut findings = Vec::new(alloc);
     for lane in 0..job.len() {
@@ -67,7 +68,7 @@ fn findings_of<'a>(alloc: Global, job: &Job<'a>) -> Result<Vec<Finding<'a>>, All
     Ok(findings)
 }
 
-/// How many of the findings are entered.
+/// Enters the findings, and returns how many are entered.
 fn enter_all<'a, E: Audit, R: Wait>(
     rt: &R,
     book: &Book<'a, E>,
@@ -83,7 +84,7 @@ fn enter_all<'a, E: Audit, R: Wait>(
     entered
 }
 
-/// How many lanes are claimed, by so many claims.
+/// Makes this number of claims, and returns how many lanes are claimed.
 fn claim_all<E: Audit, R: Wait>(
     rt: &R,
     book: &Book<'_, E>,
@@ -99,13 +100,13 @@ fn claim_all<E: Audit, R: Wait>(
     claimed
 }
 
-/// How many nanoseconds each of so many took.
+/// The nanoseconds of each of `count` operations.
 fn nanoseconds_each(took: Duration, count: u32) -> u64 {
     let seconds = took.as_secs().saturating_mul(1_000_000_000);
     seconds.saturating_add(u64::from(took.subsec_nanos())) / u64::from(count).max(1)
 }
 
-/// The counts of claims and entries, with the nanoseconds that each took.
+/// The numbers of claims and entries, with the nanoseconds of each.
 #[derive(Clone, Copy)]
 struct Times {
     claims: u32,

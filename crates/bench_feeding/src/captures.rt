@@ -9,7 +9,7 @@ use std::fs::File;
 use std::io::Read;
 use std::rt::Files;
 
-/// The captures, each read from front to back, one at a time.
+/// The captures, each read from start to end, one at a time.
 #[derive(Drop)]
 pub struct Captures<'r, R: Files<File = File>> {
     rt: &'r R,
@@ -17,7 +17,7 @@ pub struct Captures<'r, R: Files<File = File>> {
 }
 
 impl<'r, R: Files<File = File>> Captures<'r, R> {
-    /// None is open.
+    /// No open capture.
     pub fn new(rt: &'r R) -> Self
         ensures { result.opened ≡ None }
     {

@@ -1,6 +1,7 @@
-//! How long it takes to read captures and to take them in: one after the other by one thread, side by side by so many, and one after the
-//! other in pieces of so many KiB, whose frames many threads read. `rt run -- POLICY WORKERS KIBIBYTES ROUNDS CAPTURE..`; without these
-//! words it prints nothing.
+//! Measures how long it takes to read and parse captures: one after another by one thread, in
+//! parallel by WORKERS threads, and one after another in pieces of KIBIBYTES KiB, whose frames many
+//! threads parse. `rt run -- POLICY WORKERS KIBIBYTES ROUNDS CAPTURE..`; without these arguments it
+//! prints nothing.
 #![tactic(auto)]
 
 mod captures;
@@ -19,7 +20,7 @@ use std::{env, fmt, fs, io};
 enum Way {
     InTurn,
     SideBySide(Workers),
-    /// In pieces of so many bytes.
+    /// In pieces of this number of bytes.
     FramesByThreads(usize),
 }
 
@@ -33,7 +34,7 @@ impl fmt::Display for Way {
     }
 }
 
-/// The captures, of which the frames are read by threads, piece by piece; none where one is refused.
+/// The captures, whose frames threads parse piece by piece; `None` if one is refused.
 fn frames_by_threads<R: Threads + Sync, S: Source>(
     rt: &R,
     alloc: Global,
@@ -64,7 +65,7 @@ fn frames_by_threads<R: Threads + Sync, S: Source>(
     Ok(Some(intake))
 }
 
-/// The captures, read one way; none where one is refused.
+/// The captures, read in one way; `None` if one is refused.
 fn read<R: Threads + Sync, S: Source>(
     rt: &R,
     alloc: Global,
@@ -87,7 +88,8 @@ fn read<R: Threads + Sync, S: Source>(
     }
 }
 
-/// How many microseconds it takes to read the captures, and how many sightings they give; none where one is refused.
+/// How many microseconds it takes to read the captures, and the number of their sightings; `None`
+/// if one is refused.
 fn timed<R: Threads + Clock + Sync, S: Source>(
     rt: &R,
     alloc: Global,

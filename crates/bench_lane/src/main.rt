@@ -1,4 +1,5 @@
-//! How long the parts of an audit by a certificate take, one after the other: placement, the job of the lanes, and the lanes' judgement.
+//! How long the parts of an audit by a certificate take, one after the other: placement, the job of
+//! the lanes, and the lanes' judgement.
 //! `rt run -- POLICY CREDS CERTIFICATE CAPTURE..`; without these words it prints nothing.
 #![tactic(auto)]
 

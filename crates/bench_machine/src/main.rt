@@ -1,4 +1,5 @@
-//! How long the machine takes to judge a certificate's moves, and whether it says what `check` says.
+//! How long the machine takes to judge a certificate's moves, and whether it says what `check`
+//! says.
 //! `rt run -- POLICY CREDS CERTIFICATE CAPTURE..`; without these words it prints nothing.
 #![tactic(auto)]
 

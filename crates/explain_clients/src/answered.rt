@@ -6,7 +6,7 @@ use audit_stun::{Class, message};
 use std::alloc::{AllocError, Global};
 use std::collections::BTreeMap;
 
-/// The requests of captures, and the clients that sent them. A request that is sent again counts once.
+/// The requests of captures, and the clients that sent them. A retransmitted request counts once.
 #[derive(Clone, Copy, Debug)]
 pub struct Answered {
     pub requests: u64,
@@ -19,7 +19,8 @@ pub struct Answered {
 }
 
 impl Answered {
-    /// The share of the requests that have a response, in whole percent below it; 0 if there are no requests.
+    /// The share of the requests that have a response, in percent, rounded down; 0 if there are no
+    /// requests.
     pub fn percent(&self) -> u64 {
         match self.requests {
             0 => 0,
@@ -42,7 +43,7 @@ struct Transaction {
     id: [u8; 12],
 }
 
-/// What captures have of requests and responses.
+/// The requests and clients of the captures so far.
 #[derive(Drop)]
 struct Counter {
     /// Whether each has a response.
@@ -71,7 +72,7 @@ pub fn count_answered(alloc: Global, intake: &Intake) -> Result<Answered, AllocE
 }
 
 impl Counter {
-    /// Notes a request, and its client.
+    /// Records a request, and its client.
     fn note_request(&mut self, intake: &Intake, sighting: &Sighting) -> Result<(), AllocError> {
         if sighting.side != Side::Arrives || !intake.policy().listens(sighting.to) {
             return Ok(());
@@ -92,7 +93,7 @@ impl Counter {
         Ok(())
     }
 
-    /// Notes what leaves for a client that sends requests.
+    /// Records a departure to a client that sends requests.
     fn note_departure(&mut self, sighting: &Sighting) {
         if sighting.side != Side::Leaves {
             return;

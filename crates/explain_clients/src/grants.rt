@@ -11,7 +11,7 @@ use std::alloc::{AllocError, Global};
 #[derive(Clone, Copy, Debug)]
 pub struct Grant {
     pub relayed: Addr,
-    /// When the success response left, in nanoseconds since 1970.
+    /// The stamp of the success response, in nanoseconds since 1970.
     pub stamp: u64,
     pub client: Addr,
     /// The success response.

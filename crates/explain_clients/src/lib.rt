@@ -1,6 +1,6 @@
-//! What captures show of the server's clients: who was granted which relayed address, for whom data
-//! is that the server sends, and how many requests have a response. Texts for people rest on it, no
-//! verdict does.
+//! Facts about the server's clients in captures: who was granted which relayed address, for which
+//! client data is that the server sends, and how many requests have a response. Texts for people
+//! depend on them; no verdict does.
 #![tactic(auto)]
 
 mod answered;

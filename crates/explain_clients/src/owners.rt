@@ -1,4 +1,4 @@
-//! For whom data is that the server sends to a client.
+//! For which client the data is that the server sends to a client.
 
 use crate::grants::{Grant, Grants};
 use audit_model::{Addr, Side, SightId, Sighting};
@@ -8,20 +8,21 @@ use audit_stun::{Class, channel_data, message};
 use std::alloc::{AllocError, Global};
 use std::collections::BTreeSet;
 
-/// How many arrivals of the same data are compared with a departure at most, so that the cost is bounded.
+/// How many arrivals of the same data are compared with a departure at most, so that the cost is
+/// bounded.
 const MOST_COMPARED: usize = 16;
 
-/// What arrives at a relayed address.
+/// An arrival at a relayed address.
 #[derive(Clone, Copy, PartialEq, Eq, PartialOrd, Ord)]
 struct Arrival {
-    /// Equal data has one digest.
+    /// Equal data has the same digest.
     digest: u64,
     stamp: u64,
     sight: SightId,
 }
 
 impl Arrival {
-    /// That of a datagram with this data.
+    /// The arrival of a datagram with this data.
     fn of(sighting: &Sighting, data: &[u8]) -> Self {
         Arrival {
             digest: digest_of(data),
@@ -34,24 +35,24 @@ impl Arrival {
 /// Data that was for one client and left for another.
 #[derive(Clone, Copy, Debug)]
 pub struct Misdelivery {
-    /// How the data arrived.
+    /// The arrival of the data.
     pub arrival: SightId,
-    /// To whom the relayed address was granted at which it arrived.
+    /// The grant of the relayed address at which it arrived.
     pub grant: Grant,
     /// Whether the receiver sends anything to a listen address.
     pub has_sent: bool,
 }
 
-/// What captures show of relayed addresses and their clients.
+/// The facts of captures about relayed addresses and their clients.
 #[derive(Drop)]
 pub struct Owners<'a> {
     intake: &'a Intake,
     grants: Grants,
-    /// Who sends something to a listen address.
+    /// The addresses that send something to a listen address.
     senders: BTreeSet<Addr>,
-    /// What arrives at relayed addresses, by digest, then in the order of their stamps.
+    /// The arrivals at relayed addresses, by digest, then in the order of their stamps.
     arrivals: Vec<Arrival>,
-    /// The same of data that clients send.
+    /// The same for data that clients send.
     sent: Vec<Arrival>,
 }
 
@@ -88,7 +89,7 @@ pub fn has_relayed(intake: &Intake) -> bool {
     false
 }
 
-/// FNV-1a of data, in 64 bits. It is compared whole where two agree.
+/// FNV-1a of data, in 64 bits. Data with equal digests is compared as a whole.
 fn digest_of(data: &[u8]) -> u64 {
     let mut digest = 0xcbf2_9ce4_8422_2325u64;
     for byte in data {
@@ -110,7 +111,7 @@ fn data_in(payload: &[u8]) -> Option<&[u8]> {
 }
 
 impl<'a> Owners<'a> {
-    /// Those of all captures. It takes n log n in the sightings.
+    /// The facts of all captures. It takes n log n in the sightings.
     pub fn of(alloc: Global, intake: &'a Intake) -> Result<Self, AllocError> {
         let mut owners = Owners {
             intake,
@@ -151,8 +152,8 @@ impl<'a> Owners<'a> {
     }
 
     /// The nearest arrival, within `hold` before a departure to a client, of the same data at a
-    /// relayed address of another client; none if an arrival has it, too, at an address of the
-    /// receiver, or at one that no capture grants, and if more arrivals may be in reach than are
+    /// relayed address of another client. `None` if an arrival has it, too, at an address of the
+    /// receiver, or at one that no capture grants, or if more arrivals may be in reach than are
     /// compared. It takes log n in the sightings.
     pub fn misdelivery(&self, departure: &Sighting) -> Option<Misdelivery> {
         if departure.side != Side::Leaves || !self.intake.policy().listens(departure.from) {

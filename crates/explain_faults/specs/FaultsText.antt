@@ -1,4 +1,5 @@
--- The report of shown faults, line by line. A decimal number has no leading zero, and moments are nanoseconds.
+-- The report of shown faults, line by line. A decimal number has no leading zero, and moments are
+-- nanoseconds.
 use Rattle.std.specs.Prelude.{ℕ, Bool, ◌&&◌, not, List, [], ◌∷◌, ◌++◌, Option, None, Some, codes, decimal, count_by, length, string_bytes}
 use Rattle.audit_faults.specs.declared.fault.Fault.{Fault}
 use Rattle.audit_faults.specs.declared.fault.Fault.TheVariants.{Unasked, Unallocated, Unpermitted, Unbound, Unfit, Unauthentic}
@@ -11,11 +12,12 @@ use Rattle.audit_sightings.specs.ByInterface.{count_of}
 use Rattle.explain_faults.specs.declared.reported.Reported.{Reported}
 use Rattle.explain_faults.specs.Wording.{title_of, beginning_of, reason_of, same_fault}
 
--- `fault I.N TITLE`, and the beginning
+-- `fault I.N TITLE`, and whether the start was captured
 abbrev pub title_lines : ShownFault → Bool → List ℕ
 title_lines shown is_misdelivered = codes "fault " ++ (decimal shown.sight.iface ++ (codes "." ++ (decimal shown.sight.index ++ (codes " " ++ (title_of shown.fault ++ (codes "\n" ++ beginning_of shown.fault shown.may_predate is_misdelivered))))))
 
--- the last success that granted what it lacked, and by how much it is too early for what asked for it
+-- the last success response that granted the lease, and by how much it is too early for the
+-- datagram that needed it
 abbrev pub last_line : Option LastGrant → List ℕ
 last_line None = []
 last_line (Some last) =
@@ -23,7 +25,7 @@ last_line (Some last) =
     ++ (decimal last.success.iface
     ++ (codes "." ++ (decimal last.success.index ++ (codes ", too early by " ++ (decimal last.too_early ++ (codes " nanoseconds for datagram " ++ (decimal last.asked.iface ++ (codes "." ++ (decimal last.asked.index ++ codes "\n")))))))))
 
--- a fault, its datagram, its reason, what was looked at, and its note
+-- a fault, its datagram, its reason, the last grant, and its note
 abbrev pub fault_lines : Taken → Reported → List ℕ
 fault_lines taken reported =
     title_lines reported.shown reported.is_misdelivered ++ sighting_line reported.shown.sight (sighting_at taken reported.shown.sight) ++ reason_of reported.shown.fault reported.shown.granted ++ last_line reported.shown.last ++ string_bytes reported.note
@@ -32,7 +34,7 @@ abbrev pub all_lines : Taken → List Reported → List ℕ
 all_lines taken [] = []
 all_lines taken (reported ∷ faults) = fault_lines taken reported ++ all_lines taken faults
 
--- the tolerances, without which nothing is a fault
+-- the tolerances, on which each fault depends
 abbrev pub heading : Policy → List ℕ
 heading policy =
     codes "turnaudit-faults 1\ntolerances hold "
@@ -45,7 +47,7 @@ number_of_fault fault faults = count_by (λ reported. same_fault reported.shown.
 abbrev pub is_not_begun : Reported → Bool
 is_not_begun reported = reported.shown.may_predate && not reported.is_misdelivered
 
--- how many there are, of each fault and of datagrams
+-- the numbers of faults, of each kind and of datagrams
 abbrev pub first_counts : List Reported → List ℕ
 first_counts faults =
     codes "shown "
@@ -71,7 +73,7 @@ counts_line taken faults = first_counts faults ++ last_counts taken faults
 abbrev pub faults_text : Taken → List ℕ → List Reported → List ℕ
 faults_text taken first faults = heading taken.policy ++ first ++ all_lines taken faults ++ counts_line taken faults
 
--- 1 where there is one
+-- 1 if there is one
 abbrev pub status_of : List Reported → ℕ
 status_of [] = 0
 status_of (shown ∷ faults) = 1

@@ -1,4 +1,4 @@
--- What a run comes to, from the bytes of its files to its report.
+-- The result of a run, from the bytes of its files to its report.
 use Rattle.std.specs.Prelude.{◌≡◌, ℕ, List, Option, map}
 use Rattle.audit_faults.specs.Shown.{AreFaults}
 use Rattle.audit_files.specs.Judged.{AreRead}
@@ -8,7 +8,8 @@ use Rattle.audit_sightings.specs.Intake.{Taken}
 use Rattle.explain_faults.specs.declared.reported.Reported.{Reported}
 use Rattle.explain_faults.specs.FaultsText.{faults_text, status_of}
 
--- All faults that the captures show were written, with notes that the clause leaves open, and the status says whether there are any.
+-- All faults that the captures show were written, with notes that the clause doesn't specify, and
+-- the status is 1 if there are any.
 pub record AreTold (taken : Taken) (key_for : KeyFor) (before after : Option (List ℕ)) (status : ℕ) : Type 0 where
   pub faults : List Reported
   pub all : AreFaults taken key_for (map (λ reported. reported.shown) faults)
@@ -16,7 +17,7 @@ pub record AreTold (taken : Taken) (key_for : KeyFor) (before after : Option (Li
   pub written : after ≡ followed_by before (faults_text taken first faults)
   pub told : status ≡ status_of faults
 
--- those that the bytes of these files show
+-- the same for the bytes of these files
 pub record AreToldOf (policy users : List ℕ) (captures : List (List ℕ)) (before after : Option (List ℕ)) (status : ℕ) : Type 0 where
   pub taken : Taken
   pub key_for : KeyFor

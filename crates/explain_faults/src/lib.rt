@@ -1,4 +1,4 @@
-//! The report of shown faults: what no order of captures explains.
+//! The report of shown faults: departures that no order of the captures explains.
 #![tactic(auto)]
 
 mod noting;

@@ -1,4 +1,4 @@
-//! What is noted of a fault: whose the relayed address is, and for whom the data was.
+//! Notes about a fault: who has the relayed address, and for which client the data was.
 
 use audit_faults::{Fault, ShownFault};
 use audit_model::{Addr, SightId, Sighting};
@@ -8,7 +8,7 @@ use explain_frames::{Frames, GrantSource};
 use explain_text::Quoted;
 use std::alloc::{AllocError, Global};
 
-/// What notes are made by.
+/// The facts from which notes are made.
 #[derive(Drop)]
 pub struct Notes<'a> {
     pub intake: &'a Intake,
@@ -21,11 +21,11 @@ pub struct Notes<'a> {
     pub last: Option<SightId>,
 }
 
-/// The rules that no kind of fault is about, for the end of the report.
+/// The rules that no kind of fault covers, for the end of the report.
 pub const NOT_CHECKED: &str =
     "not checked: a second departure for one arrival (S10), the user of an allocation (R3), its deletion or expiry (R4, R5), channels, allocations and relayed addresses in use (R11, R20, R22), a new allocation's relayed address, lifetime, transport and attributes (R14, R15, R16, R21), the integrity of responses (R18), when 437 or 441 is right (R19): turnexplain verdict judges by all rules\n";
 
-/// The relayed address from which a departure leaves that nothing caused.
+/// The relayed address of a departure without a cause.
 fn relayed_of(intake: &Intake, shown: &ShownFault) -> Option<Addr> {
     let sighting = intake.sighting(shown.sight)?;
     if shown.fault == Fault::Unasked && !intake.policy().listens(sighting.from) {
@@ -35,7 +35,7 @@ fn relayed_of(intake: &Intake, shown: &ShownFault) -> Option<Addr> {
     }
 }
 
-/// Asks for the frames that grant the relayed addresses of faults and aren't judged.
+/// Requests the frames that grant the relayed addresses of faults and aren't judged.
 pub fn request_frames(
     intake: &Intake,
     owners: &Owners<'_>,
@@ -52,8 +52,8 @@ pub fn request_frames(
     Ok(())
 }
 
-/// Whether a fault's data was for another client, and the lines of its note; after the last fault's
-/// what isn't checked.
+/// Whether a fault's data was for another client, and the lines of its note; after the last fault
+/// the note also lists the rules that aren't checked.
 pub fn note_of(
     alloc: Global,
     notes: &Notes<'_>,
@@ -88,7 +88,7 @@ fn own_note(
     Ok((false, text))
 }
 
-/// For whom the data was.
+/// The line about for which client the data was.
 fn text_of_misdelivery(
     alloc: Global,
     departure: &Sighting,
@@ -108,7 +108,7 @@ fn text_of_misdelivery(
     )
 }
 
-/// Whose a relayed address is.
+/// The line about who has a relayed address.
 fn text_of_owner(alloc: Global, notes: &Notes<'_>, relayed: Addr) -> Result<String, AllocError> {
     if let Some(grant) = notes.owners.granted(relayed) {
         let client = grant.client;
@@ -133,7 +133,7 @@ fn text_of_owner(alloc: Global, notes: &Notes<'_>, relayed: Addr) -> Result<Stri
     }
 }
 
-/// What is known of a departure to a client that nothing caused.
+/// The line about a departure to a client without a cause.
 fn text_of_departure(
     alloc: Global,
     notes: &Notes<'_>,

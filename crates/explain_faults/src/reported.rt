@@ -1,4 +1,4 @@
-//! Shown faults, with what is noted of each for its reader.
+//! Shown faults, with a note about each for the reader.
 
 ghost use Rattle.std.specs.Prelude.{◌≡◌, IfOk, map};
 
@@ -12,7 +12,7 @@ pub struct Reported {
     pub shown: ShownFault,
     /// Whether its data was for another client: then the captures didn't begin too late for it.
     pub is_misdelivered: bool,
-    /// Lines after those of the fault, on which no clause depends.
+    /// Lines after those of the fault, on which no guarantee depends.
     pub note: String,
 }
 

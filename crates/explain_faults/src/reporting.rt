@@ -63,7 +63,7 @@ fn lines_of_title(
     format!(in alloc; "fault {iface}.{index} {title}\n{beginning}")
 }
 
-/// The line of a success that granted what a departure lacked.
+/// The line of a success response that granted the lease that a departure lacked.
 fn line_of_grant(alloc: Global, last: LastGrant) -> Result<String, AllocError>
     ensures { IfOk result (λ line. string_bytes line ≡ last_line (Some last)) }
 {
@@ -77,7 +77,7 @@ fn line_of_grant(alloc: Global, last: LastGrant) -> Result<String, AllocError>
     )
 }
 
-/// The same, where there is one.
+/// The same, if there is one.
 fn line_of_last(alloc: Global, last: Option<LastGrant>) -> Result<String, AllocError>
     ensures { IfOk result (λ line. string_bytes line ≡ last_line last) }
 {
@@ -124,7 +124,7 @@ fn lines_of_heading(alloc: Global, policy: &Policy) -> Result<String, AllocError
     )
 }
 
-/// How many are this fault.
+/// The number of reports of this fault.
 fn number(faults: &[Reported], fault: Fault) -> usize
     ensures { result ≡ number_of_fault fault faults.now }
 {
@@ -134,7 +134,7 @@ fn number(faults: &[Reported], fault: Fault) -> usize
         .count()
 }
 
-/// How many may be the captures' fault.
+/// The number of faults for which the captures began too late.
 fn not_begun(faults: &[Reported]) -> usize
     ensures { result ≡ count_by is_not_begun faults.now }
 {
@@ -157,7 +157,7 @@ fn text_of_first_counts(alloc: Global, faults: &[Reported]) -> Result<String, Al
     )
 }
 
-/// The second half.
+/// The second half of the last line.
 fn text_of_last_counts(
     alloc: Global,
     intake: &Intake,
@@ -200,7 +200,7 @@ fn whole_report(
     Ok(text)
 }
 
-/// The status that says whether there are any.
+/// The status: 1 if there are any faults.
 pub fn status(faults: &[Reported]) -> u8
     ensures { result ≡ status_of faults.now }
 {

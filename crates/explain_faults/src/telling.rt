@@ -1,4 +1,4 @@
-//! What no order of captures explains, as a report.
+//! The report of departures that no order of the captures explains.
 
 ghost use Rattle.std.specs.Prelude.{◌≡◌, [], ℕ, IfNone, IfOk, IfSome, List, Some};
 ghost use Rattle.std.specs.List.{AllZip};
@@ -20,11 +20,11 @@ use explain_lookup::look_up;
 use std::alloc::Global;
 use std::thread::Threads;
 
-/// What is said first if no datagram of the captures is at a relayed address of the policy.
+/// The first note if no datagram of the captures is at a relayed address of the policy.
 const NOTHING_RELAYED: &str =
     "note: no captured datagram is at a relayed address of the policy, so that no data below shows a fault of the server: check its relay lines, the captured interfaces, and whether turnprep translate was left out\n";
 
-/// What notes are made by. The captures are read once more, for frames that aren't judged.
+/// The facts for notes. The captures are read again, for frames that aren't judged.
 fn notes_of<'a, S: Source>(
     alloc: Global,
     source: &mut S,
@@ -47,7 +47,7 @@ fn notes_of<'a, S: Source>(
     })
 }
 
-/// What is said first of faults; if there are none, what isn't checked.
+/// The note before the faults; if there are none, the list of rules that aren't checked.
 fn first_note(intake: &Intake, faults: &[ShownFault]) -> &'static str {
     if faults.is_empty() {
         return NOT_CHECKED;
@@ -85,7 +85,8 @@ pub fn tell_faults<S: Source, O: Sink>(
     Ok(status(reported))
 }
 
-/// The same of files. They are read in this order: policy, users, captures; each is judged before the next is read.
+/// The same for files. They are read in this order: policy, users, captures; each is judged before
+/// the next is read.
 pub fn faults_of_files<R: Threads + Sync, S: Source, O: Sink>(
     rt: &R,
     alloc: Global,

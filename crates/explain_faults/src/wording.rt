@@ -1,11 +1,11 @@
-//! The words for the faults.
+//! The texts for the faults.
 
 ghost use Rattle.std.specs.Prelude.{◌≡◌};
 ghost use Rattle.explain_faults.specs.Wording.{title_of, beginning_of, allocation_reason, permission_reason, channel_reason, reason_of, same_fault};
 
 use audit_faults::{Fault, Granted};
 
-/// What the server did.
+/// The server's action.
 pub fn title(fault: Fault) -> &'static str
     ensures { result.now ≡ title_of fault }
 {
@@ -19,13 +19,12 @@ pub fn title(fault: Fault) -> &'static str
     }
 }
 
-/// What is reported if the beginning of no client's allocation was captured.
+/// The line if the capture has the start of no client's allocation.
 const NOT_CAPTURED: &str =
     "beginning not captured: the capture began too late for that relayed address; no captured Allocate success response granted it to a client for which this datagram may have been sent, and whose request came before this datagram\n";
 
-/// Whether the captures have the beginning of the allocation of a client for which the departure may
-/// have been sent, if that matters. Of data that was for another client it isn't the beginning that
-/// is missing.
+/// Whether the captures have the start of the allocation of a client for which the departure may
+/// have been sent, if that matters. It doesn't if the data was for another client.
 pub fn beginning(fault: Fault, predates: bool, is_misdelivered: bool) -> &'static str
     ensures { result.now ≡ beginning_of fault predates is_misdelivered }
 {
@@ -81,7 +80,7 @@ fn of_channel(granted: Granted) -> &'static str
     }
 }
 
-/// What no captured arrival had.
+/// The requirement that no captured arrival meets.
 pub fn reason(fault: Fault, granted: Option<Granted>) -> &'static str
     ensures { result.now ≡ reason_of fault granted }
 {

@@ -1,4 +1,4 @@
-//! Counting the frames of a capture, and the service's datagrams of each interface in it.
+//! Counts the frames of a capture, and the service's datagrams of each interface in it.
 
 ghost use Rattle.std.specs.Prelude.{◌≡◌, ◌<◌, [], ◌∷◌, ◌++◌, ℕ, Bool, List, length, is_some, IfOk, IfSome, IfNone, OnOk};
 ghost use Rattle.audit_model.specs.declared.sighting.SightId.{SightId as AnySight};
@@ -17,11 +17,11 @@ use audit_packets::{Seen, slice_datagram};
 use audit_pcapng::{BlockReader, CaptureFault, Packet, PacketSlice};
 use std::alloc::{AllocError, Global};
 
-/// How many sightings of an interface have a name.
+/// The number of sightings of an interface that can have a name.
 const INDICES: u64 = 4_294_967_296;
 
-/// Goes over a capture that comes in pieces, and notes the frames that are asked for. It keeps the
-/// one block that is not yet whole.
+/// Reads a capture that comes in pieces, and records the requested frames. It keeps the one block
+/// that is not yet complete.
 #[derive(Drop)]
 pub struct FrameCounter<'p> {
     policy: &'p Policy,
@@ -33,7 +33,7 @@ pub struct FrameCounter<'p> {
 }
 
 impl<'p> FrameCounter<'p> {
-    /// Before the first byte of the file of that number, from 0.
+    /// Before the first byte of the file with this number, from 0.
     pub fn new(alloc: Global, policy: &'p Policy, file: u16) -> Result<Self, AllocError>
         ensures counts { IfOk result (λ counter. Counts policy.now counter.tally []) }
         ensures read { IfOk result (λ counter. StandsFor counter.reader [] []) }
@@ -49,9 +49,9 @@ impl<'p> FrameCounter<'p> {
         })
     }
 
-    /// Takes the next piece of the capture. Of each packet it takes log n in the sightings that are
-    /// asked for. It fails as `BlockReader::start` and `BlockReader::next` do, and for want of
-    /// memory.
+    /// Feeds the next piece of the capture. For each packet it takes log n in the requested
+    /// sightings. It fails as `BlockReader::start` and `BlockReader::next` do, and if memory is
+    /// out.
     pub fn feed(&mut self, piece: &[u8], frames: &mut Frames) -> Result<(), CaptureFault>
         ensures goes { (text : List ℕ) (wanted : AnySight → Bool) (packets_of : ℕ → List AnyPacket) → Goes self.old frames.old text wanted packets_of →
             OnOk result (Went self.new frames.new (text ++ piece.now) wanted packets_of) }
@@ -62,7 +62,8 @@ impl<'p> FrameCounter<'p> {
         self.take_rest(rest, frames)
     }
 
-    /// Takes the packet of the block that was held, once the piece makes it whole, and gives the bytes behind it.
+    /// Reads the packet of the block that was kept, if the piece completes it, and returns the
+    /// bytes after it.
     fn start<'a>(&mut self, piece: &'a [u8], frames: &mut Frames) -> Result<&'a [u8], CaptureFault>
         ensures goes { (text : List ℕ) (wanted : AnySight → Bool) (packets_of : ℕ → List AnyPacket) → Goes self.old frames.old text wanted packets_of →
             IfOk result (λ rest. Amid self.new frames.new (text ++ piece.now) wanted packets_of rest.now) }
@@ -75,7 +76,7 @@ impl<'p> FrameCounter<'p> {
         Ok(rest)
     }
 
-    /// Takes the packets of what is left of a piece.
+    /// Reads the packets of the rest of a piece.
     fn take_rest(&mut self, rest: &[u8], frames: &mut Frames) -> Result<(), CaptureFault>
         ensures goes { (text : List ℕ) (wanted : AnySight → Bool) (packets_of : ℕ → List AnyPacket) → Amid self.old frames.old text wanted packets_of rest.now →
             OnOk result (Went self.new frames.new text wanted packets_of) }
@@ -89,7 +90,8 @@ impl<'p> FrameCounter<'p> {
         Ok(())
     }
 
-    /// Takes the next packet of what is left of a piece, and gives the bytes behind it if there is one.
+    /// Reads the next packet of the rest of a piece, and returns the bytes after it if there is
+    /// one.
     fn take_next<'a>(
         &mut self,
         rest: &'a [u8],
@@ -112,7 +114,7 @@ impl<'p> FrameCounter<'p> {
         }
     }
 
-    /// Takes packets, in order.
+    /// Reads packets, in order.
     fn take_all(&mut self, packets: &[Packet], frames: &mut Frames) -> Result<(), AllocError>
         ensures takes { OnOk result (TakesIn self.old.policy.now self.old.file self.old.tally self.new.tally frames.old frames.new packets.now) }
         ensures reader { self.new.reader ≡ self.old.reader }
@@ -125,7 +127,7 @@ impl<'p> FrameCounter<'p> {
         Ok(())
     }
 
-    /// Counts a packet, and notes its frame where it shows a sighting that is asked for.
+    /// Counts a packet, and records its frame if it shows a requested sighting.
     fn take(&mut self, packet: PacketSlice<'_>, frames: &mut Frames) -> Result<(), AllocError>
         ensures takes { OnOk result (TakesIn self.old.policy.now self.old.file self.old.tally self.new.tally frames.old frames.new (packet_of packet.entry ∷ [])) }
         ensures reader { self.new.reader ≡ self.old.reader }

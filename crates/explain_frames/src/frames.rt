@@ -1,4 +1,4 @@
-//! The frames of the sightings that are asked for.
+//! The frames of the requested sightings.
 
 ghost use Rattle.std.specs.Prelude.{◌≡◌, ◌<◌, ◌+◌, ◌*◌, ◌&&◌, ◌||◌, ℕ, Bool, false, [], List, OnOk, Some, None, is_some, slice_get, if◌then◌else◌};
 ghost use Rattle.audit_model.specs.declared.policy.Policy.{Policy as AnyPolicy};
@@ -17,25 +17,25 @@ use std::collections::BTreeMap;
 /// A frame of a capture.
 #[derive(Clone, Copy, Debug, PartialEq, Eq)]
 pub struct Frame {
-    /// Its number in its file, from 1, all packets counted.
+    /// Its number in its file, from 1, counting all packets.
     pub number: u64,
-    /// When the capture says that it was seen, in nanoseconds since 1970.
+    /// Its stamp in the capture, in nanoseconds since 1970.
     pub stamp: u64,
 }
 
-/// The sightings that are asked for, and their frames as far as the captures were gone over.
+/// The requested sightings, and their frames in the captures that were read so far.
 #[derive(Drop)]
 pub struct Frames {
     found: SightMap<Option<Frame>>,
     /// The least stamp of all packets so far.
     first: Option<u64>,
-    /// The relayed addresses that are asked for, each with the first frame that grants it and isn't judged.
+    /// The requested relayed addresses, each with the first frame that grants it and isn't judged.
     granted: BTreeMap<Addr, Option<GrantFrame>>,
     alloc: Global,
 }
 
 impl Frames {
-    /// Nothing is asked for. It takes no memory.
+    /// No requests. It takes no memory.
     pub fn new(alloc: Global) -> Frames
         ensures { (policy : AnyPolicy) (packets_of : ℕ → List Packet) → Shows result policy (λ _. false) packets_of }
     {
@@ -47,7 +47,7 @@ impl Frames {
         }
     }
 
-    /// Asks for a sighting, before the captures are gone over.
+    /// Requests a sighting, before the captures are read.
     pub fn ask(&mut self, sight: SightId) -> Result<(), AllocError>
         ensures { (policy : AnyPolicy) (wanted : SightId → Bool) → Shows self.old policy wanted (λ _. []) →
             OnOk result (Shows self.new policy (λ other. same_sight other sight || wanted other) (λ _. [])) }
@@ -55,10 +55,11 @@ impl Frames {
         self.found.put(sight, None)
     }
 
-    /// The frame of a sighting that was asked for; none where no capture that was gone over has it. It takes log n in
-    /// those that were asked for.
+    /// The frame of a requested sighting; `None` if no capture that was read has it. It takes log n
+    /// in the requested sightings.
     pub fn frame(&self, sight: SightId) -> Option<Frame>
-        // The n-th sighting of an interface is in the packet that has the interface's n-th datagram of the service.
+        // The n-th sighting of an interface is in the packet that has the interface's n-th datagram
+        // of the service.
         ensures { (policy : AnyPolicy) (wanted : SightId → Bool) (packets_of : ℕ → List Packet) (file number : ℕ) →
             Shows self.now policy wanted packets_of → number < 64 → sight.iface ≡ 64 * file + number →
             result ≡ (if wanted sight then slice_get (frames_of policy number (packets_of file)) sight.index else None) }
@@ -66,13 +67,13 @@ impl Frames {
         self.found.get(sight)?
     }
 
-    /// The least stamp of all packets, in nanoseconds since 1970; none where there was no packet.
+    /// The least stamp of all packets, in nanoseconds since 1970; `None` if there was no packet.
     pub fn first(&self) -> Option<u64> {
         self.first
     }
 
-    /// Asks which frame grants this relayed address and isn't judged: one of TCP or IPv6, or of an
-    /// endpoint that the policy lacks.
+    /// Requests the frame that grants this relayed address and isn't judged: one of TCP or IPv6, or
+    /// of an endpoint that the policy lacks.
     pub fn look_for_grant(&mut self, relayed: Addr) -> Result<(), AllocError>
         ensures { self.new.found ≡ self.old.found }
     {
@@ -80,7 +81,7 @@ impl Frames {
         Ok(())
     }
 
-    /// Whether any such address is asked for.
+    /// Whether any such address is requested.
     pub fn looks_for_grants(&self) -> bool {
         !self.granted.is_empty()
     }
@@ -90,7 +91,7 @@ impl Frames {
         *self.granted.get(&relayed)?
     }
 
-    /// Notes that a packet was seen then.
+    /// Records the stamp of a packet.
     pub(crate) fn note_stamp(&mut self, stamp: u64)
         ensures { self.new.found ≡ self.old.found }
     {
@@ -100,7 +101,7 @@ impl Frames {
         };
     }
 
-    /// Notes the frame of a sighting, where it is asked for.
+    /// Records the frame of a sighting, if it is requested.
     pub(crate) fn note_frame(&mut self, sight: SightId, frame: Frame) -> Result<(), AllocError>
         ensures { OnOk result ((other : SightId) → kept_for self.new other
             ≡ (if same_sight other sight && is_some (kept_for self.old sight) then Some (Some frame) else kept_for self.old other)) }
@@ -111,7 +112,7 @@ impl Frames {
         self.found.put(sight, Some(frame))
     }
 
-    /// Looks whether a packet that isn't the service's grants a relayed address that is asked for.
+    /// Records the grants of a packet that isn't of the service, if their addresses are requested.
     pub(crate) fn note_unjudged_grants(
         &mut self,
         policy: &Policy,
@@ -130,7 +131,7 @@ impl Frames {
     }
 }
 
-/// Notes the frame of each address that is asked for and has none yet.
+/// Records the frame of each requested address that has none yet.
 fn note_grants(
     granted: &mut BTreeMap<Addr, Option<GrantFrame>>,
     found: &[GrantedBy],

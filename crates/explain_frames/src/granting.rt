@@ -1,4 +1,4 @@
-//! Frames that tell a relayed address and aren't judged.
+//! Frames that grant a relayed address and aren't judged.
 
 use audit_model::{Addr, Policy};
 use audit_packets::{Seen, slice_datagram};
@@ -10,7 +10,7 @@ use prep_cut::FarEnd;
 use prep_records::note_granted_address;
 use std::alloc::{AllocError, Global};
 
-/// How an Allocate success came that isn't one of the service's datagrams.
+/// The way of an Allocate success response that isn't one of the service's datagrams.
 #[derive(Clone, Copy, Debug)]
 pub enum GrantSource {
     /// To a client by TCP or IPv6.
@@ -19,7 +19,7 @@ pub enum GrantSource {
     Unlisted { server: Addr, client: Addr },
 }
 
-/// A frame that tells a relayed address.
+/// A frame that grants a relayed address.
 #[derive(Clone, Copy, Debug)]
 pub struct GrantFrame {
     pub source: GrantSource,
@@ -38,14 +38,14 @@ pub fn granted_address(payload: &[u8]) -> Option<Addr> {
     address(response.first(XOR_RELAYED_ADDRESS)?)
 }
 
-/// A relayed address that a packet grants which isn't the service's.
+/// A relayed address that is granted by a packet not of the service.
 #[derive(Clone, Copy, Debug)]
 pub(crate) struct GrantedBy {
     pub(crate) relayed: Addr,
     pub(crate) source: GrantSource,
 }
 
-/// What a frame of TCP or IPv6 grants.
+/// The grants of a frame of TCP or IPv6.
 fn elsewhere(
     alloc: Global,
     policy: &Policy,
@@ -63,7 +63,7 @@ fn elsewhere(
     Ok(all)
 }
 
-/// What a packet grants that isn't the service's.
+/// The grants of a packet that isn't of the service.
 pub(crate) fn granted_in(
     alloc: Global,
     policy: &Policy,

@@ -1,4 +1,4 @@
-//! Which frame of a capture shows a sighting, as Wireshark numbers frames.
+//! Finds the frame of a capture that shows a sighting, numbered as Wireshark numbers frames.
 #![tactic(auto)]
 
 mod counter;

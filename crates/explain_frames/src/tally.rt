@@ -1,4 +1,4 @@
-//! How many packets a file has so far, and of each interface how many datagrams of the service.
+//! The number of packets of a file so far, and of datagrams of the service on each interface.
 
 ghost use Rattle.std.specs.Prelude.{◌≡◌, ◌<◌, ◌+◌, ◌-◌, ◌^◌, ℕ, min, vec_len, slice_index_or, slice_set, IfOk};
 
@@ -17,7 +17,7 @@ pub(crate) struct Tally {
 }
 
 impl Tally {
-    /// Of no packets.
+    /// No packets.
     pub(crate) fn new(alloc: Global) -> Result<Tally, AllocError>
         ensures packets { IfOk result (λ tally. tally.packets ≡ 0) }
         ensures sightings { IfOk result (λ tally. (number : ℕ) → number < 64 → slice_index_or tally.sightings.items number 0 ≡ 0) }
@@ -36,7 +36,7 @@ impl Tally {
         self.packets = self.packets.saturating_add(1);
     }
 
-    /// Counts a datagram of the service, and gives how many the interface had before.
+    /// Counts a datagram of the service, and returns the interface's earlier count.
     pub(crate) fn add_sighting(&mut self, number: u32) -> u64
         requires { number < 64 }
         ensures before { result ≡ slice_index_or self.old.sightings.items number 0 }

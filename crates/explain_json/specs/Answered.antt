@@ -1,4 +1,4 @@
--- What an answer in JSON says of the verdict.
+-- The members of an answer in JSON that are the verdict.
 use Rattle.std.specs.Prelude.{◌≡◌, ℕ, List, Option, Some, None, codes}
 use Rattle.audit_model.specs.declared.verdict.Verdict.{Verdict}
 use Rattle.audit_model.specs.declared.verdict.Verdict.TheVariants.{Conforming, NotShown}
@@ -21,7 +21,7 @@ abbrev pub word_of : Verdict → List ℕ
 word_of (Conforming datagrams lanes) = codes "conforming"
 word_of (NotShown breach) = codes "not shown"
 
--- the rule that is broken, by its name in reports
+-- the violated rule, by its name in reports
 abbrev pub rule_of : Verdict → Data
 rule_of (Conforming datagrams lanes) = null
 rule_of (NotShown breach) = string (text_of_rule breach.rule)

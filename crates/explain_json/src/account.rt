@@ -1,4 +1,4 @@
-//! The account of a breach: what the lines of the command `verdict` tell.
+//! The explanation of a breach: the contents of the lines of the command `verdict`.
 
 use crate::lease::{ended_of, lease_of};
 use crate::object::{List, Object};
@@ -10,7 +10,7 @@ use explain_story::{Account, ClientOf, Line, Printer, Story};
 use explain_text::{anchor, cause, code, meaning};
 use std::alloc::{AllocError, Global};
 
-/// The user and the realm that a lane named last; null where it named none that is known.
+/// The last known user and realm that a lane named; null if it named none.
 fn write_user(object: &mut Object, account: &Option<Account>) -> Result<(), AllocError> {
     match account {
         Some(account) => {
@@ -36,7 +36,7 @@ fn client_of(alloc: Global, of: &ClientOf) -> Result<Object, AllocError> {
     Ok(object)
 }
 
-/// What a rule asks.
+/// The members about a rule.
 fn rule_of(alloc: Global, rule: Rule) -> Result<Object, AllocError> {
     let mut object = Object::new(alloc);
     object.text("code", code(rule))?;
@@ -46,7 +46,7 @@ fn rule_of(alloc: Global, rule: Rule) -> Result<Object, AllocError> {
     Ok(object)
 }
 
-/// Words of the text form, without the spaces in front.
+/// Text of the text form, without leading spaces.
 fn words_of(alloc: Global, words: &str) -> Result<Object, AllocError> {
     let mut object = Object::new(alloc);
     object.text("line", "words")?;
@@ -61,7 +61,7 @@ fn shown(alloc: Global, printer: &Printer<'_>, sight: SightId) -> Result<Object,
     Ok(object)
 }
 
-/// Words with a datagram among them.
+/// Text with a datagram in it.
 fn words_with(
     alloc: Global,
     printer: &Printer<'_>,
@@ -75,7 +75,7 @@ fn words_with(
     Ok(object)
 }
 
-/// Words with an act among them, whose departure is the datagram.
+/// Text with an act in it, whose departure is the datagram.
 fn words_with_act(
     alloc: Global,
     printer: &Printer<'_>,
@@ -85,7 +85,7 @@ fn words_with_act(
     words_with(alloc, printer, words, act.leaves, "")
 }
 
-/// The frame that tells a relayed address and isn't judged.
+/// The frame that grants a relayed address and isn't judged.
 fn written_of(
     alloc: Global,
     printer: &Printer<'_>,
@@ -111,7 +111,7 @@ fn written_of(
     Ok(object)
 }
 
-/// Adds a line of the account, or a member of the answer.
+/// Adds a line of the explanation, or a member of the answer.
 fn write_line(
     alloc: Global,
     printer: &Printer<'_>,
@@ -147,7 +147,7 @@ fn write_line(
     }
 }
 
-/// Adds what a story tells. `client`, `expected` and `asks` are null where it doesn't tell them.
+/// Adds an explanation. `client`, `expected` and `asks` are null if it has none.
 pub fn write_account(
     alloc: Global,
     printer: &Printer<'_>,

@@ -12,16 +12,16 @@ use explain_story::Printer;
 use explain_text::Utc;
 use std::alloc::{AllocError, Global};
 
-/// What the first line of the text forms says of the captures.
+/// The facts of the captures in the first line of the text forms.
 #[derive(Clone, Copy, Debug)]
 pub struct Captured {
-    /// How many interfaces have a datagram of the service.
+    /// The number of interfaces with a datagram of the service.
     pub interfaces: u32,
-    /// When the first frame was seen, in nanoseconds since 1970; none where no frame is known.
+    /// The stamp of the first frame, in nanoseconds since 1970; `None` if no frame is known.
     pub first: Option<u64>,
 }
 
-/// The least breach, as the report has it.
+/// The first breach, as in the report.
 fn breach_of(alloc: Global, printer: &Printer<'_>, breach: &Breach) -> Result<Object, AllocError> {
     let mut object = Object::new(alloc);
     object.number("phase", u64::from(breach.phase))?;
@@ -33,7 +33,7 @@ fn breach_of(alloc: Global, printer: &Printer<'_>, breach: &Breach) -> Result<Ob
     Ok(object)
 }
 
-/// Adds what the verdict is about: the captures, and the counts or the breach.
+/// Adds the captures, and the counts or the breach.
 pub fn write_captured(
     alloc: Global,
     printer: &Printer<'_>,
@@ -67,7 +67,7 @@ pub fn write_captured(
     }
 }
 
-/// Adds the rule that is broken.
+/// Adds the violated rule.
 fn write_rule(verdict: &Verdict, answer: &mut Object) -> Result<(), AllocError>
     ensures { OnOk result (members_of answer.new ≡ put (codes "rule") (rule_of verdict.now) (members_of answer.old)) }
 {
@@ -88,7 +88,7 @@ fn word(verdict: &Verdict) -> &'static str
 }
 
 /// The text of an answer, on one line, with its verdict: `rule` and `verdict` are those of the
-/// verdict, whatever was told before.
+/// verdict, whatever members were set before.
 pub fn answer_text(verdict: &Verdict, answer: Object) -> Result<String, AllocError>
     ensures { IfOk result (λ text. IsAnswer verdict.now (string_bytes text)) }
 {

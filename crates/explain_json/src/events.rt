@@ -6,7 +6,7 @@ use audit_model::SightId;
 use explain_story::{Lasting, Printer, Rung, Step, Way};
 use std::alloc::{AllocError, Global};
 
-/// A datagram that comes or goes.
+/// A datagram that arrives or leaves.
 fn write_datagram(
     object: &mut Object,
     printer: &Printer<'_>,
@@ -18,7 +18,7 @@ fn write_datagram(
     object.object("datagram", sighting_of(alloc, printer, sight)?)
 }
 
-/// Which leases last.
+/// Which leases have not expired.
 fn lasting_of(alloc: Global, lasting: Lasting) -> Result<Object, AllocError> {
     let mut object = Object::new(alloc);
     object.flag("allocation", lasting.allocation)?;
@@ -27,7 +27,7 @@ fn lasting_of(alloc: Global, lasting: Lasting) -> Result<Object, AllocError> {
     Ok(object)
 }
 
-/// Which way an act goes.
+/// The direction of an act.
 fn way_word(way: Way) -> &'static str {
     match way {
         Way::Response => "response",

@@ -27,7 +27,7 @@ fn breach_of(alloc: Global, printer: &Printer<'_>, breach: Breach) -> Result<Obj
     Ok(object)
 }
 
-/// Whose lane it is.
+/// Adds the lane's number, client and listen address.
 fn write_ends(object: &mut Object, row: &LaneRow<'_>) -> Result<(), AllocError> {
     let alloc = object.alloc();
     let client = row.client;
@@ -60,7 +60,7 @@ fn lane_of(
     Ok(object)
 }
 
-/// What all lanes come to.
+/// The sums over all lanes.
 fn sums_of(alloc: Global, sums: Sums) -> Result<Object, AllocError> {
     let mut object = Object::new(alloc);
     object.number("clients", sums.clients as u64)?;
@@ -73,7 +73,7 @@ fn sums_of(alloc: Global, sums: Sums) -> Result<Object, AllocError> {
     Ok(object)
 }
 
-/// Adds the lanes, all of them or those alone that break a rule, and their sums.
+/// Adds the lanes, all of them or only those that violate a rule, and their sums.
 pub fn write_lanes(
     alloc: Global,
     printer: &Printer<'_>,
@@ -92,13 +92,13 @@ pub fn write_lanes(
     answer.object("sums", sums_of(alloc, sums)?)
 }
 
-/// Says that no lane is judged.
+/// Adds that no lane is judged.
 pub fn write_no_lanes(answer: &mut Object) -> Result<(), AllocError> {
     answer.nothing("lanes")?;
     answer.nothing("sums")
 }
 
-/// Adds a lane; null where there is none.
+/// Adds a lane; null if there is none.
 pub fn write_lane(
     alloc: Global,
     printer: &Printer<'_>,

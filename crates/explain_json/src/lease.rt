@@ -1,4 +1,4 @@
-//! Leases, and the acts that made them.
+//! Leases, and the acts that granted them.
 
 use crate::object::Object;
 use crate::sighting::sighting_of;
@@ -7,7 +7,7 @@ use explain_story::Printer;
 use explain_text::{Ip, MethodWord};
 use std::alloc::{AllocError, Global};
 
-/// A request and its success.
+/// A request and its success response.
 fn act_of(alloc: Global, printer: &Printer<'_>, act: &GrantAct) -> Result<Object, AllocError> {
     let mut object = Object::new(alloc);
     let method = MethodWord { method: act.method };
@@ -17,7 +17,7 @@ fn act_of(alloc: Global, printer: &Printer<'_>, act: &GrantAct) -> Result<Object
     Ok(object)
 }
 
-/// What a lease is of.
+/// Adds the kind of a lease.
 fn write_kind(object: &mut Object, kind: LeaseKind) -> Result<(), AllocError> {
     let alloc = object.alloc();
     match kind {
@@ -38,7 +38,7 @@ fn write_kind(object: &mut Object, kind: LeaseKind) -> Result<(), AllocError> {
     }
 }
 
-/// How a lease is at a moment, in the words of the text form.
+/// The state of a lease at a moment, as in the text form.
 fn state_at(until: u64, last: u64, moment: u64) -> &'static str {
     if moment <= until {
         "lasts"
@@ -49,7 +49,7 @@ fn state_at(until: u64, last: u64, moment: u64) -> &'static str {
     }
 }
 
-/// A lease, as it is at a moment.
+/// A lease, with its state at a moment.
 pub fn lease_of(
     alloc: Global,
     printer: &Printer<'_>,
@@ -70,7 +70,7 @@ pub fn lease_of(
     Ok(object)
 }
 
-/// An allocation that is there no more.
+/// An allocation that has ended.
 pub fn ended_of(alloc: Global, printer: &Printer<'_>, ended: &Ended) -> Result<Object, AllocError> {
     let mut object = Object::new(alloc);
     object.text("line", "ended")?;

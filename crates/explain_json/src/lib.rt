@@ -1,4 +1,4 @@
-//! Verdicts and what they mean as JSON: one object, with the facts of the text forms.
+//! Verdicts and their explanations as JSON: one object, with the facts of the text forms.
 #![tactic(auto)]
 
 mod account;

@@ -1,4 +1,4 @@
-//! Objects and lists of JSON, member by member.
+//! JSON objects and lists, member by member.
 
 ghost use Rattle.std.specs.Prelude.{◌≡◌, IfOk, OnOk, decimal, string_bytes};
 ghost use Rattle.serde_json.specs.Data.{put, string, number, unsigned, boolean, null, array, no_members};
@@ -34,19 +34,19 @@ impl Object {
         }
     }
 
-    /// Where its members take their memory.
+    /// The allocator of its members.
     pub fn alloc(&self) -> Global {
         self.alloc
     }
 
-    /// Gives the key this value.
+    /// Sets this value for the key.
     fn put(&mut self, key: &str, value: Value) -> Result<(), AllocError>
         ensures { OnOk result (members_of self.new ≡ put key.now (view value) (members_of self.old)) }
     {
         serde_json::put(&mut self.members, self.alloc, key, value)
     }
 
-    /// Gives the key a text.
+    /// Sets a text for the key.
     pub fn text(&mut self, key: &str, text: &str) -> Result<(), AllocError>
         ensures { OnOk result (members_of self.new ≡ put key.now (string text.now) (members_of self.old)) }
     {
@@ -54,35 +54,35 @@ impl Object {
         self.put(key, value)
     }
 
-    /// Gives the key a text that was made for it.
+    /// Sets an owned text for the key.
     pub fn string(&mut self, key: &str, text: String) -> Result<(), AllocError>
         ensures { OnOk result (members_of self.new ≡ put key.now (string (string_bytes text)) (members_of self.old)) }
     {
         self.put(key, Value::String(text))
     }
 
-    /// Gives the key a number.
+    /// Sets a number for the key.
     pub fn number(&mut self, key: &str, value: u64) -> Result<(), AllocError>
         ensures { OnOk result (members_of self.new ≡ put key.now (number (unsigned value)) (members_of self.old)) }
     {
         self.put(key, Value::from(value))
     }
 
-    /// Gives the key true or false.
+    /// Sets true or false for the key.
     pub fn flag(&mut self, key: &str, value: bool) -> Result<(), AllocError>
         ensures { OnOk result (members_of self.new ≡ put key.now (boolean value) (members_of self.old)) }
     {
         self.put(key, Value::Bool(value))
     }
 
-    /// Gives the key null.
+    /// Sets null for the key.
     pub fn nothing(&mut self, key: &str) -> Result<(), AllocError>
         ensures { OnOk result (members_of self.new ≡ put key.now null (members_of self.old)) }
     {
         self.put(key, Value::Null)
     }
 
-    /// Gives the key an object.
+    /// Sets an object for the key.
     pub fn object(&mut self, key: &str, value: Object) -> Result<(), AllocError>
         ensures { OnOk result (members_of self.new ≡ put key.now (data_of value) (members_of self.old)) }
     {
@@ -90,14 +90,15 @@ impl Object {
         self.put(key, Value::Object(members))
     }
 
-    /// Gives the key a list.
+    /// Sets a list for the key.
     pub fn list(&mut self, key: &str, list: List) -> Result<(), AllocError>
         ensures { OnOk result (members_of self.new ≡ put key.now (array (items_view list.items.items)) (members_of self.old)) }
     {
         self.put(key, Value::Array(list.items))
     }
 
-    /// Gives the key so many nanoseconds, as a text: JSON's readers may round numbers of so many digits.
+    /// Sets nanoseconds for the key, as a text: JSON readers may round numbers with that many
+    /// digits.
     pub fn nanoseconds(&mut self, key: &str, value: u64) -> Result<(), AllocError>
         ensures { OnOk result (members_of self.new ≡ put key.now (string (decimal value)) (members_of self.old)) }
     {
@@ -105,7 +106,7 @@ impl Object {
         self.string(key, text)
     }
 
-    /// Gives the key bytes as a text, from which they can be had back: `explain_text::Escaped`.
+    /// Sets bytes for the key as a text, from which they can be recovered: `explain_text::Escaped`.
     pub fn bytes(&mut self, key: &str, bytes: &[u8]) -> Result<(), AllocError> {
         let told = Escaped { bytes };
         let text = format!(in self.alloc; "{told}")?;

@@ -5,7 +5,7 @@ use audit_model::{SightId, Sighting};
 use explain_story::Printer;
 use std::alloc::{AllocError, Global};
 
-/// What the intake has of a datagram.
+/// The intake's facts of a datagram.
 fn write_seen(
     object: &mut Object,
     printer: &Printer<'_>,
@@ -21,7 +21,7 @@ fn write_seen(
     object.number("bytes", sighting.payload.len() as u64)
 }
 
-/// Nothing, where the captures have no datagram of the name.
+/// Nulls, if the captures have no datagram with the name.
 fn write_unseen(object: &mut Object) -> Result<(), AllocError> {
     object.nothing("stamp")?;
     object.nothing("from")?;
@@ -30,7 +30,7 @@ fn write_unseen(object: &mut Object) -> Result<(), AllocError> {
     object.nothing("bytes")
 }
 
-/// The number of a datagram's frame; null where it isn't known.
+/// The number of a datagram's frame; null if it isn't known.
 fn write_frame(
     object: &mut Object,
     printer: &Printer<'_>,
@@ -42,7 +42,7 @@ fn write_frame(
     }
 }
 
-/// The name of a datagram's capture; null where there is none of its number.
+/// The name of a datagram's capture; null if no capture has its number.
 fn write_capture(
     object: &mut Object,
     printer: &Printer<'_>,

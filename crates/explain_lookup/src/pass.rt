@@ -1,4 +1,4 @@
-//! Looking up frames, by a second pass over the captures.
+//! Looks up frames, by a second pass over the captures.
 
 use audit_files::{Source, Stop};
 use audit_model::Policy;
@@ -6,10 +6,10 @@ use audit_pcapng::CaptureFault;
 use explain_frames::{FrameCounter, Frames};
 use std::alloc::Global;
 
-/// How many bytes are asked for at once.
+/// How many bytes are read at once.
 const PIECE: usize = 65_536;
 
-/// Counts the frames of a piece; false if the capture is refused there.
+/// Counts the frames of a piece; returns false if the capture is refused there.
 fn count_piece(
     counter: &mut FrameCounter<'_>,
     piece: &[u8],
@@ -22,7 +22,8 @@ fn count_piece(
     }
 }
 
-/// Reads a capture once more, to its end. If it can't be read again, that is an error: the frames would stay unknown.
+/// Reads a capture again, to its end. If it can't be read again, that is an error: the frames would
+/// stay unknown.
 fn look_in<S: Source>(
     alloc: Global,
     source: &mut S,
@@ -49,7 +50,7 @@ fn look_in<S: Source>(
     Ok(())
 }
 
-/// Looks up the frames that are wanted, reading each capture once.
+/// Looks up the requested frames, reading each capture once.
 pub fn look_up<S: Source>(
     alloc: Global,
     source: &mut S,

@@ -4,7 +4,7 @@ use crate::picture::{LEFT, Picture, WIDTH};
 use explain_text::SinceShort;
 use std::alloc::{AllocError, Global};
 
-/// In how many parts the axis is divided.
+/// The number of parts of the axis.
 const PARTS: u64 = 4;
 
 /// The axis below a picture, at this height: a line, and a time at each end and between.

@@ -5,7 +5,7 @@ use crate::markup::Plain;
 use std::alloc::{AllocError, Global};
 use std::fmt;
 
-/// A word for a shell: in single quotes, each of which within it is told outside of them.
+/// A word for a shell, in single quotes; a single quote in it is written outside of them.
 #[derive(Clone, Copy)]
 struct ShellWord<'a> {
     text: &'a str,
@@ -40,7 +40,7 @@ fn is_read_by_find(row: &FileRow<'_>) -> bool {
     row.role != Role::Certificate
 }
 
-/// The words of a command behind its name, without the certificate.
+/// The arguments of a command, except the certificate.
 fn words_of(alloc: Global, files: &[FileRow<'_>]) -> Result<String, AllocError> {
     let mut words = String::new(alloc);
     for row in files {
@@ -53,7 +53,7 @@ fn words_of(alloc: Global, files: &[FileRow<'_>]) -> Result<String, AllocError> 
     Ok(words)
 }
 
-/// The name of the certificate: that of a file, or the one that `find` is told to write to.
+/// The name of the certificate: that of a file, or the output of `find`.
 fn certificate_of<'f>(files: &[FileRow<'f>]) -> Option<&'f str> {
     for row in files {
         if row.role == Role::Certificate {
@@ -63,7 +63,7 @@ fn certificate_of<'f>(files: &[FileRow<'f>]) -> Option<&'f str> {
     None
 }
 
-/// The section that tells how the verdict is repeated.
+/// The section about how to repeat the verdict.
 pub fn commands(alloc: Global, facts: &Facts<'_>) -> Result<String, AllocError> {
     let words = words_of(alloc, facts.files)?;
     let found = certificate_of(facts.files);

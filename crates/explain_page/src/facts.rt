@@ -1,9 +1,9 @@
-//! What the page tells.
+//! The contents of the page.
 
 use crate::hashed::Digests;
 use crate::picture::Picture;
 
-/// What a file is.
+/// The kind of a file.
 #[derive(Clone, Copy, Debug, PartialEq, Eq)]
 pub enum Role {
     Policy,
@@ -13,7 +13,7 @@ pub enum Role {
 }
 
 impl Role {
-    /// Its name.
+    /// The name of the kind.
     pub fn text(self) -> &'static str {
         match self {
             Role::Policy => "policy",
@@ -29,7 +29,7 @@ impl Role {
 pub struct FileRow<'f> {
     pub role: Role,
     pub name: &'f str,
-    /// Of the bytes that were judged. None of users, since a digest lets its reader try passwords.
+    /// Of the bytes that were judged. `None` for users: a digest would help to guess passwords.
     pub digests: Option<Digests>,
 }
 
@@ -41,15 +41,15 @@ pub struct CommentRow<'f> {
     pub text: &'f str,
 }
 
-/// What a capture has.
+/// The facts of a capture.
 #[derive(Clone, Copy)]
 pub struct CaptureRow {
     pub interfaces: u64,
     pub packets: u64,
-    /// The least and the greatest stamp, in nanoseconds since 1970; none without a packet.
+    /// The least and the greatest stamp, in nanoseconds since 1970; `None` without a packet.
     pub first: Option<u64>,
     pub last: Option<u64>,
-    /// How many statistics blocks were written. Each says that nothing was dropped, or the capture would have been refused.
+    /// The number of statistics blocks. None of them reports drops: such a capture is refused.
     pub statistics: u64,
 }
 
@@ -60,39 +60,39 @@ pub struct UserRow<'f> {
     pub realm: &'f str,
 }
 
-/// A client at a listen address, as a line of `turnexplain lanes` tells it.
+/// A client at a listen address, as a line of `turnexplain lanes`.
 #[derive(Clone, Copy)]
 pub struct ClientRow<'f> {
     pub line: &'f str,
     pub is_broken: bool,
 }
 
-/// All that the page tells. Texts are plain: no control characters but line ends.
+/// All contents of the page. Texts are plain: no control characters except line ends.
 #[derive(Clone, Copy)]
 pub struct Facts<'f> {
     /// The first words of `turnexplain verdict`.
     pub head: &'f str,
     pub is_conforming: bool,
-    /// All that `turnexplain verdict` tells.
+    /// The whole output of `turnexplain verdict`.
     pub story: &'f str,
     pub files: &'f [FileRow<'f>],
-    /// Of each capture, in their order.
+    /// The facts of each capture, in order.
     pub captures: &'f [CaptureRow],
     /// The comments of captures that have one.
     pub comments: &'f [CommentRow<'f>],
-    /// The list of what `turnprep cut` excluded, if it is filed.
+    /// The list of packets that `turnprep cut` excluded, if it is on the page.
     pub excluded: Option<&'f str>,
     /// The policy's text.
     pub policy: &'f str,
     pub users: &'f [UserRow<'f>],
-    /// The first clients, and how many there are in all.
+    /// The first clients, and the number of all clients.
     pub clients: &'f [ClientRow<'f>],
     pub all_clients: u32,
     /// The sums of `turnexplain lanes`.
     pub sums: &'f str,
-    /// The release, with what it is proved with.
+    /// The release, with the tools of its proofs.
     pub release: &'f str,
-    /// The digests of the program that runs; none where it can't be read.
+    /// The digests of the running program; `None` if it can't be read.
     pub program: Option<Digests>,
     /// The SHA-256 of docs/headline.txt, in hexadecimal digits.
     pub headline: &'f str,

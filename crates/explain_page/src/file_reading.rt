@@ -7,20 +7,20 @@ ghost use Rattle.explain_page.specs.Reading.{IsPiece, IsReadOf};
 use crate::hashed::{Digests, Hashing};
 use std::alloc::{AllocError, Global};
 
-/// A file, and what was read of it.
+/// A file, and the progress of reading it.
 #[derive(Drop)]
 pub struct FileReading {
     name: String,
-    /// Of the bytes from the file's front on, while it is read.
+    /// The hash state of the bytes from the file's start on, during a reading.
     hashing: Option<Hashing>,
     /// The number of these bytes.
     read: u64,
-    /// Of its first reading to the end.
+    /// The digests of its first complete reading.
     digests: Option<Digests>,
 }
 
 impl FileReading {
-    /// A file of which nothing was read.
+    /// A file before its first reading.
     pub fn new(alloc: Global, name: &str) -> Result<Self, AllocError>
         ensures { (bytes : List ℕ) → IfOk result (λ file. IsReadOf file bytes) }
     {
@@ -39,15 +39,17 @@ impl FileReading {
         self.name.as_str()
     }
 
-    /// The size and the digest of its bytes at its first reading; none if it wasn't read to its end.
+    /// The size and the digest of its bytes at its first reading; `None` if it wasn't read to its
+    /// end.
     pub fn digests(&self) -> Option<Digests>
         ensures { (bytes : List ℕ) → IsReadOf self.now bytes → IfSome result (IsDigestOf bytes) }
     {
         self.digests
     }
 
-    /// Takes the piece at an offset, an empty one at the file's end. It returns whether the file has other bytes than it had at its first
-    /// reading. A pipe, which gives no byte when it is read again, has not.
+    /// Records the piece at an offset, an empty one at the file's end. Returns whether the file has
+    /// other bytes than at its first reading. It returns false for a pipe, which has no bytes when
+    /// it is read again.
     pub fn take(&mut self, at: u64, piece: &[u8]) -> bool
         ensures { (bytes : List ℕ) → IsReadOf self.old bytes → IsPiece bytes at piece.now → IsReadOf self.new bytes }
     {

@@ -10,12 +10,12 @@ use std::fmt;
 /// The size and the digest of bytes (FIPS 180-4).
 #[derive(Clone, Copy, Debug, PartialEq, Eq)]
 pub struct Digests {
-    /// In bytes; 2^64 - 1 also where there are more.
+    /// In bytes, saturated at 2^64 - 1.
     pub size: u64,
     pub sha256: [u8; 32],
 }
 
-/// Takes bytes in pieces.
+/// Hashes bytes in pieces.
 #[derive(Drop)]
 pub struct Hashing {
     state: Sha256,
@@ -23,7 +23,7 @@ pub struct Hashing {
 }
 
 impl Hashing {
-    /// Of no bytes.
+    /// No bytes.
     pub fn new() -> Hashing
         ensures { IsHashed result [] }
     {
@@ -33,7 +33,7 @@ impl Hashing {
         }
     }
 
-    /// Takes the next piece.
+    /// Feeds the next piece.
     pub fn feed(&mut self, piece: &[u8])
         ensures { (bytes : List ℕ) → IsHashed self.old bytes → IsHashed self.new (bytes ++ piece.now) }
     {
@@ -41,7 +41,7 @@ impl Hashing {
         self.size = self.size.saturating_add(piece.len() as u64);
     }
 
-    /// What the bytes come to.
+    /// The digests of the bytes.
     pub fn finish(self) -> Digests
         ensures { (bytes : List ℕ) → IsHashed self bytes → IsDigestOf bytes result }
     {

@@ -1,5 +1,5 @@
-//! The page that is filed: a verdict, what it was given on, and how it is repeated, as one HTML file without scripts, fonts or links to
-//! elsewhere. The same facts give the same bytes.
+//! The evidence page: a verdict, its inputs, and how to repeat it, as one HTML file without
+//! scripts, fonts or external links. The same facts result in the same bytes.
 #![tactic(auto)]
 
 mod axis;

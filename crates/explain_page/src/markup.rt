@@ -1,9 +1,10 @@
-//! Text inside of markup.
+//! Text in markup.
 
 use std::fmt;
 
-/// A text that can't become markup: the five characters that HTML knows are told by their names. What it is of has no control
-/// characters, since it went through `explain_text::Quoted`, or it is a text of the program.
+/// A text that can't become markup: the five special characters of HTML are written as entities.
+/// The text has no control characters: it was escaped by `explain_text::Quoted`, or it is a text of
+/// the program.
 #[derive(Clone, Copy, Debug)]
 pub struct Plain<'a> {
     pub text: &'a str,

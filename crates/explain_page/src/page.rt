@@ -15,12 +15,12 @@ fn section(alloc: Global, title: &str, body: &str) -> Result<String, AllocError>
     format!(in alloc; "<h2>{title}</h2>\n{body}")
 }
 
-/// Whether the program was built with its proofs, as its release says.
+/// Whether the program was built with its proofs, by its release.
 fn is_proved(facts: &Facts<'_>) -> bool {
     !facts.release.ends_with("not proved")
 }
 
-/// What is said first of captures that `turnprep cut` wrote, by its list or by their comments.
+/// The first text about captures that `turnprep cut` wrote, by its list or by their comments.
 fn cut(facts: &Facts<'_>) -> &'static str {
     if facts.excluded.is_some() {
         return CUT;
@@ -33,7 +33,7 @@ fn cut(facts: &Facts<'_>) -> &'static str {
     ""
 }
 
-/// What stands at the top: the verdict, and what it says.
+/// The top of the page: the verdict, and its meaning.
 fn verdict(alloc: Global, facts: &Facts<'_>) -> Result<String, AllocError> {
     let head = Plain { text: facts.head };
     let says = if facts.is_conforming {
@@ -52,7 +52,7 @@ fn verdict(alloc: Global, facts: &Facts<'_>) -> Result<String, AllocError> {
     )
 }
 
-/// The account of a breach, with the picture.
+/// The explanation of a breach, with the picture.
 fn account(alloc: Global, facts: &Facts<'_>) -> Result<String, AllocError> {
     let story = Plain { text: facts.story };
     let mut text = format!(in alloc; "<pre>{story}</pre>\n")?;
@@ -62,7 +62,7 @@ fn account(alloc: Global, facts: &Facts<'_>) -> Result<String, AllocError> {
     Ok(text)
 }
 
-/// The program that gave the verdict.
+/// The program that computed the verdict.
 fn program(alloc: Global, facts: &Facts<'_>) -> Result<String, AllocError> {
     let release = Plain {
         text: facts.release,
@@ -91,7 +91,8 @@ fn policy(alloc: Global, facts: &Facts<'_>) -> Result<String, AllocError> {
     format!(in alloc; "<pre>{policy}</pre>\n")
 }
 
-/// The page that tells these facts: one HTML file, which asks for nothing from elsewhere. The same facts give the same page.
+/// The page with these facts: one HTML file, which loads nothing. The same facts result in the same
+/// page.
 pub fn page_of(alloc: Global, facts: &Facts<'_>) -> Result<String, AllocError> {
     let mut page = verdict(alloc, facts)?;
     let account = account(alloc, facts)?;

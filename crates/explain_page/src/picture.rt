@@ -1,10 +1,11 @@
-//! A picture of what a client had over time, and of its datagrams.
+//! A picture of a client's leases over time, and of its datagrams.
 
 use crate::axis::axis;
 use crate::markup::Plain;
 use std::alloc::{AllocError, Global};
 
-/// Where the times begin, after the names; how wide they are; what is free after them; and how high a row is, in the picture's units.
+/// The left end of the times, after the names; their width; the margin after them; and the height
+/// of a row, in the picture's units.
 pub(crate) const LEFT: u64 = 260;
 
 pub(crate) const WIDTH: u64 = 700;
@@ -25,7 +26,7 @@ pub enum BarKind {
 /// A lease. Moments are nanoseconds since 1970.
 #[derive(Clone, Copy)]
 pub struct Bar<'p> {
-    /// What it is of. It is plain.
+    /// Its name, which is plain.
     pub name: &'p str,
     pub kind: BarKind,
     pub from: u64,
@@ -39,14 +40,15 @@ pub struct Bar<'p> {
 pub struct Mark {
     /// Nanoseconds since 1970.
     pub moment: u64,
-    /// Whether it breaks the rule.
+    /// Whether it violates the rule.
     pub is_breach: bool,
 }
 
-/// What is drawn between two moments.
+/// The drawing between two moments.
 #[derive(Clone, Copy)]
 pub struct Picture<'p> {
-    /// From which the times of the axis count: the first frame of all captures. Nanoseconds since 1970.
+    /// The moment from which the times of the axis count: the first frame of all captures.
+    /// Nanoseconds since 1970.
     pub origin: u64,
     /// Nanoseconds since 1970.
     pub first: u64,
@@ -55,16 +57,16 @@ pub struct Picture<'p> {
     pub marks: &'p [Mark],
 }
 
-/// What each mark means, below the picture.
+/// The legend below the picture.
 const LEGEND: &str =
     "<p class=\"legend\"><svg viewBox=\"0 0 24 12\" class=\"key\"><rect x=\"0\" y=\"0\" width=\"24\" height=\"12\" fill=\"#607d8b\"/></svg> lasts; <svg viewBox=\"0 0 24 12\" class=\"key\"><rect x=\"0\" y=\"0\" width=\"24\" height=\"12\" fill=\"#cfd8dc\"/></svg> expired, in the grace; <svg viewBox=\"0 0 24 12\" class=\"key\"><rect x=\"0\" y=\"0\" width=\"24\" height=\"12\" fill=\"#eceff1\" stroke=\"#607d8b\" stroke-width=\"2\" stroke-dasharray=\"4 3\"/></svg> ended by a request (deleted or replaced); <svg viewBox=\"0 0 24 12\" class=\"key\"><rect x=\"11\" y=\"0\" width=\"1\" height=\"12\" fill=\"#111\"/></svg> a datagram of the client; <svg viewBox=\"0 0 24 12\" class=\"key\"><rect x=\"11\" y=\"0\" width=\"2\" height=\"12\" fill=\"#c62828\"/></svg> the datagram that breaks the rule. Times count from the first frame of all captures.</p>\n";
 
 impl Picture<'_> {
-    /// How far to the right a moment stands.
+    /// The horizontal position of a moment.
     pub(crate) fn place(&self, moment: u64) -> u64 {
         let length = self.last.saturating_sub(self.first).max(1);
         let way = moment.clamp(self.first, self.first.max(self.last)) - self.first;
-        // In steps of a thousandth at the least, so that no product is too great.
+        // In steps of a millionth of the length, so that no product overflows.
         let step = (length / 1_000_000).max(1);
         LEFT + (way / step).saturating_mul(WIDTH) / (length / step).max(1)
     }
@@ -99,7 +101,7 @@ impl Picture<'_> {
         )
     }
 
-    /// The rows of the leases and the marks below them, and how high they are.
+    /// The rows of the leases and the marks below them, and their height.
     fn rows(&self, alloc: Global) -> Result<(String, u64), AllocError> {
         let mut rows = String::new(alloc);
         let mut top = 4u64;

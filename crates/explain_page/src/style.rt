@@ -1,6 +1,6 @@
-//! How the page looks, on a screen and on A4.
+//! The style of the page, for a screen and for A4.
 
-/// What stands before the body.
+/// The text before the body.
 pub const HEAD: &str =
     "<!doctype html>\n<html lang=\"en\">\n<head>\n<meta charset=\"utf-8\">\n<meta name=\"viewport\" content=\"width=device-width\">\n";
 

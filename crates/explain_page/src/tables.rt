@@ -42,7 +42,7 @@ pub fn files(alloc: Global, facts: &Facts<'_>) -> Result<String, AllocError> {
     Ok(text)
 }
 
-/// A moment, by the calendar and in nanoseconds since 1970.
+/// A moment, as a date and in nanoseconds since 1970.
 fn moment(alloc: Global, moment: Option<u64>) -> Result<String, AllocError> {
     match moment {
         Some(moment) => {
@@ -55,7 +55,7 @@ fn moment(alloc: Global, moment: Option<u64>) -> Result<String, AllocError> {
     }
 }
 
-/// What the statistics blocks of a capture say.
+/// The cell about the statistics blocks of a capture.
 fn statistics(alloc: Global, count: u64) -> Result<String, AllocError> {
     if count == 0 {
         return String::from_str(alloc, "none were written");
@@ -63,7 +63,7 @@ fn statistics(alloc: Global, count: u64) -> Result<String, AllocError> {
     format!(in alloc; "{count}, no drops")
 }
 
-/// The row of the capture of a number.
+/// The row of the capture with this number.
 fn capture_row(alloc: Global, number: usize, row: &CaptureRow) -> Result<String, AllocError> {
     let interfaces = row.interfaces;
     let packets = row.packets;
@@ -75,7 +75,7 @@ fn capture_row(alloc: Global, number: usize, row: &CaptureRow) -> Result<String,
     )
 }
 
-/// What the captures have.
+/// The table of the captures.
 pub fn captures(alloc: Global, facts: &Facts<'_>) -> Result<String, AllocError> {
     let mut text = String::from_str(
         alloc,
@@ -95,7 +95,7 @@ fn comment_row(alloc: Global, row: &CommentRow<'_>) -> Result<String, AllocError
     format!(in alloc; "<p>The comment of capture {capture}: {comment}</p>\n")
 }
 
-/// The comments that captures have.
+/// The comments of the captures.
 pub fn comments(alloc: Global, facts: &Facts<'_>) -> Result<String, AllocError> {
     let mut text = String::new(alloc);
     for row in facts.comments {
@@ -133,7 +133,7 @@ fn client_line(alloc: Global, row: &ClientRow<'_>) -> Result<String, AllocError>
     format!(in alloc; "{line}")
 }
 
-/// The clients, the first of them where there are many, and the sums of all.
+/// The clients, only the first ones if there are many, and the sums of all.
 pub fn clients(alloc: Global, facts: &Facts<'_>) -> Result<String, AllocError> {
     let mut text = String::from_str(alloc, "<pre>")?;
     for row in facts.clients {

@@ -1,4 +1,4 @@
--- What a request comes to, from the bytes of its files to what is written and the status.
+-- The result of a request, from the bytes of its files to the output and the status.
 use Rattle.std.specs.Prelude.{◌≡◌, ◌⊎◌, ℕ, List, [], Option, Some, None, Ok, Err, Result, IfNone, IfOk, IfSome, OnOk, string_bytes}
 use Rattle.std.specs.List.{AllZip}
 use Rattle.audit_model.specs.declared.certificate.Certificate.{Certificate}
@@ -14,7 +14,7 @@ use Rattle.explain_program.specs.Explained.{IsExplained, IsWrittenAsJson, expect
 use Rattle.explain_program.specs.Pages.{page_text, release_text}
 use Rattle.explain_program.specs.Words.{Asks, turnexplain}
 
--- The policy, the users and the captures that are named have these texts; where no users are named there are none.
+-- The named policy, users and captures have these texts; if no users are named, there are none.
 pub record HaveTexts (holds : List ℕ → Option (List ℕ)) (inputs : Inputs) (policy users : List ℕ) (captures : List (List ℕ)) : Type 0 where
   pub policy' : holds inputs.policy.now ≡ Some policy
   pub users' : IfSome inputs.credentials (λ name. holds name.now ≡ Some users)
@@ -33,9 +33,10 @@ abbrev pub IsSilent : Streams → Type 0
 IsSilent streams = streams.said_after ≡ streams.said_before
 
 module _ (holds : List ℕ → Option (List ℕ)) (streams : Streams) where
-  -- An answer begins with the verdict by a certificate, or is JSON that has it; `faults` prints what the captures show; `evidence` prints the
-  -- verdict of its page. A page of help, or the line of the release, goes to standard output alone, and what is no request to standard error
-  -- alone, with status 5.
+  -- An answer begins with the verdict by a certificate, or is JSON that contains it; `faults`
+  -- prints what the captures show; `evidence` prints the verdict of its page. A help page, or the
+  -- line of the release, goes to standard output alone, and a usage error to standard error alone,
+  -- with status 5.
   abbrev pub Answers : Request → Result ℕ RunError → Type 0
   Answers (Explain inputs subject) done =
       IsSilent streams × ((policy users : List ℕ) (captures : List (List ℕ)) → HaveTexts holds inputs policy users captures →
@@ -53,13 +54,13 @@ module _ (holds : List ℕ → Option (List ℕ)) (streams : Streams) where
   Answers Release done = IsSilent streams × IfOk done (λ status. (status ≡ 0) × (streams.after ≡ followed_by streams.before release_text))
   Answers (Usage text) done = (streams.after ≡ streams.before) × IfOk done (λ status. (status ≡ 5) × (streams.said_after ≡ followed_by streams.said_before (string_bytes text)))
 
--- the exit status of an answer, or of what stopped it
+-- the exit status of an answer, or of a failure
 abbrev pub status_given : Result ℕ RunError → ℕ
 status_given (Ok status) = status
 status_given (Err error) = status_of_error error
 
--- The request is what the arguments are, and was answered; a line about what stopped it may follow on standard error. Or there was no
--- memory for the words.
+-- The arguments are the request, and it was answered; a line about a failure may follow on standard
+-- error. Or there was no memory for the arguments.
 abbrev pub IsRun : List Text → (List ℕ → Option (List ℕ)) → Streams → ℕ → Type 0
 IsRun words holds streams status =
     ((request : Request) × Asks (subcommand_of turnexplain words) (fault_of turnexplain words) request × (done : Result ℕ RunError) × (said : Option (List ℕ)) × Answers holds (record streams { said_after = said }) request done

@@ -1,4 +1,4 @@
--- The exit statuses that say why a run ended.
+-- The exit statuses of runs that end before their answer.
 use Rattle.std.specs.Prelude.{ℕ}
 use Rattle.audit_files.specs.Stops.{status_of_stop}
 use Rattle.explain_program.specs.declared.run_error.RunError.{RunError}

@@ -1,4 +1,5 @@
--- What words ask for: the program's commands as they are written, and their values by what `clap` says of such commands.
+-- The requests of the arguments: the program's commands as they are written, and their values by
+-- the specification of `clap`.
 use Rattle.std.specs.Prelude.{◌≡◌, ◌≢◌, ◌⊎◌, ⊤, ℕ, Bool, pos, true, false, List, [], ◌∷◌, Option, Some, None, Ok, map, option_map, codes}
 use Rattle.std.specs.Str.Parse.{ParsesUnsigned}
 use Rattle.clap.specs.Lexer.{usize_max}
@@ -17,7 +18,7 @@ use Rattle.explain_program.specs.declared.command_line.Request.TheVariants.{Expl
 abbrev pub valued : Text → Rule
 valued name = record (new_rule name) { long = Some name; value_names = 1; action = Some Set }
 
--- an option with the name of a file, which isn't empty
+-- an option with the name of a file, which may not be empty
 abbrev pub file : Text → Rule
 file name = record (valued name) { parser = Some NonEmptyString }
 
@@ -55,11 +56,11 @@ around = counted (codes "around") (codes "20" ∷ []) 0 1000000
 abbrev pub output : Rule
 output = record (file (codes "output")) { short = Some 111; required = true }
 
--- the list of what `turnprep cut` excluded
+-- the list of packets that `turnprep cut` excluded
 abbrev pub excluded : Rule
 excluded = file (codes "excluded")
 
--- one capture or more, which are what is no option
+-- the operands: one capture or more
 abbrev pub captures : Rule
 captures = record (new_rule (codes "captures")) {
   value_names = 1;
@@ -77,7 +78,7 @@ reading name = with_rule (with_rule (new_app name) policy) users
 abbrev pub judging : Text → App
 judging name = with_rule (with_rule (with_rule (reading name) certificate) workers) captures
 
--- one whose answer may be JSON
+-- a command that can answer in JSON
 abbrev pub telling : Text → App
 telling name = with_rule (judging name) (flag (codes "json"))
 
@@ -105,16 +106,16 @@ program =
 abbrev pub turnexplain : App
 turnexplain = with_subcommand (with_subcommand (with_subcommand (with_subcommand (with_subcommand program verdict.top) lanes.top) client.top) faults.top) evidence.top
 
--- the number that an option has, as `u32` reads it
+-- the number of an option, parsed as `u32`
 abbrev pub HasNumber : Text → List Row → ℕ → Type 0
 HasNumber name rows number = (text : Text) × (one_of name rows ≡ Some text) × ParsesUnsigned {E = ⊤} 32 10 text (Ok number)
 
--- the number that an option has, or that it has none
+-- the number of an option, or that it has none
 abbrev pub HasOptional : Text → List Row → Option ℕ → Type 0
 HasOptional name rows (Some number) = HasNumber name rows number
 HasOptional name rows None = (number : ℕ) → HasNumber name rows number → ⊥
 
--- an option without a value is given, or isn't
+-- an option without a value is present, or isn't
 abbrev pub HasFlag : Text → List Row → Bool → Type 0
 HasFlag name rows true = (one_of name rows ≢ None) × (one_of name rows ≢ Some (codes "false"))
 HasFlag name rows false = one_of name rows ≢ Some (codes "true")
@@ -136,13 +137,13 @@ command_name (Verdict percent) = codes "verdict"
 command_name (Lanes broken) = codes "lanes"
 command_name (Client number events) = codes "client"
 
--- and what its own options say
+-- and the values of its own options
 abbrev pub HasOptions : List Row → Subject → Type 0
 HasOptions rows (Verdict percent) = HasOptional (codes "expect-answers") rows percent
 HasOptions rows (Lanes broken) = HasFlag (codes "broken") rows broken
 HasOptions rows (Client number events) = HasNumber (codes "lane") rows number × HasNumber (codes "around") rows events
 
--- The command that the words name, and what they name for it, is the request.
+-- The request is the command that the arguments name, with the values that they have for it.
 abbrev pub Names : Option (Text × List Row) → Request → Type 0
 Names named (Explain inputs what) = (rows : List Row) × (named ≡ Some (command_name what, rows)) × AreNamed rows inputs × IsByNamed rows inputs × HasOptions rows what × HasFlag (codes "json") rows false
 Names named (AsJson inputs what) = (rows : List Row) × (named ≡ Some (command_name what, rows)) × AreNamed rows inputs × IsByNamed rows inputs × HasOptions rows what × HasFlag (codes "json") rows true
@@ -158,12 +159,13 @@ Names named (Usage text) = ⊥
 abbrev pub NamesNothing : Option (Text × List Row) → Type 0
 NamesNothing named = (request : Request) → Names named request → ⊥
 
--- one of the kinds is printed on standard error, which help and the release aren't
+-- one of the kinds is printed on standard error; help and the release aren't
 abbrev pub IsRefused : Kinds → Type 0
 IsRefused kinds = (k : ErrorKind) × IsAmong k kinds × (k ≢ kind.DisplayHelp) × (k ≢ kind.DisplayVersion)
 
--- A command is requested by its name, and help and the release by what stands for them. Words are no request where `clap` refuses them for one
--- of these kinds, or they name no command with all that it needs.
+-- A command is requested by its name, and help and the release by their options. It is a usage
+-- error if `clap` refuses the arguments for one of these kinds, or if they name no command with all
+-- that it needs.
 abbrev pub Asks : Option (Text × List Row) → Kinds → Request → Type 0
 Asks named kinds (Help page) = IsAmong kind.DisplayHelp kinds
 Asks named kinds Release = IsAmong kind.DisplayVersion kinds

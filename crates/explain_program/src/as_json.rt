@@ -1,4 +1,4 @@
-//! Every command whose answer may be JSON: the verdict, and what is requested of it.
+//! The commands that can answer in JSON: the verdict, and the requested part of it.
 
 ghost use Rattle.std.specs.Prelude.{◌≡◌, [], ℕ, IfNone, IfOk, IfSome, List, OnOk, Some};
 ghost use Rattle.std.specs.List.{AllZip};
@@ -21,7 +21,7 @@ use std::alloc::Global;
 use std::sync::Wait;
 use std::thread::Threads;
 
-/// Writes an answer, as one line of JSON with the verdict in it.
+/// Writes an answer, as one line of JSON that contains the verdict.
 fn put_json<O: Sink>(verdict: &Verdict, answer: Object, out: &mut O) -> Result<(), WriteFault>
     ensures { OnOk result (IsJsonBehind verdict.now (O.taken out.old) (O.taken out.new)) }
 {
@@ -31,7 +31,7 @@ fn put_json<O: Sink>(verdict: &Verdict, answer: Object, out: &mut O) -> Result<(
     Ok(())
 }
 
-/// As `explain`, but that the answer is JSON: one object on one line.
+/// Like `explain`, but the answer is JSON: one object on one line.
 pub fn explain_as_json<R: Threads + Wait + Sync, F: CertificateFinder, S: Explaining, O: Sink>(
     rt: &R,
     alloc: Global,

@@ -9,7 +9,7 @@ use explain_lookup::look_up;
 use explain_story::{Case, Printer, ladder_lines, lanes_of, request_span, rungs_of, span_of};
 use std::alloc::{AllocError, Global};
 
-/// The place of a lane's first breach.
+/// The index of a lane's first breach.
 fn breach_of(finding: &Finding<'_>) -> Option<u32> {
     match finding.outcome() {
         Outcome::Passed(_) => None,
@@ -65,7 +65,7 @@ fn ladder_of<S: Source>(
     Ok(rest)
 }
 
-/// What is printed after a head of this length in bytes.
+/// The text after a head of this length in bytes.
 pub fn rest_of_client<S: Source>(
     alloc: Global,
     source: &mut S,

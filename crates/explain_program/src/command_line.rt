@@ -1,4 +1,4 @@
-//! The command line, as clap reads it. No file but this one, `commands` and `usage` knows clap.
+//! The command line, parsed by clap. Only this file, `commands` and `usage` use clap.
 
 ghost use Rattle.std.specs.Prelude.{◌≡◌, ℕ, true, false, IfNone, IfOk, IfSome, List, Option, Some, codes, map, option_map};
 ghost use Rattle.clap.specs.Words.{HasKind, Kinds, Row, Text, fault_of, found_of, rows_of, subcommand_of, subcommand_rows_of};
@@ -15,10 +15,10 @@ use clap::{ArgMatches, Error};
 use std::alloc::{AllocError, Global};
 use std::convert::AsStr;
 
-/// What the arguments request.
+/// The request of the arguments.
 #[derive(Drop)]
 pub enum Request<'a> {
-    /// Judge captures, and print what is requested of the verdict.
+    /// Judge captures, and print the requested part of the verdict.
     Explain {
         inputs: Inputs<'a>,
         subject: Subject,
@@ -28,33 +28,33 @@ pub enum Request<'a> {
         inputs: Inputs<'a>,
         subject: Subject,
     },
-    /// Print what no order of the captures explains.
+    /// Print the faults that no order of the captures explains.
     Faults {
         inputs: Inputs<'a>,
     },
-    /// Judge captures, and write the page that is filed to a new file.
+    /// Judge captures, and write the evidence page to a new file.
     Evidence {
         inputs: Inputs<'a>,
         file: &'a str,
-        /// The list of what `turnprep cut` excluded.
+        /// The list of packets that `turnprep cut` excluded.
         excluded: Option<&'a str>,
     },
-    /// Print how to use the program, on standard output.
+    /// Print a help page on standard output.
     Help(Page),
-    /// Print the release, on standard output.
+    /// Print the release on standard output.
     Release,
-    /// The words are no request; what clap says of it, for standard error.
+    /// Usage error; clap's text for standard error.
     Usage(String),
 }
 
-/// What is requested of a verdict.
+/// The requested part of a verdict.
 #[derive(Clone, Copy)]
 pub enum Subject {
-    /// What it means, and the percentage of requests that is expected to have a response.
+    /// The explanation, and the percentage of requests that is expected to have a response.
     Verdict { expected: Option<u32> },
-    /// A line for each client, or for those alone that break a rule.
+    /// A line for each client, or only for those that violate a rule.
     Lanes { broken: bool },
-    /// The events of a client, so many each side of its first breach.
+    /// The events of a client, this number on each side of its first breach.
     Client { lane: u32, around: u32 },
 }
 
@@ -62,15 +62,15 @@ pub enum Subject {
 #[derive(Drop)]
 pub struct Inputs<'a> {
     pub policy: &'a str,
-    /// Without it there are no users.
+    /// Without it, there are no users.
     pub credentials: Option<&'a str>,
-    /// Without it one is found.
+    /// Without it, the finder searches for one.
     pub certificate: Option<&'a str>,
     pub captures: Vec<&'a str>,
     pub workers: Workers,
 }
 
-/// The request that an error of clap stands for, which is no command's.
+/// The request for an error of clap that is no command's: help, the release, or a usage error.
 fn refused<'a, N: AsStr>(
     alloc: Global,
     error: Error,
@@ -91,7 +91,7 @@ fn refused<'a, N: AsStr>(
     Ok(Request::Usage(usage_text(alloc, words)?))
 }
 
-/// The number that the words of a command give an option.
+/// The number of a command's option.
 fn number_of(matches: &ArgMatches<'_>, name: &str) -> Option<u32>
     ensures some { IfSome result (HasNumber name.now (rows_of (found_of matches.now))) }
     ensures none { IfNone result ((number : ℕ) → HasNumber name.now (rows_of (found_of matches.now)) number → ⊥) }
@@ -99,14 +99,14 @@ fn number_of(matches: &ArgMatches<'_>, name: &str) -> Option<u32>
     matches.get_one::<u32>(name)
 }
 
-/// Whether the words of a command give an option without a value.
+/// Whether a command's option without a value is present.
 fn flag_of(matches: &ArgMatches<'_>, name: &str) -> bool
     ensures { HasFlag name.now (rows_of (found_of matches.now)) result }
 {
     matches.get_flag(name)
 }
 
-/// How many workers the words of a command ask for.
+/// The requested number of workers.
 fn workers_of(matches: &ArgMatches<'_>) -> Option<Workers>
     ensures some { IfSome result (λ workers. HasNumber (codes "workers") (rows_of (found_of matches.now)) workers.count) }
     ensures none { IfNone result ((any : AnyWorkers) → HasNumber (codes "workers") (rows_of (found_of matches.now)) any.count → ⊥) }
@@ -117,7 +117,7 @@ fn workers_of(matches: &ArgMatches<'_>) -> Option<Workers>
     Workers::of(number)
 }
 
-/// The files that the words of a command name, in addition to a certificate.
+/// The input files of a command, with this certificate.
 fn inputs_with<'a>(
     alloc: Global,
     matches: &ArgMatches<'a>,
@@ -144,7 +144,7 @@ fn inputs_with<'a>(
     }))
 }
 
-/// The words of a command, where it is the one of this name.
+/// The arguments of a command, if it is the one of this name.
 fn words_of<'m, 'a>(matches: &'m ArgMatches<'a>, name: &str) -> Option<&'m ArgMatches<'a>>
     ensures some { IfSome result (λ command. subcommand_rows_of matches.now ≡ Some (name.now, rows_of (found_of command.now))) }
     ensures none { IfNone result ((rows : List Row) → subcommand_rows_of matches.now ≡ Some (name.now, rows) → ⊥) }
@@ -152,7 +152,7 @@ fn words_of<'m, 'a>(matches: &'m ArgMatches<'a>, name: &str) -> Option<&'m ArgMa
     matches.subcommand_matches(name)
 }
 
-/// What the words of a command ask of a verdict.
+/// The request for a part of a verdict.
 fn explain_request<'a>(
     alloc: Global,
     matches: &ArgMatches<'a>,
@@ -171,7 +171,7 @@ fn explain_request<'a>(
     Ok(Some(Request::Explain { inputs, subject }))
 }
 
-/// The number that the words of a command give an option, or none.
+/// The number of a command's option, or none.
 fn optional_number_of(matches: &ArgMatches<'_>, name: &str) -> Option<u32>
     ensures { HasOptional name.now (rows_of (found_of matches.now)) result }
 {
@@ -181,7 +181,7 @@ fn optional_number_of(matches: &ArgMatches<'_>, name: &str) -> Option<u32>
     }
 }
 
-/// The request that the words of the command `verdict` are.
+/// The request of the arguments of `verdict`.
 fn verdict_request<'a>(
     alloc: Global,
     matches: &ArgMatches<'a>,
@@ -193,7 +193,7 @@ fn verdict_request<'a>(
     explain_request(alloc, matches, Subject::Verdict { expected })
 }
 
-/// The request that the words of the command `lanes` are.
+/// The request of the arguments of `lanes`.
 fn lanes_request<'a>(
     alloc: Global,
     matches: &ArgMatches<'a>,
@@ -205,7 +205,7 @@ fn lanes_request<'a>(
     explain_request(alloc, matches, Subject::Lanes { broken })
 }
 
-/// The request that the words of the command `client` are.
+/// The request of the arguments of `client`.
 fn client_request<'a>(
     alloc: Global,
     matches: &ArgMatches<'a>,
@@ -222,7 +222,7 @@ fn client_request<'a>(
     explain_request(alloc, matches, Subject::Client { lane, around })
 }
 
-/// The request that the words of the command `faults` are.
+/// The request of the arguments of `faults`.
 fn faults_request<'a>(
     alloc: Global,
     matches: &ArgMatches<'a>,
@@ -236,7 +236,7 @@ fn faults_request<'a>(
     Ok(Some(Request::Faults { inputs }))
 }
 
-/// The request that the words of the command `evidence` are.
+/// The request of the arguments of `evidence`.
 fn evidence_request<'a>(
     alloc: Global,
     matches: &ArgMatches<'a>,
@@ -258,7 +258,7 @@ fn evidence_request<'a>(
     }))
 }
 
-/// The request that the words of a command are.
+/// The request of a command's arguments.
 fn request_of<'a>(
     alloc: Global,
     matches: &ArgMatches<'a>,
@@ -284,7 +284,7 @@ fn request_of<'a>(
     Ok(None)
 }
 
-/// Reads the words, the first of which is the program's name.
+/// Parses the arguments, the first of which is the program's name.
 pub fn read<'a, N: AsStr>(alloc: Global, words: &'a [N]) -> Result<Request<'a>, AllocError>
     ensures { IfOk result (Asks (subcommand_of turnexplain (map N.text words.now)) (fault_of turnexplain (map N.text words.now))) }
 {

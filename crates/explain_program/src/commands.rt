@@ -1,6 +1,6 @@
-//! The commands and their options, as clap has them. Their help is that of the pages. Each option
-//! is made where it is added: one that waits in a variable would be let go on each way out of the
-//! function, and each of these is proved.
+//! The commands and their options, as clap definitions. Their help texts are the pages. Each option
+//! is created at its use: one in a variable would be dropped on each way out of the function, and
+//! each drop has to be proved.
 
 ghost use Rattle.std.specs.Prelude.{◌≡◌, ◌≤◌, pos, false, IfOk};
 ghost use Rattle.clap.specs.Words.{app_of, rule_of};
@@ -12,7 +12,7 @@ use clap::builder::ValueParser;
 use clap::{Arg, ArgAction, Command};
 use std::alloc::{AllocError, Global};
 
-/// An option with the name of a file, which isn't empty.
+/// An option with the name of a file, which may not be empty.
 fn file_option<'a>(alloc: Global, name: &'a str, value: &'a str) -> Arg<'a>
     ensures rule { rule_of result ≡ words.file name.entry.now }
     ensures local { result.global ≡ false }
@@ -82,7 +82,7 @@ fn captures_argument<'a>(alloc: Global) -> Arg<'a>
         .value_parser(ValueParser::NonEmptyString)
 }
 
-/// The command of that name, with the options that all commands have.
+/// A command with this name and the options that all commands have.
 fn reading_command<'a>(alloc: Global, name: &'a str, page: Page) -> Result<Command<'a>, AllocError>
     ensures app { IfOk result (λ command. app_of command ≡ words.reading name.entry.now) }
     ensures local { IfOk result (λ command. (fields_of command).has_globals ≡ false) }
@@ -93,7 +93,7 @@ fn reading_command<'a>(alloc: Global, name: &'a str, page: Page) -> Result<Comma
         .arg(users_option(alloc))
 }
 
-/// The command of that name, which judges captures by a certificate.
+/// A command with this name that judges captures by a certificate.
 fn judging_command<'a>(alloc: Global, name: &'a str, page: Page) -> Result<Command<'a>, AllocError>
     ensures app { IfOk result (λ command. app_of command ≡ words.judging name.entry.now) }
     ensures local { IfOk result (λ command. (fields_of command).has_globals ≡ false) }
@@ -104,7 +104,7 @@ fn judging_command<'a>(alloc: Global, name: &'a str, page: Page) -> Result<Comma
         .arg(captures_argument(alloc))
 }
 
-/// The command of that name whose answer may be JSON.
+/// A command with this name that can answer in JSON.
 fn answering_command<'a>(
     alloc: Global,
     name: &'a str,
@@ -136,7 +136,7 @@ fn verdict_command<'a>(alloc: Global) -> Result<Command<'a>, AllocError>
     answering_command(alloc, "verdict", Page::Verdict)?.arg(expected_option(alloc))
 }
 
-/// The command `lanes`, one option of which leaves out whom no rule is broken for.
+/// The command `lanes`, with an option that prints only clients that violate a rule.
 fn lanes_command<'a>(alloc: Global) -> Result<Command<'a>, AllocError>
     ensures app { IfOk result (λ command. app_of command ≡ words.lanes) }
     ensures local { IfOk result (λ command. (fields_of command).has_globals ≡ false) }
@@ -157,7 +157,7 @@ fn lane_option<'a>(alloc: Global) -> Arg<'a>
         .value_parser(clap::value_parser!(u32).range(0..=65_535))
 }
 
-/// The option of `client` that says how many events are printed.
+/// The option of `client` with the number of printed events.
 fn around_option<'a>(alloc: Global) -> Arg<'a>
     ensures rule { rule_of result ≡ words.around }
     ensures local { result.global ≡ false }
@@ -180,7 +180,7 @@ fn client_command<'a>(alloc: Global) -> Result<Command<'a>, AllocError>
         .arg(around_option(alloc))
 }
 
-/// The option of `evidence` with the file that is made.
+/// The option of `evidence` with the output file.
 fn output_option<'a>(alloc: Global) -> Arg<'a>
     ensures rule { rule_of result ≡ words.output }
     ensures local { result.global ≡ false }
@@ -190,7 +190,7 @@ fn output_option<'a>(alloc: Global) -> Arg<'a>
         .required(true)
 }
 
-/// The option of `evidence` with the list of what `turnprep cut` excluded.
+/// The option of `evidence` with the list of packets that `turnprep cut` excluded.
 fn excluded_option<'a>(alloc: Global) -> Arg<'a>
     ensures rule { rule_of result ≡ words.excluded }
     ensures local { result.global ≡ false }
@@ -208,7 +208,7 @@ fn evidence_command<'a>(alloc: Global) -> Result<Command<'a>, AllocError>
         .arg(excluded_option(alloc))
 }
 
-/// The command `faults`, which needs no certificate: what it prints holds of each.
+/// The command `faults`, which needs no certificate: its output is true for each one.
 fn faults_command<'a>(alloc: Global) -> Result<Command<'a>, AllocError>
     ensures app { IfOk result (λ command. app_of command ≡ words.faults) }
     ensures local { IfOk result (λ command. (fields_of command).has_globals ≡ false) }

@@ -5,7 +5,7 @@ use explain_text::Escaped;
 use prep_blocks::Block;
 use std::alloc::{AllocError, Global};
 
-/// Where the options of a section header begin (pcapng, section 4.1).
+/// The offset of the options in a section header (pcapng, section 4.1).
 const OPTIONS: usize = 24;
 
 /// The bytes after the options: the block's length once more.
@@ -14,10 +14,10 @@ const TRAILER: usize = 4;
 /// The code of a comment among the options (pcapng, section 3.5).
 const COMMENT: u16 = 1;
 
-/// The code and the length of an option.
+/// The size of an option's code and length.
 const HEAD: usize = 4;
 
-/// How many bytes of a comment are quoted.
+/// At most this number of bytes of a comment is quoted.
 const MOST: usize = 4_096;
 
 /// The first comment among options.
@@ -38,7 +38,7 @@ fn comment_in<'b>(order: ByteOrder, options: &'b [u8]) -> Option<&'b [u8]> {
     None
 }
 
-/// The comment of a section header, in plain characters; none if it has none.
+/// The comment of a section header, in plain characters; `None` if it has none.
 pub fn comment_of(alloc: Global, block: &Block) -> Result<Option<String>, AllocError> {
     let bytes = block.bytes.as_slice();
     let Some(options) = bytes.get(OPTIONS..bytes.len().saturating_sub(TRAILER)) else {

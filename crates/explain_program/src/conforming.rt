@@ -1,4 +1,4 @@
-//! The account of captures that conform.
+//! The explanation for captures that conform.
 
 use explain_clients::count_answered;
 use explain_story::Printer;
@@ -13,7 +13,7 @@ const NOTHING: &str =
 const NO_RESPONSE: &str =
     "No request has a response: a server that sends nothing conforms (docs/VERDICTS.md#what-was-judged).\n";
 
-/// What stands behind the head.
+/// The text after the head.
 pub fn conforming_lines(alloc: Global, printer: &Printer<'_>) -> Result<String, AllocError> {
     let (_, sightings) = printer.case.intake.counts();
     if sightings == 0 {
@@ -24,7 +24,7 @@ pub fn conforming_lines(alloc: Global, printer: &Printer<'_>) -> Result<String, 
     Ok(lines)
 }
 
-/// How many requests have a response: a server that never responds conforms.
+/// The line with how many requests have a response: a server that never responds conforms.
 fn lines_of_answered(alloc: Global, printer: &Printer<'_>) -> Result<String, AllocError> {
     let all = count_answered(alloc, printer.case.intake)?;
     let requests = all.requests;

@@ -1,5 +1,5 @@
-//! The digests of files as they are read, so that what is filed of a file is of the bytes that were
-//! judged, and whether a later reading gave other bytes.
+//! The digests of files as they are read, so that the evidence page has the digests of the bytes
+//! that were judged, and whether a later reading returned other bytes.
 
 ghost use Rattle.std.specs.Prelude.{◌≡◌};
 
@@ -8,7 +8,7 @@ use audit_files::{ReadFailed, Source};
 use explain_page::{Digests, FileReading};
 use std::alloc::{AllocError, Global};
 
-/// The files of a command, of which nothing was read.
+/// The files of a command, before any is read.
 pub fn unread(
     alloc: Global,
     policy: &str,
@@ -30,17 +30,17 @@ pub fn unread(
     Ok(files)
 }
 
-/// A source that digests what is read of the files that it watches.
+/// A source that digests the bytes of the files that it watches.
 #[derive(Drop)]
 pub struct Digesting<S> {
     inner: S,
     files: Vec<FileReading>,
-    /// The first of these files that gave other bytes when it was read again.
+    /// The first of these files that returned other bytes when it was read again.
     changed: Option<usize>,
 }
 
 impl<S> Digesting<S> {
-    /// It watches no file yet.
+    /// Watches no file yet.
     pub fn new(alloc: Global, inner: S) -> Self
         ensures { result.inner ≡ inner }
     {
@@ -59,23 +59,24 @@ impl<S> Digesting<S> {
         self.changed = None;
     }
 
-    /// The digests of the bytes of a file at its first reading; none if it isn't watched, or wasn't read to its end.
+    /// The digests of the bytes of a file at its first reading; `None` if it isn't watched, or
+    /// wasn't read to its end.
     pub fn digests(&self, name: &str) -> Option<Digests> {
         self.files.get(self.place_of(name)?)?.digests()
     }
 
-    /// The first file that gave other bytes when it was read again.
+    /// The first file that returned other bytes when it was read again.
     pub fn changed(&self) -> Option<&str> {
         let file = self.files.get(self.changed?)?;
         Some(file.name())
     }
 
-    /// The place of a file that is watched.
+    /// The index of a watched file.
     fn place_of(&self, name: &str) -> Option<usize> {
         self.files.iter().position(|file| file.name() == name)
     }
 
-    /// Notes what was read.
+    /// Records the bytes that were read.
     fn note(&mut self, name: &str, at: u64, piece: &[u8])
         ensures { self.new.inner ≡ self.old.inner }
     {
@@ -103,7 +104,7 @@ impl<S: Source> Source for Digesting<S> {
         }
     }
 
-    /// It watches no file: what it reads is not digested.
+    /// Watches no file: the bytes that it reads are not digested.
     fn beside(&self, alloc: Global) -> Self {
         Digesting::new(alloc, self.inner.beside(alloc))
     }

@@ -1,4 +1,4 @@
-//! The command `evidence`: the page that is filed.
+//! The command `evidence`: writes the evidence page.
 
 ghost use Rattle.std.specs.Prelude.{◌≡◌, [], ℕ, IfNone, IfOk, IfSome, List, None, Some};
 ghost use Rattle.std.specs.List.{AllZip};
@@ -35,23 +35,24 @@ use std::alloc::{AllocError, Global};
 use std::sync::Wait;
 use std::thread::Threads;
 
-/// How many clients are listed.
+/// At most this number of clients is listed.
 const MOST_CLIENTS: usize = 200;
 
-/// How many bytes of the policy are filed.
+/// At most this number of bytes of the policy is on the page.
 const MOST_POLICY: usize = 65_536;
 
-/// The program that runs.
+/// The running program.
 const SELF: &str = "/proc/self/exe";
 
-/// The SHA-256 of docs/headline.txt, which says what is proved. `tests/explain_page.py` compares it.
-const HEADLINE: &str = "60534a8eea0789ebb764bc3f154c4b2fd978537746605782e2d7e460761eeecb";
+/// The SHA-256 of docs/headline.txt, which states what is proved. `tests/explain_page.py` compares
+/// it.
+const HEADLINE: &str = "1e4c5c5646447581ebcbb49af6c408bed255911a77c6c8765c1f90185bf6692c";
 
-/// What the page shows, gathered.
+/// The contents of the page, collected.
 #[derive(Drop)]
 struct Gathered {
     story: String,
-    /// When the first frame of all captures was seen, in nanoseconds since 1970.
+    /// The time of the first frame of all captures, in nanoseconds since 1970.
     first: u64,
     clients: Clients,
     files: Vec<NamedFile>,
@@ -83,7 +84,7 @@ fn lines_of(
     })
 }
 
-/// The clients of a run; none where placement breaks a rule, so that no lane is judged.
+/// The clients of a run; none if placement violates a rule, so that no lane is judged.
 fn clients_of(
     alloc: Global,
     printer: &Printer<'_>,
@@ -104,7 +105,7 @@ fn clients_of(
     }
 }
 
-/// The account of a verdict, when the first frame was seen, and the clients: all that needs
+/// The explanation of a verdict, the time of the first frame, and the clients: all that needs
 /// frames, which one pass over the captures looks up.
 fn by_frames<S: Source>(
     alloc: Global,
@@ -142,7 +143,7 @@ fn by_frames<S: Source>(
     ))
 }
 
-/// What is drawn where a lane breaks a rule.
+/// The drawing, if a lane violates a rule.
 fn drawing_in(
     alloc: Global,
     case: Case<'_>,
@@ -158,7 +159,7 @@ fn drawing_in(
     }
 }
 
-/// Gathers what the page shows.
+/// Collects the contents of the page.
 fn gather<S: Source>(
     alloc: Global,
     source: &mut Digesting<S>,
@@ -194,7 +195,7 @@ fn gather<S: Source>(
     })
 }
 
-/// The page of what was gathered.
+/// The page with the collected contents.
 fn page<S: Source>(
     alloc: Global,
     source: &mut S,

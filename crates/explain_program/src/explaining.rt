@@ -1,4 +1,4 @@
-//! Every command: the verdict, and what is requested of it.
+//! The commands about a verdict: the verdict, and the requested part of it.
 
 ghost use Rattle.std.specs.Prelude.{◌≡◌, [], ℕ, IfNone, IfOk, IfSome, List, Some};
 ghost use Rattle.std.specs.List.{AllZip};
@@ -25,7 +25,7 @@ use std::alloc::{AllocError, Global};
 use std::sync::Wait;
 use std::thread::Threads;
 
-/// What a run was judged on.
+/// The inputs of a verdict.
 pub fn case_of<'a>(judged: &'a Judged, captures: &'a [&'a str]) -> Case<'a> {
     Case {
         intake: &judged.files.intake,
@@ -35,7 +35,7 @@ pub fn case_of<'a>(judged: &'a Judged, captures: &'a [&'a str]) -> Case<'a> {
     }
 }
 
-/// What is printed after the head.
+/// The text after the head.
 fn rest_of<S: Source>(
     alloc: Global,
     source: &mut S,
@@ -99,7 +99,7 @@ pub fn expected_status(
     Ok(judged)
 }
 
-/// Judges captures, and reports what is requested of the verdict: the answer begins with the
+/// Judges captures, and prints the requested part of the verdict: the answer begins with the
 /// verdict. It returns 0 if they conform, and 1 if that isn't shown. A capture that changes while
 /// it is read is an error.
 pub fn explain<R: Threads + Wait + Sync, F: CertificateFinder, S: Explaining, O: Sink>(

@@ -1,4 +1,4 @@
-//! Texts that the page files: the users without passwords, and the list of what was excluded.
+//! Texts on the evidence page: the users without passwords, and the list of what was excluded.
 
 use crate::command_line::Inputs;
 use crate::named::{NamedUser, plain_lines, users_in};
@@ -6,10 +6,10 @@ use crate::reading::text_of;
 use audit_files::{Source, Stop};
 use std::alloc::{AllocError, Global};
 
-/// How many bytes of the list of what was excluded are filed.
+/// At most this number of bytes of the list of what was excluded is on the page.
 const MOST_EXCLUDED: usize = 16_777_216;
 
-/// How many bytes of the users are read.
+/// At most this number of bytes of the users is read.
 const MOST_USERS: usize = 16_777_216;
 
 /// The users that a file names.

@@ -23,7 +23,7 @@ pub fn head(alloc: Global, verdict: &Verdict) -> Result<String, AllocError>
     }
 }
 
-/// Writes the verdict in a few words, and what is printed after it.
+/// Writes the verdict in a few words, and the text after it.
 pub fn put_answer<O: Sink>(
     alloc: Global,
     verdict: &Verdict,

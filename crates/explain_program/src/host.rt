@@ -1,4 +1,4 @@
-//! What the program asks of its host beside the bytes of files.
+//! The host's functions that the program needs, in addition to reading bytes of files.
 
 use crate::command_line::Inputs;
 use crate::run_error::RunError;
@@ -15,12 +15,13 @@ pub enum Trouble {
     Other,
 }
 
-/// Gives the bytes of files, and tells why it can't.
+/// Reads files, and returns why one can't be read.
 pub trait Explaining: Source {
-    /// Why a file can't be read; none where its first byte, or its end, can be, and of a file that can't be read twice.
+    /// Why a file can't be read; `None` if its first byte, or its end, can be read, and for a file
+    /// that can't be read twice.
     fn trouble(&mut self, name: &str) -> Option<Trouble>;
 
-    /// Whether a file can be read more than once, as a pipe can't.
+    /// Whether a file can be read more than once; a pipe can't.
     fn is_repeatable(&self, name: &str) -> bool;
 }
 
@@ -32,7 +33,7 @@ fn check_repeatable<S: Explaining>(alloc: Global, source: &S, name: &str) -> Res
     Err(RunError::ReadOnce(String::from_str(alloc, name)?))
 }
 
-/// Refuses captures of which one can't be read twice, before any is read.
+/// Refuses captures if one can't be read twice, before any is read.
 pub fn check_captures<S: Explaining>(
     alloc: Global,
     source: &S,
@@ -44,7 +45,7 @@ pub fn check_captures<S: Explaining>(
     Ok(())
 }
 
-/// Refuses the inputs of `evidence` of which one can't be read twice, before any is read.
+/// Refuses the inputs of `evidence` if one can't be read twice, before any is read.
 pub fn check_inputs<S: Explaining>(
     alloc: Global,
     source: &S,
@@ -57,17 +58,17 @@ pub fn check_inputs<S: Explaining>(
     check_captures(alloc, source, &inputs.captures)
 }
 
-/// Where the page is written: a new file.
+/// The file of the page: a new file.
 pub trait PageFile: Sink {
-    /// Makes an empty file, into which is put what follows. A file that is there is never written over.
+    /// Makes an empty file, to which the following bytes go. An existing file is never overwritten.
     fn make(&mut self, name: &str) -> Result<(), NewFault>;
 
-    /// Gives the file its name: before, no other program finds a page under it.
+    /// Publishes the file under its name: until then, no other program finds a page under it.
     fn publish(&mut self) -> Result<(), NewFault>;
 
     /// Removes the file, if it has no name yet.
     fn discard(&mut self);
 
-    /// The file that couldn't be made, written or named, and why; none where none was noted.
+    /// The file that couldn't be made, written or named, and why; `None` if none was recorded.
     fn failure(&self) -> Option<&Failure>;
 }

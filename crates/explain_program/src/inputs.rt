@@ -31,7 +31,7 @@ fn add_input<S: Source>(
     inputs.object(object)
 }
 
-/// Adds the files that were read, in their order.
+/// Adds the files that were read, in order.
 pub fn add_inputs<S: Source>(
     alloc: Global,
     source: &Digesting<S>,

@@ -1,4 +1,4 @@
-//! What is requested of a verdict, as JSON.
+//! The requested part of a verdict, as JSON.
 
 use crate::command_line::Subject;
 use crate::lanes::breach_of;
@@ -35,7 +35,7 @@ fn look_up_all<S: Source>(
     look_up(alloc, source, case.intake.policy(), case.captures, frames)
 }
 
-/// Adds what every answer has.
+/// Adds the members that every answer has.
 fn write_head(
     alloc: Global,
     printer: &Printer<'_>,
@@ -63,7 +63,8 @@ fn object_of_fault(
     Ok(object)
 }
 
-/// Adds which fault the breach's departure shows in every order, and how many others show one where it shows none.
+/// Adds which fault the breach's departure shows in every order; if it shows none, how many other
+/// departures show one.
 fn write_shown(
     alloc: Global,
     shown: Option<InEveryOrder>,
@@ -151,7 +152,7 @@ fn breach_in(finding: &Finding<'_>) -> Option<Breach> {
     }
 }
 
-/// The lane of that number; none where placement breaks a rule, so that no lane is judged.
+/// The lane with this number; `None` if placement violates a rule, so that no lane is judged.
 fn finding_in<'j, 'a>(
     judged: &'j Option<Lanes<'a>>,
     lane: u32,
@@ -168,7 +169,7 @@ fn finding_in<'j, 'a>(
     }
 }
 
-/// The events of a lane, whose frames are needed; none where no lane is judged.
+/// The events of a lane whose frames are needed; none if no lane is judged.
 fn rungs_in(
     alloc: Global,
     case: Case<'_>,
@@ -215,7 +216,7 @@ fn write_client<S: Source>(
     Ok(())
 }
 
-/// Adds what is requested of a verdict.
+/// Adds the requested part of a verdict.
 pub fn write_answer<S: Source>(
     alloc: Global,
     source: &mut S,

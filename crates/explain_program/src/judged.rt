@@ -20,7 +20,7 @@ use std::alloc::Global;
 use std::sync::Wait;
 use std::thread::Threads;
 
-/// What the files hold, the certificate by which they are judged, and the verdict by it.
+/// The contents of the files, the certificate by which they are judged, and the verdict by it.
 #[derive(Drop)]
 pub struct Judged {
     pub files: Files,
@@ -87,10 +87,10 @@ fn judged_by_finding<R: Threads + Wait + Sync, F: CertificateFinder, S: Source>(
     })
 }
 
-/// The verdict on the files that are named: by the certificate of a file where one is named, else
-/// by one that is found. Files are read in this order: policy, users, certificate, captures; each
-/// is judged before the next is read. One thread reads them, so that the source sees all bytes that
-/// are judged.
+/// The verdict on the named files: by the certificate of a file if one is named, else by one that
+/// the finder searches for. Files are read in this order: policy, users, certificate, captures;
+/// each is judged before the next is read. One thread reads them, so that the source sees all bytes
+/// that are judged.
 pub fn judge_files<R: Threads + Wait + Sync, F: CertificateFinder, S: Source>(
     rt: &R,
     alloc: Global,

@@ -21,7 +21,7 @@ pub fn breach_of(verdict: &Verdict) -> Option<Breach> {
     }
 }
 
-/// The lines of the lanes, of all or of those alone that break a rule.
+/// The lines of all lanes, or only of those that violate a rule.
 fn lines(
     alloc: Global,
     printer: &Printer<'_>,
@@ -37,7 +37,7 @@ fn lines(
     Ok(text)
 }
 
-/// What is printed after a head of this length in bytes.
+/// The text after a head of this length in bytes.
 pub fn rest_of_lanes<S: Source>(
     alloc: Global,
     source: &mut S,

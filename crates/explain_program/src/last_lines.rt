@@ -1,4 +1,4 @@
-//! What stands behind the head, and the last lines of a story.
+//! The text after the head, and the last lines of an explanation.
 
 use audit_faults::Fault;
 use audit_model::SightId;
@@ -8,16 +8,16 @@ use explain_story::{InEveryOrder, Printer, Story};
 use explain_text::{Quoted, Utc};
 use std::alloc::{AllocError, Global};
 
-/// Where the facts of the captures begin behind the head.
+/// The column after the head in which the facts of the captures begin.
 const COLUMN: usize = 50;
 
-/// How many interface numbers each capture has.
+/// The number of interface numbers for each capture.
 const INTERFACES: u32 = 64;
 
-/// How many frames a filter names at the most.
+/// At most this number of frames is in a filter.
 const MOST_FRAMES: usize = 24;
 
-/// How many interfaces have a datagram of the service.
+/// The number of interfaces with a datagram of the service.
 pub fn interfaces(printer: &Printer<'_>) -> u32 {
     let mut count = 0u32;
     for iface in 0..printer.case.intake.interfaces() {
@@ -28,7 +28,8 @@ pub fn interfaces(printer: &Printer<'_>) -> u32 {
     count
 }
 
-/// What stands behind a head of so many bytes on its line: how many interfaces there are, and when the captures begin.
+/// The text after a head of this length in bytes: how many interfaces there are, and when the
+/// captures begin.
 pub fn behind_head(
     alloc: Global,
     printer: &Printer<'_>,
@@ -51,14 +52,14 @@ pub fn behind_head(
     Ok(text)
 }
 
-/// Whether a shell takes a name as it is.
+/// Whether a shell reads a name unchanged.
 fn is_plain_name(name: &str) -> bool {
     name.as_bytes().iter().all(|byte| {
         byte.is_ascii_alphanumeric() || matches!(*byte, b'.' | b'/' | b'_' | b'-' | b'+' | b',')
     })
 }
 
-/// A name for a shell.
+/// A name, quoted for a shell.
 fn shell_name(alloc: Global, name: &str) -> Result<String, AllocError> {
     let quoted = Quoted {
         bytes: name.as_bytes(),
@@ -69,7 +70,7 @@ fn shell_name(alloc: Global, name: &str) -> Result<String, AllocError> {
     format!(in alloc; "'{quoted}'")
 }
 
-/// The numbers of frames, each once, with commas between.
+/// The numbers of frames, each once, separated by commas.
 fn joined(alloc: Global, numbers: &[u64]) -> Result<String, AllocError> {
     let mut text = String::new(alloc);
     let mut last = 0u64;
@@ -121,7 +122,7 @@ fn look_line(
     format!(in alloc; "look: tshark -r {name} -Y 'frame.number in {{{frames}}}'\n")
 }
 
-/// How to look at the frames of a story, capture by capture.
+/// How to look at the frames of an explanation, capture by capture.
 pub fn look_lines(
     alloc: Global,
     printer: &Printer<'_>,
@@ -149,15 +150,15 @@ pub fn fault_name(fault: Fault) -> &'static str {
     }
 }
 
-/// After a fault for which the captures began too late.
+/// The ending for a fault if the captures began too late.
 const TOO_LATE: &str =
     " The capture began too late for its relayed address, so that it shows no fault of the server.";
 
-/// After a fault if no datagram is at a relayed address.
+/// The ending for a fault if no datagram is at a relayed address.
 const NOTHING_RELAYED: &str =
     " No captured datagram is at a relayed address of the policy, so that it shows no fault of the server: check its relay lines, the captured interfaces, and whether turnprep translate was left out.";
 
-/// What is said of the breach's datagram.
+/// The line about the breach's datagram.
 fn line_of_this(
     alloc: Global,
     fault: Fault,
@@ -170,7 +171,7 @@ fn line_of_this(
     )
 }
 
-/// What is said where only others show a fault.
+/// The line if only other departures show a fault.
 fn line_of_others(alloc: Global, count: usize) -> Result<String, AllocError> {
     if count == 1 {
         return String::from_str(
@@ -194,7 +195,7 @@ fn lacks_relay_side(intake: &Intake, departure: Option<SightId>) -> bool {
     }
 }
 
-/// Why the fault of a departure is none of the server's, if that is so.
+/// Why the fault of a departure isn't the server's, if there is a reason.
 fn excuse(intake: &Intake, departure: Option<SightId>, too_late: bool) -> &'static str {
     if lacks_relay_side(intake, departure) {
         return NOTHING_RELAYED;
@@ -206,13 +207,13 @@ fn excuse(intake: &Intake, departure: Option<SightId>, too_late: bool) -> &'stat
 const ONE_ORDER: &str =
     "Not shown is no proof of a fault: only the certificate's order was tried.\n";
 
-/// The line if no departure shows a fault, by a certificate that was found. Without such a fault
-/// the search ends at the first order that conforms, or after all that it tries.
+/// The line if no departure shows a fault, by a certificate of the finder. Without such a fault the
+/// search ends at the first order that conforms, or after all orders that it tries.
 const SEARCHED_ORDERS: &str =
     "Not shown is no proof of a fault: a search found no order that conforms, but it doesn't try all.\n";
 
-/// What is known of other orders than the one that breaks a rule: by the faults that hold in every
-/// order, and by whether orders were searched.
+/// The line about other orders than the one that violates a rule: by the faults that are there in
+/// every order, and by whether orders were searched.
 pub fn last_line(
     alloc: Global,
     intake: &Intake,

@@ -1,5 +1,5 @@
-//! The program turnexplain as a function: words in, files by a host, the answer and what is said of
-//! a refusal by two sinks, and the exit status.
+//! The program turnexplain as a function of its arguments, a host that reads files, and two sinks
+//! for the answer and for errors. It returns the exit status.
 #![tactic(auto)]
 
 mod as_json;

@@ -6,13 +6,13 @@ use std::alloc::{AllocError, Global};
 /// How many bytes are read at once.
 const PIECE: usize = 65_536;
 
-/// So many bytes of a line are kept.
+/// At most this number of bytes of a line is kept.
 const MOST: usize = 300;
 
-/// So many first bytes of the file are kept.
+/// At most this number of first bytes of the file is kept.
 const FRONT: usize = 24;
 
-/// A line that is longer than this is refused, so that no more of it is read.
+/// A line that is longer than this is refused, and not read further.
 const LONGEST: u64 = 65_536;
 
 /// A line of a text.
@@ -33,7 +33,7 @@ pub struct LineOfText {
 }
 
 impl LineOfText {
-    /// Of no bytes.
+    /// No bytes.
     fn new(alloc: Global, wanted: u64) -> LineOfText {
         LineOfText {
             front: Vec::new(alloc),
@@ -50,7 +50,7 @@ impl LineOfText {
         self.length > LONGEST
     }
 
-    /// Takes a byte.
+    /// Reads a byte.
     fn take(&mut self, byte: u8) -> Result<(), AllocError> {
         if self.front.len() < FRONT {
             self.front.push(byte)?;
@@ -68,7 +68,7 @@ impl LineOfText {
         Ok(())
     }
 
-    /// Takes a piece, and returns whether no more needs to be read: the line is whole, or too long.
+    /// Reads a piece, and returns whether no more is needed: the line is complete, or too long.
     fn feed(&mut self, piece: &[u8]) -> Result<bool, AllocError> {
         for byte in piece {
             self.take(*byte)?;
@@ -77,8 +77,8 @@ impl LineOfText {
     }
 }
 
-/// The line of that number of a file, from 1; what there is of it if the file can't be read so far,
-/// or the line is too long.
+/// The line with this number in a file, from 1; its part that was read if the file can't be read so
+/// far, or the line is too long.
 pub fn line_of_text<S: Source>(
     alloc: Global,
     source: &mut S,

@@ -1,8 +1,8 @@
-//! Likely mistakes behind a refusal, by what the file has.
+//! Likely mistakes that cause a refusal, by the content of the file.
 
 use crate::line_of_text::LineOfText;
 
-/// What an input was to be.
+/// The kind of an input.
 #[derive(Clone, Copy, PartialEq, Eq)]
 pub enum Kind {
     Policy,
@@ -11,7 +11,7 @@ pub enum Kind {
     Capture,
 }
 
-/// What the first bytes of a file say that it is; nothing where they say nothing.
+/// The kind of a file by its first bytes; `None` if it isn't known.
 fn is_known_as(front: &[u8]) -> Option<&'static str> {
     match front {
         [0x0A, 0x0D, 0x0D, 0x0A, ..] => Some("it is a pcapng capture"),
@@ -43,7 +43,7 @@ fn begins(front: &[u8], word: &[u8]) -> bool {
     }
 }
 
-/// What a text of this project is, by its heading.
+/// The kind of one of the project's texts, by its heading.
 fn is_text_of(front: &[u8]) -> Option<Kind> {
     if begins(front, b"turnaudit-policy") {
         return Some(Kind::Policy);
@@ -54,7 +54,7 @@ fn is_text_of(front: &[u8]) -> Option<Kind> {
     None
 }
 
-/// Whether a file of another kind was expected.
+/// The mistake, if a file of another kind was expected.
 fn exchanged(kind: Kind, found: &LineOfText) -> Option<&'static str> {
     let front = found.front.as_slice();
     if begins(front, b"turnaudit-report") {
@@ -71,12 +71,12 @@ fn exchanged(kind: Kind, found: &LineOfText) -> Option<&'static str> {
     }
 }
 
-/// How many of the bytes are this one.
+/// How many of the bytes equal this one.
 pub fn count(bytes: &[u8], wanted: u8) -> usize {
     bytes.iter().filter(|byte| **byte == wanted).count()
 }
 
-/// What a line of a text looks like.
+/// The mistake by a line of a text.
 fn of_line(kind: Kind, found: &LineOfText) -> Option<&'static str> {
     let line = found.line.as_slice();
     if let Some(last) = line.last() {
@@ -105,11 +105,11 @@ fn of_line(kind: Kind, found: &LineOfText) -> Option<&'static str> {
     None
 }
 
-/// The likely mistake behind a refusal; nothing where none is known.
+/// The likely mistake that causes a refusal; `None` if none is known.
 pub fn mistake(kind: Kind, found: &LineOfText) -> Option<&'static str> {
     let known = is_known_as(found.front.as_slice());
     if known.is_some() {
-        // A capture that is damaged is a capture all the same.
+        // A damaged capture is still a capture.
         let is_capture = begins(found.front.as_slice(), &[0x0A, 0x0D, 0x0D, 0x0A]);
         if kind == Kind::Capture && is_capture {
             return None;

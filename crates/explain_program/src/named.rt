@@ -1,4 +1,4 @@
-//! Names and texts out of files, in plain characters.
+//! Names and texts from files, in plain characters.
 
 use crate::command_line::Inputs;
 use crate::digesting::Digesting;
@@ -13,7 +13,7 @@ use std::alloc::{AllocError, Global};
 pub struct NamedFile {
     pub role: Role,
     pub name: String,
-    /// Of the bytes that were judged. None of users, since a digest lets its reader try passwords.
+    /// Of the bytes that were judged. `None` for users: a digest would help to guess passwords.
     pub digests: Option<Digests>,
 }
 
@@ -30,7 +30,7 @@ fn plain(alloc: Global, bytes: &[u8]) -> Result<String, AllocError> {
     format!(in alloc; "{quoted}")
 }
 
-/// The digests of the bytes of a file that were judged, unless it has passwords.
+/// The digests of the judged bytes of a file, unless it has passwords.
 pub fn filed_digests<S: Source>(source: &Digesting<S>, role: Role, name: &str) -> Option<Digests> {
     if role == Role::Users {
         return None;
@@ -52,7 +52,7 @@ fn named<S: Source>(
     })
 }
 
-/// What each capture has, in their order.
+/// The facts of each capture, in order.
 pub fn facts_of_captures<S: Source>(
     alloc: Global,
     source: &mut S,
@@ -97,7 +97,7 @@ pub fn plain_lines(alloc: Global, text: &[u8]) -> Result<String, AllocError> {
     Ok(printed)
 }
 
-/// The users that a text of credentials names: of each line the name and the realm, and not the password.
+/// The users of a credentials text: of each line the name and the realm, not the password.
 pub fn users_in(alloc: Global, text: &[u8]) -> Result<Vec<NamedUser>, AllocError> {
     let mut users = Vec::new(alloc);
     for line in text.split(|byte| *byte == b'\n') {

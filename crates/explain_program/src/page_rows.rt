@@ -1,4 +1,4 @@
-//! What was gathered for a page, as its rows.
+//! The collected contents of a page, as its rows.
 
 use crate::named::{NamedFile, NamedUser};
 use crate::picture::{Drawing, DrawnLease};
@@ -6,13 +6,13 @@ use crate::reading::CaptureFacts;
 use explain_page::{Bar, BarKind, CaptureRow, ClientRow, CommentRow, FileRow, Picture, UserRow};
 use std::alloc::{AllocError, Global};
 
-/// The clients' lines, and the notes on all.
+/// The clients' lines, and the notes about all.
 #[derive(Drop)]
 pub struct Clients {
     pub lines: Vec<String>,
-    /// Whether each of these breaks a rule.
+    /// Whether each of these violates a rule.
     pub broken: Vec<bool>,
-    /// How many clients there are.
+    /// The number of clients.
     pub all: u32,
     pub sums: String,
 }
@@ -114,7 +114,7 @@ fn bars<'g>(
     Ok(rows)
 }
 
-/// The bars of a drawing; none where nothing is drawn.
+/// The bars of a drawing; none if nothing is drawn.
 pub fn bars_of<'g>(
     alloc: Global,
     drawing: &'g Option<Drawing>,
@@ -126,7 +126,7 @@ pub fn bars_of<'g>(
     }
 }
 
-/// What is drawn, with its bars. Its times count from a moment.
+/// The drawing, with its bars. Its times count from a moment.
 pub fn picture_of<'g>(
     drawing: &'g Option<Drawing>,
     rows: &'g [Bar<'g>],

@@ -20,7 +20,7 @@ pub enum Page {
     Evidence,
 }
 
-/// The release, and the line of `rt version` that names what it is proved with.
+/// The line of the release, with the line of `rt version` for the tools of the proofs.
 const RELEASE: &str = "turnexplain 0.1.0, proved with rattle-kit-13f logic dac8208d650f15bf\n";
 
 const PROGRAM: &str = "\
@@ -198,7 +198,7 @@ Example:
 ";
 
 impl Page {
-    /// What is printed, with its last LF. It is the front of no report.
+    /// The text of the page, with its last LF. It doesn't begin like a report.
     pub fn text(self) -> &'static str
         ensures text { result.now ≡ page_text self }
         ensures no_report { begins_a_report result.now ≡ false }
@@ -214,7 +214,7 @@ impl Page {
     }
 }
 
-/// The line of the release, with its LF. It is the front of no report.
+/// The line of the release, with its LF. It doesn't begin like a report.
 pub fn release() -> &'static str
     ensures text { result.now ≡ release_text }
     ensures no_report { begins_a_report result.now ≡ false }
@@ -230,7 +230,7 @@ pub fn version() -> &'static str {
         .trim_end()
 }
 
-/// The page of this text, if it is one.
+/// The page with this text, if there is one.
 pub fn page_of(text: &str) -> Option<Page>
     ensures { IfSome result (λ page. page_text page ≡ text.now) }
 {

@@ -1,4 +1,4 @@
-//! The picture of a breach: what its client had, and when its datagrams were seen.
+//! The picture of a breach: the leases of its client, and the times of its datagrams.
 
 use audit_lane::{LaneEvent, LaneInput};
 use audit_model::{Breach, Sighting};
@@ -8,13 +8,13 @@ use explain_story::{Case, Lanes};
 use explain_text::Ip;
 use std::alloc::{AllocError, Global};
 
-/// How many datagrams are drawn, at the most.
+/// At most this number of datagrams is drawn.
 const MOST_MARKS: usize = 2_000;
 
-/// How many leases are drawn, at the most.
+/// At most this number of leases is drawn.
 const MOST_BARS: usize = 40;
 
-/// How many of the allocations that were ended are drawn, at the most: the last ones.
+/// At most this number of ended allocations is drawn: the last ones.
 const MOST_ENDED: usize = 4;
 
 /// A lease, as it is drawn. Moments are nanoseconds since 1970.
@@ -26,7 +26,7 @@ pub struct DrawnLease {
     pub until: u64,
 }
 
-/// What is drawn of a client.
+/// The drawing of a client.
 #[derive(Drop)]
 pub struct Drawing {
     pub leases: Vec<DrawnLease>,
@@ -36,7 +36,7 @@ pub struct Drawing {
     pub last: u64,
 }
 
-/// What a lease is of.
+/// The name of a lease.
 fn name_of(alloc: Global, kind: LeaseKind) -> Result<String, AllocError> {
     match kind {
         LeaseKind::Allocation { relayed } => format!(in alloc; "allocation {relayed}"),
@@ -50,7 +50,7 @@ fn name_of(alloc: Global, kind: LeaseKind) -> Result<String, AllocError> {
     }
 }
 
-/// A lease that was made by an act whose request is there.
+/// A lease whose act has its request in the captures.
 fn drawn(alloc: Global, case: Case<'_>, row: &LeaseRow) -> Result<Option<DrawnLease>, AllocError> {
     let Some(request) = case.intake.sighting(row.made.arrives) else {
         return Ok(None);
@@ -63,7 +63,7 @@ fn drawn(alloc: Global, case: Case<'_>, row: &LeaseRow) -> Result<Option<DrawnLe
     }))
 }
 
-/// An allocation that was ended by an act whose response is there.
+/// An ended allocation whose act has its response in the captures.
 fn drawn_ended(
     alloc: Global,
     case: Case<'_>,
@@ -84,7 +84,7 @@ fn drawn_ended(
     }))
 }
 
-/// Adds a lease, unless there are too many.
+/// Adds a lease, unless the maximum is reached.
 fn add_lease(
     alloc: Global,
     case: Case<'_>,
@@ -100,7 +100,7 @@ fn add_lease(
     Ok(())
 }
 
-/// The last allocations that were ended, and the leases that a client has.
+/// The last ended allocations, and the present leases of a client.
 fn leases_of(
     alloc: Global,
     case: Case<'_>,
@@ -125,7 +125,7 @@ fn leases_of(
     Ok(leases)
 }
 
-/// The datagram of an event that came in or went out.
+/// The datagram of an `in` or `out` event.
 fn datagram_of<'a>(event: &LaneEvent<'a>) -> Option<&'a Sighting> {
     match event {
         LaneEvent::In { sighting, .. } | LaneEvent::Out { sighting, .. } => Some(*sighting),
@@ -133,7 +133,7 @@ fn datagram_of<'a>(event: &LaneEvent<'a>) -> Option<&'a Sighting> {
     }
 }
 
-/// What is drawn of the client of a breach; none where its lane can't be walked up to there.
+/// The drawing of a breach's client; `None` if its lane can't be replayed up to the breach.
 pub fn drawing_of(
     alloc: Global,
     case: Case<'_>,

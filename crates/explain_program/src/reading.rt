@@ -1,4 +1,4 @@
-//! Files read once more, for what is filed of them: what captures have, and the texts.
+//! Files that are read again for the page: the facts of captures, and the texts.
 
 use crate::comment::comment_of;
 use audit_files::Source;
@@ -10,7 +10,7 @@ use std::alloc::{AllocError, Global};
 /// How many bytes are read at once.
 const PIECE: usize = 65_536;
 
-/// The digests of a file; none if it can't be read.
+/// The digests of a file; `None` if it can't be read.
 pub fn digests_of<S: Source>(
     alloc: Global,
     source: &mut S,
@@ -32,7 +32,7 @@ pub fn digests_of<S: Source>(
     Ok(Some(hashing.finish()))
 }
 
-/// The bytes of a file, of which no more than this is taken.
+/// The bytes of a file, at most this number.
 pub fn text_of<S: Source>(
     alloc: Global,
     source: &mut S,
@@ -56,7 +56,7 @@ pub fn text_of<S: Source>(
     Ok(text)
 }
 
-/// A row of which nothing is known yet.
+/// A row before the first block.
 fn no_blocks() -> CaptureRow {
     CaptureRow {
         interfaces: 0,
@@ -67,7 +67,7 @@ fn no_blocks() -> CaptureRow {
     }
 }
 
-/// The row with one block more.
+/// The row with one more block.
 fn with_block(row: CaptureRow, block: &Block) -> CaptureRow {
     let mut row = row;
     match block.kind {
@@ -83,17 +83,17 @@ fn with_block(row: CaptureRow, block: &Block) -> CaptureRow {
     row
 }
 
-/// What a capture has, as far as it was read.
+/// The facts of a capture, as far as it was read.
 #[derive(Drop)]
 pub struct CaptureFacts {
     pub row: CaptureRow,
-    /// The comment of the last section header that has one; none if none has. What wrote the file
-    /// last says so last, as `turnprep cut` does.
+    /// The comment of the last section header that has one, or `None`. The last comment is of the
+    /// program that wrote the file last, as `turnprep cut` does.
     pub comment: Option<String>,
 }
 
 impl CaptureFacts {
-    /// Takes the next block.
+    /// Reads the next block.
     fn take(&mut self, alloc: Global, block: &Block) -> Result<(), AllocError> {
         self.row = with_block(self.row, block);
         if block.kind == BlockKind::Section {
@@ -105,7 +105,7 @@ impl CaptureFacts {
     }
 }
 
-/// Takes the blocks that a piece completes; false if the capture can't be read on.
+/// Reads the blocks that a piece completes; returns false if the capture can't be read further.
 fn take_piece(
     alloc: Global,
     splitter: &mut BlockSplitter,
@@ -126,7 +126,7 @@ fn take_piece(
     Ok(true)
 }
 
-/// Reads a capture once more, to its end. Of one that isn't whole, the blocks before are counted.
+/// Reads a capture again, to its end. If it isn't whole, the blocks before the fault are counted.
 pub fn capture_facts<S: Source>(
     alloc: Global,
     source: &mut S,

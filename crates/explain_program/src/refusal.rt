@@ -1,4 +1,4 @@
-//! What standard error tells where a run ends before its answer.
+//! The text on standard error if a run ends before its answer.
 
 use crate::command_line::Inputs;
 use crate::digesting::Digesting;
@@ -11,24 +11,24 @@ use audit_files::{Place, Source, Stop};
 use explain_text::{Quoted, refusal_reason};
 use std::alloc::{AllocError, Global};
 
-/// The files that a request names.
+/// The files of a request.
 #[derive(Clone, Copy)]
 pub struct Named<'r, 'a> {
     pub inputs: &'r Inputs<'a>,
-    /// The list of what `turnprep cut` excluded.
+    /// The list of packets that `turnprep cut` excluded.
     pub excluded: Option<&'a str>,
 }
 
-/// A line of a file, and what it was to be.
+/// A line of a file, and the file's expected kind.
 #[derive(Clone, Copy)]
 struct Spot<'a> {
     kind: Kind,
     name: &'a str,
-    /// From 1; of a capture 1.
+    /// From 1; for a capture 1.
     line: u64,
 }
 
-/// The input that a place is in.
+/// The input at a place.
 fn spot_of<'a>(inputs: &Inputs<'a>, place: &Place) -> Spot<'a> {
     match place {
         Place::Policy { line } => Spot {
@@ -54,7 +54,7 @@ fn spot_of<'a>(inputs: &Inputs<'a>, place: &Place) -> Spot<'a> {
     }
 }
 
-/// The likely mistake in brackets; nothing where none is known.
+/// The likely mistake in parentheses; nothing if none is known.
 fn in_brackets(alloc: Global, kind: Kind, found: &LineOfText) -> Result<String, AllocError> {
     match mistake(kind, found) {
         Some(likely) => format!(in alloc; " ({likely})"),
@@ -62,7 +62,7 @@ fn in_brackets(alloc: Global, kind: Kind, found: &LineOfText) -> Result<String, 
     }
 }
 
-/// The line of a refused text, as it is printed. Of users what may be a password is hidden.
+/// The line of a refused text, as it is printed. Bytes of users that may be a password are hidden.
 fn shown_line(alloc: Global, kind: Kind, found: &LineOfText) -> Result<String, AllocError> {
     if kind == Kind::Users {
         let shape = Shape {
@@ -76,7 +76,7 @@ fn shown_line(alloc: Global, kind: Kind, found: &LineOfText) -> Result<String, A
     format!(in alloc; "{line}")
 }
 
-/// Why an input is refused that can't be read again.
+/// The line about a refused input that can't be read again.
 fn refused_once(alloc: Global, code: &'static str, spot: Spot<'_>) -> Result<String, AllocError> {
     let name = Quoted {
         bytes: spot.name.as_bytes(),
@@ -89,7 +89,7 @@ fn refused_once(alloc: Global, code: &'static str, spot: Spot<'_>) -> Result<Str
     format!(in alloc; "{name} line {line}: {reason}, {code}")
 }
 
-/// The lines about a refused text or capture. It is read once more.
+/// The lines about a refused text or capture, which is read again.
 fn words_of_refused<S: Source>(
     alloc: Global,
     source: &mut S,
@@ -165,7 +165,7 @@ fn troubled<'a, S: Explaining>(
     }
 }
 
-/// Why reading failed.
+/// The line about a failed read.
 fn read_failure<S: Explaining>(
     alloc: Global,
     source: &mut Digesting<S>,
@@ -183,7 +183,7 @@ fn read_failure<S: Explaining>(
     }
 }
 
-/// Why writing failed.
+/// The line about a failed write.
 fn write_failure<P: PageFile>(alloc: Global, pages: &P) -> Result<String, AllocError> {
     let Some(failure) = pages.failure() else {
         return String::from_str(alloc, "the answer can't be written");
@@ -194,7 +194,7 @@ fn write_failure<P: PageFile>(alloc: Global, pages: &P) -> Result<String, AllocE
     format!(in alloc; "can't write {name}: {failure}")
 }
 
-/// Why a run was stopped, in words. What is refused is read once more, if it can be.
+/// The line about the failure of a run. A refused input is read again, if it can be.
 fn stopped<S: Explaining, P: PageFile>(
     alloc: Global,
     source: &mut Digesting<S>,
@@ -216,7 +216,7 @@ fn stopped<S: Explaining, P: PageFile>(
     }
 }
 
-/// Why a run ended before its answer, in words.
+/// The line about why a run ended before its answer.
 pub fn refusal<S: Explaining, P: PageFile>(
     alloc: Global,
     source: &mut Digesting<S>,

@@ -1,4 +1,4 @@
-//! Why a run ends before its answer.
+//! Why a run ended before its answer.
 
 ghost use Rattle.std.specs.Prelude.{◌≡◌};
 ghost use Rattle.explain_program.specs.Errors.{status_of_error};
@@ -8,19 +8,19 @@ use audit_model::{SinkFailed, WriteFault};
 use host_files::NewFault;
 use std::alloc::{AllocError, AllocFailed};
 
-/// What ended a run.
+/// Why a run ended.
 #[derive(Debug, Drop)]
 pub enum RunError {
-    /// An input is refused or can't be read, the answer can't be written, or there was no memory.
+    /// An input is refused or can't be read, the answer can't be written, or memory is out.
     Stopped(Stop),
-    /// There is no lane of that number, but so many.
+    /// There is no lane with that number, but this number of lanes.
     NoLane { lane: u32, lanes: usize },
     /// The file of this name can't be read twice.
     ReadOnce(String),
 }
 
 impl RunError {
-    /// The exit status that says so.
+    /// The exit status.
     pub fn status(&self) -> u8
         ensures { result ≡ status_of_error self.now }
     {

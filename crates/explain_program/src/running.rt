@@ -24,7 +24,7 @@ use std::convert::AsStr;
 use std::sync::Wait;
 use std::thread::Threads;
 
-/// Puts a text.
+/// Prints a text.
 fn put_text<W: Sink>(sink: &mut W, text: &str) -> Result<(), RunError>
     ensures { OnOk result (W.taken sink.new ≡ followed_by (W.taken sink.old) text.now) }
 {
@@ -32,7 +32,7 @@ fn put_text<W: Sink>(sink: &mut W, text: &str) -> Result<(), RunError>
     Ok(())
 }
 
-/// Prints what no order of the captures explains.
+/// Prints the faults that no order of the captures explains.
 fn faults<R: Threads + Sync, S: Explaining, O: Sink>(
     rt: &R,
     alloc: Global,
@@ -54,7 +54,7 @@ fn faults<R: Threads + Sync, S: Explaining, O: Sink>(
     Ok(status)
 }
 
-/// Does what is requested, and returns the exit status.
+/// Executes the request, and returns the exit status.
 fn run_request<
     R: Threads + Wait + Sync,
     F: CertificateFinder,
@@ -134,7 +134,7 @@ fn run_request<
     }
 }
 
-/// The files that a request names.
+/// The files of a request.
 fn named_by<'r, 'a>(request: &'r Request<'a>) -> Option<Named<'r, 'a>> {
     match request {
         Request::Explain { inputs, .. }
@@ -155,7 +155,7 @@ fn named_by<'r, 'a>(request: &'r Request<'a>) -> Option<Named<'r, 'a>> {
     }
 }
 
-/// Puts a line. Nothing more can be done where that fails.
+/// Prints a line. If that fails, nothing more can be done.
 fn put_line<W: Sink>(alloc: Global, sink: &mut W, words: &str) {
     match format!(in alloc; "turnexplain: {words}\n") {
         Ok(line) => {
@@ -167,7 +167,7 @@ fn put_line<W: Sink>(alloc: Global, sink: &mut W, words: &str) {
     }
 }
 
-/// Puts the line that says why the run ended.
+/// Prints the line with the reason why the run ended.
 fn put_refusal<S: Explaining, P: PageFile, W: Sink>(
     alloc: Global,
     source: &mut Digesting<S>,
@@ -189,8 +189,8 @@ fn put_refusal<S: Explaining, P: PageFile, W: Sink>(
 /// Runs the program on its arguments, the first of which is its name, and returns its exit status:
 /// 0 conforming, no fault is shown, help or the release; 1 not shown, or faults are; 2 an input is
 /// refused; 3 out of memory; 4 a file can't be read or changes while it is read, or the answer
-/// can't be written; 5 a usage error; 6 conforming, but fewer responses than expected. What ended
-/// it before its answer is one line on `err`.
+/// can't be written; 5 usage error; 6 conforming, but fewer responses than expected. A run that
+/// ends before its answer prints one line on `err`.
 pub fn run<
     R: Threads + Wait + Sync,
     F: CertificateFinder,

@@ -1,21 +1,21 @@
-//! The shape of a line of users, without what may be a password.
+//! The shape of a line of users, without bytes that may be a password.
 
 use std::fmt;
 
-/// A line of users: its first word as it is, and of what follows the TABs, the spaces and the CRs,
-/// as `cat -A` shows them. Other bytes after the first word are shown as `*`, since a password may
-/// be among them; a line of one word is shown so from its first byte.
+/// A line of users: its first word unchanged, and of the rest the TABs, the spaces and the CRs, as
+/// `cat -A` prints them. Other bytes after the first word are printed as `*`, because a password
+/// may be among them; a line of one word is hidden from its first byte.
 #[derive(Clone, Copy)]
 pub struct Shape<'a> {
     pub line: &'a [u8],
 }
 
-/// Whether a byte parts words.
+/// Whether a byte separates words.
 fn parts(byte: u8) -> bool {
     byte == b'\t' || byte == b' ' || byte == b':' || byte == b'='
 }
 
-/// Tells a byte, hidden or not.
+/// Writes a byte, hidden or not.
 fn tell<W: fmt::Write>(f: &mut fmt::Formatter<W>, byte: u8, is_hidden: bool) -> fmt::Result {
     match byte {
         b'\t' => f.write_str("^I"),

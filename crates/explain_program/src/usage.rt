@@ -1,4 +1,4 @@
-//! What is printed of arguments that clap refuses.
+//! The text for arguments that clap refuses.
 
 use crate::commands::command;
 use clap::Error;
@@ -7,7 +7,7 @@ use explain_text::Escaped;
 use std::alloc::{AllocError, Global};
 use std::convert::AsStr;
 
-/// The arguments, with each byte escaped that a terminal acts on.
+/// The arguments, with each byte escaped that would control a terminal.
 fn escaped_words<N: AsStr>(alloc: Global, words: &[N]) -> Result<Vec<String>, AllocError> {
     let mut escaped = Vec::new(alloc);
     for word in words {
@@ -28,7 +28,7 @@ fn error_text(alloc: Global, error: Error) -> Result<String, AllocError> {
     Ok(text)
 }
 
-/// What clap says of these arguments, or how the program is used if it takes them.
+/// The error of clap for these arguments, or the usage if clap accepts them.
 fn refusal_text(alloc: Global, words: &[String]) -> Result<String, AllocError> {
     let _matches = match command(alloc)?.try_get_matches_from(words) {
         Ok(matches) => matches,
@@ -37,8 +37,8 @@ fn refusal_text(alloc: Global, words: &[String]) -> Result<String, AllocError> {
     command(alloc)?.render_usage()
 }
 
-/// What clap says of arguments that it refuses, with no byte of them that a terminal acts on: it is
-/// what clap says of them escaped.
+/// The error of clap for refused arguments, free of bytes that control a terminal: clap gets the
+/// escaped arguments.
 pub fn usage_text<N: AsStr>(alloc: Global, words: &[N]) -> Result<String, AllocError> {
     let escaped = escaped_words(alloc, words)?;
     refusal_text(alloc, &escaped)

@@ -10,7 +10,8 @@ use explain_lookup::look_up;
 use explain_story::{Case, InEveryOrder, Printer, Story, story_of};
 use std::alloc::{AllocError, Global};
 
-/// What a departure shows, but that captures didn't begin too late for data that was for another client.
+/// The fault that a departure shows, without the note that captures began too late if its data was
+/// for another client.
 fn of_receiver(
     alloc: Global,
     case: Case<'_>,
@@ -42,7 +43,7 @@ fn of_receiver(
     }))
 }
 
-/// What a verdict means; nothing of captures that conform.
+/// The explanation of a verdict; empty for captures that conform.
 pub fn story_in(
     alloc: Global,
     case: Case<'_>,
@@ -58,7 +59,7 @@ pub fn story_in(
     }
 }
 
-/// What is printed after a head of so many bytes, by the frames that were looked up.
+/// The text after a head of this length in bytes, with the frames that were looked up.
 pub fn verdict_lines(
     alloc: Global,
     printer: &Printer<'_>,
@@ -84,7 +85,7 @@ pub fn verdict_lines(
     Ok(rest)
 }
 
-/// What is printed after a head of so many bytes.
+/// The text after a head of this length in bytes.
 pub fn rest_of_verdict<S: Source>(
     alloc: Global,
     source: &mut S,

@@ -1,4 +1,4 @@
--- What the events of a lane before one of its places leave.
+-- The state after the events of a lane before an index.
 use Rattle.std.specs.Prelude.{◌≡◌, ℕ, zero, suc, Some, slice_get}
 use Rattle.audit_lane.specs.Content.{Content, Happening}
 use Rattle.audit_lane.specs.Kept.{Kept}
@@ -7,14 +7,14 @@ use Rattle.audit_lane.specs.Faults.{IsRight}
 use Rattle.audit_lane.specs.Judged.{at_start, terms_of}
 use Rattle.audit_lane.specs.Seen.{SameKept}
 
--- the event at a place breaks no rule in what was kept before it, and leaves what is kept then
+-- the event at an index violates no rule in the state before it, and results in the state after it
 pub record Leaves (content : Content) (place : ℕ) (kept : Kept) (then : Kept) : Type 0 where
   pub event : Happening
   pub there : slice_get content.events place ≡ Some event
   pub right : IsRight (terms_of content) kept event
   pub left : SameKept then (after (terms_of content) place kept event)
 
--- what the events before a place leave, none of which breaks a rule
+-- the state after the events before an index, none of which violates a rule
 abbrev pub IsBefore : Content → ℕ → Kept → Type 0
 IsBefore content zero kept = SameKept kept (at_start content)
 IsBefore content (suc place) kept = (earlier : Kept) × IsBefore content place earlier × Leaves content place earlier kept

@@ -1,5 +1,5 @@
-//! Which acts made and renewed what a client has. The ends of leases are those of the walk's table; here is only by which acts they
-//! became what they are.
+//! The acts that granted and renewed a client's leases. The ends of leases are those of the
+//! replay's table; only their acts are here.
 
 use audit_model::{Addr, At, SightId};
 use audit_rules::{Allocation, LaneTable};
@@ -8,7 +8,7 @@ use audit_stun::{Class, Message, address, message};
 use std::alloc::{AllocError, Global};
 use std::collections::BTreeMap;
 
-/// A request and its answer, which changed what the client has.
+/// A request and its response, which changed the client's leases.
 #[derive(Clone, Copy, Debug)]
 pub struct GrantAct {
     pub arrives: SightId,
@@ -16,15 +16,15 @@ pub struct GrantAct {
     pub method: u16,
 }
 
-/// By which acts a lease became what it is.
+/// The acts of a lease.
 #[derive(Clone, Copy)]
 pub(crate) struct Held {
     /// Its end after the last of them, in nanoseconds since 1970.
     until: u64,
     pub(crate) made: GrantAct,
-    /// The last after which its end was another.
+    /// The last act that changed its end.
     pub(crate) last: GrantAct,
-    /// How many there were after the first.
+    /// The number of acts after the first one.
     pub(crate) renewals: u32,
 }
 
@@ -38,7 +38,7 @@ pub struct Ended {
     pub ending: GrantAct,
 }
 
-/// The allocation that is there.
+/// The present allocation.
 #[derive(Clone, Copy)]
 struct Present {
     born: At,
@@ -46,7 +46,7 @@ struct Present {
     held: Held,
 }
 
-/// What the acts of a lane so far made and renewed.
+/// The leases that the acts of a lane so far granted and renewed.
 #[derive(Drop)]
 pub(crate) struct History {
     present: Option<Present>,
@@ -56,7 +56,7 @@ pub(crate) struct History {
     alloc: Global,
 }
 
-/// What is known of a lease that has this end after an act.
+/// The acts of a lease that has this end after an act.
 fn held_after(before: Option<Held>, until: u64, act: GrantAct) -> Held {
     match before {
         None => Held {
@@ -80,7 +80,7 @@ fn held_after(before: Option<Held>, until: u64, act: GrantAct) -> Held {
 }
 
 impl History {
-    /// Of no acts. It takes no memory.
+    /// No acts. It takes no memory.
     pub(crate) fn new(alloc: Global) -> History {
         History {
             present: None,
@@ -91,7 +91,7 @@ impl History {
         }
     }
 
-    /// The acts of the allocation that is there.
+    /// The acts of the present allocation.
     pub(crate) fn allocation(&self) -> Option<Held> {
         Some(self.present?.held)
     }
@@ -124,12 +124,12 @@ impl History {
         Ok(ips)
     }
 
-    /// The allocations that are there no more, in their order.
+    /// The allocations that have ended, in order.
     pub(crate) fn ended(&self) -> &[Ended] {
         self.ended.as_slice()
     }
 
-    /// Notes what an act left, whose request this is.
+    /// Records the table after an act with this request.
     pub(crate) fn note(
         &mut self,
         table: &LaneTable,
@@ -158,7 +158,7 @@ impl History {
         }
     }
 
-    /// Notes that the allocation is there no more.
+    /// Records that the allocation has ended.
     fn end(&mut self, act: GrantAct) -> Result<(), AllocError> {
         if let Some(present) = self.present {
             self.ended.push(Ended {
@@ -174,7 +174,7 @@ impl History {
         Ok(())
     }
 
-    /// Notes the allocation that is there after an act.
+    /// Records the allocation after an act.
     fn note_allocation(
         &mut self,
         allocation: &Allocation,
@@ -201,7 +201,7 @@ impl History {
         Ok(())
     }
 
-    /// Notes the permissions of the peers that a request names.
+    /// Records the permissions of the peers that a request names.
     fn note_peers(
         &mut self,
         allocation: &Allocation,
@@ -229,7 +229,7 @@ impl History {
         Ok(())
     }
 
-    /// Notes the channel that a request names.
+    /// Records the channel that a request names.
     fn note_channel(
         &mut self,
         allocation: &Allocation,

@@ -12,13 +12,13 @@ use audit_model::{Addr, Tenancy};
 use audit_rules::LaneTable;
 use std::alloc::{AllocError, Global};
 
-/// A lane of which the events before a place were walked, none of which breaks a rule.
+/// A lane after a replay of the events before an index, none of which violates a rule.
 #[derive(Drop)]
 pub struct LaneAt<'a> {
     input: &'a LaneInput<'a>,
     lane: Lane<'a>,
     history: History,
-    /// The number of the user that the last arrival named which named one, among the lane's users.
+    /// The index, among the lane's users, of the user in the last arrival that named one.
     user: Option<u32>,
     pub ghost one_input: { lane.input.now ≡ input.now },
 }
@@ -37,14 +37,15 @@ impl<'a> LaneAt<'a> {
         }
     }
 
-    /// How many events the lane has.
+    /// The number of the lane's events.
     pub fn len(&self) -> u32
         ensures { result ≡ length self.now.lane.input.now.events }
     {
         self.input.events().len() as u32
     }
 
-    /// Takes in the event at a place, in turn from 0, or tells what it breaks; after a refusal the lane is not walked on.
+    /// Replays the event at an index, in turn from 0, or returns the rule that it violates; after a
+    /// violation the lane can't be replayed further.
     pub fn step(&mut self, place: u32) -> Result<(), LaneFault>
         requires { place < length self.old.lane.input.now.events }
         ensures input { self.new.input.now ≡ self.old.input.now }
@@ -58,7 +59,7 @@ impl<'a> LaneAt<'a> {
         Ok(())
     }
 
-    /// Notes what an event left.
+    /// Records the leases after an event.
     fn note(&mut self, event: Option<LaneEvent<'a>>) -> Result<(), AllocError>
         ensures input { self.new.input.now ≡ self.old.input.now }
         ensures lane { self.new.lane ≡ self.old.lane }
@@ -86,27 +87,27 @@ impl<'a> LaneAt<'a> {
         }
     }
 
-    /// What the lane is judged by.
+    /// The input by which the lane is judged.
     pub fn input(&self) -> &'a LaneInput<'a>
         ensures { result.now ≡ self.now.input.now }
     {
         self.input
     }
 
-    /// What the server has for the client.
+    /// The server's table for the client.
     pub fn table(&self) -> &LaneTable
         ensures { standing result.now ≡ (kept_of self.now.lane.state).standing }
     {
         self.lane.table()
     }
 
-    /// The name and the realm that the last request named whose user the credentials know.
+    /// The last known user that a request named, with its realm.
     pub fn user(&self) -> Option<(&'a [u8], &'a [u8])> {
         let row = self.input.users().get(self.user? as usize)?;
         Some((row.user, row.realm))
     }
 
-    /// The allocation, usable or over.
+    /// The allocation, usable or expired.
     pub fn allocation(&self) -> Option<LeaseRow> {
         let allocation = self.table().allocation()?;
         let held = self.history.allocation()?;
@@ -116,14 +117,14 @@ impl<'a> LaneAt<'a> {
         Some(LeaseRow::of(kind, allocation.lease.until, held))
     }
 
-    /// The permission for an IP, usable or over.
+    /// The permission for an IP, usable or expired.
     pub fn permission(&self, ip: u32) -> Option<LeaseRow> {
         let lease = self.table().allocation()?.permissions.get(ip)?;
         let held = self.history.permission(ip)?;
         Some(LeaseRow::of(LeaseKind::Permission { ip }, lease.until, held))
     }
 
-    /// The channel of a number, usable or over.
+    /// The channel with a number, usable or expired.
     pub fn channel(&self, number: u16) -> Option<LeaseRow> {
         let channel = self.table().allocation()?.channels.get(number)?;
         let held = self.history.channel(number)?;
@@ -134,7 +135,7 @@ impl<'a> LaneAt<'a> {
         Some(LeaseRow::of(kind, channel.lease.until, held))
     }
 
-    /// The channels, usable or over, in the order of their numbers.
+    /// The channels, usable or expired, in the order of their numbers.
     pub fn channels(&self, alloc: Global) -> Result<Vec<LeaseRow>, AllocError> {
         let mut rows = Vec::new(alloc);
         for number in &self.history.channels(alloc)? {
@@ -145,7 +146,7 @@ impl<'a> LaneAt<'a> {
         Ok(rows)
     }
 
-    /// The permissions, usable or over, in the order of their IPs.
+    /// The permissions, usable or expired, in the order of their IPs.
     pub fn permissions(&self, alloc: Global) -> Result<Vec<LeaseRow>, AllocError> {
         let mut rows = Vec::new(alloc);
         for ip in &self.history.permissions(alloc)? {
@@ -156,7 +157,7 @@ impl<'a> LaneAt<'a> {
         Ok(rows)
     }
 
-    /// The channel that is bound to a peer, usable or over. It goes over all of them.
+    /// The channel that is bound to a peer, usable or expired. It visits all channels.
     pub fn channel_of(&self, alloc: Global, peer: Addr) -> Result<Option<LeaseRow>, AllocError> {
         for row in &self.channels(alloc)? {
             if let LeaseKind::Channel { peer: bound, .. } = row.kind {
@@ -168,7 +169,7 @@ impl<'a> LaneAt<'a> {
         Ok(None)
     }
 
-    /// The allocations that are there no more, in their order.
+    /// The allocations that have ended, in order.
     pub fn ended(&self) -> &[Ended] {
         self.history.ended()
     }
@@ -178,14 +179,14 @@ impl<'a> LaneAt<'a> {
         self.lane.tenancies()
     }
 
-    /// The tenancy that runs on.
+    /// The tenancy that hasn't ended.
     pub fn running(&self) -> Option<Tenancy> {
         self.lane.running()
     }
 }
 
-/// The lane before the event at a place, or before its end; none where an event before it breaks a rule, or the lane has not so many.
-/// It takes n log n in the events.
+/// The lane before the event at an index, or after its last one; `None` if an earlier event
+/// violates a rule, or the lane has fewer events. It takes n log n in the events.
 pub fn lane_before<'a>(
     alloc: Global,
     input: &'a LaneInput<'a>,

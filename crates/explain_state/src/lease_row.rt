@@ -1,9 +1,9 @@
-//! A lease of a client, with the acts by which it is what it is.
+//! A lease of a client, with its acts.
 
 use crate::history::{GrantAct, Held};
 use audit_model::Addr;
 
-/// What a lease is of.
+/// The kind of a lease.
 #[derive(Clone, Copy, Debug)]
 pub enum LeaseKind {
     Allocation { relayed: Addr },
@@ -11,21 +11,21 @@ pub enum LeaseKind {
     Channel { number: u16, peer: Addr },
 }
 
-/// A lease of a client. Its end is that of the walk's table.
+/// A lease of a client. Its end is that of the replay's table.
 #[derive(Clone, Copy, Debug)]
 pub struct LeaseRow {
     pub kind: LeaseKind,
     /// Its end without the grace, in nanoseconds since 1970.
     pub until: u64,
     pub made: GrantAct,
-    /// The last act after which its end was another.
+    /// The last act that changed its end.
     pub last: GrantAct,
     /// How many acts renewed it.
     pub renewals: u32,
 }
 
 impl LeaseRow {
-    /// The lease with what is known of its acts.
+    /// The lease with its acts.
     pub(crate) fn of(kind: LeaseKind, until: u64, held: Held) -> LeaseRow {
         LeaseRow {
             kind,

@@ -1,4 +1,4 @@
-//! What a lane's server had for its client before an event, and by which acts.
+//! The client's leases of a lane before an event, and the acts that granted and renewed them.
 #![tactic(auto)]
 
 mod history;

@@ -1,4 +1,4 @@
-//! What each lane comes to.
+//! The outcome of each lane.
 
 ghost use Rattle.std.specs.Prelude.{◌≡◌};
 ghost use Rattle.audit_lane.specs.Judged.{IsJudged};
@@ -31,23 +31,23 @@ impl Traffic {
     }
 }
 
-/// A lane, and what it comes to by its own judgement.
+/// A lane, and its outcome, judged alone.
 #[derive(Clone, Copy)]
 pub struct LaneRow<'a> {
     pub number: u32,
     pub client: Addr,
     pub listen: Addr,
-    /// The name of the user that was named last, where the credentials know it.
+    /// The name of the last known user that its requests named.
     pub user: Option<&'a [u8]>,
-    /// What the client sent to its listen address.
+    /// The datagrams from the client to its listen address.
     pub up: Traffic,
-    /// What it was sent from there.
+    /// The datagrams from there to the client.
     pub down: Traffic,
-    /// Its first breach, where it has one.
+    /// Its first breach, if it has one.
     pub breach: Option<Breach>,
 }
 
-/// What the client of a lane sent.
+/// The datagrams that the client of a lane sent.
 fn sent_by(input: &LaneInput<'_>) -> Traffic {
     let mut traffic = Traffic::none();
     for event in input.events() {
@@ -60,7 +60,7 @@ fn sent_by(input: &LaneInput<'_>) -> Traffic {
     traffic
 }
 
-/// What the client of a lane was sent.
+/// The datagrams that were sent to the client of a lane.
 fn sent_to(input: &LaneInput<'_>) -> Traffic {
     let mut traffic = Traffic::none();
     for event in input.events() {
@@ -84,7 +84,7 @@ fn breach_of(finding: &Finding<'_>) -> Option<Breach>
     }
 }
 
-/// The row of a judged lane. It goes over the events.
+/// The row of a judged lane. It visits all events.
 pub fn lane_row<'a>(finding: &Finding<'a>) -> LaneRow<'a>
     ensures { IsRowOf finding.now result }
 {

@@ -1,4 +1,4 @@
-//! What a verdict was given on.
+//! The inputs of a verdict, and the lanes of its certificate.
 
 ghost use Rattle.std.specs.Prelude.{IfOk, IfSome};
 ghost use Rattle.audit_keys.specs.KeyFor.{key_for};
@@ -15,17 +15,17 @@ use audit_sightings::Intake;
 use std::alloc::{AllocError, Global};
 use std::sync::Arc;
 
-/// The captures, the users and the certificate by which they were judged.
+/// The captures, the users and the certificate that were judged.
 #[derive(Clone, Copy)]
 pub struct Case<'a> {
     pub intake: &'a Intake,
     pub users: &'a Credentials,
     pub certificate: &'a Certificate,
-    /// The names of the captures, as they were given.
+    /// The names of the captures, as in the arguments.
     pub captures: &'a [&'a str],
 }
 
-/// All lanes of a certificate, and what each shows by its own judgement.
+/// All lanes of a certificate, and the finding of each, judged alone.
 #[derive(Drop)]
 pub struct Lanes<'a> {
     pub job: Job<'a>,
@@ -44,7 +44,7 @@ fn judge_each<'a>(alloc: Global, job: &Job<'a>) -> Result<Vec<Finding<'a>>, Allo
     Ok(findings)
 }
 
-/// The lanes of a certificate, each judged alone; none where the certificate's placement has a
+/// The lanes of a certificate, each judged alone; `None` if the certificate's placement has a
 /// breach. It takes n log n in the events.
 pub fn lanes_of<'a>(alloc: Global, case: Case<'a>) -> Result<Option<Lanes<'a>>, AllocError>
     ensures { IfOk result (λ found. IfSome found (AreLanesOf (taken case.entry.intake.now) (key_for case.entry.users.now) case.entry.certificate.now)) }

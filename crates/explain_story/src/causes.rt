@@ -1,4 +1,4 @@
-//! What a breach usually comes from, without the causes that its own datagrams refute.
+//! The usual causes of a breach, except those that its own datagrams refute.
 
 use crate::case::Case;
 use crate::content::due_peer;
@@ -23,7 +23,7 @@ pub fn cause_line(alloc: Global, rule: Rule, cause: &str) -> Result<String, Allo
     format!(in alloc; "usual cause: {cause}; {anchor}")
 }
 
-/// If a request is granted that no user signed (R2).
+/// The cause if a request is granted that no user signed (R2).
 fn of_credentials(scene: &Scene<'_>) -> &'static str {
     match why_unsigned(scene) {
         Unsigned::NoMessage => cause(Rule::NotAuthentic),
@@ -41,7 +41,7 @@ fn of_credentials(scene: &Scene<'_>) -> &'static str {
     }
 }
 
-/// If there is no allocation (R4).
+/// The cause if there is no allocation (R4).
 fn of_allocation(scene: &Scene<'_>) -> &'static str {
     let Some(ended) = scene.lane.ended().last() else {
         return "the capture began after the client's Allocate";
@@ -53,7 +53,8 @@ fn of_allocation(scene: &Scene<'_>) -> &'static str {
     }
 }
 
-/// Whether an Allocate success response grants an odd port of the relay ranges to a request with EVEN-PORT.
+/// Whether an Allocate success response grants an odd port of the relay ranges to a request with
+/// EVEN-PORT.
 fn is_odd(scene: &Scene<'_>, response: &Message<'_>) -> Option<bool> {
     let relayed = address(response.first(XOR_RELAYED_ADDRESS)?)?;
     let requests_even = scene.message_in()?.first(EVEN_PORT).is_some();
@@ -61,7 +62,7 @@ fn is_odd(scene: &Scene<'_>, response: &Message<'_>) -> Option<bool> {
     Some(is_in_range && requests_even && relayed.port % 2 == 1)
 }
 
-/// If the relayed address is another (R14).
+/// The cause if the relayed address is another one (R14).
 fn of_relayed_address(scene: &Scene<'_>) -> &'static str {
     if scene.way() != Way::Response {
         return "the same data of another client: from before the capture, by TCP or TLS, or of a listen address that the policy lacks";
@@ -72,8 +73,8 @@ fn of_relayed_address(scene: &Scene<'_>) -> &'static str {
     }
 }
 
-/// If an error response has another condition (R19). A restart loses allocations, so it explains only
-/// a 437 that says there is none.
+/// The cause if an error response has another condition (R19). A restart loses allocations, so it
+/// explains only a 437 that reports no allocation.
 fn of_error(scene: &Scene<'_>) -> &'static str {
     let Some(response) = scene.message_out() else {
         return cause(Rule::ErrorCondition);
@@ -86,7 +87,7 @@ fn of_error(scene: &Scene<'_>) -> &'static str {
     }
 }
 
-/// If the peer is another (R12).
+/// The cause if the peer is another one (R12).
 fn of_peer(scene: &Scene<'_>) -> &'static str {
     if due_peer(scene).is_some() {
         "servers that mix up peers"
@@ -95,7 +96,7 @@ fn of_peer(scene: &Scene<'_>) -> &'static str {
     }
 }
 
-/// If a lifetime doesn't answer its request (R15).
+/// The cause if a lifetime doesn't fit its request (R15).
 fn of_lifetime(scene: &Scene<'_>) -> &'static str {
     match scene.message_in() {
         Some(request) if matches!(request.first(LIFETIME), Some([0, 0, 0, 0])) =>
@@ -104,7 +105,7 @@ fn of_lifetime(scene: &Scene<'_>) -> &'static str {
     }
 }
 
-/// If what leaves can't be read (R21).
+/// The cause if what leaves can't be parsed (R21).
 fn of_bytes(scene: &Scene<'_>) -> &'static str {
     if scene.message_out().is_some() {
         "an attribute that is missing"
@@ -113,7 +114,7 @@ fn of_bytes(scene: &Scene<'_>) -> &'static str {
     }
 }
 
-/// If an arrival is acted on twice (S10).
+/// The cause if an arrival is acted on twice (S10).
 fn of_second_act(scene: &Scene<'_>, place: u32) -> &'static str {
     match is_seen_twice(scene.lane.input(), place, scene.arrives, scene.leaves) {
         Some(true) => "one interface captured twice",
@@ -122,7 +123,7 @@ fn of_second_act(scene: &Scene<'_>, place: u32) -> &'static str {
     }
 }
 
-/// The usual causes of an act that breaks a rule.
+/// The usual causes of an act that violates a rule.
 pub fn cause_of_act(scene: &Scene<'_>, place: u32, rule: Rule) -> &'static str {
     match rule {
         Rule::NotAuthentic => of_credentials(scene),
@@ -171,7 +172,8 @@ pub fn cause_of_departure(
     ""
 }
 
-/// The usual causes of a departure from a relayed address, by the frame that grants it and isn't judged.
+/// The usual causes of a departure from a relayed address, by the frame that grants the address and
+/// isn't judged.
 pub fn cause_by_frame(frame: Option<GrantFrame>, rule: Rule) -> &'static str {
     let Some(frame) = frame else {
         return cause(rule);

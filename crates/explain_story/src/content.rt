@@ -1,4 +1,4 @@
-//! The content of datagrams beside what was due, of acts whose datagrams say something wrong.
+//! Lines with the content of the datagrams of a breach, next to what was expected.
 
 use crate::line::Story;
 use crate::scene::{Scene, Way};
@@ -13,7 +13,7 @@ use audit_stun::{Message, address};
 use explain_text::{AttributeBytes, BytesAround, FirstBytes, MethodWord, Quoted};
 use std::alloc::{AllocError, Global};
 
-/// What is told of a request that no user signed.
+/// The line about a request that no user signed.
 fn of_credentials(alloc: Global, scene: &Scene<'_>) -> Result<String, AllocError> {
     let Some(asked) = scene.message_in() else {
         return String::from_str(alloc, "  it is no STUN message");
@@ -35,7 +35,7 @@ fn of_credentials(alloc: Global, scene: &Scene<'_>) -> Result<String, AllocError
     format!(in alloc; "  the request names user \"{user}\" of realm \"{realm}\", {why}")
 }
 
-/// What is told of an answer that is none.
+/// The line about a response that doesn't answer its request.
 fn of_answer(alloc: Global, scene: &Scene<'_>) -> Result<String, AllocError> {
     let (Some(asked), Some(told)) = (scene.message_in(), scene.message_out()) else {
         return String::from_str(alloc, "  not both of them are STUN messages");
@@ -54,7 +54,8 @@ fn of_answer(alloc: Global, scene: &Scene<'_>) -> Result<String, AllocError> {
     format!(in alloc; "  {method} arrived, {other} left, with {ids}")
 }
 
-/// The peer that is due: the one that the client's channel is bound to, or that the message on the client's side names.
+/// The expected peer: the peer to which the client's channel is bound, or which the message on the
+/// client's side names.
 pub fn due_peer(scene: &Scene<'_>) -> Option<Addr> {
     if scene.way() != Way::Response {
         if let Some(number) = scene.channel() {
@@ -65,7 +66,7 @@ pub fn due_peer(scene: &Scene<'_>) -> Option<Addr> {
     scene.named_peer()
 }
 
-/// What is told of a peer.
+/// The line about a peer.
 fn of_peer(alloc: Global, scene: &Scene<'_>) -> Result<String, AllocError> {
     let Some(named) = due_peer(scene) else {
         return String::from_str(alloc, "  no peer is named that can be read");
@@ -85,7 +86,7 @@ fn of_peer(alloc: Global, scene: &Scene<'_>) -> Result<String, AllocError> {
     }
 }
 
-/// The data that came and the data that left.
+/// The data that arrived and the data that left.
 fn both_data<'s>(scene: &Scene<'s>) -> (&'s [u8], &'s [u8]) {
     let clients = scene.clients_data().unwrap_or(&[]);
     match scene.way() {
@@ -94,7 +95,7 @@ fn both_data<'s>(scene: &Scene<'s>) -> (&'s [u8], &'s [u8]) {
     }
 }
 
-/// The place of the first byte that one has and the other hasn't.
+/// The index of the first byte that differs.
 fn first_difference(one: &[u8], other: &[u8]) -> usize {
     for (at, (byte, next)) in one.iter().zip(other.iter()).enumerate() {
         if byte != next {
@@ -104,7 +105,7 @@ fn first_difference(one: &[u8], other: &[u8]) -> usize {
     one.len().min(other.len())
 }
 
-/// Where two data differ first, with bytes of each around it.
+/// The line about the first difference between the data, with the bytes around it.
 fn of_difference(alloc: Global, scene: &Scene<'_>) -> Result<String, AllocError> {
     let (came, left) = both_data(scene);
     let at = first_difference(came, left);
@@ -116,7 +117,7 @@ fn of_difference(alloc: Global, scene: &Scene<'_>) -> Result<String, AllocError>
     )
 }
 
-/// What is told of data.
+/// The line about data.
 fn of_data(alloc: Global, scene: &Scene<'_>) -> Result<String, AllocError> {
     let clients = FirstBytes {
         bytes: scene.clients_data().unwrap_or(&[]),
@@ -137,7 +138,7 @@ fn of_data(alloc: Global, scene: &Scene<'_>) -> Result<String, AllocError> {
     }
 }
 
-/// What is told of the relayed address of a success to an Allocate.
+/// The line about the relayed address of an Allocate success response.
 fn of_granted_address(
     alloc: Global,
     scene: &Scene<'_>,
@@ -162,7 +163,7 @@ fn of_granted_address(
     format!(in alloc; "  granted {relayed}")
 }
 
-/// What is told of a relayed address.
+/// The line about a relayed address.
 fn of_relayed(alloc: Global, scene: &Scene<'_>) -> Result<String, AllocError> {
     match scene.way() {
         Way::Up => {
@@ -180,7 +181,7 @@ fn of_relayed(alloc: Global, scene: &Scene<'_>) -> Result<String, AllocError> {
     }
 }
 
-/// What is told of an attribute of the request and the same of the answer.
+/// The line about an attribute of the request and the same attribute of the response.
 fn of_both(alloc: Global, scene: &Scene<'_>, name: &str, kind: u16) -> Result<String, AllocError> {
     let (Some(asked), Some(told)) = (scene.message_in(), scene.message_out()) else {
         return String::from_str(alloc, "  not both of them are STUN messages");
@@ -194,7 +195,7 @@ fn of_both(alloc: Global, scene: &Scene<'_>, name: &str, kind: u16) -> Result<St
     format!(in alloc; "  the request has {name} {asked}, the response {told}")
 }
 
-/// What is told of the transport that is asked for.
+/// The line about the requested transport.
 fn of_transport(alloc: Global, scene: &Scene<'_>) -> Result<String, AllocError> {
     let Some(asked) = scene.message_in() else {
         return String::from_str(alloc, "  it is no STUN message");
@@ -210,7 +211,7 @@ fn of_transport(alloc: Global, scene: &Scene<'_>) -> Result<String, AllocError> 
     )
 }
 
-/// What is told of a mapped address.
+/// The line about a mapped address.
 fn of_mapped(alloc: Global, scene: &Scene<'_>) -> Result<String, AllocError> {
     let client = scene.lane.input().client();
     let told = match scene.message_out() {
@@ -228,7 +229,7 @@ fn of_mapped(alloc: Global, scene: &Scene<'_>) -> Result<String, AllocError> {
     }
 }
 
-/// What is told of a success's integrity.
+/// The line about the integrity of a success response.
 fn of_integrity(alloc: Global, scene: &Scene<'_>) -> Result<String, AllocError> {
     let Some(told) = scene.message_out() else {
         return String::from_str(alloc, "  it is no STUN message");
@@ -242,7 +243,7 @@ fn of_integrity(alloc: Global, scene: &Scene<'_>) -> Result<String, AllocError> 
     format!(in alloc; "  MESSAGE-INTEGRITY {sha1}, MESSAGE-INTEGRITY-SHA256 {sha256}")
 }
 
-/// What is told of a channel's number.
+/// The line about a channel number.
 fn of_number(alloc: Global, scene: &Scene<'_>) -> Result<String, AllocError> {
     match scene.channel() {
         Some(number) => format!(in alloc; "  the request has channel 0x{number:04X}"),
@@ -250,7 +251,7 @@ fn of_number(alloc: Global, scene: &Scene<'_>) -> Result<String, AllocError> {
     }
 }
 
-/// What is told of a departure that can't be read.
+/// The line about a departure that can't be parsed.
 fn of_bytes(alloc: Global, scene: &Scene<'_>) -> Result<String, AllocError> {
     let left = FirstBytes {
         bytes: scene.leaves.payload.as_slice(),
@@ -258,7 +259,7 @@ fn of_bytes(alloc: Global, scene: &Scene<'_>) -> Result<String, AllocError> {
     format!(in alloc; "  left {left}")
 }
 
-/// Adds the content, where a datagram says something wrong.
+/// Adds the content of the datagrams, if the rule is about content.
 pub fn add_content(scene: &Scene<'_>, rule: Rule, story: &mut Story) -> Result<(), AllocError> {
     let alloc = story.alloc();
     let words = match rule {

@@ -1,4 +1,4 @@
-//! What was due in place of what was seen, with the particulars of the act. It stands behind `expected:`.
+//! What was expected instead of the act, with particulars. It is printed after `expected:`.
 
 use crate::scene::Scene;
 use audit_model::Rule;
@@ -8,7 +8,7 @@ use audit_stun::numbers::method::ALLOCATE;
 use explain_text::{CodeWord, Ip, MethodWord, Quoted, code_says, expected};
 use std::alloc::{AllocError, Global};
 
-/// Where an allocation is asked for.
+/// What was expected if the rule requires an allocation.
 fn by_allocation(alloc: Global, scene: &Scene<'_>, what: &str) -> Result<String, AllocError> {
     let due = if scene.is_request() {
         "437 Allocation Mismatch"
@@ -18,7 +18,7 @@ fn by_allocation(alloc: Global, scene: &Scene<'_>, what: &str) -> Result<String,
     format!(in alloc; "{due}. The client {what}.")
 }
 
-/// Where a permission is asked for.
+/// What was expected if the rule requires a permission.
 fn by_permission(alloc: Global, scene: &Scene<'_>, what: &str) -> Result<String, AllocError> {
     match scene.peer() {
         Some(peer) => {
@@ -29,7 +29,7 @@ fn by_permission(alloc: Global, scene: &Scene<'_>, what: &str) -> Result<String,
     }
 }
 
-/// Where a channel is asked for.
+/// What was expected if the rule requires a channel.
 fn by_channel(alloc: Global, scene: &Scene<'_>, what: &str) -> Result<String, AllocError> {
     match scene.channel() {
         Some(number) => { format!(in alloc; "dropped. Channel 0x{number:04X} {what}.") }
@@ -37,7 +37,7 @@ fn by_channel(alloc: Global, scene: &Scene<'_>, what: &str) -> Result<String, Al
     }
 }
 
-/// Where another user's request was granted.
+/// What was expected if another user's request was granted.
 fn by_user(alloc: Global, scene: &Scene<'_>) -> Result<String, AllocError> {
     let name = match scene.message_in() {
         Some(asked) => asked.first(USERNAME).unwrap_or(&[]),
@@ -57,7 +57,7 @@ fn by_user(alloc: Global, scene: &Scene<'_>) -> Result<String, AllocError> {
     }
 }
 
-/// Where an error says what isn't so.
+/// What was expected if the condition of an error response doesn't hold.
 fn by_error(alloc: Global, scene: &Scene<'_>) -> Result<String, AllocError> {
     let Some(told) = scene.message_out() else {
         return String::from_str(alloc, "a success, or another error.");
@@ -85,7 +85,7 @@ fn by_error(alloc: Global, scene: &Scene<'_>) -> Result<String, AllocError> {
     )
 }
 
-/// Where an allocation was made beside another.
+/// What was expected if an allocation was made while another existed.
 fn by_present(alloc: Global, scene: &Scene<'_>) -> Result<String, AllocError> {
     match scene.lane.table().allocation() {
         Some(allocation) => {
@@ -96,7 +96,7 @@ fn by_present(alloc: Global, scene: &Scene<'_>) -> Result<String, AllocError> {
     }
 }
 
-/// What was due in place of an act that breaks a rule.
+/// What was expected instead of an act that violates a rule.
 pub fn expected_of_act(alloc: Global, scene: &Scene<'_>, rule: Rule) -> Result<String, AllocError> {
     match rule {
         Rule::NoAllocation => by_allocation(alloc, scene, "had no allocation"),
@@ -112,7 +112,7 @@ pub fn expected_of_act(alloc: Global, scene: &Scene<'_>, rule: Rule) -> Result<S
     }
 }
 
-/// What was due where a rule is broken, without particulars.
+/// What a rule expects, without particulars.
 pub fn expected_of_rule(alloc: Global, rule: Rule) -> Result<String, AllocError> {
     String::from_str(alloc, expected(rule))
 }

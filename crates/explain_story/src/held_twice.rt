@@ -1,4 +1,4 @@
-//! What is told where two clients hold one relayed address: R22.
+//! Lines about two clients that have the same relayed address: R22.
 
 use crate::case::Lanes;
 use crate::line::Story;
@@ -14,7 +14,7 @@ fn born_at(tenancies: &[Tenancy], breach: &Breach) -> Option<Tenancy> {
         .copied()
 }
 
-/// Tells both clients of an address.
+/// Adds both clients of an address.
 pub fn add_clash(lanes: &Lanes<'_>, breach: &Breach, story: &mut Story) -> Result<(), AllocError> {
     let alloc = story.alloc();
     let tenancies = all_tenancies(alloc, lanes.findings.as_slice())?;

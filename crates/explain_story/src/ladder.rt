@@ -1,4 +1,4 @@
-//! One client's events in their order, each with what the client had before it.
+//! One client's events in order, each with the client's leases before it.
 
 use crate::case::Case;
 use crate::leases::{channel_of, permission_of};
@@ -9,14 +9,14 @@ use explain_frames::Frames;
 use explain_state::{LaneAt, LeaseRow, lane_before};
 use std::alloc::{AllocError, Global};
 
-/// Events of a lane by their places: from the first on, up to the one before the last.
+/// Events of a lane, by their indexes: `from` included, `to` excluded.
 #[derive(Clone, Copy)]
 pub struct Span {
     pub from: u32,
     pub to: u32,
 }
 
-/// The events around a place, or all.
+/// The events around an index, or all.
 pub fn span_of(input: &LaneInput<'_>, breach: Option<u32>, around: u32) -> Span {
     let count = input.events().len() as u32;
     match breach {
@@ -28,7 +28,7 @@ pub fn span_of(input: &LaneInput<'_>, breach: Option<u32>, around: u32) -> Span 
     }
 }
 
-/// The sightings of an event.
+/// Requests the frames of an event's sightings.
 fn request_event(frames: &mut Frames, event: &LaneEvent<'_>) -> Result<(), AllocError> {
     match event {
         LaneEvent::In { sighting, .. } => frames.ask(sighting.id),
@@ -44,7 +44,7 @@ fn request_event(frames: &mut Frames, event: &LaneEvent<'_>) -> Result<(), Alloc
     }
 }
 
-/// Asks for the frames of events.
+/// Requests the frames of events.
 pub fn request_span(
     input: &LaneInput<'_>,
     span: Span,
@@ -60,7 +60,8 @@ pub fn request_span(
     Ok(())
 }
 
-/// Which leases last at an act: the allocation, the permission for its peer, and its channel.
+/// Which leases have not expired at an act: the allocation, the permission for its peer, and its
+/// channel.
 #[derive(Clone, Copy, Debug)]
 pub struct Lasting {
     pub allocation: bool,
@@ -68,7 +69,7 @@ pub struct Lasting {
     pub channel: bool,
 }
 
-/// What happens at a rung.
+/// What happens at an event.
 #[derive(Clone, Copy)]
 pub enum Step {
     Arrives(SightId),
@@ -87,14 +88,14 @@ pub struct Rung {
     pub place: u32,
     /// Its moment in the certificate, in nanoseconds since 1970.
     pub moment: u64,
-    /// The stamp of its datagram, of an act that of the departure.
+    /// The stamp of its datagram; of an act, the stamp of the departure.
     pub stamp: u64,
     /// Whether it is the lane's first breach.
     pub is_breach: bool,
     pub step: Step,
 }
 
-/// Whether a lease lasts at an act, with the grace.
+/// Whether a lease, with the grace, has not expired at an act.
 fn lasts(scene: &Scene<'_>, row: Option<LeaseRow>) -> bool {
     match row {
         Some(row) => {
@@ -105,7 +106,7 @@ fn lasts(scene: &Scene<'_>, row: Option<LeaseRow>) -> bool {
     }
 }
 
-/// Which leases last at an act.
+/// Which leases have not expired at an act.
 fn what_lasts(scene: &Scene<'_>) -> Lasting {
     Lasting {
         allocation: lasts(scene, scene.lane.allocation()),
@@ -114,8 +115,8 @@ fn what_lasts(scene: &Scene<'_>) -> Lasting {
     }
 }
 
-/// When an event happens: its moment in the certificate, and the stamp of its datagram, of an act
-/// that of the departure.
+/// The times of an event: its moment in the certificate, and the stamp of its datagram; of an act,
+/// the stamp of the departure.
 fn moments_of(event: &LaneEvent<'_>) -> (u64, u64) {
     match event {
         LaneEvent::In { sighting, key, .. } => (key.moment, sighting.stamp),
@@ -151,7 +152,7 @@ fn step_of(case: Case<'_>, lane: &LaneAt<'_>, event: &LaneEvent<'_>) -> Step {
     }
 }
 
-/// Goes on past an event, and tells whether it could.
+/// Moves past an event; returns whether it could.
 fn pass(lane: &mut LaneAt<'_>, place: u32) -> Result<bool, AllocError> {
     if place >= lane.len() {
         return Ok(false);
@@ -163,8 +164,8 @@ fn pass(lane: &mut LaneAt<'_>, place: u32) -> Result<bool, AllocError> {
     }
 }
 
-/// The events of a lane. Leases are those before each event, up to the lane's first breach; behind
-/// it they aren't known, and those of there are told.
+/// The events of a lane. The leases are those before each event, up to the lane's first breach;
+/// after the breach they aren't known, and those at the breach are shown.
 pub fn rungs_of(
     alloc: Global,
     case: Case<'_>,

@@ -10,7 +10,7 @@ use explain_state::{LaneRow, Traffic, lane_before, lane_row};
 use explain_text::Quoted;
 use std::alloc::{AllocError, Global};
 
-/// Asks for the frame of each lane's first breach.
+/// Requests the frame of each lane's first breach.
 pub fn request_breaches(lanes: &Lanes<'_>, frames: &mut Frames) -> Result<(), AllocError> {
     for finding in &lanes.findings {
         if let Outcome::Broken(breach) = finding.outcome() {
@@ -20,7 +20,7 @@ pub fn request_breaches(lanes: &Lanes<'_>, frames: &mut Frames) -> Result<(), Al
     Ok(())
 }
 
-/// How many allocations a lane has, up to its first breach.
+/// The number of a lane's allocations, up to its first breach.
 pub fn allocations(alloc: Global, finding: &Finding<'_>) -> Result<usize, AllocError> {
     match finding.outcome() {
         Outcome::Passed(tenancies) => Ok(tenancies.len()),
@@ -34,7 +34,7 @@ pub fn allocations(alloc: Global, finding: &Finding<'_>) -> Result<usize, AllocE
     }
 }
 
-/// What a lane comes to.
+/// The outcome of a lane.
 fn outcome(
     alloc: Global,
     printer: &Printer<'_>,
@@ -49,7 +49,7 @@ fn outcome(
     format!(in alloc; "{rule}, event {event}, {place}")
 }
 
-/// The name of a lane's user.
+/// The quoted name of a lane's user.
 fn user_of(alloc: Global, row: &LaneRow<'_>) -> Result<String, AllocError> {
     match row.user {
         Some(name) => {
@@ -67,7 +67,7 @@ fn ends_of(alloc: Global, row: &LaneRow<'_>) -> Result<String, AllocError> {
     format!(in alloc; "{client} at {listen}")
 }
 
-/// Datagrams and bytes.
+/// The numbers of datagrams and bytes.
 fn traffic(alloc: Global, way: &str, traffic: Traffic) -> Result<String, AllocError> {
     let datagrams = traffic.datagrams;
     let bytes = traffic.bytes;
@@ -93,7 +93,7 @@ pub fn lane_line(
     )
 }
 
-/// Whether a lane breaks a rule.
+/// Whether a lane violates a rule.
 pub fn is_broken(finding: &Finding<'_>) -> bool {
     match finding.outcome() {
         Outcome::Passed(_) => false,
@@ -101,19 +101,19 @@ pub fn is_broken(finding: &Finding<'_>) -> bool {
     }
 }
 
-/// What all lanes come to.
+/// The sums over all lanes.
 #[derive(Clone, Copy, Debug)]
 pub struct Sums {
     pub clients: usize,
-    /// How many of them break a rule.
+    /// The number of clients that violate a rule.
     pub broken: usize,
-    /// How many datagrams stand in no lane.
+    /// The number of datagrams that are in no lane.
     pub dropped: usize,
-    /// The lane that was given an address which another client held.
+    /// The lane that was granted an address which another client had.
     pub clash: Option<u32>,
 }
 
-/// The lane of a verdict's breach where that is an address which another client held.
+/// The lane of a verdict's breach, if the breach is an address which another client had.
 fn clash_of(breach: Option<Breach>) -> Option<u32> {
     let breach = breach?;
     if breach.rule == Rule::AddressHeld {
@@ -123,7 +123,7 @@ fn clash_of(breach: Option<Breach>) -> Option<u32> {
     }
 }
 
-/// What all lanes come to, whose verdict has this breach.
+/// The sums over all lanes, for a verdict with this breach.
 pub fn sums_of(case: Case<'_>, lanes: &Lanes<'_>, breach: Option<Breach>) -> Sums {
     Sums {
         clients: lanes.findings.len(),
@@ -137,7 +137,7 @@ pub fn sums_of(case: Case<'_>, lanes: &Lanes<'_>, breach: Option<Breach>) -> Sum
     }
 }
 
-/// The lines behind those of the lanes.
+/// The lines after those of the lanes.
 pub fn sum_lines(alloc: Global, sums: Sums) -> Result<String, AllocError> {
     let Sums {
         clients,

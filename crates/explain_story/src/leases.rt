@@ -1,4 +1,4 @@
-//! What a client had before an act.
+//! The leases that a client had before an act.
 
 use crate::line::{Line, Story};
 use crate::scene::Scene;
@@ -9,19 +9,19 @@ use explain_state::{GrantAct, LeaseKind, LeaseRow};
 use explain_text::Exactly;
 use std::alloc::AllocError;
 
-/// How many of the allocations that are there no more are told: the last ones.
+/// How many of the ended allocations are listed: the last ones.
 const MOST_ENDED: usize = 4;
 
-/// How long a permission lasts (RFC 8656, section 9), in nanoseconds.
+/// The lifetime of a permission (RFC 8656, section 9), in nanoseconds.
 const PERMISSION: u64 = 300_000_000_000;
 
-/// How long a channel lasts (RFC 8656, section 12), in nanoseconds.
+/// The lifetime of a channel binding (RFC 8656, section 12), in nanoseconds.
 const CHANNEL: u64 = 600_000_000_000;
 
-/// Nanoseconds of a second.
+/// The nanoseconds of a second.
 const SECOND: u64 = 1_000_000_000;
 
-/// Whether the leases of the client matter to a rule.
+/// Whether the client's leases matter to a rule.
 pub fn needs_leases(rule: Rule) -> bool {
     matches!(
         rule,
@@ -50,7 +50,7 @@ pub fn channel_of(scene: &Scene<'_>) -> Option<LeaseRow> {
     scene.lane.channel(scene.channel()?)
 }
 
-/// Tells the allocations that are there no more.
+/// Adds the allocations that have ended.
 fn add_ended(scene: &Scene<'_>, story: &mut Story) -> Result<(), AllocError> {
     let ended = scene.lane.ended();
     let passed_over = ended.len().saturating_sub(MOST_ENDED);
@@ -64,7 +64,7 @@ fn add_ended(scene: &Scene<'_>, story: &mut Story) -> Result<(), AllocError> {
     Ok(())
 }
 
-/// Tells the channel of the peer that an act is about, where that has another number.
+/// Adds the channel of the peer that an act is about, if it has another number.
 fn add_peers_channel(scene: &Scene<'_>, story: &mut Story) -> Result<(), AllocError> {
     let Some(peer) = scene.peer() else {
         return Ok(());
@@ -80,7 +80,7 @@ fn add_peers_channel(scene: &Scene<'_>, story: &mut Story) -> Result<(), AllocEr
     story.add(Line::Lease(row))
 }
 
-/// Tells what the client had before an act.
+/// Adds the client's leases before an act.
 pub fn add_leases(scene: &Scene<'_>, rule: Rule, story: &mut Story) -> Result<(), AllocError> {
     let allocation = scene.lane.allocation();
     if allocation.is_none() || matches!(rule, Rule::ErrorCondition | Rule::AllocationPresent) {
@@ -98,7 +98,7 @@ pub fn add_leases(scene: &Scene<'_>, rule: Rule, story: &mut Story) -> Result<()
     story.lease(permission_of(scene))
 }
 
-/// How long the lease lasts that an act granted, in nanoseconds.
+/// The lifetime of the lease that an act granted, in nanoseconds.
 fn length_of(scene: &Scene<'_>, row: &LeaseRow) -> Option<u64> {
     match row.kind {
         LeaseKind::Permission { .. } => Some(PERMISSION),
@@ -107,7 +107,7 @@ fn length_of(scene: &Scene<'_>, row: &LeaseRow) -> Option<u64> {
     }
 }
 
-/// The lifetime that an act told, in nanoseconds.
+/// The LIFETIME of an act's response, in nanoseconds.
 fn lifetime_in(scene: &Scene<'_>, act: &GrantAct) -> Option<u64> {
     let success = scene.case.intake.sighting(act.leaves)?;
     let told = message(success.payload.as_slice())?;
@@ -118,8 +118,8 @@ fn lifetime_in(scene: &Scene<'_>, act: &GrantAct) -> Option<u64> {
     Some(seconds.saturating_mul(SECOND))
 }
 
-/// By how much a lease is over at least, as its last act and the arrival are stamped: the act came
-/// no later than its success may have left.
+/// The least time by which a lease had expired at the arrival, by the stamps of its last act and of
+/// the arrival. The act happened no later than its success response may have left.
 fn over_by_at_least(scene: &Scene<'_>, row: &LeaseRow) -> Option<u64> {
     let success = scene.case.intake.sighting(row.last.leaves)?;
     let length = length_of(scene, row)?;
@@ -131,7 +131,7 @@ fn over_by_at_least(scene: &Scene<'_>, row: &LeaseRow) -> Option<u64> {
     Some(scene.arrives.lo - last)
 }
 
-/// The lease that is over where a rule is broken.
+/// The expired lease that violates a rule.
 fn over_by(scene: &Scene<'_>, rule: Rule) -> Option<LeaseRow> {
     match rule {
         Rule::AllocationOver => scene.lane.allocation(),
@@ -141,7 +141,7 @@ fn over_by(scene: &Scene<'_>, rule: Rule) -> Option<LeaseRow> {
     }
 }
 
-/// Tells whether other moments could make up for a lease that is over.
+/// Adds whether other moments could avoid the expiry of a lease.
 pub fn add_margin(scene: &Scene<'_>, rule: Rule, story: &mut Story) -> Result<(), AllocError> {
     let Some(row) = over_by(scene, rule) else {
         return Ok(());

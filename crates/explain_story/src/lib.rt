@@ -1,4 +1,5 @@
-//! What a verdict means, in lines: the datagrams, what was due, what the server had, and the rule.
+//! The explanation of a verdict, in lines: the datagrams, the expected behaviour, the leases, the
+//! rule.
 #![tactic(auto)]
 
 mod case;

@@ -1,11 +1,11 @@
-//! Lines whose frames are looked up before they are told.
+//! Lines whose frames are looked up before they are printed.
 
 use audit_model::{Addr, Rule, SightId};
 use explain_frames::Frames;
 use explain_state::{Ended, GrantAct, LeaseRow};
 use std::alloc::{AllocError, Global};
 
-/// The name and the realm of a user, as a request has them.
+/// The name and the realm of a user, as in a request.
 #[derive(Drop)]
 pub struct Account {
     pub user: Vec<u8>,
@@ -18,49 +18,49 @@ pub struct ClientOf {
     pub lane: u32,
     pub client: Addr,
     pub listen: Addr,
-    /// The user that was named last of those who are known.
+    /// The last known user that its requests named.
     pub account: Option<Account>,
 }
 
-/// A line of a story.
+/// A line of an explanation.
 #[derive(Drop)]
 pub enum Line {
-    /// Words as they are.
+    /// Text as it is.
     Words(String),
-    /// Whose lane it is.
+    /// The client of the lane.
     Client(ClientOf),
-    /// What was due.
+    /// The expected behaviour.
     Expected(String),
-    /// What the rule asks, and what its breaches usually come from.
+    /// What the rule requires, and the usual causes of its breaches.
     Rule(Rule),
     /// A datagram, with its frame.
     Datagram(SightId),
-    /// A lease, with the frames that made and renewed it.
+    /// A lease, with the frames that granted and renewed it.
     Lease(LeaseRow),
-    /// An allocation that is there no more, with the frames that made and ended it.
+    /// An allocation that has ended, with the frames that made and ended it.
     Ended(Ended),
-    /// Words, then the frames of an act.
+    /// Text, then the frames of an act.
     WithAct {
         words: String,
         act: GrantAct,
     },
-    /// Words, then the frame of a datagram, then words.
+    /// Text, then the frame of a datagram, then text.
     UpTo {
         words: String,
         sight: SightId,
         behind: String,
     },
-    /// The frame that tells a relayed address and isn't judged; nothing where there is none.
+    /// The frame that grants a relayed address and isn't judged; no line if there is none.
     GrantedElsewhere(Addr),
 }
 
-/// Lines in their order, and the moment at which leases are looked at.
+/// Lines in order, and the moment at which leases are looked at.
 #[derive(Drop)]
 pub struct Story {
     pub lines: Vec<Line>,
     /// In nanoseconds since 1970.
     pub moment: u64,
-    /// The departure that breaks a rule, if it is one.
+    /// The departure that violates a rule, if it is one.
     pub departure: Option<SightId>,
     alloc: Global,
 }
@@ -104,7 +104,7 @@ impl Story {
         }
     }
 
-    /// Where its lines take their memory.
+    /// The allocator of its lines.
     pub fn alloc(&self) -> Global {
         self.alloc
     }
@@ -115,19 +115,19 @@ impl Story {
         Ok(())
     }
 
-    /// Adds words.
+    /// Adds text.
     pub fn say(&mut self, words: String) -> Result<(), AllocError> {
         self.lines.push(Line::Words(words))?;
         Ok(())
     }
 
-    /// Adds words that are the same in every story.
+    /// Adds text that is the same in every explanation.
     pub fn put(&mut self, words: &str) -> Result<(), AllocError> {
         let words = String::from_str(self.alloc, words)?;
         self.say(words)
     }
 
-    /// Adds what was due.
+    /// Adds the expected behaviour.
     pub fn due(&mut self, words: String) -> Result<(), AllocError> {
         self.add(Line::Expected(words))
     }
@@ -137,7 +137,7 @@ impl Story {
         self.add(Line::Datagram(sight))
     }
 
-    /// Adds a lease, where there is one.
+    /// Adds a lease, if there is one.
     pub fn lease(&mut self, row: Option<LeaseRow>) -> Result<(), AllocError> {
         match row {
             Some(row) => self.add(Line::Lease(row)),
@@ -154,7 +154,7 @@ impl Story {
         Ok(sights)
     }
 
-    /// Asks for the frames of all lines.
+    /// Requests the frames of all lines.
     pub fn ask(&self, frames: &mut Frames) -> Result<(), AllocError> {
         for sight in &self.sights()? {
             frames.ask(*sight)?;

@@ -1,4 +1,4 @@
-//! Arrivals that could have caused a departure, by what they carry.
+//! Arrivals that could have caused a departure, by their content.
 
 use crate::case::Case;
 use crate::line::{Line, Story};
@@ -21,7 +21,7 @@ struct Near {
 /// What could have caused a departure.
 #[derive(Drop)]
 enum Cause<'a> {
-    /// A request of a client with the transaction id of this response.
+    /// A client's request with the transaction id of this response.
     Request(Message<'a>),
     /// This data from a peer.
     OfPeer(&'a [u8]),
@@ -41,7 +41,7 @@ fn data_in(payload: &[u8]) -> Option<&[u8]> {
     indication.first(DATA)
 }
 
-/// What could have caused a departure; none if nothing could.
+/// What could have caused a departure; `None` if nothing could.
 fn cause_of<'a>(case: Case<'_>, departure: &'a Sighting) -> Option<Cause<'a>> {
     let payload = departure.payload.as_slice();
     if !case.intake.policy().listens(departure.from) {
@@ -125,7 +125,7 @@ fn is_answered(certificate: &Certificate, arrival: SightId) -> bool {
     false
 }
 
-/// Why an arrival didn't cause a departure, as far as that is seen.
+/// Why an arrival didn't cause a departure, if a reason is known.
 fn reason(
     case: Case<'_>,
     misdelivery: Option<Misdelivery>,
@@ -147,7 +147,7 @@ fn reason(
     }
 }
 
-/// Adds that the data of a departure was for another client, whose relayed address it came to.
+/// Adds that the data of a departure was for another client, at whose relayed address it arrived.
 fn add_misdelivery(
     departure: &Sighting,
     misdelivery: &Misdelivery,
@@ -185,8 +185,8 @@ fn add_other_client(sight: SightId, story: &mut Story) -> Result<(), AllocError>
     })
 }
 
-/// Adds for whom the data of a departure was, if it was for another client, and the nearest
-/// arrivals that could have caused the departure, with the reason why each didn't.
+/// Adds for which client the data of a departure was, if for another one, and the nearest arrivals
+/// that could have caused the departure, with the reason why each didn't.
 pub fn add_nearest(
     case: Case<'_>,
     owners: &Owners<'_>,

@@ -1,4 +1,4 @@
-//! What is told where an event stands wrong in its lane: S9 to S13.
+//! Lines about an event in the wrong place of its lane: S9 to S13.
 
 use crate::case::Case;
 use crate::line::{Line, Story};
@@ -10,10 +10,10 @@ use explain_frames::granted_address;
 use explain_text::{Quoted, Seconds};
 use std::alloc::{AllocError, Global};
 
-/// How many nanoseconds a millisecond has.
+/// The nanoseconds of a millisecond.
 const MILLISECOND: u64 = 1_000_000;
 
-/// Whether two datagrams are the same but for where they were seen.
+/// Whether two datagrams are the same except for the interface.
 fn is_double(one: &Sighting, other: &Sighting) -> bool {
     one.id.iface != other.id.iface
         && one.from == other.from
@@ -21,7 +21,7 @@ fn is_double(one: &Sighting, other: &Sighting) -> bool {
         && one.payload.as_slice() == other.payload.as_slice()
 }
 
-/// The act before a place that answered the same arrival, or gave the same departure.
+/// The act before an index that answered the same arrival, or sent the same departure.
 fn earlier_act<'a>(
     input: &LaneInput<'a>,
     place: u32,
@@ -43,8 +43,8 @@ fn earlier_act<'a>(
     None
 }
 
-/// Whether a departure is the one of an earlier act on the same arrival, seen on another interface;
-/// none if there is no such act.
+/// Whether a departure is that of an earlier act on the same arrival, seen on another interface;
+/// `None` if there is no such act.
 pub fn is_seen_twice(
     input: &LaneInput<'_>,
     place: u32,
@@ -65,7 +65,7 @@ fn interface_of(alloc: Global, case: Case<'_>, iface: u32) -> Result<String, All
     format!(in alloc; "interface {number} of {capture}")
 }
 
-/// Tells what was answered twice (S10).
+/// Adds what was answered twice (S10).
 pub fn add_twice(scene: &Scene<'_>, place: u32, story: &mut Story) -> Result<(), AllocError> {
     let (arrives, leaves) = (scene.arrives, scene.leaves);
     let input = scene.lane.input();
@@ -86,7 +86,7 @@ pub fn add_twice(scene: &Scene<'_>, place: u32, story: &mut Story) -> Result<(),
     Ok(())
 }
 
-/// When an arrival came in, in nanoseconds since 1970.
+/// The moment of an arrival, in nanoseconds since 1970.
 fn came_at(input: &LaneInput<'_>, sight: SightId) -> Option<u64> {
     for event in input.events() {
         if let LaneEvent::In { sighting, key, .. } = event {
@@ -98,7 +98,7 @@ fn came_at(input: &LaneInput<'_>, sight: SightId) -> Option<u64> {
     None
 }
 
-/// The arrival whose act gave a departure.
+/// The arrival whose act sent a departure.
 fn arrival_of(input: &LaneInput<'_>, leaves: SightId) -> Option<SightId> {
     for event in input.events() {
         if let LaneEvent::Act {
@@ -115,7 +115,7 @@ fn arrival_of(input: &LaneInput<'_>, leaves: SightId) -> Option<SightId> {
     None
 }
 
-/// Tells how long an arrival was held (S12).
+/// Adds how long an arrival was held (S12).
 pub fn add_held(
     case: Case<'_>,
     input: &LaneInput<'_>,
@@ -134,7 +134,7 @@ pub fn add_held(
     story.say(format!(in alloc; "  held for {held}; hold-ms is {allowed}")?)
 }
 
-/// Tells how long the arrival of a departure was held (S12).
+/// Adds how long the arrival of a departure was held (S12).
 pub fn add_held_out(
     case: Case<'_>,
     input: &LaneInput<'_>,
@@ -149,7 +149,8 @@ pub fn add_held_out(
     add_held(case, input, arrives, moment, story)
 }
 
-/// The Allocate success of an interface that granted the address from which a departure left.
+/// The Allocate success response of an interface that granted the address from which a departure
+/// left.
 fn grant_on(case: Case<'_>, iface: u32, departure: &Sighting) -> Option<SightId> {
     for sighting in case.intake.interface(iface) {
         if granted_address(sighting.payload.as_slice()) == Some(departure.from) {
@@ -159,7 +160,7 @@ fn grant_on(case: Case<'_>, iface: u32, departure: &Sighting) -> Option<SightId>
     None
 }
 
-/// An Allocate success that granted the address from which a departure left.
+/// An Allocate success response that granted the address from which a departure left.
 fn grant_of(case: Case<'_>, departure: &Sighting) -> Option<SightId> {
     for iface in 0..case.intake.interfaces() {
         if let Some(sight) = grant_on(case, iface, departure) {
@@ -169,7 +170,7 @@ fn grant_of(case: Case<'_>, departure: &Sighting) -> Option<SightId> {
     None
 }
 
-/// Adds to whom the address of a departure that nothing asked for was granted (S1, S11).
+/// Adds to whom the address of a departure without a cause was granted (S1, S11).
 pub fn add_owner(
     case: Case<'_>,
     departure: &Sighting,

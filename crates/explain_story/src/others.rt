@@ -1,4 +1,4 @@
-//! What is told of the rest: how many more such faults a lane has, and what the other clients come to.
+//! The last lines: how many more such faults a lane has, and the outcome of the other clients.
 
 ghost use Rattle.std.specs.Prelude.{◌≡◌, Any, IfOk, IfSome, length};
 ghost use Rattle.audit_faults.specs.Shown.{AreFaults};
@@ -13,7 +13,7 @@ use audit_model::SightId;
 use std::alloc::{AllocError, Global};
 use std::collections::BTreeMap;
 
-/// The faults that hold in every order, each with the departure that shows it.
+/// The faults in every order, each with the departure that shows it.
 #[derive(Drop)]
 pub struct Shown {
     /// In the order of the departures.
@@ -27,7 +27,7 @@ fn is_same(one: Fault, other: Fault) -> bool {
 }
 
 impl Shown {
-    /// All that the captures show. It takes n log n in the sightings.
+    /// All faults that the captures show. It takes n log n in the sightings.
     pub fn of(alloc: Global, case: Case<'_>) -> Result<Shown, AllocError>
         ensures { IfOk result (λ shown. AreFaults (taken case.entry.intake.now) (key_for case.entry.users.now) shown.faults.items) }
     {
@@ -44,7 +44,7 @@ impl Shown {
         self.by_sight.get(&sight).copied()
     }
 
-    /// The fault that a departure shows, with all that is known of it. It takes n in the faults.
+    /// The fault that a departure shows, with all its facts. It takes n in the faults.
     pub fn find(&self, sight: SightId) -> Option<ShownFault>
         ensures { IfSome result (λ found. (found.sight ≡ sight) × Any (λ shown. shown ≡ found) self.now.faults.items) }
     {
@@ -56,14 +56,14 @@ impl Shown {
         None
     }
 
-    /// How many departures show a fault.
+    /// The number of departures that show a fault.
     pub fn number(&self) -> usize
         ensures { result ≡ length self.now.faults.items }
     {
         self.faults.len()
     }
 
-    /// How many departures show this fault.
+    /// The number of departures that show this fault.
     pub fn count(&self, fault: Fault) -> usize {
         let mut count = 0usize;
         for (_, other) in &self.by_sight {
@@ -75,14 +75,14 @@ impl Shown {
     }
 }
 
-/// Departures of a lane behind a place that show a fault.
+/// Departures of a lane after an index that show a fault.
 #[derive(Clone, Copy)]
 struct Later {
     count: u64,
     last: Option<SightId>,
 }
 
-/// The departures that acts behind a place gave and that show a fault.
+/// The departures that acts after an index sent and that show a fault.
 fn behind(input: &LaneInput<'_>, place: u32, shown: &Shown, fault: Fault) -> Later {
     let mut count = 0u64;
     let mut last = None;
@@ -98,7 +98,7 @@ fn behind(input: &LaneInput<'_>, place: u32, shown: &Shown, fault: Fault) -> Lat
     Later { count, last }
 }
 
-/// How many lanes but this one break a rule.
+/// The number of lanes except this one that violate a rule.
 fn broken_others(lanes: &Lanes<'_>, lane: u32) -> u64 {
     let mut count = 0u64;
     for finding in &lanes.findings {
@@ -111,7 +111,7 @@ fn broken_others(lanes: &Lanes<'_>, lane: u32) -> u64 {
     count
 }
 
-/// What the other clients come to.
+/// The outcome of the other clients.
 fn others(alloc: Global, lanes: &Lanes<'_>, lane: u32) -> Result<String, AllocError> {
     if lanes.findings.len() <= 1 {
         return String::from_str(alloc, "there is no other client");
@@ -129,7 +129,8 @@ fn others(alloc: Global, lanes: &Lanes<'_>, lane: u32) -> Result<String, AllocEr
     format!(in alloc; "{broken} other clients break a rule too (turnexplain lanes --broken)")
 }
 
-/// Tells how many more departures of the lane show the same fault, and what the other clients come to.
+/// Adds how many more departures of the lane show the same fault, and the outcome of the other
+/// clients.
 pub fn add_rest(
     lanes: &Lanes<'_>,
     input: &LaneInput<'_>,

@@ -1,4 +1,4 @@
-//! Frames and moments, as they are told.
+//! Frames and moments, as they are printed.
 
 use crate::case::Case;
 use audit_model::{SightId, Sighting};
@@ -7,17 +7,17 @@ use explain_text::{Datagram, Quoted, Since, SinceShort};
 use std::alloc::{AllocError, Global};
 use std::fmt;
 
-/// How many interface numbers each capture has.
+/// The number of interface numbers for each capture.
 pub const INTERFACES: u32 = 64;
 
-/// What lines are told by: the captures, and the frames that were looked up in them.
+/// The context for printing lines: the captures, and the frames that were looked up in them.
 #[derive(Clone, Copy)]
 pub struct Printer<'a> {
     pub case: Case<'a>,
     pub frames: &'a Frames,
 }
 
-/// The number of a frame; a question mark where it isn't known.
+/// The number of a frame; a question mark if it isn't known.
 #[derive(Clone, Copy)]
 pub struct FrameNumber {
     pub frame: Option<Frame>,
@@ -36,7 +36,7 @@ impl fmt::Display for FrameNumber {
 }
 
 impl<'a> Printer<'a> {
-    /// When the first frame of all captures was seen, in nanoseconds since 1970.
+    /// The time of the first frame of all captures, in nanoseconds since 1970.
     pub fn first(&self) -> u64 {
         self.frames.first().unwrap_or(0)
     }
@@ -48,7 +48,8 @@ impl<'a> Printer<'a> {
         }
     }
 
-    /// The name of a sighting's capture, as it was given; none where there is no capture of its number.
+    /// The name of a sighting's capture, as in the arguments; `None` if there is no capture of its
+    /// number.
     pub fn capture_name(&self, sight: SightId) -> Option<&'a str> {
         let name = self.case.captures.get((sight.iface / INTERFACES) as usize)?;
         Some(*name)
@@ -59,7 +60,7 @@ impl<'a> Printer<'a> {
         self.capture_of(sight.iface / INTERFACES)
     }
 
-    /// The name of the capture of a number.
+    /// The name of the capture with a number.
     pub fn capture_of(&self, file: u32) -> Quoted<'a> {
         let name = self
             .case
@@ -72,7 +73,7 @@ impl<'a> Printer<'a> {
         }
     }
 
-    /// A moment beside the first frame.
+    /// A moment relative to the first frame.
     pub fn since(&self, moment: u64) -> Since {
         Since {
             first: self.first(),
@@ -80,7 +81,7 @@ impl<'a> Printer<'a> {
         }
     }
 
-    /// A moment beside the first frame, in fewer digits.
+    /// A moment relative to the first frame, in fewer digits.
     pub fn short(&self, moment: u64) -> SinceShort {
         SinceShort {
             first: self.first(),
@@ -94,7 +95,7 @@ impl<'a> Printer<'a> {
         policy.listens(sighting.from) || policy.listens(sighting.to)
     }
 
-    /// The ends of a datagram.
+    /// The source and destination of a datagram.
     fn ends(&self, alloc: Global, sighting: &Sighting) -> Result<String, AllocError> {
         let from = sighting.from;
         let to = sighting.to;
@@ -115,7 +116,7 @@ impl<'a> Printer<'a> {
         format!(in alloc; "  {place}  {time}  {ends:<38}  {what:<28}  [{iface}.{index}]\n")
     }
 
-    /// What a datagram is.
+    /// The description of a datagram.
     pub fn what(&self, alloc: Global, sighting: &Sighting) -> Result<String, AllocError> {
         let datagram = Datagram {
             payload: sighting.payload.as_slice(),

@@ -1,4 +1,4 @@
-//! What is told where a datagram has no right place in the order: S1 to S8.
+//! Lines about a datagram that is misplaced in the order: S1 to S8.
 
 use crate::case::Case;
 use crate::causes::cause_of_departure;
@@ -10,10 +10,10 @@ use explain_clients::Owners;
 use explain_text::{Seconds, cause};
 use std::alloc::AllocError;
 
-/// Nanoseconds of a microsecond.
+/// The nanoseconds of a microsecond.
 const MICROSECOND: u64 = 1_000;
 
-/// Tells by how much a moment is off its stamp (S4).
+/// Adds by how much a moment differs from its stamp (S4).
 fn add_window(
     case: Case<'_>,
     breach: &Breach,
@@ -45,7 +45,7 @@ fn before(sight: SightId) -> Option<SightId> {
     })
 }
 
-/// Tells the stamps of a datagram and of the one before it on its interface.
+/// Adds the stamps of a datagram and of the one before it on its interface.
 fn add_neighbour(case: Case<'_>, sighting: &Sighting, story: &mut Story) -> Result<(), AllocError> {
     let alloc = story.alloc();
     let Some(neighbour) = before(sighting.id) else {
@@ -67,7 +67,7 @@ fn add_neighbour(case: Case<'_>, sighting: &Sighting, story: &mut Story) -> Resu
     Ok(())
 }
 
-/// Tells of a datagram that has no place (S1), and returns its usual causes.
+/// Adds lines about a datagram that isn't placed (S1), and returns its usual causes.
 fn add_unplaced(
     case: Case<'_>,
     sighting: &Sighting,
@@ -86,7 +86,7 @@ fn add_unplaced(
     Ok(cause_of_departure(case, &owners, sighting, Rule::Unplaced))
 }
 
-/// Tells where the certificate has a breach.
+/// Adds the place of the breach in the certificate.
 fn add_place(breach: &Breach, story: &mut Story) -> Result<(), AllocError> {
     let alloc = story.alloc();
     let lane = breach.at.lane;
@@ -94,7 +94,7 @@ fn add_place(breach: &Breach, story: &mut Story) -> Result<(), AllocError> {
     story.say(format!(in alloc; "  in the certificate: lane {lane}, event {place}, both from 0")?)
 }
 
-/// Tells a breach of placement, and returns its usual causes.
+/// Adds a breach of placement, and returns its usual causes.
 pub fn add_placement(
     case: Case<'_>,
     breach: &Breach,

@@ -17,7 +17,7 @@ impl Printer<'_> {
         format!(in alloc; "frames {arrives} > {leaves}")
     }
 
-    /// Whether a lease lasts at a moment, and by how much it is over.
+    /// Whether a lease has expired at a moment, and by how much.
     fn state(&self, alloc: Global, until: u64, moment: u64) -> Result<String, AllocError> {
         if moment <= until {
             return String::from_str(alloc, "  (lasts)");
@@ -33,7 +33,7 @@ impl Printer<'_> {
         format!(in alloc; ", with grace {with_grace}: OVER by {over}")
     }
 
-    /// What the last of the acts that renewed a lease was.
+    /// The last act that renewed a lease.
     fn renewal(&self, alloc: Global, row: &LeaseRow) -> Result<String, AllocError> {
         if row.renewals == 0 {
             return Ok(String::new(alloc));
@@ -60,7 +60,7 @@ impl Printer<'_> {
         format!(in alloc; "  {name:<38}  {method:<16}  {act}{renewal}  until {until}{state}\n")
     }
 
-    /// The line of an allocation that is there no more.
+    /// The line of an allocation that has ended.
     fn ended_line(&self, alloc: Global, ended: &Ended) -> Result<String, AllocError> {
         let relayed = ended.relayed;
         let made = self.act(alloc, &ended.made)?;
@@ -71,7 +71,7 @@ impl Printer<'_> {
         format!(in alloc; "  allocation {relayed}  {made}, ended by {method}, {ending}\n")
     }
 
-    /// The frame that grants a relayed address and isn't judged.
+    /// The line about the frame that grants a relayed address and isn't judged.
     fn line_of_owner(&self, alloc: Global, relayed: Addr) -> Result<String, AllocError> {
         let Some(frame) = self.frames.grant_of(relayed) else {
             return Ok(String::new(alloc));
@@ -88,7 +88,7 @@ impl Printer<'_> {
         }
     }
 
-    /// A line of a story.
+    /// A line of an explanation.
     pub fn line(&self, alloc: Global, line: &Line, moment: u64) -> Result<String, AllocError> {
         match line {
             Line::Words(words) => format!(in alloc; "{words}\n"),
@@ -131,7 +131,7 @@ impl Printer<'_> {
         Ok(line)
     }
 
-    /// All lines of a story. A story that ends with its rule has no causes in words.
+    /// All lines of an explanation. If it ends with its rule, the causes are looked up here.
     pub fn lines(&self, alloc: Global, story: &Story) -> Result<String, AllocError> {
         let mut text = String::new(alloc);
         for line in &story.lines {
@@ -144,7 +144,7 @@ impl Printer<'_> {
     }
 }
 
-/// The relayed address of a story that no client was granted over UDP.
+/// The relayed address in an explanation that no client was granted over UDP.
 fn ungranted(story: &Story) -> Option<Addr> {
     for line in &story.lines {
         if let Line::GrantedElsewhere(relayed) = line {
@@ -172,13 +172,13 @@ fn client_line(alloc: Global, of: &ClientOf) -> Result<String, AllocError> {
     format!(in alloc; "{ends:<50} lane {lane}, user \"{user}\", realm \"{realm}\"\n")
 }
 
-/// What a rule asks.
+/// The line about what a rule requires.
 fn rule_line(alloc: Global, rule: Rule) -> Result<String, AllocError> {
     let meaning = meaning(rule);
     format!(in alloc; "rule: {meaning}\n")
 }
 
-/// What a lease is of.
+/// The name of a lease.
 fn lease_name(alloc: Global, kind: LeaseKind) -> Result<String, AllocError> {
     match kind {
         LeaseKind::Allocation { relayed } => format!(in alloc; "allocation {relayed}"),

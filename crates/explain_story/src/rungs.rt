@@ -1,4 +1,4 @@
-//! A client's events as lines: its ladder.
+//! A client's events as lines: the ladder.
 
 use crate::ladder::{Lasting, Rung, Step};
 use crate::place::Printer;
@@ -25,12 +25,12 @@ fn arrow_of_act(way: Way) -> &'static str {
     }
 }
 
-/// A letter for a lease that lasts.
+/// The letter of a lease that has not expired, else a point.
 fn mark(lasts: bool, letter: char) -> char {
     if lasts { letter } else { '.' }
 }
 
-/// What a datagram is.
+/// The description of a datagram.
 fn what(alloc: Global, printer: &Printer<'_>, sight: SightId) -> Result<String, AllocError> {
     match printer.case.intake.sighting(sight) {
         Some(sighting) => printer.what(alloc, sighting),
@@ -38,7 +38,7 @@ fn what(alloc: Global, printer: &Printer<'_>, sight: SightId) -> Result<String, 
     }
 }
 
-/// What a datagram that comes or goes is, with its frame.
+/// The description of a datagram that arrives or leaves, with its frame.
 fn datagram(
     alloc: Global,
     printer: &Printer<'_>,
@@ -55,7 +55,7 @@ fn datagram(
     format!(in alloc; "...  {arrow}  {what:<40}  {place}")
 }
 
-/// What an act is, with its frames.
+/// The description of an act, with its frames.
 fn act(
     alloc: Global,
     printer: &Printer<'_>,

@@ -1,4 +1,4 @@
-//! An act that breaks a rule, with what the server had before it.
+//! An act that violates a rule, with the state of the lane before it.
 
 use crate::case::Case;
 use audit_model::{Addr, Sighting};
@@ -13,11 +13,11 @@ pub struct Scene<'s> {
     pub lane: &'s LaneAt<'s>,
     pub arrives: &'s Sighting,
     pub leaves: &'s Sighting,
-    /// The act's, in nanoseconds since 1970.
+    /// The moment of the act, in nanoseconds since 1970.
     pub moment: u64,
 }
 
-/// What an act is about.
+/// The direction of an act.
 #[derive(Clone, Copy, Debug, PartialEq, Eq)]
 pub enum Way {
     /// A request of the client and its response.
@@ -42,7 +42,7 @@ fn named_channel(told: &Message<'_>) -> Option<u16> {
 }
 
 impl<'s> Scene<'s> {
-    /// Which way the act goes.
+    /// The direction of the act.
     pub fn way(&self) -> Way {
         let client = self.lane.input().client();
         let comes_from_client = self.arrives.from == client
@@ -74,8 +74,8 @@ impl<'s> Scene<'s> {
         }
     }
 
-    /// The peer that it is about: the other end of the datagram at the relayed address, or the one
-    /// that a request names.
+    /// The peer of the act: the other end of the datagram at the relayed address, or the peer that
+    /// a request names.
     pub fn peer(&self) -> Option<Addr> {
         match self.way() {
             Way::Up => Some(self.leaves.to),
@@ -92,7 +92,7 @@ impl<'s> Scene<'s> {
         }
     }
 
-    /// The channel that it is about.
+    /// The channel of the act.
     pub fn channel(&self) -> Option<u16> {
         match self.way() {
             Way::Up => {

@@ -1,4 +1,4 @@
-//! How many requests of a user are signed: R2.
+//! Lines about how many requests of a user are signed: R2.
 
 use crate::case::Case;
 use crate::line::Story;
@@ -13,7 +13,7 @@ use std::alloc::AllocError;
 /// Why a request isn't signed by a user.
 #[derive(Clone, Copy, Debug, PartialEq, Eq)]
 pub enum Unsigned {
-    /// It is no STUN message.
+    /// It isn't a STUN message.
     NoMessage,
     /// It names no user and realm.
     NoUser,
@@ -46,11 +46,12 @@ pub fn why_unsigned(scene: &Scene<'_>) -> Unsigned {
 #[derive(Clone, Copy)]
 struct Requests {
     all: u64,
-    /// Those of them that are signed under the key that was given.
+    /// The number of them that are signed with the key in the credentials.
     signed: u64,
 }
 
-/// Whether a request names the user and the realm; of one that does, whether it is signed under their key.
+/// Whether a request that names the user and the realm is signed with their key; `None` if it
+/// doesn't name them.
 fn signed_by(case: Case<'_>, sighting: &Sighting, user: &[u8], realm: &[u8]) -> Option<bool> {
     let request = message(sighting.payload.as_slice())?;
     if request.class() != Class::Request {
@@ -94,7 +95,7 @@ fn requests_like(scene: &Scene<'_>) -> Option<Requests> {
     Some(count)
 }
 
-/// Whether another request that names the user of a request is signed by a password that was given.
+/// Whether a request that names the same user is signed with a password of the credentials.
 pub fn has_signed(scene: &Scene<'_>) -> bool {
     match requests_like(scene) {
         Some(count) => count.signed > 0,
@@ -102,7 +103,7 @@ pub fn has_signed(scene: &Scene<'_>) -> bool {
     }
 }
 
-/// Tells how many requests name the user of a request, and how many of them are signed.
+/// Adds how many requests name the user of a request, and how many of them are signed.
 pub fn add_signed(scene: &Scene<'_>, story: &mut Story) -> Result<(), AllocError> {
     let Some(Requests { all, signed }) = requests_like(scene) else {
         return Ok(());

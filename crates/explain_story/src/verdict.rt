@@ -1,4 +1,4 @@
-//! What a verdict means.
+//! The explanation of a verdict.
 
 ghost use Rattle.std.specs.Prelude.{IfOk, IfSome, List};
 ghost use Rattle.audit_faults.specs.declared.fault.ShownFault.{ShownFault};
@@ -28,8 +28,8 @@ use explain_state::{LaneAt, lane_before};
 use explain_text::cause;
 use std::alloc::{AllocError, Global};
 
-/// The user that a lane named last before an event of those who are known; of a lane that named
-/// none before, the last one of all.
+/// The last known user that a lane named before an event; if it named none before, the last one of
+/// the whole lane.
 fn account_of(alloc: Global, lane: &LaneAt<'_>) -> Result<Option<Account>, AllocError> {
     let last = lane.input().users().last();
     let Some((user, realm)) = lane.user().or(last.map(|row| (row.user, row.realm))) else {
@@ -41,7 +41,7 @@ fn account_of(alloc: Global, lane: &LaneAt<'_>) -> Result<Option<Account>, Alloc
     }))
 }
 
-/// Tells the client of a lane.
+/// Adds the client of a lane.
 fn add_client(lane: &LaneAt<'_>, story: &mut Story) -> Result<(), AllocError> {
     let input = lane.input();
     let client = ClientOf {
@@ -54,7 +54,7 @@ fn add_client(lane: &LaneAt<'_>, story: &mut Story) -> Result<(), AllocError> {
     story.put("")
 }
 
-/// Tells an act that breaks a rule.
+/// Adds an act that violates a rule.
 fn explain_act(
     scene: &Scene<'_>,
     place: u32,
@@ -81,7 +81,7 @@ fn explain_act(
     }
 }
 
-/// Tells a departure that may not leave, and returns the usual causes.
+/// Adds a departure that may not leave, and returns the usual causes.
 fn explain_departure(
     case: Case<'_>,
     input: &LaneInput<'_>,
@@ -108,7 +108,7 @@ fn explain_departure(
     Ok(cause(breach.rule))
 }
 
-/// The departure of an event; of an arrival none.
+/// The departure of an event; `None` for an arrival.
 fn departure_of(event: &LaneEvent<'_>) -> Option<SightId> {
     match event {
         LaneEvent::In { .. } => None,
@@ -117,7 +117,7 @@ fn departure_of(event: &LaneEvent<'_>) -> Option<SightId> {
     }
 }
 
-/// Tells the event of a lane that breaks a rule, and returns the usual causes.
+/// Adds the event of a lane that violates a rule, and returns the usual causes.
 fn explain_event(
     case: Case<'_>,
     lane: &LaneAt<'_>,
@@ -151,7 +151,7 @@ fn explain_event(
     }
 }
 
-/// Tells a breach of a lane with the departure that shows it, and returns the usual causes.
+/// Adds a breach of a lane with the departure that shows it, and returns the usual causes.
 fn explain_lane(
     case: Case<'_>,
     lanes: &Lanes<'_>,
@@ -182,7 +182,7 @@ fn explain_lane(
     Ok(causes)
 }
 
-/// Tells a breach of placement with the departure that shows it, and returns the usual causes.
+/// Adds a breach of placement with the departure that shows it, and returns the usual causes.
 fn explain_place(
     case: Case<'_>,
     breach: &Breach,
@@ -208,24 +208,25 @@ fn add_rule(rule: Rule, causes: &str, story: &mut Story) -> Result<(), AllocErro
     story.say(line)
 }
 
-/// What is shown in every order.
+/// The faults that are shown in every order.
 #[derive(Clone, Copy)]
 pub enum InEveryOrder {
     /// A fault of the breach's departure.
     Here {
         fault: Fault,
-        /// How many departures show it.
+        /// The number of departures that show it.
         count: usize,
         /// The captures began too late for its relayed address.
         too_late: bool,
     },
-    /// None of that departure, but one of each of so many others.
+    /// No fault of that departure, but this number of other departures that each show one.
     Elsewhere {
         count: usize,
     },
 }
 
-/// What a breach means, but for its head and its last lines, and what the captures show in every order.
+/// The explanation of a breach, except its head and its last lines, and the faults that the
+/// captures show in every order.
 pub fn story_of(
     alloc: Global,
     case: Case<'_>,
@@ -244,7 +245,7 @@ pub fn story_of(
     Ok((story, in_every_order(&shown, departure)))
 }
 
-/// What a departure shows, and how many show the same.
+/// The fault that a departure shows, and how many departures show the same one.
 fn of_departure(shown: &Shown, departure: Option<SightId>) -> Option<InEveryOrder>
     ensures { IfSome result (SaysOne shown.now.faults.items) }
 {
@@ -256,7 +257,7 @@ fn of_departure(shown: &Shown, departure: Option<SightId>) -> Option<InEveryOrde
     })
 }
 
-/// What all departures show, that one first; nothing where none shows a fault.
+/// The faults of all departures, this one first; `None` if no departure shows a fault.
 fn in_every_order(shown: &Shown, departure: Option<SightId>) -> Option<InEveryOrder>
     ensures { Says shown.now.faults.items result }
 {

@@ -1,4 +1,5 @@
-//! Words for what a verdict means. What comes out of captures is told without a byte that a terminal acts on.
+//! Texts for the explanation of a verdict. Bytes of captures are escaped if they would control a
+//! terminal.
 #![tactic(auto)]
 
 mod address;

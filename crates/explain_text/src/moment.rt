@@ -1,12 +1,13 @@
-//! Moments and lengths of time, in nanoseconds.
+//! Moments and durations, in nanoseconds.
 
 use jiff::Timestamp;
 use std::fmt;
 
-/// Nanoseconds of a second.
+/// The nanoseconds of a second.
 const SECOND: u64 = 1_000_000_000;
 
-/// A moment beside the first frame of all captures, to the nearest microsecond, as `+301.052340`.
+/// A moment relative to the first frame of all captures, rounded to the microsecond, as
+/// `+301.052340`.
 #[derive(Clone, Copy, Debug)]
 pub struct Since {
     /// Nanoseconds since 1970.
@@ -15,7 +16,7 @@ pub struct Since {
     pub moment: u64,
 }
 
-/// The same to the nearest tenth of a millisecond, as `+301.0523`.
+/// The same rounded to the tenth of a millisecond, as `+301.0523`.
 #[derive(Clone, Copy, Debug)]
 pub struct SinceShort {
     /// Nanoseconds since 1970.
@@ -24,7 +25,7 @@ pub struct SinceShort {
     pub moment: u64,
 }
 
-/// The sign of the way from one moment to another.
+/// The sign of the difference between two moments.
 fn sign(first: u64, moment: u64) -> char {
     if moment < first { '-' } else { '+' }
 }
@@ -49,7 +50,7 @@ impl fmt::Display for SinceShort {
     }
 }
 
-/// A length of time, to the microsecond below, as `0.048987 s`.
+/// A duration, rounded down to the microsecond, as `0.048987 s`.
 #[derive(Clone, Copy, Debug)]
 pub struct Exactly {
     pub nanoseconds: u64,
@@ -63,7 +64,7 @@ impl fmt::Display for Exactly {
     }
 }
 
-/// A length of time, to the nearest millisecond, as `0.050 s`.
+/// A duration, rounded to the millisecond, as `0.050 s`.
 #[derive(Clone, Copy, Debug)]
 pub struct Seconds {
     pub nanoseconds: u64,

@@ -1,4 +1,4 @@
-//! What a datagram is, in a few words.
+//! The description of a datagram, in a few words.
 
 use crate::quoted::Quoted;
 use crate::stun_words::MethodWord;
@@ -6,8 +6,8 @@ use audit_stun::numbers::attribute::ERROR_CODE;
 use audit_stun::{Class, Message, channel_data, error_code, message};
 use std::fmt;
 
-/// The payload of a datagram, as `ChannelData 0x4000, 17 bytes` or `Allocate 437 "Allocation Mismatch"`. On the way to and from
-/// peers it is any UDP.
+/// The payload of a datagram, as `ChannelData 0x4000, 17 bytes` or `Allocate 437 "Allocation
+/// Mismatch"`. Between the server and peers it is just UDP.
 #[derive(Clone, Copy, Debug)]
 pub struct Datagram<'a> {
     pub payload: &'a [u8],
@@ -15,7 +15,7 @@ pub struct Datagram<'a> {
     pub is_clients: bool,
 }
 
-/// Tells an error response.
+/// Writes an error response.
 fn tell_error<W: fmt::Write>(f: &mut fmt::Formatter<W>, answer: &Message<'_>) -> fmt::Result {
     let method = MethodWord {
         method: answer.method(),
@@ -30,7 +30,7 @@ fn tell_error<W: fmt::Write>(f: &mut fmt::Formatter<W>, answer: &Message<'_>) ->
     write!(f, "{method} {code} \"{phrase}\"")
 }
 
-/// Tells a message.
+/// Writes a message.
 fn tell_message<W: fmt::Write>(f: &mut fmt::Formatter<W>, told: &Message<'_>) -> fmt::Result {
     let method = MethodWord {
         method: told.method(),
@@ -60,13 +60,13 @@ impl fmt::Display for Datagram<'_> {
     }
 }
 
-/// Data in hex and how many bytes it has; the first 16 of more.
+/// The size of data and its bytes in hex; of more than 16 bytes the first 16.
 #[derive(Clone, Copy, Debug)]
 pub struct FirstBytes<'a> {
     pub bytes: &'a [u8],
 }
 
-/// So many bytes are told at the most.
+/// At most this number of bytes is written.
 const MOST: usize = 16;
 
 impl fmt::Display for FirstBytes<'_> {
@@ -89,20 +89,20 @@ impl fmt::Display for FirstBytes<'_> {
     }
 }
 
-/// Eight bytes of data in hex around a place, as far as they are there; `nothing` if none is.
+/// Eight bytes of data in hex around an index, as far as they exist; `nothing` if none does.
 #[derive(Clone, Copy, Debug)]
 pub struct BytesAround<'a> {
     pub bytes: &'a [u8],
     pub at: usize,
 }
 
-/// How many are printed, and how many of them before the place.
+/// The number of bytes that are printed, and the number of them before the index.
 const AROUND: usize = 8;
 
 const BEFORE: usize = 3;
 
 impl BytesAround<'_> {
-    /// The place of the first of them.
+    /// The index of the first of them.
     pub fn begin(at: usize) -> usize {
         at.saturating_sub(BEFORE)
     }

@@ -1,24 +1,25 @@
-//! Bytes of captures, files and words, told so that no terminal acts on them.
+//! Bytes of captures, files and arguments, escaped so that none controls a terminal.
 
 use std::fmt;
 
-/// So many bytes are told at the most.
+/// At most this number of bytes is written.
 const MOST: usize = 200;
 
-/// Bytes as text, without the marks around it. A control character, a mark that turns or hides text, a quote, a backslash and
-/// a byte that is no UTF-8 are told as `\xHH`, byte by byte. Since each backslash is told so, the bytes can be had back.
+/// Bytes as text, without quotes around it. A control character, a mark that turns or hides text, a
+/// quote, a backslash and a byte that isn't UTF-8 are written as `\xHH`, byte by byte. Backslashes
+/// are escaped, too, so the bytes can be recovered.
 #[derive(Clone, Copy, Debug)]
 pub struct Escaped<'a> {
     pub bytes: &'a [u8],
 }
 
-/// The same of the first 200 bytes; where there are more, `..` stands behind them.
+/// The same of the first 200 bytes; if there are more, `..` follows.
 #[derive(Clone, Copy, Debug)]
 pub struct Quoted<'a> {
     pub bytes: &'a [u8],
 }
 
-/// Whether a character is told as it is.
+/// Whether a character is written unescaped.
 fn is_plain(c: char) -> bool {
     let code = c as u32;
     if c.is_control() || c == '"' || c == '\\' {
@@ -37,7 +38,7 @@ fn is_plain(c: char) -> bool {
         || 0xE0000 <= code)
 }
 
-/// Tells bytes one by one.
+/// Writes bytes one by one.
 fn tell_bytes<W: fmt::Write>(f: &mut fmt::Formatter<W>, bytes: &[u8]) -> fmt::Result {
     for byte in bytes {
         let byte = *byte;
@@ -46,7 +47,7 @@ fn tell_bytes<W: fmt::Write>(f: &mut fmt::Formatter<W>, bytes: &[u8]) -> fmt::Re
     Ok(())
 }
 
-/// Tells a character.
+/// Writes a character.
 fn tell_char<W: fmt::Write>(f: &mut fmt::Formatter<W>, c: char) -> fmt::Result {
     if is_plain(c) {
         return write!(f, "{c}");
@@ -56,7 +57,7 @@ fn tell_char<W: fmt::Write>(f: &mut fmt::Formatter<W>, c: char) -> fmt::Result {
     tell_bytes(f, text.as_bytes())
 }
 
-/// Tells a text.
+/// Writes a text.
 fn tell_text<W: fmt::Write>(f: &mut fmt::Formatter<W>, text: &str) -> fmt::Result {
     for c in text.chars() {
         tell_char(f, c)?;

@@ -1,6 +1,6 @@
-//! What is wrong with an input, by the number under which users know it.
+//! The meaning of refusal codes.
 
-/// What a refusal's code says. docs/REFUSALS.md has them all.
+/// The meaning of a refusal's code. docs/REFUSALS.md lists all codes.
 pub fn refusal_reason(code: &str) -> &'static str {
     match code {
         "P1" => "a line of another form, or a line too few",
@@ -23,7 +23,7 @@ pub fn refusal_reason(code: &str) -> &'static str {
     }
 }
 
-/// The same of a capture.
+/// The same for a capture.
 fn reason_of_capture(code: &str) -> &'static str {
     match code {
         "C1" => "the capture ends inside a block",

@@ -1,4 +1,4 @@
-//! Words for what stands in STUN messages.
+//! Texts for the contents of STUN messages.
 
 use audit_stun::numbers::method;
 use std::fmt;
@@ -25,7 +25,8 @@ impl fmt::Display for MethodWord {
     }
 }
 
-/// What an error code says of the server's state (RFC 8489, section 9.2.4; RFC 8656, sections 5, 7 and 8).
+/// The meaning of an error code for the server's state (RFC 8489, section 9.2.4; RFC 8656, sections
+/// 5, 7 and 8).
 pub fn code_says(code: u16, is_allocate: bool) -> &'static str {
     match code {
         401 | 438 => "it tells REALM and NONCE, for the client to sign with",
@@ -43,7 +44,7 @@ pub fn code_says(code: u16, is_allocate: bool) -> &'static str {
     }
 }
 
-/// An error code with what it is called, as `437 Allocation Mismatch`.
+/// An error code with its name, as `437 Allocation Mismatch`.
 #[derive(Clone, Copy, Debug)]
 pub struct CodeWord {
     pub code: u16,
@@ -73,13 +74,14 @@ impl fmt::Display for CodeWord {
     }
 }
 
-/// The bytes of an attribute's value in hex, or that there is none; the first 16 of more.
+/// The bytes of an attribute's value in hex, or that there is none; of more than 16 bytes the first
+/// 16.
 #[derive(Clone, Copy, Debug)]
 pub struct AttributeBytes<'a> {
     pub value: Option<&'a [u8]>,
 }
 
-/// So many bytes are told at the most.
+/// At most this number of bytes is written.
 const MOST: usize = 16;
 
 impl fmt::Display for AttributeBytes<'_> {

@@ -11,7 +11,7 @@ pub struct Failure {
 }
 
 impl Failure {
-    /// What the system said of the file of this name.
+    /// The system's error for the file with this name.
     pub fn new(alloc: Global, name: &str, error: io::Error) -> Result<Failure, AllocError> {
         Ok(Failure {
             name: String::from_str(alloc, name)?,
@@ -20,7 +20,7 @@ impl Failure {
     }
 }
 
-/// The system's reason. The name may have control characters: who prints it escapes it.
+/// The system's reason. The name may have control characters: the caller that prints it escapes it.
 impl fmt::Display for Failure {
     fn fmt<W: fmt::Write>(&self, f: &mut fmt::Formatter<W>) -> fmt::Result {
         let error = self.error;

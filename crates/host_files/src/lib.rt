@@ -1,4 +1,5 @@
-//! Files of the system: new files that get their names only once all of them are written, and why a file can't be read or written.
+//! Files of the system: new files that get their names only when all are written, and why a file
+//! can't be read or written.
 #![tactic(auto)]
 
 mod failure;

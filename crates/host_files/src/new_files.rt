@@ -1,4 +1,4 @@
-//! New files, which get their names once all of them are written.
+//! New files, which get their names when all of them are written.
 
 ghost use Rattle.std.specs.Prelude.{◌≡◌, ◌≤◌, length, IfOk, None};
 
@@ -9,16 +9,16 @@ use std::io::{ErrorKind, Write};
 use std::rt::Files;
 use std::{fs, io};
 
-/// What a file's name ends in until the file is whole.
+/// The suffix of a file's name until the file is complete.
 const PART: &str = ".part";
 
-/// What the system says where there is a file of that name.
+/// The system's error if a file with that name exists.
 const EEXIST: i32 = 17;
 
 /// Why a file couldn't be made, written or named.
 #[derive(Clone, Copy, Debug, PartialEq, Eq)]
 pub enum NewFault {
-    /// There is a file of that name.
+    /// A file with that name exists.
     Exists,
     Failed,
     Memory,
@@ -36,15 +36,16 @@ impl<T: Drop> From<AllocFailed<T>> for NewFault {
     }
 }
 
-/// A file that was made, the name that it has, and the one that it gets.
+/// A new file: its present name, and its final one.
 #[derive(Drop)]
 struct Made {
     part: String,
     name: String,
 }
 
-/// New files of the system, written one at a time. Until `publish`, each is named `NAME.part`, so that no other program takes a part of
-/// a file for the whole. An existing file is never replaced.
+/// New files of the system, written one at a time. Until `publish`, each is named `NAME.part`, so
+/// that no other program mistakes a part of a file for the whole. An existing file is never
+/// replaced.
 #[derive(Drop)]
 pub struct NewFiles<'r, R: Files<File = File>> {
     rt: &'r R,
@@ -55,7 +56,7 @@ pub struct NewFiles<'r, R: Files<File = File>> {
     failure: Option<Failure>,
 }
 
-/// Gives a file its name, unless there is a file of that name.
+/// Renames a file to its final name, unless a file with that name exists.
 fn give_name<R: Files>(rt: &R, made: &Made) -> io::Result<()> {
     match fs::hard_link(rt, made.part.as_str(), made.name.as_str()) {
         Ok(()) => Ok(()),
@@ -64,7 +65,8 @@ fn give_name<R: Files>(rt: &R, made: &Made) -> io::Result<()> {
     }
 }
 
-/// The same where the file system has no hard links: an empty file takes the name first, so that no other file is replaced.
+/// The same if the file system has no hard links: an empty file gets the name first, so that no
+/// other file is replaced.
 fn rename_new<R: Files>(rt: &R, made: &Made) -> io::Result<()> {
     File::create_new(rt, made.name.as_str())?;
     match fs::rename(rt, made.part.as_str(), made.name.as_str()) {
@@ -86,7 +88,7 @@ fn fault_of(error: &io::Error) -> NewFault {
 }
 
 impl<'r, R: Files<File = File>> NewFiles<'r, R> {
-    /// No file is made.
+    /// No files.
     pub fn new(rt: &'r R, alloc: Global) -> Self
         ensures { result.current ≡ None }
     {
@@ -104,7 +106,7 @@ impl<'r, R: Files<File = File>> NewFiles<'r, R> {
         self.failure.as_ref()
     }
 
-    /// Notes why a file couldn't be made, written or named.
+    /// Records why a file couldn't be made, written or named.
     fn fail(&mut self, name: &str, error: io::Error) -> NewFault {
         let fault = fault_of(&error);
         match Failure::new(self.alloc, name, error) {
@@ -114,7 +116,7 @@ impl<'r, R: Files<File = File>> NewFiles<'r, R> {
         fault
     }
 
-    /// The same of the file that was made at that place.
+    /// The same for the file at an index.
     fn fail_at(&mut self, at: usize, error: io::Error) -> NewFault {
         let name = match self.made.get(at) {
             Some(made) => String::from_str(self.alloc, made.name.as_str()),
@@ -126,13 +128,13 @@ impl<'r, R: Files<File = File>> NewFiles<'r, R> {
         }
     }
 
-    /// The same of the file that was made last.
+    /// The same for the file that was made last.
     fn fail_last(&mut self, error: io::Error) -> NewFault {
         let last = self.made.len().saturating_sub(1);
         self.fail_at(last, error)
     }
 
-    /// Makes an empty file, into which is written what follows. The one before is on the disk.
+    /// Makes an empty file for the following bytes. The previous file is synced to disk.
     pub fn make(&mut self, name: &str) -> Result<(), NewFault> {
         self.close()?;
         if fs::symlink_metadata(self.rt, name).is_ok() {
@@ -155,7 +157,7 @@ impl<'r, R: Files<File = File>> NewFiles<'r, R> {
         Ok(())
     }
 
-    /// Writes a front of the piece to the file that was made last, and returns its length.
+    /// Writes a prefix of the piece to the file that was made last, and returns its length.
     pub fn write(&mut self, piece: &[u8]) -> Result<usize, NewFault>
         ensures { IfOk result (λ n. n ≤ length piece.now) }
     {
@@ -168,7 +170,8 @@ impl<'r, R: Files<File = File>> NewFiles<'r, R> {
         }
     }
 
-    /// Has the file that was made last on the disk, and closes it. What the system only says when a file is closed, it says then.
+    /// Syncs the file that was made last to disk, and closes it. Errors that the system reports
+    /// only then are returned.
     fn close(&mut self) -> Result<(), NewFault> {
         let Some(file) = self.current.take() else {
             return Ok(());
@@ -179,7 +182,8 @@ impl<'r, R: Files<File = File>> NewFiles<'r, R> {
         }
     }
 
-    /// Gives the files that were made their names: all, or none. Of the first that can't get its name, says its place and why.
+    /// Renames the files to their final names: all, or none. If one can't be renamed, returns its
+    /// index and the error.
     fn name_all(&self) -> Result<(), (usize, io::Error)> {
         for (at, made) in self.made.iter().enumerate() {
             if let Err(error) = give_name(self.rt, made) {
@@ -192,7 +196,7 @@ impl<'r, R: Files<File = File>> NewFiles<'r, R> {
         Ok(())
     }
 
-    /// Has all files on the disk, and gives them their names: all, or none.
+    /// Syncs all files to disk, and renames them to their final names: all, or none.
     pub fn publish(&mut self) -> Result<(), NewFault> {
         self.close()?;
         if let Err((at, error)) = self.name_all() {
@@ -202,7 +206,7 @@ impl<'r, R: Files<File = File>> NewFiles<'r, R> {
         Ok(())
     }
 
-    /// Removes the files that have no names of their own yet.
+    /// Removes the files that don't have their final names yet.
     pub fn discard(&mut self) {
         self.current = None;
         for made in &self.made {

@@ -1,4 +1,4 @@
-//! When the line is drawn, and what it says.
+//! When the progress line is drawn, and its text.
 
 ghost use Rattle.std.specs.Prelude.{◌≡◌, ◌+◌, ◌≤◌, nat_le};
 ghost use Rattle.host_progress.specs.Drawing.{is_due, is_stale};
@@ -6,18 +6,18 @@ ghost use Rattle.host_progress.specs.Drawing.{is_due, is_stale};
 use explain_text::Escaped;
 use std::alloc::{AllocError, Global};
 
-/// How far a file is read.
+/// The progress of reading a file.
 #[derive(Clone, Copy)]
 pub struct Reading {
-    /// The bytes that were read.
+    /// The number of bytes that were read.
     pub read: u64,
-    /// The bytes that the file has, 0 if that isn't known.
+    /// The size of the file in bytes, 0 if it isn't known.
     pub size: u64,
-    /// Since when it is read, in milliseconds.
+    /// How long it has been read, in milliseconds.
     pub took_ms: u64,
 }
 
-/// Whether `later` is at least so many milliseconds after `earlier`.
+/// Whether `later` is at least this number of milliseconds after `earlier`.
 fn is_after(earlier: u64, least: u64, later: u64) -> bool
     ensures { result ≡ nat_le (earlier + least) later }
 {
@@ -27,7 +27,7 @@ fn is_after(earlier: u64, least: u64, later: u64) -> bool
     }
 }
 
-/// Whether the line wasn't drawn for a tenth of a second.
+/// Whether the line wasn't drawn for at least a tenth of a second.
 fn is_stale(drawn: Option<u64>, now: u64) -> bool
     ensures { result ≡ is_stale drawn now }
 {
@@ -37,15 +37,15 @@ fn is_stale(drawn: Option<u64>, now: u64) -> bool
     }
 }
 
-/// Whether the line is drawn: work that began at `began` takes longer than a second, and the line
-/// wasn't drawn for a tenth of a second. All are milliseconds of one clock.
+/// Whether the line is to be drawn: the work has taken at least a second since `began`, and the
+/// line wasn't drawn for at least a tenth of a second. All times are milliseconds of one clock.
 pub fn is_due(began: u64, drawn: Option<u64>, now: u64) -> bool
     ensures { result ≡ is_due began drawn now }
 {
     is_after(began, 1000, now) && is_stale(drawn, now)
 }
 
-/// The share of a file that is read, in percent.
+/// The part of a file that is read, in percent.
 fn share_of(read: u64, size: u64) -> u64
     ensures { result ≤ 100 }
 {
@@ -55,11 +55,11 @@ fn share_of(read: u64, size: u64) -> u64
     (read.saturating_mul(100) / size).min(100)
 }
 
-/// So many characters of a file's name are drawn, so that the line is shorter than a terminal is wide.
+/// At most this number of characters of a file's name is drawn, so that the line fits a terminal.
 const MOST_OF_NAME: usize = 40;
 
-/// The line: the program, the end of the file's name, the share of it that is read, and how many
-/// megabytes are read in a second.
+/// The line: the program, the end of the file's name, the part of it that is read, and how many
+/// megabytes are read per second.
 pub fn line_of(
     alloc: Global,
     program: &str,

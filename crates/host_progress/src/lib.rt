@@ -1,4 +1,4 @@
-//! A line on a terminal that says how far the reading of a file is.
+//! A line on a terminal with the progress of reading a file.
 #![tactic(auto)]
 
 mod drawing;

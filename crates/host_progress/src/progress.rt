@@ -1,4 +1,4 @@
-//! What was read so far, and the line that says so.
+//! The progress of reading, and its line.
 
 use crate::drawing::{Reading, is_due, line_of};
 use crate::terminal::open_terminal;
@@ -9,8 +9,8 @@ use std::rt::Files;
 use std::sync::atomic::{AtomicU64, Ordering};
 use std::time::Clock;
 
-/// Draws a line on standard error while files are read, if that is a terminal and the work takes
-/// longer than a second. Else it does nothing. Threads may share it: the line is then of the file
+/// Draws a line on standard error while files are read, if that is a terminal and the work takes at
+/// least a second. Otherwise it does nothing. Threads may share it: the line is then about the file
 /// that was read last.
 #[derive(Drop)]
 pub struct Progress<'r, R: Files<File = File> + Clock> {
@@ -19,21 +19,21 @@ pub struct Progress<'r, R: Files<File = File> + Clock> {
     program: &'static str,
     /// Standard error, if it is a terminal.
     terminal: Option<File>,
-    /// When the first file was begun, and when this one, in milliseconds.
+    /// The time at which the first file was begun, and the present one, in milliseconds.
     began: AtomicU64,
     file_began: AtomicU64,
     size: AtomicU64,
     read: AtomicU64,
-    /// When the line was drawn last.
+    /// The time at which the line was last drawn.
     drawn: AtomicU64,
-    /// 1 while the line stands on the terminal.
+    /// 1 while the line is on the terminal.
     stands: AtomicU64,
 }
 
-/// In place of a moment: it hasn't come.
+/// The value for a time that isn't set.
 const NEVER: u64 = u64::MAX;
 
-/// The moment that was noted, if one was.
+/// The recorded time, if one is set.
 fn moment_of(noted: &AtomicU64) -> Option<u64> {
     match noted.load(Ordering::SeqCst) {
         NEVER => None,
@@ -42,7 +42,7 @@ fn moment_of(noted: &AtomicU64) -> Option<u64> {
 }
 
 impl<'r, R: Files<File = File> + Clock> Progress<'r, R> {
-    /// For a program of this name.
+    /// The progress of a program with this name.
     pub fn new(rt: &'r R, alloc: Global, program: &'static str) -> Self {
         Progress {
             rt,
@@ -60,7 +60,7 @@ impl<'r, R: Files<File = File> + Clock> Progress<'r, R> {
 }
 
 impl<R: Files<File = File> + Clock> Progress<'_, R> {
-    /// A file of so many bytes is read from its beginning on. The size is 0 if it isn't known.
+    /// Begins a file of this size in bytes. The size is 0 if it isn't known.
     pub fn begin(&self, size: u64) {
         let Some(now) = self.now() else {
             return;
@@ -73,7 +73,7 @@ impl<R: Files<File = File> + Clock> Progress<'_, R> {
         self.read.store(0, Ordering::SeqCst);
     }
 
-    /// So many bytes more of the file of this name were read.
+    /// Adds a number of bytes that were read of the file with this name.
     pub fn advance(&self, name: &str, bytes: usize) {
         let read = self.read.load(Ordering::SeqCst);
         self.read
@@ -93,7 +93,7 @@ impl<R: Files<File = File> + Clock> Progress<'_, R> {
         }
     }
 
-    /// The time of a clock that doesn't go back, in milliseconds, if there is a terminal.
+    /// The time of a monotonic clock in milliseconds, if there is a terminal.
     fn now(&self) -> Option<u64> {
         if self.terminal.is_none() {
             return None;
@@ -118,7 +118,7 @@ impl<R: Files<File = File> + Clock> Progress<'_, R> {
         }
     }
 
-    /// Puts a text on the terminal. The work goes on where that fails.
+    /// Writes a text to the terminal. A failure is ignored.
     fn put(&self, text: &[u8]) {
         if let Some(terminal) = &self.terminal {
             let mut terminal = terminal;

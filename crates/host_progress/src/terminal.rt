@@ -1,4 +1,4 @@
-//! Which standard error is a terminal.
+//! Whether standard error is a terminal.
 
 ghost use Rattle.std.specs.Prelude.{◌≡◌, ◌==◌, ◌||◌, ◌&&◌, nat_le};
 
@@ -10,8 +10,8 @@ use std::rt::Files;
 /// The name of standard error.
 const STANDARD_ERROR: &str = "/proc/self/fd/2";
 
-/// Whether a device of this major number is a terminal of Linux: a console or a serial line, the
-/// terminal of a process, or one of a program.
+/// Whether a device with this major number is a terminal of Linux: a console or a serial line, the
+/// terminal of a process, or a pseudoterminal.
 fn is_terminal(major: u64) -> bool
     ensures { result ≡ (((major == 4) || (major == 5)) || (nat_le 136 major && nat_le major 143)) }
 {

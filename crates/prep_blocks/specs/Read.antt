@@ -1,4 +1,4 @@
--- Blocks with their bytes, as the reading of packets takes them.
+-- Blocks with their bytes, in the way in which packets are read.
 use Rattle.std.specs.Prelude.{◌≡◌, ℕ, List, [], ◌∷◌, ◌++◌, length, map, Option, Some, Ok, option_map}
 use Rattle.std.specs.List.{concat}
 use Rattle.audit_pcapng.specs.declared.heading.Heading.{Heading}
@@ -9,11 +9,12 @@ use Rattle.audit_pcapng.specs.Blocks.{block}
 use Rattle.prep_blocks.specs.declared.block.Block.{Block}
 use Rattle.prep_blocks.specs.declared.block.PacketHead.{PacketHead}
 
--- what is said before a packet's bytes
+-- the fields before a packet's bytes
 abbrev pub head_of : Packet → PacketHead
 head_of packet = record { stamp = packet.stamp; iface = packet.iface; captured = packet.captured; original = packet.original }
 
--- the bytes are a whole block of this kind and order, which gives this packet or none, and leaves a scope to the next
+-- the bytes are a whole block of this kind and order, with this packet or none, and the next block
+-- has this scope
 pub record IsRead (scope : Scope) (whole : Block) (given : Option Packet) (after : Scope) : Type 0 where
   pub head : Heading
   pub shown : heading scope.order whole.bytes ≡ Ok (Some head)
@@ -23,7 +24,7 @@ pub record IsRead (scope : Scope) (whole : Block) (given : Option Packet) (after
   pub order : whole.order ≡ head.order
   pub packet : whole.packet ≡ option_map head_of given
 
--- blocks one after another, and the scope that they leave
+-- blocks one after another, and the scope after them
 abbrev pub AreRead : Scope → List Block → Scope → Type 0
 AreRead scope [] after = after ≡ scope
 AreRead scope (first ∷ others) after = (given : Option Packet) × (next : Scope) × IsRead scope first given next × AreRead next others after
@@ -32,13 +33,13 @@ AreRead scope (first ∷ others) after = (given : Option Packet) × (next : Scop
 abbrev pub bytes_of : List Block → List ℕ
 bytes_of blocks = concat (map (λ (b : Block). b.bytes) blocks)
 
--- bytes of the piece went from its front to what is held
+-- bytes moved from the start of the piece to the kept ones
 pub record Moves (held after piece rest : List ℕ) : Type 0 where
   pub taken : List ℕ
   pub cut : piece ≡ taken ++ rest
   pub grown : after ≡ held ++ taken
 
--- what was held is a whole block with bytes of the piece, and the rest follows it
+-- the kept bytes and bytes of the piece are a whole block, and the rest follows it
 pub record Splits (scope : Scope) (held piece : List ℕ) (first : Block) (rest : List ℕ) (after : Scope) : Type 0 where
   pub given : Option Packet
   pub read : IsRead scope first given after

@@ -1,4 +1,4 @@
--- Which bytes a splitter stands for, and what it gives.
+-- The bytes that a splitter has read, and the blocks that it returned.
 use Rattle.std.specs.Prelude.{◌≡◌, ◌≢◌, ℕ, true, false, List, [], ◌∷◌, ◌++◌, ◌≤◌, length, Result, Ok, Err}
 use Rattle.audit_pcapng.specs.declared.packet.Packet.{Packet}
 use Rattle.audit_pcapng.specs.declared.scope.Scope.{Scope}
@@ -16,14 +16,15 @@ pub record IsSplit (text : List ℕ) (blocks : List Block) (scope : Scope) (rest
   pub read : AreRead no_blocks blocks scope
   pub cut : IsCut scope rest
 
--- the splitter took in this text and gave these blocks; it keeps the block that is not yet whole
+-- the splitter read this text and returned these blocks; it keeps the block that is not yet
+-- complete
 abbrev pub StandsFor : BlockSplitter → List ℕ → List Block → Type 0
 StandsFor splitter text blocks = (splitter.failed ≡ false) × IsSplit text blocks splitter.scope splitter.held.items
 
 abbrev pub IsFailed : BlockSplitter → Type 0
 IsFailed splitter = splitter.failed ≡ true
 
--- a front of the piece was taken, and with it one block more is whole
+-- a prefix of the piece was read, and completes one more block
 pub record Gave (splitter : BlockSplitter) (text : List ℕ) (blocks : List Block) (piece : List ℕ) (given : Block) (rest : List ℕ) : Type 0 where
   pub taken : List ℕ
   pub cut : piece ≡ taken ++ rest
@@ -38,11 +39,11 @@ pub record IsWhole (text : List ℕ) (blocks : List Block) : Type 0 where
   pub read : AreRead no_blocks blocks scope
   pub spelled : text ≡ bytes_of blocks
 
--- the text's first fault, which is behind these blocks, unless memory ran out
+-- the text's first fault, which is after these blocks, unless memory ran out
 abbrev pub EndsBy : List ℕ → List Block → CaptureFault → Type 0
 EndsBy text blocks fault = fault ≢ Memory → (packets : List Packet) × FirstFault text packets fault
 
--- what the end of a text without a fault says
+-- the result at the end of a text without a fault
 abbrev pub Ends : Result (Unit {0}) CaptureFault → List ℕ → List Block → Type 0
 Ends (Ok done) text blocks = IsWhole text blocks
 Ends (Err Torn) text blocks = text ≢ bytes_of blocks

@@ -11,11 +11,11 @@ pub struct Block {
     pub kind: BlockKind,
     /// The byte order of its numbers.
     pub order: ByteOrder,
-    /// What a packet's block says before the packet's bytes; none in another block.
+    /// The fields before a packet's bytes; `None` in another block.
     pub packet: Option<PacketHead>,
 }
 
-/// What an Enhanced Packet Block says of its packet.
+/// The fields of an Enhanced Packet Block about its packet.
 #[derive(Clone, Copy, Debug, PartialEq, Eq)]
 pub struct PacketHead {
     /// Nanoseconds since 1970.
@@ -34,7 +34,7 @@ impl PacketHead {
     ghost use Rattle.audit_pcapng.specs.Packets.{given_of};
     ghost use Rattle.prep_blocks.specs.Read.{head_of};
 
-    /// Of a packet, where there is one.
+    /// The fields of a packet, if there is one.
     pub fn of(packet: Option<PacketSlice<'_>>) -> Option<Self>
         ensures { result ≡ option_map head_of (given_of packet.entry) }
     {

@@ -1,4 +1,4 @@
-//! The blocks of a pcapng capture one by one, with their bytes, out of bytes that come in pieces.
+//! Splits a pcapng capture into its blocks, with their bytes, from bytes that come in pieces.
 #![tactic(auto)]
 
 mod block;

@@ -1,4 +1,4 @@
-//! Splitting a capture into its blocks.
+//! Splits a capture into its blocks.
 
 ghost use Rattle.std.specs.Prelude.{◌≡◌, ◌≢◌, ◌<◌, ◌≤◌, [], ◌++◌, ℕ, List, length, max, IfOk, IfErr, IfSome, IfNone, OnOk, OnErr};
 ghost use Rattle.audit_pcapng.specs.declared.fault.CaptureFault.TheVariants.{Memory};
@@ -11,11 +11,12 @@ use audit_pcapng::{CaptureFault, HEADING_LENGTH, Heading, Scope};
 use std::alloc::Global;
 use std::mem;
 
-/// Splits a capture that comes in pieces, cut anywhere. It keeps the one block that is not yet whole.
+/// Splits a capture that comes in pieces, cut anywhere. It keeps the one block that is not yet
+/// complete.
 #[derive(Debug, Drop)]
 pub struct BlockSplitter {
     scope: Scope,
-    /// The bytes so far of the block that is not yet whole.
+    /// The bytes so far of the block that is not yet complete.
     held: Vec<u8>,
     failed: bool,
     alloc: Global,
@@ -26,7 +27,7 @@ impl BlockSplitter {
     ghost use Rattle.prep_blocks.specs.declared.block.Block.{Block};
     ghost use Rattle.prep_blocks.specs.Splitting.{StandsFor, IsFailed, Gave, Ends, EndsBy};
 
-    /// A splitter of no bytes. It takes no memory.
+    /// A splitter before the first byte. It takes no memory.
     pub fn new(alloc: Global) -> Self
         ensures { StandsFor result [] [] }
     {
@@ -38,8 +39,9 @@ impl BlockSplitter {
         }
     }
 
-    /// The next block that is whole with bytes of the piece, and the bytes behind it; where there is none the piece is taken.
-    /// Its faults are C2 to C12 of the capture, and C13; after one it refuses from then on. It looks at each byte once.
+    /// The next block that the piece completes, and the bytes after it; if there is none, the piece
+    /// is kept. Its faults are C2 to C12 of the capture, and C13; after a fault it refuses each
+    /// piece. It looks at each byte once.
     pub fn next<'a>(&mut self, piece: &'a [u8]) -> Result<Option<(Block, &'a [u8])>, CaptureFault>
         ensures block { (text : List ℕ) (blocks : List Block) → StandsFor self.old text blocks →
             IfOk result (λ step. IfSome step (λ given. Gave self.new text blocks piece.now given.0 given.1.now)) }
@@ -62,7 +64,7 @@ impl BlockSplitter {
         }
     }
 
-    /// Whether the capture may end here: C1 inside a block, C5 where there was no byte.
+    /// Whether the capture may end here: C1 inside a block, C5 if there was no byte.
     pub fn finish(&self) -> Result<(), CaptureFault>
         ensures ends { (text : List ℕ) (blocks : List Block) → StandsFor self.now text blocks → Ends result text blocks }
         ensures again { IsFailed self.now → result ≡ Err CaptureFault.Failed }
@@ -80,7 +82,8 @@ impl BlockSplitter {
     }
 }
 
-/// Adds to the block that is held what it lacks, and gives it once it is whole, with the bytes behind it.
+/// Adds the missing bytes to the block that is kept, and returns it if it is complete, with the
+/// bytes after it.
 fn split<'a>(
     scope: &mut Scope,
     held: &mut Vec<u8>,
@@ -115,7 +118,7 @@ fn split<'a>(
     Ok(Some((block, rest)))
 }
 
-/// Holds bytes of the piece until so many are held, and gives back the others.
+/// Keeps bytes of the piece until `size` bytes are kept, and returns the others.
 fn hold<'a>(held: &mut Vec<u8>, piece: &'a [u8], size: usize) -> Result<&'a [u8], CaptureFault>
     ensures moves { IfOk result (λ rest. Moves held.old.items held.new.items piece.now rest.now) }
     ensures enough { IfOk result (λ rest. length held.new.items < size → rest.now ≡ []) }

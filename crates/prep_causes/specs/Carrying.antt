@@ -1,4 +1,4 @@
--- What a datagram carries, by the bytes of its payload.
+-- The content of a datagram, by the bytes of its payload.
 use Rattle.std.specs.Prelude.{◌≡◌, ◌⊎◌, ℕ, Bool, true, false, if◌then◌else◌, List, [], Option, Some, None, unwrap_or}
 use Rattle.audit_model.specs.declared.address.Addr.{Addr}
 use Rattle.audit_model.specs.declared.policy.Policy.{Policy}
@@ -48,7 +48,7 @@ IsOfClass policy client parts carried class.Error = carried ≡ Exchange false c
 abbrev pub IsOfMessage : Policy → Addr → Parts → Carried → Type 0
 IsOfMessage policy client parts carried = IsOfClass policy client parts carried parts.class
 
--- ChannelData that carries this
+-- ChannelData with this content
 pub record IsOfChannel (payload : List ℕ) (carried : Carried) : Type 0 where
   pub number : ℕ
   pub bytes : List ℕ
@@ -56,7 +56,7 @@ pub record IsOfChannel (payload : List ℕ) (carried : Carried) : Type 0 where
   pub read : channel_data_of payload ≡ Some (number, bytes, after)
   pub is : carried ≡ data_of bytes Unsaid
 
--- a message that carries this
+-- a message with this content
 pub record IsInMessage (policy : Policy) (client : Addr) (payload : List ℕ) (carried : Carried) : Type 0 where
   pub whole : IsMessage payload (parts_of payload)
   pub means : IsOfMessage policy client (parts_of payload) carried

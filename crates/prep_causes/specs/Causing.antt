@@ -8,7 +8,7 @@ use Rattle.prep_causes.specs.declared.carried.Peer.TheVariants.{At, OfService, U
 use Rattle.prep_causes.specs.declared.half.Half.{Half}
 use Rattle.prep_causes.specs.declared.half.Reach.{Reach}
 
--- one may be the other; a channel's number stands for any peer
+-- the two can be the same; a channel's number may be of any peer
 abbrev pub Agree : Peer → Peer → Type 0
 Agree Unsaid other = ⊤
 Agree (At one) Unsaid = ⊤

@@ -1,4 +1,4 @@
--- Packets that aren't read, and the departures whose data they may have carried, group by group.
+-- Unread packets, and the departures whose data they may have carried, group by group.
 use Rattle.std.specs.Prelude.{◌≡◌, ℕ, ◌+◌, min, max, Bool, ◌&&◌, nat_le, nat_lt, ◌==◌, if◌then◌else◌, List, [], ◌∷◌, length, get_or}
 use Rattle.prep_causes.specs.declared.half.Reach.{Reach}
 use Rattle.prep_causes.specs.declared.unread.Part.{Part}
@@ -6,7 +6,7 @@ use Rattle.prep_causes.specs.declared.unread.Group.{Group}
 use Rattle.prep_causes.specs.declared.unread.Unread.{Unread}
 use Rattle.prep_causes.specs.declared.unread.Unread.TheVariants.{Carrier, Departure}
 
--- up to what 64 bits hold
+-- saturated at 64 bits
 abbrev pub capped : ℕ → ℕ
 capped n = min n 18446744073709551615
 
@@ -35,7 +35,7 @@ is_carried reach group =
     nat_lt 0 group.carriers.count && (nat_le group.departures.bytes group.carriers.bytes && (nat_le group.carriers.first (group.departures.first + reach.slack)
     && nat_le group.departures.last ((group.carriers.last + reach.hold) + reach.slack)))
 
--- how many departures are in groups whose carriers can have carried all that leaves
+-- the number of departures in groups whose carriers can have carried all departures
 abbrev pub carried_with : ℕ → Reach → List Group → ℕ
 carried_with carried reach [] = carried
 carried_with carried reach (group ∷ groups) = carried_with (if is_carried reach group then capped (carried + group.departures.count) else carried) reach groups

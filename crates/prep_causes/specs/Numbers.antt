@@ -2,6 +2,6 @@
 use Rattle.std.specs.Prelude.{ℕ, ◌==◌, if◌then◌else◌, Option, Some, None}
 use Rattle.prep_causes.specs.declared.maybe_number.MaybeNumber.{MaybeNumber}
 
--- the greatest of 32 bits stands for none
+-- the greatest number of 32 bits represents none
 abbrev pub number_in : MaybeNumber → Option ℕ
 number_in maybe = if maybe.number == 4294967295 then None else Some maybe.number

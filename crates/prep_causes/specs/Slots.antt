@@ -1,4 +1,4 @@
--- What is found under one number, and under all of them.
+-- The records under one number, and under all of them.
 use Rattle.std.specs.Prelude.{◌≡◌, ◌⊎◌, ℕ, Bool, true, false, List, length, filter, get_or}
 use Rattle.prep_causes.specs.declared.half.Half.{Half}
 use Rattle.prep_causes.specs.declared.half.Reach.{Reach}
@@ -26,11 +26,11 @@ is_pair Empty = false
 is_pair (One half) = false
 is_pair Pair = true
 
--- how many pairs there are
+-- the number of pairs
 abbrev pub pairs_in : List Slot → ℕ
 pairs_in slots = length (filter is_pair slots)
 
--- a count of numbers with nothing noted under any of them
+-- a count of numbers without records
 pub record AreEmpty (slots : List Slot) (count : ℕ) : Type 0 where
   pub len : length slots ≡ count
   pub empty : (number : ℕ) → get_or slots number Empty ≡ Empty

@@ -1,4 +1,4 @@
-//! What a datagram carries, by which a departure is compared with an arrival.
+//! The content of a datagram, by which a departure is compared with an arrival.
 
 ghost use Rattle.std.specs.Prelude.{◌≡◌, ◌↔◌, IsTrue};
 ghost use Rattle.prep_causes.specs.Causing.{Agree, Answers};
@@ -9,14 +9,14 @@ use audit_model::Addr;
 #[derive(Clone, Copy, Debug, PartialEq, Eq)]
 pub enum Peer {
     At(Addr),
-    /// A relayed address of the service: each of the two clients has the other's.
+    /// A relayed address of the service: each of the two clients names the other's.
     OfService,
-    /// The data has a channel's number, or no address that can be read.
+    /// The data has a channel's number, or no address that can be parsed.
     Unsaid,
 }
 
 impl Peer {
-    /// Whether the peers of an arrival and of a departure can be one.
+    /// Whether the peers of an arrival and of a departure can be the same.
     fn agrees(self, other: Peer) -> bool
         ensures { IsTrue result ↔ Agree self other }
     {
@@ -47,7 +47,7 @@ pub enum Carried {
 }
 
 impl Carried {
-    /// Whether a departure has the data of this arrival, and perhaps its peer, or is the response
+    /// Whether a departure has the data of this arrival, and possibly its peer, or is the response
     /// to this request.
     pub(crate) fn is_answered(&self, departure: &Carried) -> bool
         ensures { IsTrue result ↔ Answers self.now departure.now }

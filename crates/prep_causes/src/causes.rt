@@ -11,7 +11,7 @@ use std::alloc::{AllocError, Global};
 /// The number under which a departure and its arrival are proposed, from 0.
 pub type CauseNumber = u32;
 
-/// What was found so far under each number.
+/// The records so far under each number.
 #[derive(Debug, Drop)]
 pub struct Causes {
     reach: Reach,
@@ -19,7 +19,7 @@ pub struct Causes {
 }
 
 impl Causes {
-    /// For this count of numbers, with nothing noted under any of them.
+    /// For this count of numbers, without records.
     pub fn new(alloc: Global, reach: Reach, count: usize) -> Result<Self, AllocError>
         ensures { IfOk result (λ causes. (causes.reach ≡ reach) × AreEmpty causes.slots.items count) }
     {
@@ -29,7 +29,7 @@ impl Causes {
         })
     }
 
-    /// Adds an arrival or a departure. Nothing changes if the number is none of them.
+    /// Adds an arrival or a departure. Nothing changes if there is no such number.
     pub fn add(&mut self, number: CauseNumber, half: Half)
         ensures { IsAdded self.old number half self.new }
     {
@@ -39,14 +39,14 @@ impl Causes {
         }
     }
 
-    /// How far the moments of an arrival and of what it caused may be apart.
+    /// How far apart the moments of an arrival and of its departure may be.
     pub fn reach(&self) -> Reach
         ensures { result ≡ self.now.reach }
     {
         self.reach
     }
 
-    /// How many departures have their arrival. It takes as long as there are numbers.
+    /// The number of departures that have their arrival. The cost is the count of numbers.
     pub fn pairs(&self) -> usize
         ensures { result ≡ pairs_in self.now.slots.items }
     {

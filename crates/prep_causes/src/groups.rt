@@ -1,4 +1,4 @@
-//! All groups of packets that aren't read.
+//! All groups of unread packets.
 
 ghost use Rattle.std.specs.Prelude.{◌≡◌, ◌<◌, ℕ, IfOk, length, get_or};
 ghost use Rattle.prep_causes.specs.Groups.{no_group, AreNoGroups, carried_with, group_with_at};
@@ -8,7 +8,7 @@ use crate::half::Reach;
 use crate::unread::{Group, Unread};
 use std::alloc::{AllocError, Global};
 
-/// What was found so far in each group.
+/// The packets so far in each group.
 #[derive(Debug, Drop)]
 pub struct Groups {
     groups: Vec<Group>,
@@ -24,7 +24,7 @@ impl Groups {
         })
     }
 
-    /// Adds a packet to a group; to no group if there is none of that number.
+    /// Adds a packet to a group; to none if no group has that number.
     pub fn add(&mut self, number: CauseNumber, unread: Unread)
         ensures len { length self.new.groups.items ≡ length self.old.groups.items }
         ensures groups { (other : ℕ) → other < length self.old.groups.items →
@@ -36,8 +36,8 @@ impl Groups {
         }
     }
 
-    /// How many departures there are that the carriers of their group can have carried. It takes as
-    /// long as there are groups.
+    /// The number of departures that the carriers of their group can have carried. The cost is the
+    /// number of groups.
     pub fn carried(&self, reach: Reach) -> u64
         ensures { result ≡ carried_with 0 reach self.now.groups.items }
     {

@@ -1,4 +1,4 @@
-//! An arrival, or what it caused.
+//! An arrival, or the departure that it caused.
 
 ghost use Rattle.std.specs.Prelude.{◌≡◌, ◌↔◌, IsTrue};
 ghost use Rattle.prep_causes.specs.Causing.{IsCause, IsInReach};
@@ -6,17 +6,17 @@ ghost use Rattle.prep_causes.specs.Causing.{IsCause, IsInReach};
 use crate::carried::Carried;
 use audit_model::Side;
 
-/// How far the moments of an arrival and of what it caused may be apart, in nanoseconds.
+/// How far apart the moments of an arrival and of its departure may be, in nanoseconds.
 #[derive(Clone, Copy, Debug, PartialEq, Eq)]
 pub struct Reach {
-    /// The longest time for which the server holds a datagram back.
+    /// The longest time from an arrival to its departure.
     pub hold: u64,
     /// Twice the greatest skew between two interfaces' clocks.
     pub slack: u64,
 }
 
 impl Reach {
-    /// Whether a departure at one moment can be of an arrival at another.
+    /// Whether a departure at one moment can be caused by an arrival at another.
     fn has(self, arrival: u64, departure: u64) -> bool
         ensures { IsTrue result ↔ IsInReach self arrival departure }
     {
@@ -26,7 +26,7 @@ impl Reach {
     }
 }
 
-/// An arrival or a departure that is excluded.
+/// An excluded arrival or departure.
 #[derive(Clone, Copy, Debug, PartialEq, Eq)]
 pub struct Half {
     /// Nanoseconds since 1970.

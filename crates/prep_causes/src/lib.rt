@@ -1,7 +1,7 @@
 //! Departures that are excluded, each with the arrival that caused it.
 //!
 //! An untrusted proposal numbers a departure and its arrival alike. Here the two are compared: by
-//! their data or their transaction, their peer, and their moments. If the arrival can't be read,
+//! their data or their transaction, their peer, and their moments. If the arrival can't be parsed,
 //! the departure is compared with the packets that may have carried it: by bytes and moments.
 #![tactic(auto)]
 

@@ -7,7 +7,7 @@ ghost use Rattle.prep_causes.specs.Numbers.{number_in};
 /// several.
 #[derive(Clone, Copy, Debug, PartialEq, Eq)]
 pub struct MaybeNumber {
-    /// The greatest `u32` stands for none.
+    /// The greatest `u32` represents none.
     number: u32,
 }
 
@@ -19,14 +19,15 @@ impl MaybeNumber {
         MaybeNumber { number: u32::MAX }
     }
 
-    /// This number; none where it is the greatest `u32`, as of more records than a memory holds.
+    /// This number; none if it is the greatest `u32`, which is more than the records that fit in
+    /// memory.
     pub fn some(number: u32) -> Self
         ensures { number < 4294967295 → number_in result ≡ Some number }
     {
         MaybeNumber { number }
     }
 
-    /// The number of a place; none where it is too great.
+    /// The number of an index; none if it is too great.
     pub fn of_place(place: usize) -> Self
         ensures { place < 4294967295 → number_in result ≡ Some place }
     {

@@ -1,4 +1,4 @@
-//! Reading what a datagram of the service carries.
+//! Parses the content of a datagram of the service.
 
 ghost use Rattle.std.specs.Prelude.{◌≡◌, option_copied, IfSome};
 ghost use Rattle.audit_stun.specs.Message.{IsMessage};
@@ -56,7 +56,7 @@ fn of_indication(policy: &Policy, message: &Message<'_>) -> Carried
     of_data(message.first(DATA).unwrap_or(b""), peer)
 }
 
-/// What a message carries: no other indication than Send and Data does.
+/// The content of a message. Of indications only Send and Data have one.
 fn of_message(policy: &Policy, client: Addr, message: &Message<'_>) -> Option<Carried>
     ensures { IfSome result (λ carried. IsOfMessage policy.now client (parts_of message.now) carried) }
 {
@@ -76,7 +76,7 @@ fn of_message(policy: &Policy, client: Addr, message: &Message<'_>) -> Option<Ca
     })
 }
 
-/// What a datagram between a client and the server carries.
+/// The content of a datagram between a client and the server.
 fn of_client(policy: &Policy, client: Addr, payload: &[u8]) -> Option<Carried>
     ensures { IfSome result (λ carried. IsOfClient policy.now client payload.now carried) }
 {
@@ -87,9 +87,9 @@ fn of_client(policy: &Policy, client: Addr, payload: &[u8]) -> Option<Carried>
     of_message(policy, client, &message)
 }
 
-/// What a datagram carries that is between a relayed address and a peer, or between the server and
-/// a client, by the end that isn't the service's. None if it is neither data nor a request nor a
-/// response.
+/// The content of a datagram between a relayed address and a peer, or between the server and a
+/// client; `far` is the end outside of the service. `None` if it is neither data nor a request nor
+/// a response.
 pub fn carried_in(policy: &Policy, is_relayed: bool, far: Addr, payload: &[u8]) -> Option<Carried>
     ensures { IfSome result (λ carried. IsCarried policy.now is_relayed far payload.now carried) }
 {

@@ -1,11 +1,11 @@
-//! What was found under one number.
+//! The records under one number.
 
 ghost use Rattle.std.specs.Prelude.{◌≡◌, ◌⊎◌};
 ghost use Rattle.prep_causes.specs.Slots.{Becomes};
 
 use crate::half::{Half, Reach};
 
-/// What was found under one number.
+/// The records under one number.
 #[derive(Clone, Copy, Debug, PartialEq, Eq)]
 pub enum Slot {
     Empty,
@@ -16,7 +16,7 @@ pub enum Slot {
 }
 
 impl Slot {
-    /// With what is found next. Nothing is added to a pair.
+    /// With the next record. Nothing is added to a pair.
     pub fn with(self, half: Half, reach: Reach) -> Slot
         ensures { Becomes reach self half result }
     {

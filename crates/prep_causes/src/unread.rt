@@ -1,11 +1,11 @@
-//! Packets that aren't read, and the departures whose data they may have carried.
+//! Unread packets, and the departures whose data they may have carried.
 
 ghost use Rattle.std.specs.Prelude.{◌≡◌};
 ghost use Rattle.prep_causes.specs.Groups.{no_part, part_with, no_group, group_with, is_carried};
 
 use crate::half::Reach;
 
-/// What a packet is in its group, with its moment in nanoseconds since 1970.
+/// The role of a packet in its group, with its moment in nanoseconds since 1970.
 #[derive(Clone, Copy, Debug, PartialEq, Eq)]
 pub enum Unread {
     /// A packet over TCP, TLS, DTLS or IPv6 that may have carried this count of bytes.
@@ -14,18 +14,18 @@ pub enum Unread {
     Departure { stamp: u64, bytes: u64 },
 }
 
-/// Packets, their bytes, and their first and last moment. No number goes over 64 bits.
+/// Packets, their bytes, and their first and last moment. The counts saturate at 64 bits.
 #[derive(Clone, Copy, Debug, PartialEq, Eq)]
 pub struct Part {
     pub count: u64,
     pub bytes: u64,
-    /// The least and the greatest of their moments; of no packet the greatest u64, and 0.
+    /// The least and the greatest of their moments; the greatest u64 and 0 if there is no packet.
     pub first: u64,
     pub last: u64,
 }
 
 impl Part {
-    /// Of no packet.
+    /// No packets.
     pub fn none() -> Self
         ensures { result ≡ no_part }
     {
@@ -37,7 +37,7 @@ impl Part {
         }
     }
 
-    /// With a packet more.
+    /// With one more packet.
     fn with(self, stamp: u64, bytes: u64) -> Self
         ensures { result ≡ part_with self stamp bytes }
     {
@@ -50,7 +50,7 @@ impl Part {
     }
 }
 
-/// Packets that aren't read, and the departures whose data they may have carried.
+/// Unread packets, and the departures whose data they may have carried.
 #[derive(Clone, Copy, Debug, PartialEq, Eq)]
 pub struct Group {
     pub carriers: Part,
@@ -58,7 +58,7 @@ pub struct Group {
 }
 
 impl Group {
-    /// Of no packet.
+    /// No packets.
     pub fn none() -> Self
         ensures { result ≡ no_group }
     {
@@ -68,7 +68,7 @@ impl Group {
         }
     }
 
-    /// With a packet more.
+    /// With one more packet.
     pub fn with(self, unread: Unread) -> Self
         ensures { result ≡ group_with self unread }
     {
@@ -84,7 +84,7 @@ impl Group {
         }
     }
 
-    /// Whether the carriers can have carried all that leaves: by their bytes and their moments.
+    /// Whether the carriers can have carried all departures: by their bytes and their moments.
     pub fn is_carried(&self, reach: Reach) -> bool
         ensures { result ≡ is_carried reach self.now }
     {

@@ -1,4 +1,4 @@
-//! What such a section is to whoever reads it.
+//! Laws about how a reader parses such a section.
 
 ghost use Rattle.std.specs.Prelude.{ℕ, List, [], ◌∷◌, None, drop, take};
 ghost use Rattle.audit_pcapng.specs.declared.scope.Scope.{Scope};
@@ -7,12 +7,13 @@ ghost use Rattle.audit_pcapng.specs.declared.byte_order.ByteOrder.TheVariants.{L
 ghost use Rattle.audit_pcapng.specs.OptionLists.{AreOptions};
 ghost use Rattle.prep_comment.specs.Sections.{block_of, body_of, scope_behind};
 
-/// It is a whole block after any others, it has no packet, and the interfaces before it stay as they are.
+/// It is a whole block after any others, it has no packet, and the interfaces before it stay
+/// unchanged.
 pub fn a_section_has_no_packet()
     ensures { (scope : Scope) (comment : List ℕ) → IsRead scope (block_of comment) None (scope_behind scope) }
 {}
 
-/// Its options, which begin behind its head's 16 bytes, are the comment alone (code 1).
+/// Its options, which begin after its head's 16 bytes, are the comment alone (code 1).
 pub fn a_section_has_the_comment()
     ensures { (comment : List ℕ) → AreOptions Little (drop 16 (body_of (take 4096 comment))) ((1, take 4096 comment) ∷ []) }
 {}

@@ -1,4 +1,4 @@
-//! A section header that says nothing but a comment (pcapng, sections 3.5 and 4.1).
+//! A section header with only a comment (pcapng, sections 3.5 and 4.1).
 #![tactic(auto)]
 
 mod laws;

@@ -6,7 +6,7 @@ ghost use Rattle.prep_comment.specs.Sections.{section_of};
 
 use std::alloc::{AllocError, Global};
 
-/// How many bytes of a comment are written.
+/// The most bytes of a comment that are written.
 const MOST: usize = 4_096;
 
 /// The section's length without the comment.
@@ -15,7 +15,8 @@ const BARE: usize = 36;
 /// The type of a section header.
 const TYPE: [u8; 4] = [0x0A, 0x0D, 0x0D, 0x0A];
 
-/// The magic of a little-endian section, version 1.0, a section of no stated length, and the code of a comment.
+/// The magic of a little-endian section, version 1.0, a section without a stated length, and the
+/// code of a comment.
 const HEAD: [u8; 18] = [
     0x4D, 0x3C, 0x2B, 0x1A, 1, 0, 0, 0, 0xFF, 0xFF, 0xFF, 0xFF, 0xFF, 0xFF, 0xFF, 0xFF, 1, 0,
 ];
@@ -23,7 +24,7 @@ const HEAD: [u8; 18] = [
 /// The end of the options.
 const END: [u8; 4] = [0, 0, 0, 0];
 
-/// How many bytes fill up a length to a multiple of 4.
+/// The number of bytes that pad a length to a multiple of 4.
 fn padding(length: usize) -> usize
     requires { length ≤ 4096 }
     ensures { result ≡ padded length - length }

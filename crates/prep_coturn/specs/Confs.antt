@@ -1,4 +1,4 @@
--- What a configuration says, with coturn's defaults.
+-- The settings of a configuration, with coturn's defaults.
 use Rattle.std.specs.Prelude.{[], false}
 use Rattle.prep_coturn.specs.declared.conf.Conf.{Conf}
 

@@ -1,4 +1,4 @@
--- How a configuration writes what is read of it.
+-- The names in a configuration.
 use Rattle.std.specs.Prelude.{ℕ, List, codes}
 use Rattle.prep_coturn.specs.declared.setting.Setting.{Setting}
 use Rattle.prep_coturn.specs.declared.setting.Setting.TheVariants as settings

@@ -1,4 +1,4 @@
--- The policy that a configuration comes to.
+-- The policy of a configuration.
 use Rattle.std.specs.Prelude.{◌≡◌, ◌≢◌, ℕ, ◌+◌, ◌<◌, min, Bool, true, false, not, List, [], ◌∷◌, ◌++◌, map, filter, fold, Option, Some, None, ◌==◌, ◌&&◌, nat_le, nat_lt, length, if◌then◌else◌, ◌⊎◌}
 use Rattle.std.specs.List.{flat_map, list_any}
 use Rattle.audit_model.specs.declared.address.Addr.{Addr}
@@ -13,7 +13,7 @@ use Rattle.prep_coturn.specs.declared.fault.ConfFault.TheVariants as faults
 abbrev pub is_new : List ℕ → ℕ → Bool
 is_new said ip = not (list_any (λ one. one == ip) said)
 
--- the addresses that are said, and those besides that aren't
+-- the addresses of the configuration, and those of the options that it doesn't have
 abbrev pub with_asked : List ℕ → List ℕ → List ℕ
 with_asked said besides = said ++ filter (is_new said) besides
 
@@ -23,18 +23,18 @@ listening_of conf asked = with_asked conf.listening asked.listening.now
 abbrev pub relaying_of : Conf → Asked → List ℕ
 relaying_of conf asked = with_asked conf.relaying asked.relaying.now
 
--- the port over another one, unless one is said
+-- the port plus one, unless another one is set
 abbrev pub alternative_of : ℕ → ℕ → ℕ
 alternative_of said port = if said == 0 then min (port + 1) 65535 else said
 
--- coturn takes plain UDP at the port for TLS as well, where it has a certificate
+-- coturn accepts plain UDP at the port for TLS as well, if it has a certificate
 abbrev pub has_tls : Conf → Bool
 has_tls conf = not conf.no_dtls && conf.has_cert && conf.has_key && not (conf.tls_port == conf.listening_port)
 
 abbrev pub alternatives_of : Conf → List ℕ
 alternatives_of conf = alternative_of conf.alt_port conf.listening_port ∷ (if has_tls conf then alternative_of conf.alt_tls_port conf.tls_port ∷ [] else [])
 
--- with two listening addresses at the alternative ports too
+-- with two listening addresses also the alternative ports
 abbrev pub ports_of : Conf → Bool → List ℕ
 ports_of conf is_many = (conf.listening_port ∷ (if has_tls conf then conf.tls_port ∷ [] else [])) ++ (if is_many && not conf.no_rfc5780 then alternatives_of conf else [])
 
@@ -54,18 +54,18 @@ wire_at None (first ∷ others) = first
 abbrev pub wire_of : List ℕ → External → ℕ
 wire_of relaying external = wire_at external.wire relaying
 
--- the last line for a relay address says as which one it is told
+-- the last line for a relay address has the address that clients are granted
 abbrev pub told_of : List ℕ → List External → ℕ → ℕ
 told_of relaying external wire = fold (λ told one. if wire_of relaying one == wire then one.told else told) wire external
 
 abbrev pub is_apart : List ℕ → List External → ℕ → Bool
 is_apart relaying external wire = not (told_of relaying external wire == wire)
 
--- some relay address is told as another one
+-- clients are granted another address for some relay address
 abbrev pub is_renamed : List ℕ → List External → Bool
 is_renamed relaying external = list_any (is_apart relaying external) relaying
 
--- and this is refused, but where the captures are translated
+-- and this is refused, unless the captures are translated
 abbrev pub IsMistold : ConfFault → List ℕ → List External → Bool → Type 0
 IsMistold (faults.Told line renamed) relaying external is_translated = (is_translated ≡ false) × (is_renamed relaying external ≡ true)
 IsMistold (faults.OneForMany line count) relaying external is_translated = (count ≡ length relaying) × (length relaying ≢ 1)
@@ -95,7 +95,7 @@ pub record IsPlanned (plan : Plan) (conf : Conf) (asked : Asked) : Type 0 where
   pub told : asked.is_translated ≡ false → is_renamed (relaying_of conf asked) conf.external ≡ false
   pub apart : is_inside conf (relaying_of conf asked) (listens_of conf asked) ≡ false
 
--- what it is refused for
+-- the reasons of refusals
 abbrev pub IsRefused : ConfFault → Conf → Asked → Type 0
 IsRefused faults.NoListening conf asked = listening_of conf asked ≡ []
 IsRefused (faults.NoRelaying listening) conf asked = relaying_of conf asked ≡ []

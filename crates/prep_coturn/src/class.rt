@@ -9,9 +9,9 @@ ghost use Rattle.prep_coturn.specs.Rows.{is_of};
 pub enum Class {
     /// Spaces and tabs.
     Blank,
-    /// What separates a name from its value: blanks and `=`.
+    /// Bytes that separate a name from its value: blanks and `=`.
     Separator,
-    /// All that a name may have.
+    /// All bytes that a name may have.
     Name,
     /// Carriage returns.
     Return,
@@ -30,7 +30,7 @@ impl Class {
         }
     }
 
-    /// How many bytes at the front are of this kind.
+    /// How many bytes at the start are of this kind.
     pub fn front(self, text: &[u8]) -> usize
         ensures count { result ≡ prefix_len (is_of self) text.now }
         ensures within { result ≤ length text.now }
@@ -43,7 +43,7 @@ impl Class {
         text.len()
     }
 
-    /// How many bytes are left without those at the end that are of this kind.
+    /// How many bytes remain without those at the end that are of this kind.
     pub fn kept(self, text: &[u8]) -> usize
         ensures { result ≡ length text.now - suffix_len (is_of self) text.now }
     {

@@ -1,4 +1,4 @@
-//! What a configuration says of addresses and ports.
+//! The settings of addresses and ports in a configuration.
 
 ghost use Rattle.std.specs.Prelude.{◌≡◌};
 ghost use Rattle.prep_coturn.specs.Confs.{nothing_said};
@@ -10,7 +10,7 @@ use audit_model::{Addr, Listed, read_ip, read_port};
 use audit_text::cut;
 use std::alloc::Global;
 
-/// A relay address on the wire, and the one that clients are told.
+/// A relay address on the wire, and the one that clients are granted.
 #[derive(Clone, Copy, Debug, PartialEq, Eq)]
 pub struct Renamed {
     pub told: u32,
@@ -22,11 +22,12 @@ pub struct Renamed {
 pub struct External {
     pub line: u64,
     pub told: u32,
-    /// The relay address that it is for; none where it is for the only one.
+    /// The relay address that it is for; `None` if it is for the only one.
     pub wire: Option<u32>,
 }
 
-/// What a configuration says, with coturn's defaults. Of a setting that is said again the last counts.
+/// The settings of a configuration, with coturn's defaults. If a setting is repeated, the last one
+/// counts.
 #[derive(Debug, Drop)]
 pub struct Conf {
     pub listening: Listed<u32>,
@@ -35,7 +36,7 @@ pub struct Conf {
     pub aux: Listed<Addr>,
     pub listening_port: u16,
     pub tls_port: u16,
-    /// 0 where it isn't said: one over the other port.
+    /// 0 if it isn't set: then the other port plus one.
     pub alt_port: u16,
     pub alt_tls_port: u16,
     pub min_port: u16,
@@ -49,7 +50,7 @@ pub struct Conf {
 }
 
 impl Conf {
-    /// Of an empty configuration.
+    /// An empty configuration.
     pub fn new(alloc: Global) -> Self
         ensures { result ≡ nothing_said }
     {
@@ -73,7 +74,7 @@ impl Conf {
         }
     }
 
-    /// With what a line says more.
+    /// Adds the setting of a line.
     pub fn take(&mut self, row: &Row<'_>) -> Result<(), ConfFault> {
         let Some(setting) = Setting::of(row.name) else {
             return Ok(());
@@ -100,7 +101,7 @@ impl Conf {
         Ok(())
     }
 
-    /// With what a port or a switch says.
+    /// Adds the setting of a port or a switch.
     fn take_other(&mut self, row: &Row<'_>, setting: Setting) -> Result<(), ConfFault> {
         match setting {
             Setting::ListeningPort => self.listening_port = port_in(row, setting)?,
@@ -121,7 +122,7 @@ impl Conf {
     }
 }
 
-/// The address that a line says.
+/// The address of a line.
 fn ip_in(row: &Row<'_>, setting: Setting) -> Result<u32, ConfFault> {
     match read_ip(row.value) {
         Ok(ip) => Ok(ip),
@@ -132,7 +133,7 @@ fn ip_in(row: &Row<'_>, setting: Setting) -> Result<u32, ConfFault> {
     }
 }
 
-/// The port that a line says.
+/// The port of a line.
 fn port_in(row: &Row<'_>, setting: Setting) -> Result<u16, ConfFault> {
     match read_port(row.value) {
         Ok(port) => Ok(port),
@@ -143,7 +144,7 @@ fn port_in(row: &Row<'_>, setting: Setting) -> Result<u16, ConfFault> {
     }
 }
 
-/// The address and port that a line says.
+/// The address and port of a line.
 fn aux_in(row: &Row<'_>) -> Result<Addr, ConfFault> {
     match Addr::read(row.value) {
         Ok(addr) if addr.port != 0 => Ok(addr),
@@ -154,7 +155,7 @@ fn aux_in(row: &Row<'_>) -> Result<Addr, ConfFault> {
     }
 }
 
-/// The addresses that an `external-ip` line says.
+/// The addresses of an `external-ip` line.
 fn external_in(row: &Row<'_>) -> Result<External, ConfFault> {
     let fault = ConfFault::Value {
         line: row.line,
@@ -196,7 +197,7 @@ fn unjudged_on(rows: &[Row<'_>]) -> u8 {
     on
 }
 
-/// The first line that switches on what can't be judged, and stays on.
+/// The first line that switches on a setting which can't be judged, and which stays on.
 pub fn first_unjudged(rows: &[Row<'_>]) -> Option<(u64, Unjudged)> {
     let on = unjudged_on(rows);
     for row in rows {

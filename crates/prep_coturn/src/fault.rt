@@ -1,4 +1,4 @@
-//! Why no policy is made of a configuration.
+//! Why no policy can be made from a configuration.
 
 ghost use Rattle.std.specs.Prelude.{◌≡◌};
 ghost use Rattle.prep_coturn.specs.declared.fault.ConfFault.TheVariants.{Memory};
@@ -9,26 +9,26 @@ use audit_model::Listed;
 use std::alloc::{AllocError, AllocFailed};
 use std::fmt;
 
-/// What is wrong with a configuration, or with what it lacks.
+/// The fault of a configuration, or the setting that it lacks.
 #[derive(Debug, Drop)]
 pub enum ConfFault {
     /// With this setting nothing could conform, or nothing would be judged.
     Unjudged { line: u64, setting: Unjudged },
-    /// The value of a setting is no address or no port.
+    /// The value of a setting isn't an address or a port.
     Value { line: u64, setting: Setting },
     /// An `external-ip` names no relay address, and there are more than one, or none.
     OneForMany { line: u64, relaying: usize },
     /// No `listening-ip`.
     NoListening,
-    /// No `relay-ip`; the addresses that listen.
+    /// No `relay-ip`; the listening addresses.
     NoRelaying { listening: Listed<u32> },
-    /// A relay address is told as another one.
+    /// Clients are granted another address for a relay address.
     Told { line: u64, renamed: Listed<Renamed> },
-    /// `min-port` is over `max-port`, or 0.
+    /// `min-port` is greater than `max-port`, or 0.
     Range,
     /// A listening port is inside the relay range.
     Inside,
-    /// There was no memory.
+    /// Out of memory.
     Memory,
 }
 
@@ -59,7 +59,7 @@ impl fmt::Display for Ip {
     }
 }
 
-/// What a setting's value isn't.
+/// What a setting's value should be.
 fn lacks(setting: Setting) -> &'static str {
     match setting {
         Setting::ListeningIp | Setting::RelayIp => "not an address",
@@ -69,7 +69,7 @@ fn lacks(setting: Setting) -> &'static str {
     }
 }
 
-/// The words that say the addresses of which each client is relayed.
+/// Writes the options that name the relay addresses.
 fn write_relaying<W: fmt::Write>(
     f: &mut fmt::Formatter<W>,
     listening: &Listed<u32>,
@@ -84,7 +84,7 @@ fn write_relaying<W: fmt::Write>(
     Ok(())
 }
 
-/// The words that translate.
+/// Writes the options for translation.
 fn write_told<W: fmt::Write>(
     f: &mut fmt::Formatter<W>,
     line: u64,
@@ -102,7 +102,7 @@ fn write_told<W: fmt::Write>(
     Ok(())
 }
 
-/// What standard error tells of it.
+/// The text for standard error.
 impl fmt::Display for ConfFault {
     fn fmt<W: fmt::Write>(&self, f: &mut fmt::Formatter<W>) -> fmt::Result {
         match self {

@@ -1,4 +1,4 @@
-//! A policy out of coturn's configuration.
+//! Makes a policy from coturn's configuration.
 #![tactic(auto)]
 
 mod class;

@@ -1,4 +1,4 @@
-//! What is told of a configuration besides its policy, for people.
+//! Notes about a configuration, in addition to its policy, for people.
 
 use crate::conf::Conf;
 use crate::rows::Row;
@@ -7,13 +7,13 @@ use audit_text::number;
 use std::alloc::{AllocError, Global};
 use std::fmt::Write;
 
-/// The longest that RFC 8656 has a permission, in seconds.
+/// The lifetime of a permission by RFC 8656, in seconds.
 const PERMISSION: u64 = 300;
 
-/// The longest that it has a channel.
+/// The lifetime of a channel binding by RFC 8656, in seconds.
 const CHANNEL: u64 = 600;
 
-/// A line for each thing that turnaudit does not judge, or will report.
+/// A line for each setting that turnaudit doesn't judge, or will report.
 pub fn notes_of(alloc: Global, rows: &[Row<'_>], conf: &Conf) -> Result<String, AllocError> {
     let mut notes = String::new(alloc);
     for row in rows {
@@ -34,7 +34,7 @@ pub fn notes_of(alloc: Global, rows: &[Row<'_>], conf: &Conf) -> Result<String, 
     Ok(notes)
 }
 
-/// What is told of one line.
+/// Adds the note about one line.
 fn note_row(notes: &mut String, row: &Row<'_>, setting: Setting) -> Result<(), AllocError> {
     let line = row.line;
     let name = setting.name();

@@ -1,4 +1,4 @@
-//! The policy that a configuration comes to.
+//! The policy of a configuration.
 
 ghost use Rattle.std.specs.Prelude.{◌≡◌, ◌==◌, false, [], ◌∷◌, ◌++◌, map, if◌then◌else◌, IfOk, IfErr, OnOk};
 ghost use Rattle.std.specs.List.{list_any};
@@ -9,12 +9,12 @@ use crate::fault::ConfFault;
 use audit_model::{Addr, Listed, PortRange};
 use std::alloc::{AllocError, Global};
 
-/// What an operator says besides the configuration.
+/// The operator's options, in addition to the configuration.
 #[derive(Clone, Copy, Debug)]
 pub struct Asked<'a> {
     pub listening: &'a [u32],
     pub relaying: &'a [u32],
-    /// The captures go through `translate`.
+    /// Whether the captures go through `translate`.
     pub is_translated: bool,
 }
 
@@ -25,8 +25,8 @@ pub struct Plan {
     pub relays: Listed<PortRange>,
 }
 
-/// The policy that a configuration comes to, or why none is made. The cost is the number of listen lines, and of relay addresses times
-/// `external-ip` lines.
+/// The policy of a configuration, or why there is none. The cost is the number of listen lines, and
+/// of relay addresses times `external-ip` lines.
 pub fn plan_of(alloc: Global, conf: &Conf, asked: &Asked<'_>) -> Result<Plan, ConfFault>
     ensures ok { IfOk result (λ plan. IsPlanned plan conf.now asked.now) }
     ensures err { IfErr result (λ fault. IsRefused fault conf.now asked.now) }
@@ -57,7 +57,7 @@ pub fn plan_of(alloc: Global, conf: &Conf, asked: &Asked<'_>) -> Result<Plan, Co
     })
 }
 
-/// The addresses that the configuration says, and those besides that it doesn't.
+/// The addresses of the configuration, and those of the options that it doesn't have.
 fn with_those(alloc: Global, said: &[u32], besides: &[u32]) -> Result<Vec<u32>, AllocError>
     ensures { IfOk result (λ all. all.items ≡ with_asked said.now besides.now) }
 {
@@ -68,7 +68,7 @@ fn with_those(alloc: Global, said: &[u32], besides: &[u32]) -> Result<Vec<u32>, 
     Ok(all)
 }
 
-/// Adds an address that isn't said.
+/// Adds an address unless the configuration has it.
 fn push_new(all: &mut Vec<u32>, said: &[u32], ip: u32) -> Result<(), AllocError>
     ensures { OnOk result (all.new.items ≡ all.old.items ++ (if is_new said.now ip then ip ∷ [] else [])) }
 {
@@ -84,7 +84,8 @@ fn is_among(ips: &[u32], ip: u32) -> bool
     ips.iter().any(|one| *one == ip)
 }
 
-/// A relay address has to be told as it is, but where the captures are translated.
+/// Checks that clients are granted the relay addresses on the wire, unless the captures are
+/// translated.
 fn check_told(
     alloc: Global,
     conf: &Conf,
@@ -123,7 +124,7 @@ fn line_for_one(external: &[External]) -> Option<u64> {
     None
 }
 
-/// Whether clients are told some relay address as another one.
+/// Whether clients are granted another address for some relay address.
 fn is_any_renamed(external: &[External], relaying: &[u32]) -> bool
     ensures { result ≡ is_renamed relaying.now external.now }
 {
@@ -138,7 +139,7 @@ fn is_told_apart(external: &[External], relaying: &[u32], wire: u32) -> bool
     told_as(wire, external, relaying) != wire
 }
 
-/// The relay addresses that are told as others.
+/// The relay addresses for which clients are granted others.
 fn renamed(
     alloc: Global,
     external: &[External],
@@ -154,7 +155,7 @@ fn renamed(
     Ok(Listed::from(renamed))
 }
 
-/// The line that tells of the first of them.
+/// The line about the first of them.
 fn first_line(renamed: &[Renamed], external: &[External], relaying: &[u32]) -> u64 {
     match renamed.first() {
         Some(first) => line_of(first.wire, external, relaying),
@@ -162,7 +163,7 @@ fn first_line(renamed: &[Renamed], external: &[External], relaying: &[u32]) -> u
     }
 }
 
-/// The line that tells of a relay address.
+/// The line about a relay address.
 fn line_of(wire: u32, external: &[External], relaying: &[u32]) -> u64 {
     let mut line = 0;
     for one in external {
@@ -184,7 +185,8 @@ fn on_wire(external: &External, relaying: &[u32]) -> u32
     }
 }
 
-/// As which address clients are told a relay address: by the last line for it, or else as it is.
+/// The address that clients are granted for a relay address: by the last line for it, or else the
+/// same.
 fn told_as(wire: u32, external: &[External], relaying: &[u32]) -> u32
     ensures { result ≡ told_of relaying.now external.now wire }
 {
@@ -197,7 +199,7 @@ fn told_as(wire: u32, external: &[External], relaying: &[u32]) -> u32
     told
 }
 
-/// The port over another one, or the one that is said.
+/// The port plus one, or the port that is set.
 fn alternative(said: u16, port: u16) -> u16
     ensures { result ≡ alternative_of said port }
 {
@@ -208,7 +210,7 @@ fn alternative(said: u16, port: u16) -> u16
     }
 }
 
-/// The ports at which coturn takes plain UDP.
+/// The ports at which coturn accepts plain UDP.
 fn ports(alloc: Global, conf: &Conf, is_many: bool) -> Result<Vec<u16>, AllocError>
     ensures { IfOk result (λ ports. ports.items ≡ ports_of conf.now is_many) }
 {
@@ -267,7 +269,7 @@ fn is_one_inside(conf: &Conf, relaying: &[u32], addr: Addr) -> bool
     is_among(relaying, addr.ip) && conf.min_port <= addr.port && addr.port <= conf.max_port
 }
 
-/// The relay range of each relay address, as it is told.
+/// The relay range of each relay address, with the address that clients are granted.
 fn ranges(alloc: Global, conf: &Conf, relaying: &[u32]) -> Result<Vec<PortRange>, AllocError>
     ensures { IfOk result (λ all. all.items ≡ ranges_of conf.now relaying.now) }
 {

@@ -1,4 +1,4 @@
-//! From a configuration's text to a policy's.
+//! Makes a policy's text from a configuration's text.
 
 use crate::conf::{Conf, first_unjudged};
 use crate::fault::ConfFault;
@@ -8,16 +8,16 @@ use crate::rows::{Row, rows_of};
 use crate::writing::policy_text;
 use std::alloc::Global;
 
-/// What a configuration comes to.
+/// The result for a configuration.
 #[derive(Drop)]
 pub struct Prepared {
     /// The text of the policy.
     pub policy: String,
-    /// What is told besides, a line each.
+    /// The notes, a line each.
     pub notes: String,
 }
 
-/// What all lines say.
+/// The settings of all lines.
 fn conf_of(alloc: Global, rows: &[Row<'_>]) -> Result<Conf, ConfFault> {
     let mut conf = Conf::new(alloc);
     for row in rows {
@@ -26,7 +26,7 @@ fn conf_of(alloc: Global, rows: &[Row<'_>]) -> Result<Conf, ConfFault> {
     Ok(conf)
 }
 
-/// The policy's text for a configuration's, with what an operator says besides, or why there is none.
+/// The policy's text for a configuration's text and the operator's options, or why there is none.
 pub fn prepare(alloc: Global, text: &[u8], asked: &Asked<'_>) -> Result<Prepared, ConfFault> {
     let rows = rows_of(alloc, text)?;
     if let Some((line, setting)) = first_unjudged(&rows) {

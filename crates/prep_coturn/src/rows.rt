@@ -7,7 +7,7 @@ use crate::class::Class;
 use audit_text::cut;
 use std::alloc::{AllocError, Global};
 
-/// A line that says something: its number from 1, what it sets, and to what.
+/// A line with a setting: its number from 1, the name, and the value.
 #[derive(Clone, Copy, Debug)]
 pub struct Row<'a> {
     pub line: u64,
@@ -16,8 +16,8 @@ pub struct Row<'a> {
 }
 
 impl<'a> Row<'a> {
-    /// What a line says: blanks are passed over at its front, a name is parted from its value by blanks or `=`, and a value may
-    /// stand in quotes. Nothing where it is empty or begins with `#`.
+    /// Parses a line: blanks at its start are skipped, a name is separated from its value by blanks
+    /// or `=`, and a value may be in quotes. `None` if it is empty or begins with `#`.
     pub fn of(line: u64, text: &'a [u8]) -> Option<Self>
         ensures { option_map now_of result ≡ line_of line text.now }
     {
@@ -36,7 +36,7 @@ impl<'a> Row<'a> {
         })
     }
 
-    /// Whether it switches something on: each value does but `0`, `off`, `no`, `false` and `f`.
+    /// Whether it switches something on: each value does except `0`, `off`, `no`, `false` and `f`.
     pub fn is_on(&self) -> bool
         ensures { result ≡ is_on self.now.value.now }
     {
@@ -49,7 +49,7 @@ impl<'a> Row<'a> {
     }
 }
 
-/// A value without the quotes round it.
+/// A value without the quotes around it.
 fn unquoted(value: &[u8]) -> &[u8]
     ensures { result.now ≡ unquoted_of value.now }
 {
@@ -62,7 +62,7 @@ fn unquoted(value: &[u8]) -> &[u8]
     }
 }
 
-/// Adds what a line says, if it says something.
+/// Adds the setting of a line, if it has one.
 fn push_row<'a>(rows: &mut Vec<Row<'a>>, line: u64, text: &'a [u8]) -> Result<(), AllocError>
     ensures { OnOk result (map now_of rows.new.items ≡ map now_of rows.old.items ++ with_more (line_of line text.now) []) }
 {
@@ -72,7 +72,7 @@ fn push_row<'a>(rows: &mut Vec<Row<'a>>, line: u64, text: &'a [u8]) -> Result<()
     Ok(())
 }
 
-/// The lines that say something, in their order. The cost is the size of the text.
+/// The lines with settings, in order. The cost is the size of the text.
 pub fn rows_of(alloc: Global, text: &[u8]) -> Result<Vec<Row<'_>>, AllocError>
     ensures { IfOk result (λ rows. map now_of rows.items ≡ settings_of text.now) }
 {

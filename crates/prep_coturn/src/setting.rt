@@ -3,7 +3,7 @@
 ghost use Rattle.std.specs.Prelude.{◌≡◌};
 ghost use Rattle.prep_coturn.specs.Names.{setting_name, unjudged_name};
 
-/// A setting that says something of addresses, ports or clients.
+/// A setting of addresses, ports or clients.
 #[derive(Clone, Copy, Debug, PartialEq, Eq)]
 pub enum Setting {
     ListeningIp,
@@ -29,7 +29,7 @@ pub enum Setting {
 }
 
 impl Setting {
-    /// The setting of a name.
+    /// The setting with a name.
     pub fn of(name: &[u8]) -> Option<Setting> {
         for setting in SETTINGS {
             if setting.name().as_bytes() == name {
@@ -39,7 +39,7 @@ impl Setting {
         None
     }
 
-    /// How a configuration writes it.
+    /// Its name in a configuration.
     pub fn name(self) -> &'static str
         ensures { result.now ≡ setting_name self }
     {
@@ -116,7 +116,7 @@ const UNJUDGED: [Unjudged; 8] = [
 ];
 
 impl Unjudged {
-    /// The setting of a name.
+    /// The setting with a name.
     pub fn of(name: &[u8]) -> Option<Unjudged> {
         for setting in UNJUDGED {
             if setting.name().as_bytes() == name {
@@ -126,7 +126,7 @@ impl Unjudged {
         None
     }
 
-    /// How a configuration writes it.
+    /// Its name in a configuration.
     pub fn name(self) -> &'static str
         ensures { result.now ≡ unjudged_name self }
     {
@@ -158,7 +158,7 @@ impl Unjudged {
         }
     }
 
-    /// A bit of its own.
+    /// Its own bit.
     pub(crate) fn bit(self) -> u8 {
         match self {
             Unjudged::NoAuth => 1,

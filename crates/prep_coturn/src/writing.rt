@@ -9,7 +9,7 @@ use audit_model::{Addr, PortRange};
 use std::alloc::{AllocError, Global};
 use std::fmt::Write;
 
-/// The text of a policy: its heading, and a line for each listen address and relay range, in their order.
+/// The text of a policy: its heading, and a line for each listen address and relay range, in order.
 pub fn policy_text(alloc: Global, plan: &Plan) -> Result<String, AllocError>
     ensures { IfOk result (λ text. string_bytes text ≡ text_of plan.now) }
 {

@@ -1,4 +1,4 @@
--- Which Allocate requests and successes captures show.
+-- Which Allocate requests and success responses captures show.
 use Rattle.std.specs.Prelude.{◌≡◌, Contains, ⊤, Bool, true, false, List, [], ◌∷◌, Option, Some, None}
 use Rattle.std.specs.declared.cmp.Ordering.{Ordering}
 use Rattle.std.specs.BTreeSet.{contains}
@@ -31,7 +31,7 @@ is_noted_on side allocations None = true
 is_noted_on Arrives allocations (Some transaction) = contains transaction_cmp allocations.asked transaction
 is_noted_on Leaves allocations (Some transaction) = contains transaction_cmp allocations.granted transaction
 
--- what the datagram asks or grants is noted
+-- the Allocate of the datagram is recorded
 abbrev pub is_noted : Allocations → Datagram → Bool
 is_noted allocations datagram = is_noted_on datagram.side allocations datagram.allocate
 
@@ -39,7 +39,7 @@ abbrev pub is_noted_if : Allocations → Option Datagram → Bool
 is_noted_if allocations None = true
 is_noted_if allocations (Some datagram) = is_noted allocations datagram
 
--- what the datagram of the block asks or grants, where it holds one of the service
+-- the Allocate of the block's datagram is recorded, if the block has a datagram of the service
 abbrev pub is_noted_in : Policy → Allocations → Block → Bool
 is_noted_in policy allocations block = is_noted_if allocations (datagram_of_block policy block)
 
@@ -48,9 +48,9 @@ abbrev pub AreAllNoted : Policy → Allocations → List Block → Type 0
 AreAllNoted policy allocations [] = ⊤
 AreAllNoted policy allocations (first ∷ others) = (is_noted_in policy allocations first ≡ true) × AreAllNoted policy allocations others
 
--- What these blocks ask and grant is noted, and no packet of theirs is before the first moment that
--- is noted. Each release and each event that is noted is one of theirs, and each client that is
--- noted sends something in them.
+-- The Allocates of these blocks are recorded, and no packet of theirs is before the first recorded
+-- moment. Each recorded deletion and event is one of theirs, and each recorded client sends
+-- something in them.
 pub record AreNoted (policy : Policy) (allocations : Allocations) (blocks : List Block) : Type 0 where
   pub noted : AreAllNoted policy allocations blocks
   pub released : AreReleased policy allocations blocks
@@ -64,6 +64,7 @@ is_shown_on side allocations None = false
 is_shown_on Arrives allocations (Some transaction) = contains transaction_cmp allocations.granted transaction
 is_shown_on Leaves allocations (Some transaction) = contains transaction_cmp allocations.asked transaction
 
--- an Allocate success whose request is noted, or an Allocate request whose success is
+-- an Allocate success response whose request is recorded, or an Allocate request whose success
+-- response is
 abbrev pub is_shown : Allocations → Datagram → Bool
 is_shown allocations datagram = is_shown_on datagram.side allocations datagram.allocate

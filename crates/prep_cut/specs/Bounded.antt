@@ -1,4 +1,4 @@
--- What a line of released datagrams may leave out.
+-- Which datagrams a line of released datagrams may exclude.
 use Rattle.std.specs.Prelude.{◌≡◌, ◌<◌, ◌≤◌, ◌+◌, ◌*◌, ℕ, true, List, Option, Some, None}
 use Rattle.audit_model.specs.declared.address.Addr.{Addr}
 use Rattle.audit_model.specs.declared.pair.Pair.{Pair}
@@ -10,8 +10,8 @@ use Rattle.prep_cut.specs.declared.reason.Reason.TheVariants.{Released}
 use Rattle.prep_cut.specs.Guard.{is_named}
 use Rattle.prep_cut.specs.Releasing.{IsShownBy}
 
--- it is of the client or the address, behind a release that the captures show, and leaves in the
--- time that is stated
+-- it is of the client or the address, after a deletion that the captures show, and a departure is
+-- within the stated time
 pub record IsBehind (plan : Plan) (captured : List Block) (pair : Pair) (relayed : Addr) (moment : ℕ) (datagram : Datagram) : Type 0 where
   pub stated : 0 < plan.stated.released_ms
   pub shown : IsShownBy plan.policy (record { client = pair.client; listen = pair.listen; moment = moment }) captured

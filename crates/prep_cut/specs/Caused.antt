@@ -3,7 +3,7 @@ use Rattle.std.specs.Prelude.{Bool, true, false}
 use Rattle.prep_cut.specs.declared.reason.Reason.{Reason}
 use Rattle.prep_cut.specs.declared.reason.Reason.TheVariants as reasons
 
--- what leaves by it is to have its arrival excluded as well
+-- a departure excluded by it must have its arrival excluded as well
 abbrev pub needs_cause : Reason → Bool
 needs_cause reasons.BeforeSince = false
 needs_cause (reasons.Client pair) = true

@@ -1,4 +1,4 @@
--- A capture that comes in pieces, and what is written of it.
+-- A capture that comes in pieces, and the bytes that are written of it.
 use Rattle.std.specs.Prelude.{◌≡◌, ◌≢◌, ℕ, List, [], ◌∷◌, ◌++◌}
 use Rattle.audit_pcapng.specs.declared.packet.Packet.{Packet}
 use Rattle.audit_pcapng.specs.declared.fault.CaptureFault.TheVariants as blocks
@@ -15,14 +15,14 @@ use Rattle.prep_cut.specs.declared.plan.Proposal.{Proposal}
 use Rattle.prep_cut.specs.Marks.{Marked, marked, proposals_behind, written_of}
 use Rattle.prep_cut.specs.Marking.{IsAt, AreTallies, totals_of, RefusesBlock}
 
--- behind this text of a capture, which has these whole blocks, and the blocks of the captures
--- before
+-- after this text of a capture, which has these complete blocks, and after the blocks of the
+-- earlier captures
 pub record IsCutting (cutter : Cutter) (plan : Plan) (proposals : List Proposal) (earlier : List Marked) (text : List ℕ) (current : List Block) : Type 0 where
   pub splits : StandsFor cutter.splitter text current
   pub at : IsAt cutter.marker plan proposals earlier current
 
--- the piece was taken up to the rest, and of the blocks that are whole now was added what is
--- written
+-- the piece was read up to the rest, and the written bytes of the blocks that are complete now were
+-- added
 pub record GoesOn (cutter : Cutter) (plan : Plan) (proposals : List Proposal) (earlier : List Marked) (text : List ℕ) (current : List Block) (piece rest before after : List ℕ) : Type 0 where
   pub taken : List ℕ
   pub more : List Block
@@ -43,13 +43,14 @@ abbrev pub IsRefused : CutFault → List ℕ → List Block → Type 0
 IsRefused (faults.Capture fault) text current = fault ≢ blocks.Memory → (packets : List Packet) × FirstFault text packets fault
 IsRefused faults.SectionLength text current = Misfits faults.SectionLength text current
 
--- the text is a whole capture of these blocks; what it adds to the captures before
+-- the text is a whole capture of these blocks; its counts, and the tallies with those of the
+-- earlier captures
 pub record IsCut (cut : WasCut) (plan : Plan) (proposals : List Proposal) (earlier : List Marked) (text : List ℕ) (current : List Block) : Type 0 where
   pub whole : IsWhole text current
   pub totals : cut.totals ≡ totals_of plan (marked plan proposals current)
   pub tallies : AreTallies plan (earlier ++ marked plan proposals current) cut.tallies
 
--- it ended too early
+-- the text ended too early
 abbrev pub IsUndone : CutFault → List ℕ → List Block → Type 0
 IsUndone (faults.Capture blocks.Torn) text current = text ≢ bytes_of current
 IsUndone (faults.Capture blocks.NoSection) text current = text ≡ []

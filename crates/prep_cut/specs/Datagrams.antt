@@ -1,4 +1,4 @@
--- The datagram of the service in a packet's block, by the definition of what a frame holds.
+-- The datagram of the service in a packet's block, by the definition of a frame's content.
 use Rattle.std.specs.Prelude.{ℕ, Bool, true, false, not, ◌&&◌, ◌||◌, ◌==◌, if◌then◌else◌, List, [], ◌∷◌, length, take, drop, Option, Some, None, nat_lt, nat_le}
 use Rattle.audit_model.specs.declared.address.Addr.{Addr}
 use Rattle.audit_model.specs.declared.policy.Policy.{Policy}
@@ -16,7 +16,7 @@ use Rattle.prep_cut.specs.Identifying.{id_of, transaction_of}
 abbrev pub is_endpoint : Policy → Addr → Bool
 is_endpoint policy addr = listens policy addr || relays policy addr
 
--- a packet's bytes stand behind 28 bytes of its block
+-- a packet's bytes follow 28 bytes of its block
 abbrev pub frame_of : Block → PacketHead → List ℕ
 frame_of block head = take head.captured (drop 28 block.bytes)
 
@@ -31,7 +31,7 @@ carries [] = false
 carries (first ∷ []) = nat_le 64 first && nat_lt first 128
 carries (first ∷ second ∷ rest) = if first == 0 then (second == 22) || (second == 23) else (nat_le 64 first && nat_lt first 128)
 
--- an Allocate success (type 259) that leaves a listen address to a client
+-- an Allocate success response (type 259) that leaves a listen address for a client
 abbrev pub granted_by : Policy → Bool → Addr → Addr → List ℕ → Option Transaction
 granted_by policy arrives from to payload = transaction_of (listens policy from && not arrives) to from (id_of 259 payload)
 
@@ -88,10 +88,10 @@ abbrev pub payload_in : Block → Option PacketHead → List ℕ
 payload_in block None = []
 payload_in block (Some head) = payload_of (datagram_of (frame_of block head) (nat_lt head.captured head.original))
 
--- the payload of the UDP datagram that the block's packet holds
+-- the payload of the UDP datagram in the block's packet
 abbrev pub payload_of_block : Block → List ℕ
 payload_of_block block = payload_in block block.packet
 
--- the datagram that the block's packet holds, where it is one of the service
+-- the datagram in the block's packet, if it is one of the service
 abbrev pub datagram_of_block : Policy → Block → Option Datagram
 datagram_of_block policy block = of_packet policy block block.packet

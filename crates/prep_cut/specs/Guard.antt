@@ -1,4 +1,4 @@
--- Which packets a reason may set aside.
+-- Which packets a reason may exclude.
 use Rattle.std.specs.Prelude.{ℕ, ◌*◌, ◌-◌, min, Bool, true, false, not, ◌&&◌, ◌||◌, ◌==◌, Option, Some, None, nat_lt, nat_le}
 use Rattle.audit_model.specs.declared.address.Addr.{Addr}
 use Rattle.audit_model.specs.declared.pair.Pair.{Pair}
@@ -17,12 +17,12 @@ use Rattle.prep_cut.specs.Sending.{is_sender}
 abbrev pub same : Addr → Addr → Bool
 same a b = (a.ip == b.ip) && (a.port == b.port)
 
--- before the moment that is stated
+-- before the stated moment
 abbrev pub is_early : Option ℕ → ℕ → Bool
 is_early None stamp = false
 is_early (Some since) stamp = nat_lt stamp since
 
--- after the moment that is stated
+-- after the stated moment
 abbrev pub is_late : Option ℕ → ℕ → Bool
 is_late None stamp = false
 is_late (Some until) stamp = nat_lt until stamp
@@ -51,8 +51,8 @@ is_leaving Leaves is_inside = not is_inside
 abbrev pub is_departure : Datagram → Bool
 is_departure datagram = is_leaving datagram.side datagram.is_inside
 
--- If the server started with the captures, there is no client from before. Without clients by TCP,
--- TLS, DTLS or IPv6 there is no address of such a client, and no DTLS.
+-- If the server started with the captures, there is no client from before. Without clients over
+-- TCP, TLS, DTLS or IPv6 there is no address of such a client, and no DTLS.
 abbrev pub is_stated : Stated → Reason → Bool
 is_stated stated reasons.BeforeSince = true
 is_stated stated (reasons.Client pair) = not stated.is_from_start
@@ -82,7 +82,7 @@ is_named (reasons.Inside from to) datagram = datagram.is_inside && (same datagra
 is_named reasons.Edge datagram = is_departure datagram
 is_named reasons.AfterUntil datagram = true
 
--- behind a release, by so many milliseconds at the most as are stated
+-- after a deletion, by at most the stated number of milliseconds
 abbrev pub is_behind : Stated → ℕ → ℕ → Bool
 is_behind stated moment stamp = nat_lt moment stamp && nat_le (stamp - moment) (min (stated.released_ms * 1000000) 18446744073709551615)
 
@@ -94,7 +94,7 @@ abbrev pub end_on : Side → Addr → Addr → Addr
 end_on Arrives from to = to
 end_on Leaves from to = from
 
--- the end of the service
+-- the end in the service
 abbrev pub own_end : Datagram → Addr
 own_end datagram = end_on datagram.side datagram.from datagram.to
 
@@ -102,7 +102,7 @@ own_end datagram = end_on datagram.side datagram.from datagram.to
 abbrev pub far_end : Datagram → Addr
 far_end datagram = end_on datagram.side datagram.to datagram.from
 
--- no client has a lease of the address at which it is
+-- no client has a lease of its address
 abbrev pub is_apart : Allocations → Datagram → Bool
 is_apart allocations datagram = not (is_leased allocations (own_end datagram) datagram.stamp)
 
@@ -110,9 +110,10 @@ is_apart allocations datagram = not (is_leased allocations (own_end datagram) da
 abbrev pub is_free : Allocations → Datagram → Bool
 is_free allocations datagram = not (is_tenant allocations (far_end datagram) (own_end datagram) datagram.stamp)
 
--- No line but `inside` excludes something at an address of which the captures show a lease. No line
--- excludes something of a client since its grant, but `inner` and `released` its data. The release
--- that a reason names is noted, a departure is in its time, and the address was the client's.
+-- Only `inside` excludes something at an address of which the captures show a lease. After a
+-- client's grant, only `inner` and `released` exclude something of it, and only data. For
+-- `released`, the deletion that the reason names is recorded, a departure is in time, and the
+-- address was the client's.
 abbrev pub is_due : Stated → Allocations → Reason → Datagram → Bool
 is_due stated allocations (reasons.Released pair relayed moment) datagram =
     is_released allocations (record { client = pair.client; listen = pair.listen; moment = moment })
@@ -141,9 +142,9 @@ may_leave_datagram stated allocations reason None = false
 may_leave_datagram stated allocations reason (Some datagram) =
     is_stated stated reason && (is_due stated allocations reason datagram && ((is_named reason datagram && is_heard allocations reason) && not (is_shown allocations datagram)))
 
--- The reason may exclude a packet of this stamp, which contains this datagram or none. Outside of
--- the stated moments it excludes no Allocate that the captures show with its success, and nothing
--- for a client that sends nothing in all of the captures.
+-- The reason may exclude a packet of this stamp, which contains this datagram or none. Except by
+-- the stated moments, it excludes no Allocate that the captures show with its success response, and
+-- nothing for a client that sends nothing in all of the captures.
 abbrev pub may_leave_packet : Stated → Allocations → Reason → ℕ → Option Datagram → Bool
 may_leave_packet stated allocations reasons.BeforeSince stamp datagram = is_early stated.since stamp
 may_leave_packet stated allocations reasons.AfterUntil stamp datagram = is_late stated.until stamp

@@ -13,7 +13,7 @@ use Rattle.prep_cut.specs.Sending.{IsSentIn}
 abbrev pub IsHeard : Plan → List Block → Pair → Type 0
 IsHeard plan captured pair = IsSentIn plan.policy pair.client pair.listen captured
 
--- so for the client that a line names, if it names one
+-- the same for the client that a line names, if it names one
 abbrev pub IsOfHeard : Plan → List Block → Reason → Type 0
 IsOfHeard plan captured (reasons.Client pair) = IsHeard plan captured pair
 IsOfHeard plan captured (reasons.Answer pair) = IsHeard plan captured pair
@@ -23,7 +23,7 @@ IsOfHeard plan captured (reasons.Inner pair peer) = IsHeard plan captured pair
 IsOfHeard plan captured other = ⊤
 
 -- A datagram that a line may exclude is of the client or the address that the line names, that
--- client sends something, and what the operator states allows the line.
+-- client sends something, and the operator's statements allow the line.
 pub record IsOfSender (plan : Plan) (captured : List Block) (reason : Reason) (datagram : Datagram) : Type 0 where
   pub stated : is_stated plan.stated reason ≡ true
   pub named : is_named reason datagram ≡ true

@@ -1,4 +1,4 @@
--- Leases by what is noted: granted, renewed, ended.
+-- Leases by the recorded events: granted, refreshed, deleted.
 use Rattle.std.specs.Prelude.{ℕ, ◌-◌, ◌*◌, Bool, true, false, not, ◌&&◌, ◌||◌, ◌==◌, nat_le}
 use Rattle.std.specs.BTreeSet.{contains}
 use Rattle.std.specs.List.{list_any}
@@ -33,11 +33,11 @@ grants_this relayed (acts.Grants granted tid) = equals granted relayed
 grants_this relayed acts.Renews = false
 grants_this relayed acts.Ends = false
 
--- within the time that the success response states
+-- within the lifetime of the success response
 abbrev pub is_within : ℕ → Event → Bool
 is_within stamp event = nat_le event.moment stamp && nat_le (stamp - event.moment) (event.said.seconds * 1000000000)
 
--- since the grant, and up to a moment
+-- after the grant, and up to a moment
 abbrev pub is_since : Event → ℕ → Event → Bool
 is_since grant stamp event = is_of_client grant event && (nat_le grant.moment event.moment && nat_le event.moment stamp)
 
@@ -52,14 +52,14 @@ is_asked_by allocations event (acts.Grants relayed tid) = contains transaction_c
 is_asked_by allocations event acts.Renews = false
 is_asked_by allocations event acts.Ends = false
 
--- a grant up to a moment, whose request is noted
+-- a grant up to a moment, whose request is recorded
 abbrev pub has_begun : Allocations → ℕ → Event → Bool
 has_begun allocations stamp event = is_asked_by allocations event event.said.act && nat_le event.moment stamp
 
 abbrev pub is_renewed : Allocations → ℕ → Event → Bool
 is_renewed allocations stamp grant = list_any (renews grant stamp) (events_at allocations.leases.clients grant.client grant.listen)
 
--- the grant's own time lasts, or that of a renewal
+-- the grant's own lifetime has not expired, or that of a refresh
 abbrev pub lasts : Allocations → ℕ → Event → Bool
 lasts allocations stamp grant = is_within stamp grant || is_renewed allocations stamp grant
 

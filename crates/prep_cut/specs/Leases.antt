@@ -1,4 +1,4 @@
--- Success responses that grant an allocation, renew or end it, as blocks show them.
+-- Success responses that grant, refresh or delete an allocation, as blocks show them.
 use Rattle.std.specs.Prelude.{◌≡◌, ◌⊎◌, ◌==◌, if◌then◌else◌, ℕ, true, List, [], ◌∷◌, Option, Some, None}
 use Rattle.std.specs.Int.{w32, from_be_bytes}
 use Rattle.audit_model.specs.declared.address.Addr.{Addr}
@@ -31,7 +31,7 @@ abbrev pub relayed_of : Option (List ℕ) → Option Addr
 relayed_of None = None
 relayed_of (Some value) = address_of value
 
--- a Refresh with LIFETIME 0 ends the allocation, another one renews it
+-- a Refresh with LIFETIME 0 deletes the allocation, another one refreshes it
 abbrev pub renewal_of : ℕ → Said
 renewal_of seconds = record { act = if seconds == 0 then acts.Ends else acts.Renews; seconds = seconds }
 
@@ -49,7 +49,7 @@ abbrev pub said_by_class : Parts → Class → Option Said
 said_by_class parts classes.Success = said_for parts (seconds_of (first_of LIFETIME parts.attributes))
 said_by_class parts _ = None
 
--- what a success response says
+-- the contents of a success response
 abbrev pub said_of : Parts → Option Said
 said_of parts = said_by_class parts parts.class
 

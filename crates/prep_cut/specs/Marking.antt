@@ -1,4 +1,4 @@
--- What is known behind the blocks of a capture.
+-- The counts after the blocks of a capture.
 use Rattle.std.specs.Prelude.{◌≡◌, ◌<◌, ◌≤◌, ℕ, ◌^◌, ◌-◌, List, ◌++◌, length, get_or, fold, filter, Option, Some, None}
 use Rattle.std.specs.Int.{w64}
 use Rattle.audit_pcapng.specs.declared.block_kind.BlockKind.TheVariants as kinds
@@ -24,12 +24,12 @@ use Rattle.prep_cut.specs.Tallied.{no_tally, no_totals, tallied_at, tallied_bloc
 abbrev pub tally_more : Plan → Tally → Marked → Tally
 tally_more plan tally one = tallied_block tally one.block.packet (datagram_of_block plan.policy one.block)
 
--- of the packets that are left out by a line
+-- of the packets that a line excludes
 abbrev pub tally_at : Plan → ℕ → List Marked → Tally
 tally_at plan line blocks = fold (tally_more plan) no_tally (filter (is_of_line line) blocks)
 
--- Each line's tally is that of the packets that it excludes, and what was found under each number
--- is of them. Each group has its packets, and the departures that need an arrival or a carrier are
+-- Each line's tally is that of the packets that it excludes, and the records under each number are
+-- of them. Each group has its packets, and the departures that need an arrival or a carrier are
 -- counted.
 pub record AreTallies (plan : Plan) (blocks : List Marked) (tallies : Tallies) : Type 0 where
   pub len : length tallies.lines.items ≡ length plan.lines
@@ -38,23 +38,23 @@ pub record AreTallies (plan : Plan) (blocks : List Marked) (tallies : Tallies) :
   pub groups : (number : ℕ) → number < length tallies.groups.groups.items → get_or tallies.groups.groups.items number no_group ≡ group_at plan number blocks
   pub owing : tallies.owing ≡ owing_of plan blocks
 
--- the departures that packets which aren't read may have carried
+-- the departures that unread packets may have carried
 abbrev pub carried_of : Tallies → ℕ
 carried_of tallies = carried_with 0 tallies.causes.reach tallies.groups.groups.items
 
 abbrev pub totals_more : Plan → Totals → Marked → Totals
 totals_more plan totals one = totals_with totals (is_written one) one.block.packet (datagram_of_block plan.policy one.block)
 
--- the packets of a capture that are written and that are left out
+-- the numbers of written and of excluded packets of a capture
 abbrev pub totals_of : Plan → List Marked → Totals
 totals_of plan blocks = fold (totals_more plan) no_totals blocks
 
--- a line's tally, with a block that is left out by a line or by none
+-- a line's tally, with a block that is excluded by a line or by none
 abbrev pub tallied_with : Option ℕ → Option PacketHead → Option Datagram → ℕ → Tally → Tally
 tallied_with None packet datagram other tally = tally
 tallied_with (Some line) packet datagram other tally = tallied_at line packet datagram other tally
 
--- behind these blocks of a capture, and the blocks of the captures before
+-- after these blocks of a capture, and the blocks of the earlier captures
 pub record IsAt (marker : Marker) (plan : Plan) (proposals : List Proposal) (earlier : List Marked) (current : List Block) : Type 0 where
   pub plan_is : marker.plan.now ≡ plan
   pub rest : marker.proposals.now ≡ proposals_behind proposals current

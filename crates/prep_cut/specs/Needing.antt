@@ -1,5 +1,5 @@
--- Which lines of a plan exclude a departure only together with its arrival, and how far that is
--- away.
+-- Which lines of a plan exclude a departure only together with its arrival, and how far apart the
+-- two may be.
 use Rattle.std.specs.Prelude.{ℕ, Bool, false, Option, Some, None, slice_get}
 use Rattle.audit_model.specs.declared.policy.Policy.{Policy}
 use Rattle.prep_causes.specs.declared.half.Reach.{Reach}

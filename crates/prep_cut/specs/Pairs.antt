@@ -25,13 +25,13 @@ IsExcluded plan None side = ⊥
 IsExcluded plan (Some line) Arrives = ⊤
 IsExcluded plan (Some line) Leaves = needs_cause_at plan line ≡ true
 
--- what a datagram carries, and when it was captured
+-- the content of a datagram, and its stamp
 pub record IsOfDatagram (policy : Policy) (payload : List ℕ) (datagram : Datagram) (half : Half) : Type 0 where
   pub stamp : half.stamp ≡ datagram.stamp
   pub side : half.side ≡ datagram.side
   pub carried : IsCarried policy (relays policy (own_end datagram)) (far_end datagram) payload half.carried
 
--- the block's datagram is excluded, and carries this
+-- the block's datagram is excluded, and has this content
 pub record IsHalfOf (plan : Plan) (one : Marked) (half : Half) : Type 0 where
   pub datagram : Datagram
   pub held : datagram_of_block plan.policy one.block ≡ Some datagram
@@ -59,12 +59,12 @@ Holds plan blocks number Empty = ⊤
 Holds plan blocks number (One half) = IsNumbered plan blocks number half
 Holds plan blocks number Pair = IsPaired plan blocks number
 
--- what was found under each number is of these blocks
+-- the records under each number are of these blocks
 pub record AreCauses (plan : Plan) (blocks : List Marked) (causes : Causes) : Type 0 where
   pub reach : causes.reach ≡ reach_of plan.policy
   pub slots : (number : ℕ) → Holds plan blocks number (get_or causes.slots.items number Empty)
 
--- the block is noted under its number
+-- the block is recorded under its number
 pub record IsNoted (plan : Plan) (one : Marked) (old new : Causes) : Type 0 where
   pub number : ℕ
   pub half : Half
@@ -80,8 +80,8 @@ abbrev pub Ascend : ℕ → List ℕ → Type 0
 Ascend least [] = ⊤
 Ascend least (first ∷ others) = (least ≤ first) × Ascend (suc first) others
 
--- Under so many different numbers there is a departure with its arrival. No block has two numbers,
--- so each departure has an arrival of its own.
+-- This number of different numbers have a departure with its arrival. No block has two numbers, so
+-- each departure has its own arrival.
 pub record ArePaired (plan : Plan) (blocks : List Marked) (count : ℕ) : Type 0 where
   pub numbers : List ℕ
   pub different : Ascend 0 numbers

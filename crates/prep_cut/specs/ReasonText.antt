@@ -10,7 +10,7 @@ use Rattle.prep_cut.specs.declared.reason.Reason.TheVariants as reasons
 use Rattle.prep_cut.specs.declared.reason.ReasonKind.{ReasonKind}
 use Rattle.prep_cut.specs.declared.reason.ReasonKind.TheVariants as kinds
 
--- what a reason says, whomever it names
+-- the kind of a reason, without its names
 abbrev pub kind_of : Reason → ReasonKind
 kind_of reasons.BeforeSince = kinds.BeforeSince
 kind_of (reasons.Client pair) = kinds.Client
@@ -25,7 +25,7 @@ kind_of (reasons.Inside from to) = kinds.Inside
 kind_of reasons.Edge = kinds.Edge
 kind_of reasons.AfterUntil = kinds.AfterUntil
 
--- the word that its line begins with
+-- the first word of its line
 abbrev pub kind_text : ReasonKind → List ℕ
 kind_text kinds.BeforeSince = codes "before-since"
 kind_text kinds.Client = codes "client"
@@ -57,7 +57,7 @@ far_text (ends.Ipv6 ip port) = codes "ipv6 [" ++ (half_at ip 0 ++ (codes ":" ++ 
 abbrev pub of_pair : List ℕ → Pair → List ℕ
 of_pair word pair = word ++ (codes " " ++ (addr_text pair.client ++ (codes " " ++ addr_text pair.listen)))
 
--- what a line of the list begins with
+-- the start of a line of the list
 abbrev pub reason_text : Reason → List ℕ
 reason_text reasons.BeforeSince = codes "before-since"
 reason_text (reasons.Client pair) = of_pair (codes "client") pair

@@ -1,4 +1,4 @@
--- Refresh successes with LIFETIME 0, by which clients let go of their allocations.
+-- Refresh success responses with LIFETIME 0, by which clients delete their allocations.
 use Rattle.std.specs.Prelude.{◌≡◌, ◌⊎◌, ℕ, Bool, true, List, [], ◌∷◌, Option, Some, None, nat_lt}
 use Rattle.std.specs.declared.cmp.Ordering.{Ordering}
 use Rattle.std.specs.BTreeSet.{contains}
@@ -20,7 +20,7 @@ use Rattle.prep_cut.specs.declared.allocations.Allocations.{Allocations}
 use Rattle.prep_cut.specs.declared.release.Release.{Release}
 use Rattle.prep_cut.specs.Datagrams.{frame_of}
 
--- the payload is a Refresh success with LIFETIME 0
+-- the payload is a Refresh success response with LIFETIME 0
 pub record EndsAllocation (payload : List ℕ) : Type 0 where
   pub message : IsMessage payload (parts_of payload)
   pub success : (parts_of payload).class ≡ Success
@@ -43,19 +43,19 @@ IsReleaseOf policy block (Some head) release = IsRelease policy head.stamp (data
 abbrev pub IsReleaseIn : Policy → Release → Block → Type 0
 IsReleaseIn policy release block = IsReleaseOf policy block block.packet release
 
--- the order of releases
+-- the order of deletions
 abbrev pub release_cmp : Release → Release → Ordering
 release_cmp a b = ordering_then (addr_cmp a.client b.client) (ordering_then (addr_cmp a.listen b.listen) (nat_cmp a.moment b.moment))
 
--- the release is noted
+-- the deletion is recorded
 abbrev pub is_released : Allocations → Release → Bool
 is_released allocations release = contains release_cmp allocations.released release
 
--- one of these blocks shows the release
+-- one of these blocks shows the deletion
 abbrev pub IsShownBy : Policy → Release → List Block → Type 0
 IsShownBy policy release [] = ⊥
 IsShownBy policy release (first ∷ others) = IsReleaseIn policy release first ⊎ IsShownBy policy release others
 
--- each release that is noted is shown by one of these blocks
+-- each recorded deletion is shown by one of these blocks
 abbrev pub AreReleased : Policy → Allocations → List Block → Type 0
 AreReleased policy allocations blocks = (release : Release) → is_released allocations release ≡ true → IsShownBy policy release blocks

@@ -19,7 +19,7 @@ Sends client listen (Some datagram) = (datagram.side ≡ Arrives) × (datagram.f
 abbrev pub SendsIn : Policy → Addr → Addr → Block → Type 0
 SendsIn policy client listen block = Sends client listen (datagram_of_block policy block)
 
--- the client is noted as one that sends something to this listen address
+-- the client is recorded as a sender to this listen address
 abbrev pub is_sender : Allocations → Addr → Addr → Bool
 is_sender allocations client listen = contains pair_cmp allocations.senders (client, listen)
 
@@ -28,6 +28,6 @@ abbrev pub IsSentIn : Policy → Addr → Addr → List Block → Type 0
 IsSentIn policy client listen [] = ⊥
 IsSentIn policy client listen (first ∷ others) = SendsIn policy client listen first ⊎ IsSentIn policy client listen others
 
--- each client that is noted sends something in one of these blocks
+-- each recorded client sends something in one of these blocks
 abbrev pub AreSenders : Policy → Allocations → List Block → Type 0
 AreSenders policy allocations blocks = (client listen : Addr) → is_sender allocations client listen ≡ true → IsSentIn policy client listen blocks

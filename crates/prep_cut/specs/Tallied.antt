@@ -1,4 +1,4 @@
--- What a line of the list says of the packets that it sets aside.
+-- The counts of a line of the list.
 use Rattle.std.specs.Prelude.{◌≡◌, nat_lt, ◌||◌, ℕ, ◌+◌, min, max, ◌==◌, if◌then◌else◌, List, length, get_or, Bool, true, false, Option, Some, None}
 use Rattle.audit_model.specs.declared.sighting.Side.{Side}
 use Rattle.audit_model.specs.declared.sighting.Side.TheVariants.{Arrives, Leaves}
@@ -8,7 +8,7 @@ use Rattle.prep_cut.specs.declared.tally.Count.{Count}
 use Rattle.prep_cut.specs.declared.tally.Tally.{Tally}
 use Rattle.prep_cut.specs.declared.tally.Totals.{Totals}
 
--- up to what 64 bits hold
+-- saturated at 64 bits
 abbrev pub capped : ℕ → ℕ
 capped n = min n 18446744073709551615
 
@@ -35,21 +35,21 @@ tallied_on Leaves tally datagram = record { arrived = tally.arrived; left = coun
 abbrev pub tallied : Tally → Datagram → Tally
 tallied tally datagram = tallied_on datagram.side tally datagram
 
--- with a packet that is no datagram of the service
+-- with one more packet that isn't a datagram of the service
 abbrev pub tallied_other : Tally → ℕ → Tally
 tallied_other tally stamp = record { arrived = tally.arrived; left = tally.left; others = capped (tally.others + 1); first = min tally.first stamp; last = max tally.last stamp }
 
--- with a block more: its datagram, or else its packet
+-- with one more block: its datagram, or else its packet
 abbrev pub tallied_block : Tally → Option PacketHead → Option Datagram → Tally
 tallied_block tally packet (Some datagram) = tallied tally datagram
 tallied_block tally (Some head) None = tallied_other tally head.stamp
 tallied_block tally None None = tally
 
--- a line's tally, where the block is of this line
+-- a line's tally, with the block if it is of this line
 abbrev pub tallied_at : ℕ → Option PacketHead → Option Datagram → ℕ → Tally → Tally
 tallied_at line packet datagram other tally = if other == line then tallied_block tally packet datagram else tally
 
--- so many lines without a datagram
+-- this number of lines without a datagram
 pub record AreNone (lines : List Tally) (count : ℕ) : Type 0 where
   pub len : length lines ≡ count
   pub none : (line : ℕ) → get_or lines line no_tally ≡ no_tally
@@ -66,7 +66,7 @@ abbrev pub with_packet : Totals → Bool → Option Datagram → Totals
 with_packet totals true datagram = record { written = capped (totals.written + 1); left = totals.left; datagrams = capped (totals.datagrams + lone datagram) }
 with_packet totals false datagram = record { written = totals.written; left = capped (totals.left + 1); datagrams = totals.datagrams }
 
--- with a block more, which is written or not, and has a packet or none
+-- with one more block, which is written or not, and has a packet or none
 abbrev pub totals_with : Totals → Bool → Option PacketHead → Option Datagram → Totals
 totals_with totals written None datagram = totals
 totals_with totals written (Some head) datagram = with_packet totals written datagram

@@ -1,5 +1,5 @@
--- What isn't read: packets that may carry the data of clients by TCP, TLS, DTLS or IPv6, and the
--- departures that are excluded since such a packet may have carried their data.
+-- Unread packets that may carry the data of clients over TCP, TLS, DTLS or IPv6, and the departures
+-- excluded because such a packet may have carried their data.
 use Rattle.std.specs.Prelude.{◌≡◌, ◌<◌, ℕ, ◌+◌, ◌-◌, Bool, true, false, not, ◌&&◌, ◌||◌, ◌==◌, nat_le, nat_lt, if◌then◌else◌, List, [], ◌∷◌, length, get_or, fold, slice_index, slice_get, Option, Some, None}
 use Rattle.audit_model.specs.declared.policy.Policy.{Policy}
 use Rattle.audit_model.specs.declared.sighting.Side.{Side}
@@ -40,7 +40,7 @@ abbrev pub is_handshake : List ℕ → Bool
 is_handshake [] = false
 is_handshake (first ∷ rest) = nat_le 20 first && nat_le first 22
 
--- data that leaves by these lines has come in packets that aren't read
+-- the data of departures excluded by these lines came in unread packets
 abbrev pub is_unread : Reason → List ℕ → Bool
 is_unread (reasons.AddressTold relayed tenure client) payload = true
 is_unread (reasons.Address relayed tenure) payload = true
@@ -60,8 +60,8 @@ owes_datagram plan None block datagram = false
 owes_datagram plan (Some line) block None = false
 owes_datagram plan (Some line) block (Some datagram) = owes_on plan line (payload_of_block block) datagram.side
 
--- a departure that is excluded by a line by which it needs an arrival, or a packet that may have
--- carried its data
+-- a departure excluded by a line by which it needs an arrival, or a packet that may have carried
+-- its data
 abbrev pub owes : Plan → Marked → Bool
 owes plan one = owes_datagram plan one.line one.block (datagram_of_block plan.policy one.block)
 
@@ -71,12 +71,12 @@ owing_with does_owe count = if does_owe then capped (count + 1) else count
 abbrev pub owing_more : Plan → ℕ → Marked → ℕ
 owing_more plan count one = owing_with (owes plan one) count
 
--- how many such departures there are
+-- the number of such departures
 abbrev pub owing_of : Plan → List Marked → ℕ
 owing_of plan blocks = fold (owing_more plan) 0 blocks
 
--- The proposal knows sizes in steps of 8 bytes. What leaves by DTLS has the header of a Data
--- indication and what DTLS adds as well.
+-- The proposal has sizes in steps of 8 bytes. A departure over DTLS also has the header of a Data
+-- indication and the overhead of DTLS.
 abbrev pub added_by : Option Reason → ℕ
 added_by (Some (reasons.Dtls pair)) = 104
 added_by other = 7
@@ -93,8 +93,8 @@ unread_by plan line block (Some head) None = if is_carrier plan.policy (frame_of
 unread_by plan None block (Some head) (Some datagram) = None
 unread_by plan (Some line) block (Some head) (Some datagram) = by_side plan line block datagram datagram.side
 
--- What a block is in its group: a carrier if it is an arrival that is excluded, or a packet that is
--- no datagram of the service; and a departure if it needs one.
+-- The entry of a block in its group: a carrier, if it is an excluded arrival or a packet that isn't
+-- a datagram of the service; a departure, if it needs a carrier.
 abbrev pub unread_of : Plan → Marked → Option Unread
 unread_of plan one = unread_by plan one.line one.block one.block.packet (datagram_of_block plan.policy one.block)
 
@@ -115,7 +115,7 @@ group_more plan number group one = group_by (group_of plan one.cause) (unread_of
 abbrev pub group_at : Plan → ℕ → List Marked → Group
 group_at plan number blocks = fold (group_more plan number) no_group blocks
 
--- This count of departures is in groups whose carriers can have carried all that leaves.
+-- This number of departures is in groups whose carriers can have carried all departures.
 pub record AreCarried (plan : Plan) (blocks : List Marked) (count : ℕ) : Type 0 where
   pub groups : List Group
   pub group_is : (number : ℕ) → number < length groups → get_or groups number no_group ≡ group_at plan number blocks

@@ -1,5 +1,4 @@
-//! Which Allocate requests and successes captures show, which releases of allocations, and who
-//! sends anything.
+//! Which Allocate requests and success responses, deletions and senders captures show.
 
 ghost use Rattle.std.specs.Prelude.{◌≡◌, ◌⊎◌, ◌≤◌, [], Contains, true, false, Some, OnOk};
 ghost use Rattle.prep_cut.specs.declared.datagram.Datagram.{Datagram as AnyDatagram};
@@ -23,21 +22,21 @@ use prep_blocks::Block;
 use std::alloc::{AllocError, Global};
 use std::collections::BTreeSet;
 
-/// The Allocate requests and successes of captures, the releases, and the senders.
+/// The Allocate requests and success responses of captures, the deletions, and the senders.
 #[derive(Debug, Drop)]
 pub struct Allocations {
     pub(crate) asked: BTreeSet<Transaction>,
     granted: BTreeSet<Transaction>,
     released: BTreeSet<Release>,
-    /// Who sends a datagram to the service, and where to.
+    /// Pairs of a client that sends a datagram and the address of the service that gets it.
     senders: BTreeSet<(Addr, Addr)>,
     pub(crate) leases: Leases,
-    /// The least moment of a packet; of no packet the greatest u64.
+    /// The least moment of a packet; the greatest u64 if there is no packet.
     pub(crate) first: u64,
 }
 
 impl Allocations {
-    /// Of no capture. It takes no memory.
+    /// No captures. It takes no memory.
     pub fn new(alloc: Global) -> Self
         ensures released { (release : AnyRelease) → is_released result release ≡ false }
         ensures senders { (client listen : AnyAddr) → is_sender result client listen ≡ false }
@@ -53,8 +52,8 @@ impl Allocations {
         }
     }
 
-    /// Notes what the datagram of a block asks or grants, the release that it is, and its sender.
-    /// The cost is the logarithm of how many are noted.
+    /// Records the Allocate, the deletion and the sender of a block's datagram. The cost is the
+    /// logarithm of the number of records.
     pub fn note(&mut self, policy: &Policy, block: &Block) -> Result<(), AllocError>
         ensures noted { OnOk result (is_noted_in policy.now self.new block.now ≡ true) }
         ensures kept { OnOk result ((other : AnyDatagram) → is_noted self.old other ≡ true → is_noted self.new other ≡ true) }
@@ -140,8 +139,8 @@ impl Allocations {
         Ok(())
     }
 
-    /// Whether a datagram is an Allocate success whose request is noted, or an Allocate request
-    /// whose success is. The cost is the logarithm of how many are noted.
+    /// Whether a datagram is an Allocate success response whose request is recorded, or an Allocate
+    /// request whose success response is. The cost is the logarithm of the number of records.
     pub fn shows(&self, datagram: &Datagram) -> bool
         ensures { result ≡ is_shown self.now datagram.now }
     {
@@ -152,15 +151,15 @@ impl Allocations {
         }
     }
 
-    /// Whether the client sends something to its listen address. The cost is the logarithm of how
-    /// many do.
+    /// Whether the client sends something to its listen address. The cost is the logarithm of the
+    /// number of senders.
     pub fn has_sender(&self, pair: &Pair) -> bool
         ensures { result ≡ is_sender self.now pair.now.client pair.now.listen }
     {
         self.senders.contains(&(pair.client, pair.listen))
     }
 
-    /// Whether a release is noted. The cost is the logarithm of how many are.
+    /// Whether a deletion is recorded. The cost is the logarithm of their number.
     pub fn has_release(&self, release: &Release) -> bool
         ensures { result ≡ is_released self.now release.now }
     {

@@ -1,4 +1,4 @@
-//! Writing a capture without what is set aside.
+//! Writes a capture without the excluded packets.
 
 ghost use Rattle.std.specs.Prelude.{◌≡◌, ◌∷◌, ◌++◌, [], ℕ, List, Option, OnOk, IfOk, IfErr};
 ghost use Rattle.prep_blocks.specs.declared.block.Block.{Block};
@@ -15,8 +15,8 @@ use crate::tally::{Tallies, Totals};
 use prep_blocks::BlockSplitter;
 use std::alloc::Global;
 
-/// Cuts a capture that comes in pieces. It keeps the one block that is not yet whole. After a fault
-/// it is thrown away.
+/// Cuts a capture that comes in pieces. It keeps the one block that is not yet complete. After a
+/// fault it can't be used any more.
 #[derive(Drop)]
 pub struct Cutter<'p> {
     splitter: BlockSplitter,
@@ -32,8 +32,8 @@ pub struct WasCut {
 }
 
 impl<'p> Cutter<'p> {
-    /// A cutter of no bytes, with the tallies of the captures before. What is proposed for each
-    /// packet is a line of the plan or none.
+    /// A cutter before the first byte, with the tallies of the earlier captures. The proposal for
+    /// each packet is a line of the plan or none.
     pub fn new(alloc: Global, plan: &'p Plan, proposals: &'p [Proposal], tallies: Tallies) -> Self
         ensures { (earlier : List Marked) → AreTallies plan.now earlier tallies →
             IsCutting result plan.now proposals.now earlier [] [] }
@@ -44,8 +44,8 @@ impl<'p> Cutter<'p> {
         }
     }
 
-    /// Takes the next piece of the capture, and adds the blocks that are whole now and are not left
-    /// out. C1 to C13 refuse it, and a section that states its length.
+    /// Feeds the next piece of the capture, and adds the blocks that are complete now and not
+    /// excluded. C1 to C13 refuse it, and a section that states its length.
     pub fn feed(&mut self, piece: &[u8], out: &mut Vec<u8>) -> Result<(), CutFault>
         ensures ok { (plan : Plan) (proposals : List Proposal) (earlier : List Marked) (text : List ℕ) (current : List Block) →
             IsCutting self.old plan proposals earlier text current →
@@ -66,7 +66,7 @@ impl<'p> Cutter<'p> {
         Ok(())
     }
 
-    /// Ends the capture.
+    /// Ends the capture, and returns its counts.
     pub fn finish(self) -> Result<WasCut, CutFault>
         ensures ok { (plan : Plan) (proposals : List Proposal) (earlier : List Marked) (text : List ℕ) (current : List Block) →
             IsCutting self.entry plan proposals earlier text current → IfOk result (λ cut. IsCut cut plan proposals earlier text current) }

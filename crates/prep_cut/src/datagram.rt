@@ -18,23 +18,24 @@ pub struct Datagram {
     pub stamp: u64,
     pub from: Addr,
     pub to: Addr,
-    /// One that leaves an end of the service leaves, wherever it goes.
+    /// A datagram from an end of the service leaves, wherever it goes.
     pub side: Side,
     /// Whether both ends are of the service.
     pub is_inside: bool,
-    /// Whether its payload begins as DTLS does: 20 to 63 (RFC 7983).
+    /// Whether its payload begins like DTLS: 20 to 63 (RFC 7983).
     pub is_dtls: bool,
-    /// Whether its payload begins as data between a client and the server does: ChannelData, or a
-    /// Send or Data indication.
+    /// Whether its payload begins like data between a client and the server: ChannelData, or a Send
+    /// or Data indication.
     pub is_data: bool,
-    /// How many bytes its payload has.
+    /// The size of its payload in bytes.
     pub size: usize,
-    /// Of an Allocate request that arrives at a listen address from a client, and of a success that
-    /// leaves one.
+    /// The transaction of an Allocate request from a client to a listen address, or of an Allocate
+    /// success response from a listen address.
     pub allocate: Option<Transaction>,
 }
 
-/// The types of an Allocate request and of its success (RFC 8489, section 5; RFC 8656, section 17).
+/// The types of an Allocate request and of its success response (RFC 8489, section 5; RFC 8656,
+/// section 17).
 const ALLOCATE_REQUEST: u16 = 0x0003;
 
 const ALLOCATE_SUCCESS: u16 = 0x0103;
@@ -42,7 +43,7 @@ const ALLOCATE_SUCCESS: u16 = 0x0103;
 /// Where a packet's bytes begin in its block.
 const FRAME: usize = 28;
 
-/// The packet's bytes: as many as were captured, as far as the block has them.
+/// The packet's bytes: as many as were captured, as far as the block contains them.
 #[tactic(auto, using(std::proofs::lemmas::List::take_all, std::proofs::lemmas::List::drop_all))]
 pub fn frame_in<'a>(block: &'a Block, head: PacketHead) -> &'a [u8]
     ensures { result.now ≡ frame_of block.now head }
@@ -60,7 +61,7 @@ pub fn frame_in<'a>(block: &'a Block, head: PacketHead) -> &'a [u8]
     frame
 }
 
-/// What a block's packet is.
+/// Parses a block's packet.
 fn seen_in(block: &Block, head: PacketHead) -> Seen<'_>
     ensures { view result ≡ datagram_of (frame_of block.now head) (nat_lt head.captured head.original) }
 {
@@ -73,7 +74,7 @@ fn seen_in(block: &Block, head: PacketHead) -> Seen<'_>
     })
 }
 
-/// The datagram of the service that the block's packet holds.
+/// The datagram of the service in the block's packet.
 pub fn datagram_in(policy: &Policy, block: &Block) -> Option<Datagram>
     ensures { result ≡ datagram_of_block policy.now block.now }
 {
@@ -81,7 +82,7 @@ pub fn datagram_in(policy: &Policy, block: &Block) -> Option<Datagram>
     in_seen(policy, head.stamp, seen_in(block, head))
 }
 
-/// The payload of the UDP datagram that the block's packet holds; no bytes if it holds none.
+/// The payload of the UDP datagram in the block's packet; no bytes if there is none.
 pub(crate) fn payload_in(block: &Block) -> &[u8]
     ensures { result.now ≡ payload_of_block block.now }
 {
@@ -144,7 +145,7 @@ fn in_ends(policy: &Policy, stamp: u64, from: Addr, to: Addr, payload: &[u8]) ->
     })
 }
 
-/// Whether a payload begins as DTLS does (RFC 7983).
+/// Whether a payload begins like DTLS (RFC 7983).
 fn is_dtls(payload: &[u8]) -> bool
     ensures { result ≡ is_secured payload.now }
 {
@@ -154,7 +155,7 @@ fn is_dtls(payload: &[u8]) -> bool
     }
 }
 
-/// Whether a payload begins as ChannelData does, with a number whose two highest bits are 01 (RFC
+/// Whether a payload begins like ChannelData, with a number whose two highest bits are 01 (RFC
 /// 8656, section 12.4), or with the type of a Send or a Data indication, 0x0016 or 0x0017 (section
 /// 17).
 fn is_data(payload: &[u8]) -> bool

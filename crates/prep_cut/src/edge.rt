@@ -1,4 +1,4 @@
-//! Where captures begin: the cause of what leaves there may be from before them.
+//! The start of captures: the arrival of an early departure may be from before them.
 
 ghost use Rattle.std.specs.Prelude.{◌≡◌};
 ghost use Rattle.prep_cut.specs.Edges.{edge_of, slack};
@@ -19,8 +19,7 @@ pub fn slack_of(policy: &Policy) -> u64
     most.saturating_mul(2)
 }
 
-/// The last moment at which something leaves whose cause may have arrived before the captures
-/// begin.
+/// The last moment of departures whose arrival may be from before the captures.
 pub fn last_at_edge(policy: &Policy, stated: &Stated, allocations: &Allocations) -> u64
     ensures { result ≡ edge_of policy.now stated.now allocations.now }
 {

@@ -10,7 +10,7 @@ use audit_model::Addr;
 use std::alloc::{AllocError, Global};
 use std::collections::BTreeMap;
 
-/// Events, each of which is noted for two addresses.
+/// Events, each of which is recorded for two addresses.
 #[derive(Debug, Drop)]
 pub struct Events {
     by_ends: BTreeMap<(Addr, Addr), Vec<Event>>,
@@ -28,8 +28,8 @@ impl Events {
         }
     }
 
-    /// Those of two addresses, in the order in which they were noted. The cost is the logarithm of
-    /// the number of addresses.
+    /// The events of two addresses, in the order in which they were recorded. The cost is the
+    /// logarithm of the number of addresses.
     pub(crate) fn at(&self, one: Addr, other: Addr) -> &[Event]
         ensures { result.now ≡ events_at self.now one other }
     {
@@ -39,7 +39,7 @@ impl Events {
         }
     }
 
-    /// Notes an event for two addresses.
+    /// Records an event for two addresses.
     pub(crate) fn add(&mut self, one: Addr, other: Addr, event: Event) -> Result<(), AllocError>
         ensures added { OnOk result (Contains (events_at self.new one other) event) }
         ensures kept { OnOk result ((first second : AnyAddr) (earlier : AnyEvent) → Contains (events_at self.old first second) earlier →

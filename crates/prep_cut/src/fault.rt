@@ -8,7 +8,7 @@ use audit_pcapng::CaptureFault;
 use std::alloc::{AllocError, AllocFailed};
 use std::fmt;
 
-/// What keeps a capture from being cut.
+/// The reason why a capture isn't cut.
 #[derive(Clone, Copy, Debug, PartialEq, Eq)]
 pub enum CutFault {
     /// The capture has a fault of its own, or there was no memory.
@@ -41,14 +41,14 @@ impl<T: Drop> From<AllocFailed<T>> for CutFault {
     }
 }
 
-/// A capture is refused, with its number.
+/// A refused capture, by its number.
 #[derive(Clone, Copy, Debug, PartialEq, Eq)]
 pub struct CutRefused {
     pub capture: u32,
     pub fault: CutFault,
 }
 
-/// What standard error tells of it.
+/// The text for standard error.
 impl fmt::Display for CutRefused {
     fn fmt<W: fmt::Write>(&self, f: &mut fmt::Formatter<W>) -> fmt::Result {
         let number = self.capture;

@@ -1,4 +1,4 @@
-//! What a datagram that is excluded carries.
+//! The content of an excluded datagram.
 
 ghost use Rattle.std.specs.Prelude.{◌≡◌, IfSome};
 ghost use Rattle.prep_cut.specs.Datagrams.{payload_of_block};
@@ -9,7 +9,7 @@ use audit_model::Policy;
 use prep_blocks::Block;
 use prep_causes::{Half, carried_in};
 
-/// An arrival or a departure by what it carries. None if it is neither data nor a request nor a
+/// An arrival or a departure by its content. `None` if it is neither data nor a request nor a
 /// response.
 pub(crate) fn half_in(policy: &Policy, block: &Block, datagram: &Datagram) -> Option<Half>
     ensures { IfSome result (λ half. IsOfDatagram policy.now (payload_of_block block.now) datagram.now half) }

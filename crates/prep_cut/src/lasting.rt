@@ -1,4 +1,4 @@
-//! Which leases last at a moment, by what captures show.
+//! Which leases have not expired at a moment, by what captures show.
 
 ghost use Rattle.std.specs.Prelude.{◌≡◌};
 ghost use Rattle.prep_cut.specs.Lasting.{covers, ends, ends_it, equals, grants_this, has_begun, is_asked_by, is_ended, is_its, is_leased, is_of_client, is_renewed, is_since, is_tenant, is_within, lasts, renews, renews_it, was_granted};
@@ -8,11 +8,11 @@ use crate::lease::{Act, Event};
 use crate::transaction::Transaction;
 use audit_model::{Addr, Pair};
 
-/// Nanoseconds of a second.
+/// The nanoseconds of a second.
 const SECOND: u64 = 1_000_000_000;
 
 impl Event {
-    /// Whether a moment is within the time that the response states.
+    /// Whether a moment is within the lifetime of the response.
     fn is_within(&self, stamp: u64) -> bool
         ensures { result ≡ is_within stamp self.now }
     {
@@ -20,7 +20,7 @@ impl Event {
         self.moment <= stamp && stamp - self.moment <= longest
     }
 
-    /// Whether an event is of the same client, since this one and up to a moment.
+    /// Whether an event is of the same client, after the grant and up to a moment.
     fn is_since(&self, grant: &Event, stamp: u64) -> bool
         ensures { result ≡ is_since grant.now stamp self.now }
     {
@@ -28,7 +28,7 @@ impl Event {
         is_its && grant.moment <= self.moment && self.moment <= stamp
     }
 
-    /// Whether it ends what was granted, up to a moment.
+    /// Whether it deletes the granted allocation, up to a moment.
     fn ends(&self, grant: &Event, stamp: u64) -> bool
         ensures { result ≡ ends grant.now stamp self.now }
     {
@@ -38,7 +38,7 @@ impl Event {
         }
     }
 
-    /// Whether it renews what was granted, so that it lasts at a moment.
+    /// Whether it refreshes the granted allocation, so that it has not expired at a moment.
     fn renews(&self, grant: &Event, stamp: u64) -> bool
         ensures { result ≡ renews grant.now stamp self.now }
     {
@@ -63,7 +63,7 @@ impl Event {
 }
 
 impl Allocations {
-    /// Whether an event is a grant up to a moment, whose request is noted.
+    /// Whether an event is a grant up to a moment, and its request is recorded.
     fn has_begun(&self, event: &Event, stamp: u64) -> bool
         ensures { result ≡ has_begun self.now stamp event.now }
     {
@@ -100,7 +100,7 @@ impl Allocations {
         events.iter().any(|event| event.ends(grant, stamp))
     }
 
-    /// Whether what a client was granted lasts at a moment.
+    /// Whether a client's granted allocation is there at a moment.
     fn covers(&self, grant: &Event, stamp: u64) -> bool
         ensures { result ≡ covers self.now stamp grant.now }
     {

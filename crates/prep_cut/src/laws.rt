@@ -1,5 +1,5 @@
-//! What is kept of allocations, and what is left out behind their releases. It does nothing when it
-//! runs.
+//! Laws about which Allocates are kept and what is excluded after deletions. They do nothing at run
+//! time.
 
 ghost use Rattle.std.specs.Prelude.{◌≡◌, ◌⊎◌, ℕ, List, Option, Some, slice_get, true};
 ghost use Rattle.audit_model.specs.declared.sighting.Side.TheVariants.{Arrives, Leaves};
@@ -25,9 +25,8 @@ ghost use Rattle.prep_cut.specs.Allocating.{AreNoted};
 ghost use Rattle.prep_cut.specs.Keeping.{HasLease, IsEarly, Keeps};
 ghost use Rattle.prep_cut.specs.Lasting.{is_leased};
 
-/// Of an Allocate request and a success of its transaction, both of which are noted in the plan's
-/// allocations, none is left out by any line but those of the moments that are stated, whatever is
-/// proposed for them.
+/// An Allocate request and its success response, both recorded in the plan's allocations, are
+/// excluded by no line except those of the stated moments, whatever is proposed for them.
 pub fn shown_allocates_stay()
     ensures success { (plan : Plan) (proposed : Option ℕ) (request success : Block) (asked granted : Datagram) (transaction : Transaction)
         → datagram_of_block plan.policy request ≡ Some asked → asked.side ≡ Arrives → asked.allocate ≡ Some transaction
@@ -39,21 +38,21 @@ pub fn shown_allocates_stay()
         → is_noted plan.allocations granted ≡ true → IsOfMoment plan (line_of plan proposed request) }
 {}
 
-/// What a line of released datagrams leaves out is of the client or the address that it names,
-/// behind a Refresh success with LIFETIME 0 of that client which the captures show, and where it
-/// leaves, in the time that is stated; where none is stated such a line leaves out nothing. What is
-/// noted of releases the captures show.
+/// A line of released datagrams excludes only datagrams of the client or the address that it names,
+/// after a Refresh success response with LIFETIME 0 to that client which the captures show; a
+/// departure only within the time that the operator states. If no time is stated, such a line
+/// excludes nothing. All recorded deletions are shown by the captures.
 pub fn released_is_bounded()
     ensures { (plan : Plan) (captured : List Block) (line : ℕ) (block : Block) (pair : Pair) (relayed : Addr) (moment : ℕ) →
         AreReleased plan.policy plan.allocations captured → slice_get plan.lines line ≡ Some (Released pair relayed moment) →
         line_of plan (Some line) block ≡ Some line → IsBehindRelease plan captured pair relayed moment (datagram_of_block plan.policy block) }
 {}
 
-/// A datagram that a line excludes, other than by the moments that are stated, is of the client or
-/// the address that the line names. If the line names a client, the captures show a datagram from
-/// that client: whatever is proposed, nothing is excluded that goes to a 5-tuple which sends
-/// nothing. If the operator states that the server started with the captures, or that no client
-/// comes by TCP, TLS, DTLS or IPv6, the lines of such clients exclude nothing.
+/// A datagram that a line excludes, other than by the stated moments, is of the client or the
+/// address that the line names. If the line names a client, the captures show a datagram from that
+/// client: whatever is proposed, nothing is excluded that goes to a 5-tuple which sends nothing. If
+/// the operator states that the server started with the captures, or that no client uses TCP, TLS,
+/// DTLS or IPv6, the lines of such clients exclude nothing.
 pub fn strangers_stay()
     ensures { (plan : Plan) (captured : List Block) (line : ℕ) (block : Block) (reason : Reason) (datagram : Datagram) →
         AreSenders plan.policy plan.allocations captured → slice_get plan.lines line ≡ Some reason →
@@ -61,10 +60,10 @@ pub fn strangers_stay()
         IsMoment (Some reason) ⊎ IsOfSender plan captured reason datagram }
 {}
 
-/// Whatever is proposed: at a relayed address of which the captures show a lease, no line excludes
-/// anything but `inside` and those of stated moments. Of a client that was granted an allocation
-/// these, `inner` and `released` are the only ones, and the latter two exclude data alone. So no
-/// success response of such a client is excluded.
+/// Whatever is proposed: at a relayed address of which the captures show a lease, only `inside` and
+/// the lines of stated moments exclude something. Of a client that was granted an allocation only
+/// these, `inner` and `released` do, and the latter two exclude data alone. So no success response
+/// of such a client is excluded.
 pub fn leases_stay()
     ensures kept { (plan : Plan) (line : ℕ) (block : Block) (reason : Reason) (datagram : Datagram) → slice_get plan.lines line ≡ Some reason →
         datagram_of_block plan.policy block ≡ Some datagram → line_of plan (Some line) block ≡ Some line → Keeps plan.allocations reason datagram }
@@ -73,9 +72,9 @@ pub fn leases_stay()
         is_leased plan.allocations relayed stamp ≡ true }
 {}
 
-/// What `edge` excludes leaves the service before the hold and twice the greatest skew have passed
-/// after the captures begin, or after the moment that is stated. If the server started with the
-/// captures, it excludes nothing.
+/// `edge` excludes only departures before the hold and twice the greatest skew have passed after
+/// the start of the captures, or after the stated moment. If the server started with the captures,
+/// it excludes nothing.
 pub fn edge_is_early()
     ensures { (plan : Plan) (line : ℕ) (block : Block) (datagram : Datagram) → slice_get plan.lines line ≡ Some reasons.Edge →
         datagram_of_block plan.policy block ≡ Some datagram → line_of plan (Some line) block ≡ Some line → IsEarly plan datagram }

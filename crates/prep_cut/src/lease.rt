@@ -1,4 +1,4 @@
-//! Success responses that grant an allocation, renew or end it.
+//! Success responses that grant, refresh or delete an allocation.
 
 ghost use Rattle.std.specs.Prelude.{◌≡◌, IfSome, Some, option_copied};
 ghost use Rattle.audit_packets.specs.View.{view};
@@ -15,18 +15,18 @@ use audit_stun::numbers::{attribute, method};
 use audit_stun::{Class, Message, address, message};
 use prep_blocks::Block;
 
-/// What a success response does to the allocation of its client.
+/// The effect of a success response on the allocation of its client.
 #[derive(Clone, Copy, Debug, PartialEq, Eq)]
 pub enum Act {
     /// An Allocate success response grants this address.
     Grants { relayed: Addr, tid: [u8; 12] },
-    /// A Refresh success response renews it.
+    /// A Refresh success response refreshes it.
     Renews,
-    /// A Refresh success response with LIFETIME 0 ends it.
+    /// A Refresh success response with LIFETIME 0 deletes it.
     Ends,
 }
 
-/// What a success response says.
+/// The contents of a success response.
 #[derive(Clone, Copy, Debug, PartialEq, Eq)]
 pub struct Said {
     pub act: Act,
@@ -39,7 +39,7 @@ pub struct Said {
 pub struct Event {
     pub client: Addr,
     pub listen: Addr,
-    /// When it left, in nanoseconds since 1970.
+    /// The moment at which it left, in nanoseconds since 1970.
     pub moment: u64,
     pub said: Said,
 }
@@ -81,7 +81,7 @@ fn event_by(policy: &Policy, moment: u64, seen: Seen<'_>) -> Option<Event>
     }
 }
 
-/// What a payload says, if it is such a success response (RFC 8656, sections 7.2 and 8).
+/// The contents of a payload, if it is such a success response (RFC 8656, sections 7.2 and 8).
 fn said_in(payload: &[u8]) -> Option<Said>
     ensures found { IfSome result (λ said. IsSaid payload.now said) }
     ensures only { (said : AnySaid) → IsSaid payload.now said → result ≡ Some said }

@@ -14,7 +14,7 @@ use audit_model::{Addr, Policy};
 use prep_blocks::Block;
 use std::alloc::{AllocError, Global};
 
-/// What success responses say of allocations.
+/// The success responses about allocations.
 #[derive(Debug, Drop)]
 pub struct Leases {
     /// By client and listen address.
@@ -24,7 +24,7 @@ pub struct Leases {
 }
 
 impl Leases {
-    /// Of no packet. It takes no memory.
+    /// No packets. It takes no memory.
     pub(crate) fn new(alloc: Global) -> Self
         ensures { (client listen : AnyAddr) → events_at result.clients client listen ≡ [] }
     {
@@ -34,7 +34,7 @@ impl Leases {
         }
     }
 
-    /// Notes the event that a block shows. The cost is the logarithm of the number of clients and
+    /// Records the event that a block shows. The cost is the logarithm of the number of clients and
     /// addresses.
     pub(crate) fn note(&mut self, policy: &Policy, block: &Block) -> Result<(), AllocError>
         ensures shown { OnOk result ((event : AnyEvent) → IsEventIn policy.now event block.now → HasEvent self.new event) }

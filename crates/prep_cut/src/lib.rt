@@ -1,4 +1,4 @@
-//! Captures without the packets that are set aside, and what is told of these.
+//! Writes captures without the excluded packets, and counts the excluded ones.
 #![tactic(auto)]
 
 mod allocations;

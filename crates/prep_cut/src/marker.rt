@@ -1,4 +1,4 @@
-//! Telling which blocks are left out, and counting them.
+//! Decides which blocks are excluded, and counts them.
 
 ghost use Rattle.std.specs.Prelude.{◌≡◌, ◌<◌, ◌∷◌, ◌++◌, [], ℕ, List, Option, is_none, get_or, length, true, OnOk, IfOk, IfErr};
 ghost use Rattle.prep_blocks.specs.declared.block.Block.{Block};
@@ -22,17 +22,17 @@ use audit_pcapng::{BlockKind, ByteOrder};
 use prep_blocks::{Block, PacketHead};
 use prep_causes::CauseNumber;
 
-/// Where a section block states the section's length.
+/// The offset of the section's length in a section block.
 const SECTION_LENGTH: usize = 16;
 
-/// So many bytes it has at least up to the end of that field.
+/// The least number of bytes of a section block up to the end of that field.
 const SECTION_LENGTH_END: usize = 24;
 
-/// Goes along the blocks of a capture.
+/// Decides about the blocks of a capture, one after another.
 #[derive(Drop)]
 pub struct Marker<'p> {
     plan: &'p Plan,
-    /// What is proposed for the packets that are still to come.
+    /// The proposals for the packets that are still to come.
     proposals: &'p [Proposal],
     totals: Totals,
     tallies: Tallies,
@@ -52,7 +52,7 @@ impl<'p> Marker<'p> {
         }
     }
 
-    /// Takes the next block, and tells whether it is written.
+    /// Decides about the next block, and returns whether it is written.
     pub fn take(&mut self, block: &Block) -> Result<bool, CutFault>
         ensures ok { (plan : Plan) (proposals : List Proposal) (earlier : List Marked) (current : List Block) →
             IsAt self.old plan proposals earlier current → OnOk result (IsAt self.new plan proposals earlier (current ++ block.now ∷ [])) }
@@ -85,7 +85,7 @@ impl<'p> Marker<'p> {
         Some(*first)
     }
 
-    /// Notes an arrival that is excluded, or a departure by a line that needs its arrival.
+    /// Records an excluded arrival, or a departure excluded by a line that needs its arrival.
     fn note_cause(
         &mut self,
         line: Option<LineNumber>,
@@ -116,8 +116,8 @@ impl<'p> Marker<'p> {
         }
     }
 
-    /// Counts a departure that needs an arrival or a carrier, and adds a block to its group of what
-    /// isn't read.
+    /// Counts a departure that needs an arrival or a carrier, and adds a block to its group of
+    /// unread packets.
     fn note_unread(
         &mut self,
         line: Option<LineNumber>,
@@ -147,7 +147,7 @@ impl<'p> Marker<'p> {
         }
     }
 
-    /// Counts a block, and tells whether it is written.
+    /// Counts a block, and returns whether it is written.
     fn count(
         &mut self,
         line: Option<LineNumber>,
@@ -173,7 +173,7 @@ impl<'p> Marker<'p> {
         false
     }
 
-    /// What was counted.
+    /// The counts.
     pub fn into_parts(self) -> (Totals, Tallies)
         ensures totals { result.0 ≡ self.entry.totals }
         ensures tallies { result.1 ≡ self.entry.tallies }

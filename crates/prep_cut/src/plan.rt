@@ -1,4 +1,4 @@
-//! What is to be set aside.
+//! The plan: which packets are to be excluded.
 
 ghost use Rattle.std.specs.Prelude.{◌≡◌};
 ghost use Rattle.prep_cut.specs.Marks.{is_at_edge, line_of, may_leave_at, proposed_line, proposed_cause};
@@ -16,47 +16,47 @@ use prep_causes::{CauseNumber, MaybeNumber, Reach};
 /// The number of a line of the list, from 0.
 pub type LineNumber = u32;
 
-/// What is proposed for a packet, in eight bytes.
+/// The proposal for a packet, in eight bytes.
 #[derive(Clone, Copy, Debug, PartialEq, Eq)]
 pub struct Proposal {
     /// The number of the line that excludes it (a `LineNumber`); none if it stays in.
     pub line: MaybeNumber,
-    /// The number that a departure has in common with its arrival (a `CauseNumber`), or the count of
-    /// such numbers and the number of a group of what isn't read.
+    /// The number that a departure and its arrival share (a `CauseNumber`), or the count of such
+    /// numbers plus the number of a group of unread packets.
     pub cause: MaybeNumber,
 }
 
-/// The line that is proposed.
+/// The proposed line.
 pub(crate) fn line_in(proposal: Option<Proposal>) -> Option<LineNumber>
     ensures { result ≡ proposed_line proposal }
 {
     proposal?.line.get()
 }
 
-/// The number that is proposed.
+/// The proposed number.
 pub(crate) fn cause_in(proposal: Option<Proposal>) -> Option<CauseNumber>
     ensures { result ≡ proposed_cause proposal }
 {
     proposal?.cause.get()
 }
 
-/// The lines of the list, and what they go by. Which packets are proposed for them is told capture
-/// by capture.
+/// The lines of the list, and the facts that they depend on. The proposals for packets are
+/// separate, capture by capture.
 #[derive(Debug, Drop)]
 pub struct Plan {
     pub policy: Policy,
     pub stated: Stated,
-    /// What Allocates the captures show.
+    /// The Allocates and leases that the captures show.
     pub allocations: Allocations,
-    /// How many numbers departures have in common with arrivals.
+    /// How many numbers departures and arrivals share.
     pub pairs: CauseNumber,
     /// Each line's reason, in the order of the list.
     pub lines: Listed<Reason>,
 }
 
 impl Plan {
-    /// The line by which a block is left out: the one that is proposed for its packet, where that
-    /// line's reason may set it aside.
+    /// The line that excludes a block: the proposed one, if the line's reason may exclude the
+    /// block's packet.
     pub fn line_of(&self, proposed: Option<LineNumber>, block: &Block) -> Option<LineNumber>
         ensures { result ≡ line_of self.now proposed block.now }
     {
@@ -88,7 +88,7 @@ impl Plan {
                 .may_leave(&self.allocations, reason, head.stamp, datagram)
     }
 
-    /// Whether what leaves by a line is to have its arrival excluded as well.
+    /// Whether a departure excluded by a line must have its arrival excluded as well.
     pub(crate) fn needs_cause(&self, line: LineNumber) -> bool
         ensures { result ≡ needs_cause_at self.now line }
     {
@@ -108,7 +108,7 @@ impl Plan {
         }
     }
 
-    /// Whether a moment is one at which `edge` may exclude something, if that is the reason.
+    /// Whether `edge` may exclude something at a moment, if that is the reason.
     fn is_at_edge(&self, reason: &Reason, stamp: u64) -> bool
         ensures { result ≡ is_at_edge self.now reason.now stamp }
     {

@@ -1,4 +1,4 @@
-//! Why a packet is set aside.
+//! Why a packet is excluded.
 
 ghost use Rattle.std.specs.Prelude.{◌≡◌};
 ghost use Rattle.prep_cut.specs.ReasonText.{kind_of};
@@ -7,43 +7,43 @@ ghost use Rattle.prep_cut.specs.Caused.{needs_cause};
 use audit_model::{Addr, Pair};
 use std::fmt;
 
-/// The client of a relayed address that was told over TCP or IPv6.
+/// The client to which a relayed address was granted over TCP or IPv6.
 #[derive(Clone, Copy, Debug, PartialEq, Eq)]
 pub enum FarEnd {
     Tcp(Addr),
     Ipv6 { ip: [u16; 8], port: u16 },
 }
 
-/// Why packets are set aside, and whose they are: a line of the list.
+/// Why packets are excluded, and to whom they belong: a line of the list.
 #[derive(Clone, Copy, Debug, PartialEq, Eq)]
 pub enum Reason {
-    /// Before the moment that `--since` says.
+    /// Before the moment of `--since`.
     BeforeSince,
-    /// Of a client from before the capture: what needs the allocation that it had.
+    /// Of a client from before the capture: packets that need its earlier allocation.
     Client(Pair),
     /// A response whose request may be from before the capture.
     Answer(Pair),
-    /// Data of a client from before the capture, at a relayed address that nobody was given. A
+    /// Data of a client from before the capture, at a relayed address that nobody was granted. A
     /// lease of the address begins a tenure.
     AddressOf {
         relayed: Addr,
         tenure: u32,
         pair: Pair,
     },
-    /// A relayed address that was given over TCP or IPv6.
+    /// A relayed address that was granted over TCP or IPv6.
     AddressTold {
         relayed: Addr,
         tenure: u32,
         client: FarEnd,
     },
-    /// A relayed address that nobody was seen to be given.
+    /// A relayed address that nobody was granted in the captures.
     Address {
         relayed: Addr,
         tenure: u32,
     },
-    /// What is relayed for a client in the time that `--released-ms` says, behind its Refresh
-    /// success with LIFETIME 0 at this moment: data with the client, and what is at the relayed
-    /// address that it had.
+    /// Relayed within the time of `--released-ms` after the client's Refresh success response with
+    /// LIFETIME 0 at this moment: data with the client, and datagrams at its former relayed
+    /// address.
     Released {
         pair: Pair,
         relayed: Addr,
@@ -63,11 +63,11 @@ pub enum Reason {
     },
     /// Departures whose arrival may be from before the captures.
     Edge,
-    /// After the moment that `--until` says.
+    /// After the moment of `--until`.
     AfterUntil,
 }
 
-/// What a line says, whomever it names. They stand in the order of the list.
+/// The kind of a line, without its names. The kinds are in the order of the list.
 #[derive(Clone, Copy, Debug, PartialEq, Eq, PartialOrd, Ord)]
 pub enum ReasonKind {
     BeforeSince,
@@ -85,9 +85,9 @@ pub enum ReasonKind {
 }
 
 impl Reason {
-    /// Whether what leaves by such a line is to have its arrival excluded as well. The other lines
-    /// are of moments, of what may be from before the captures, of clients whose datagrams can't be
-    /// read, and of datagrams that the service sends to itself.
+    /// Whether a departure excluded by such a line must have its arrival excluded as well. The
+    /// other lines are of moments, of packets whose arrival may be from before the captures, of
+    /// clients whose datagrams can't be read, and of datagrams that the service sends to itself.
     pub fn needs_cause(&self) -> bool
         ensures { result ≡ needs_cause self.now }
     {
@@ -107,7 +107,7 @@ impl Reason {
         }
     }
 
-    /// What it says, whomever it names.
+    /// The kind of the line, without its names.
     pub fn kind(&self) -> ReasonKind
         ensures { result ≡ kind_of self.now }
     {
@@ -128,7 +128,7 @@ impl Reason {
     }
 }
 
-/// The word that such a line begins with.
+/// The first word of such a line.
 impl fmt::Display for ReasonKind {
     ghost use Rattle.std.specs.Prelude.{Some};
     ghost use Rattle.prep_cut.specs.ReasonText.{kind_text};
@@ -227,7 +227,7 @@ impl fmt::Display for FarEnd {
     }
 }
 
-/// What a line of the list begins with.
+/// The start of a line of the list.
 impl fmt::Display for Reason {
     ghost use Rattle.std.specs.Prelude.{Some};
     ghost use Rattle.prep_cut.specs.ReasonText.{reason_text};

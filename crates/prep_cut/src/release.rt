@@ -1,4 +1,4 @@
-//! Refresh successes with LIFETIME 0, by which clients let go of their allocations.
+//! Refresh success responses with LIFETIME 0, by which clients delete their allocations.
 
 ghost use Rattle.std.specs.Prelude.{◌≡◌, IsTrue, IfSome};
 ghost use Rattle.audit_packets.specs.View.{view};
@@ -12,16 +12,16 @@ use audit_stun::numbers::{attribute, method};
 use audit_stun::{Class, message};
 use prep_blocks::Block;
 
-/// A client let go of its allocation: a Refresh success with LIFETIME 0 left for it.
+/// A deletion: a Refresh success response with LIFETIME 0 left for the client.
 #[derive(Clone, Copy, Debug, PartialEq, Eq, PartialOrd, Ord)]
 pub struct Release {
     pub client: Addr,
     pub listen: Addr,
-    /// When it left, in nanoseconds since 1970.
+    /// The moment at which it left, in nanoseconds since 1970.
     pub moment: u64,
 }
 
-/// The release that the block's packet shows. It takes no memory.
+/// The deletion that the block's packet shows. It takes no memory.
 pub fn release_in(policy: &Policy, block: &Block) -> Option<Release>
     ensures { IfSome result (λ release. IsReleaseIn policy.now release block.now) }
 {
@@ -55,7 +55,7 @@ fn release_by(policy: &Policy, moment: u64, seen: Seen<'_>) -> Option<Release>
     }
 }
 
-/// Whether a payload is a Refresh success with LIFETIME 0 (RFC 8656, section 7.2).
+/// Whether a payload is a Refresh success response with LIFETIME 0 (RFC 8656, section 7.2).
 fn ends_allocation(payload: &[u8]) -> bool
     ensures { IsTrue result → EndsAllocation payload.now }
 {

@@ -1,4 +1,4 @@
-//! What the operator states, and which packets each reason may set aside then.
+//! The operator's statements, and which packets each reason may exclude under them.
 
 ghost use Rattle.std.specs.Prelude.{◌≡◌};
 ghost use Rattle.prep_cut.specs.Guard.{is_early, is_late, is_of_pair, far_end, is_apart, is_at, is_departure, is_due, is_free, own_end, is_in_time, is_behind, is_stated, is_named, is_heard, may_leave_packet, same};
@@ -9,37 +9,37 @@ use crate::reason::Reason;
 use crate::release::Release;
 use audit_model::{Addr, Pair, Side};
 
-/// What the operator states of the captures. Moments are nanoseconds since 1970.
+/// The operator's statements about the captures. Moments are nanoseconds since 1970.
 #[derive(Clone, Copy, Debug, PartialEq, Eq)]
 pub struct Stated {
-    /// Packets before this moment are left out.
+    /// Packets before this moment are excluded.
     pub since: Option<u64>,
-    /// Departures after this moment are left out.
+    /// Departures after this moment are excluded.
     pub until: Option<u64>,
     /// The server started with the captures, or at `since`.
     pub is_from_start: bool,
-    /// No client comes by TCP, TLS, DTLS or IPv6.
+    /// No client uses TCP, TLS, DTLS or IPv6.
     pub has_no_tcp: bool,
     /// Data between addresses of the service stays in.
     pub keeps_inner: bool,
     /// The longest lifetime of an allocation from before, in seconds.
     pub lifetime: u64,
-    /// For so many milliseconds behind a client's Refresh success with LIFETIME 0 what is relayed
-    /// for it is left out: 0 to 60,000.
+    /// For this number of milliseconds after a client's Refresh success response with LIFETIME 0,
+    /// data relayed for it is excluded: 0 to 60,000.
     pub released_ms: u64,
 }
 
-/// Nanoseconds of a millisecond.
+/// The nanoseconds of a millisecond.
 const MILLISECOND: u64 = 1_000_000;
 
 impl Stated {
-    /// Whether the reason may set aside a packet of this stamp, which holds this datagram of the
-    /// service or none: what the operator states has to allow the reason, and the packet has to be
-    /// of the client or the address that the reason names. A client that sends nothing in all of
-    /// the captures has nothing excluded. An Allocate success whose request is among the
-    /// allocations, and an Allocate request whose success is, is set aside only by its moment. What
-    /// is relayed behind a release is so only where the release is among the allocations, and where
-    /// it left in the time that is stated.
+    /// Whether the reason may exclude a packet of this stamp, which contains this datagram of the
+    /// service or none. The operator's statements must allow the reason, and the packet must be of
+    /// the client or the address that the reason names. Nothing is excluded of a client that sends
+    /// nothing in all of the captures. An Allocate success response whose request is among the
+    /// allocations, and an Allocate request whose success response is, is excluded only by its
+    /// moment. Data relayed after a deletion is excluded only if the deletion is among the
+    /// allocations and a departure is within the stated time.
     pub fn may_leave(
         &self,
         allocations: &Allocations,
@@ -85,7 +85,7 @@ impl Stated {
         }
     }
 
-    /// Whether what the operator states allows the reason.
+    /// Whether the operator's statements allow the reason.
     fn allows(&self, reason: &Reason) -> bool
         ensures { result ≡ is_stated self.now reason.now }
     {
@@ -100,8 +100,8 @@ impl Stated {
         }
     }
 
-    /// Whether the captures show no lease of what the reason names, and of released data the
-    /// release, with the address, and a departure in its time.
+    /// Whether the captures show no lease that contradicts the reason. For released data they must
+    /// also show the deletion, the address must be the client's, and a departure must be in time.
     fn is_due(&self, allocations: &Allocations, reason: &Reason, datagram: &Datagram) -> bool
         ensures { result ≡ is_due self.now allocations.now reason.now datagram.now }
     {
@@ -143,7 +143,7 @@ impl Stated {
         }
     }
 
-    /// Whether a moment is behind that of a release, and in the time that is stated.
+    /// Whether a moment is after a deletion, and within the stated time.
     pub fn is_behind(&self, release: u64, stamp: u64) -> bool
         ensures { result ≡ is_behind self.now release stamp }
     {
@@ -175,7 +175,7 @@ fn is_named(reason: &Reason, datagram: &Datagram) -> bool
     }
 }
 
-/// Whether the client that the reason names sends something in the captures.
+/// Whether the client that the reason names, if any, sends something in the captures.
 fn is_heard(allocations: &Allocations, reason: &Reason) -> bool
     ensures { result ≡ is_heard allocations.now reason.now }
 {
@@ -210,7 +210,7 @@ fn is_free(allocations: &Allocations, datagram: &Datagram) -> bool
 }
 
 impl Datagram {
-    /// The end of the service.
+    /// The end in the service.
     pub(crate) fn own_end(&self) -> Addr
         ensures { result ≡ own_end self.now }
     {

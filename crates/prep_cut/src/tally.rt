@@ -1,4 +1,4 @@
-//! How many packets are set aside, and how much the datagrams among them carried.
+//! Counts of excluded packets, and of the datagrams and bytes in them.
 
 ghost use Rattle.std.specs.Prelude.{◌≡◌, ◌<◌, ◌+◌, [], ℕ, List, length, get_or, IfOk};
 ghost use Rattle.prep_causes.specs.Adding.{IsAdded};
@@ -18,7 +18,7 @@ use prep_blocks::PacketHead;
 use prep_causes::{CauseNumber, Causes, Groups, Half, Unread};
 use std::alloc::{AllocError, Global};
 
-/// Datagrams, and the bytes of their payloads. No number goes over 64 bits.
+/// Datagrams, and the bytes of their payloads. The counts saturate at 64 bits.
 #[derive(Clone, Copy, Debug, PartialEq, Eq)]
 pub struct Count {
     pub datagrams: u64,
@@ -26,7 +26,7 @@ pub struct Count {
 }
 
 impl Count {
-    /// Of no datagram.
+    /// No datagrams.
     pub fn none() -> Self
         ensures { result ≡ no_count }
     {
@@ -36,7 +36,7 @@ impl Count {
         }
     }
 
-    /// With those of another count.
+    /// The sum of two counts.
     pub fn plus(self, other: Count) -> Self
         ensures { result ≡ counted_both self other }
     {
@@ -46,7 +46,7 @@ impl Count {
         }
     }
 
-    /// With a datagram more, of this size in bytes.
+    /// With one more datagram, of this size in bytes.
     fn with(self, size: usize) -> Self
         ensures { result ≡ counted self size }
     {
@@ -57,21 +57,21 @@ impl Count {
     }
 }
 
-/// What a line of the list says of its packets.
+/// The counts of a line of the list.
 #[derive(Clone, Copy, Debug, PartialEq, Eq)]
 pub struct Tally {
     pub arrived: Count,
     pub left: Count,
-    /// Packets that are no datagram of the service: fragments, packets that were captured cut, and
-    /// what others sent.
+    /// Packets that aren't datagrams of the service: fragments, truncated packets, and packets of
+    /// others.
     pub others: u64,
-    /// The least and the greatest of their moments; of no packet the greatest u64, and 0.
+    /// The least and the greatest of their moments; the greatest u64 and 0 if there is no packet.
     pub first: u64,
     pub last: u64,
 }
 
 impl Tally {
-    /// Of no packet.
+    /// No packets.
     pub fn none() -> Self
         ensures { result ≡ no_tally }
     {
@@ -84,14 +84,14 @@ impl Tally {
         }
     }
 
-    /// Whether it is of some packet.
+    /// Whether it counts some packet.
     pub fn is_some(&self) -> bool
         ensures { result ≡ is_counted self.now }
     {
         self.arrived.datagrams > 0 || self.left.datagrams > 0 || self.others > 0
     }
 
-    /// With a datagram more.
+    /// With one more datagram.
     pub fn with(self, datagram: &Datagram) -> Self
         ensures { result ≡ tallied self datagram.now }
     {
@@ -115,7 +115,7 @@ impl Tally {
         }
     }
 
-    /// With a packet more that is no datagram of the service.
+    /// With one more packet that isn't a datagram of the service.
     fn with_other(self, stamp: u64) -> Self
         ensures { result ≡ tallied_other self stamp }
     {
@@ -128,7 +128,7 @@ impl Tally {
         }
     }
 
-    /// With a block more: its datagram, or else its packet.
+    /// With one more block: its datagram, or else its packet.
     fn with_block(self, packet: Option<PacketHead>, datagram: Option<Datagram>) -> Self
         ensures { result ≡ tallied_block self packet datagram }
     {
@@ -142,19 +142,19 @@ impl Tally {
     }
 }
 
-/// What is told of a capture that was cut.
+/// The counts of a capture that was cut.
 #[derive(Clone, Copy, Debug, PartialEq, Eq)]
 pub struct Totals {
     /// Packets that are written.
     pub written: u64,
-    /// Packets that are left out.
+    /// Packets that are excluded.
     pub left: u64,
     /// Datagrams with one end in the service that are written.
     pub datagrams: u64,
 }
 
 impl Totals {
-    /// Of no block.
+    /// No blocks.
     pub fn none() -> Self
         ensures { result ≡ no_totals }
     {
@@ -165,7 +165,7 @@ impl Totals {
         }
     }
 
-    /// With a block more, which is written or not.
+    /// With one more block, which is written or not.
     pub fn with(
         self,
         is_written: bool,
@@ -197,18 +197,19 @@ impl Totals {
 }
 
 /// The tallies of the lines of a list, the departures that are excluded together with their
-/// arrivals, and those whose data packets that aren't read may have carried.
+/// arrivals, and those whose data unread packets may have carried.
 #[derive(Debug, Drop)]
 pub struct Tallies {
     lines: Vec<Tally>,
     causes: Causes,
     groups: Groups,
-    /// Departures that are excluded by a line by which they need one or the other.
+    /// Departures excluded by a line that needs one or the other.
     owing: u64,
 }
 
 impl Tallies {
-    /// Of a plan's lines and pairs, and of this count of groups of what isn't read, without a packet.
+    /// For a plan's lines and pairs, and this number of groups of unread packets, before the first
+    /// packet.
     pub fn new(alloc: Global, plan: &Plan, groups: usize) -> Result<Self, AllocError>
         ensures { IfOk result (λ tallies. AreTallies plan.now [] tallies) }
     {
@@ -220,8 +221,8 @@ impl Tallies {
         })
     }
 
-    /// How many departures are excluded together with their arrivals, by lines that need these. It
-    /// takes as long as there are numbers.
+    /// How many departures are excluded together with their arrivals, by lines that need these. The
+    /// cost is the number of pairs.
     pub fn pairs(&self) -> usize
         ensures value { result ≡ pairs_in self.now.causes.slots.items }
         ensures paired { (plan : Plan) (blocks : List Marked) → AreTallies plan blocks self.now → ArePaired plan blocks result }
@@ -229,8 +230,8 @@ impl Tallies {
         self.causes.pairs()
     }
 
-    /// How many departures are excluded that packets which aren't read may have carried. It takes as
-    /// long as there are groups of these.
+    /// How many excluded departures unread packets may have carried. The cost is the number of
+    /// groups.
     pub fn carried(&self) -> u64
         ensures value { result ≡ carried_of self.now }
         ensures carried { (plan : Plan) (blocks : List Marked) → AreTallies plan blocks self.now → AreCarried plan blocks result }
@@ -238,8 +239,7 @@ impl Tallies {
         self.groups.carried(self.causes.reach())
     }
 
-    /// How many departures are excluded that need an arrival, or a packet that may have carried
-    /// their data.
+    /// How many excluded departures need an arrival, or a packet that may have carried their data.
     pub fn owing(&self) -> u64
         ensures value { result ≡ self.now.owing }
         ensures owing { (plan : Plan) (blocks : List Marked) → AreTallies plan blocks self.now → result ≡ owing_of plan blocks }
@@ -257,7 +257,7 @@ impl Tallies {
         self.owing = self.owing.saturating_add(1);
     }
 
-    /// Adds a packet to a group of what isn't read.
+    /// Adds a packet to a group of unread packets.
     pub(crate) fn note_unread(&mut self, number: CauseNumber, unread: Unread)
         ensures lines { self.new.lines ≡ self.old.lines }
         ensures causes { self.new.causes ≡ self.old.causes }
@@ -269,7 +269,7 @@ impl Tallies {
         self.groups.add(number, unread);
     }
 
-    /// Notes an arrival or a departure that is excluded.
+    /// Records an excluded arrival or departure.
     pub(crate) fn note(&mut self, number: CauseNumber, half: Half)
         ensures lines { self.new.lines ≡ self.old.lines }
         ensures groups { self.new.groups ≡ self.old.groups }
@@ -279,14 +279,14 @@ impl Tallies {
         self.causes.add(number, half);
     }
 
-    /// Each line's tally, in their order.
+    /// Each line's tally, in order.
     pub fn as_slice(&self) -> &[Tally]
         ensures { result.now ≡ self.now.lines.items }
     {
         self.lines.as_slice()
     }
 
-    /// Counts a block to a line; to no line where there is none of that number.
+    /// Counts a block to a line; to none if no line has that number.
     pub fn add(&mut self, line: usize, packet: Option<PacketHead>, datagram: Option<Datagram>)
         ensures causes { self.new.causes ≡ self.old.causes }
         ensures groups { self.new.groups ≡ self.old.groups }

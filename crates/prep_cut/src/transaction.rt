@@ -1,4 +1,4 @@
-//! An Allocate by its transaction.
+//! An Allocate, by its transaction.
 
 ghost use Rattle.std.specs.Prelude.{◌≡◌};
 ghost use Rattle.prep_cut.specs.Identifying.{id_of, transaction_of};
@@ -14,7 +14,7 @@ pub struct Transaction {
 }
 
 impl Transaction {
-    /// Of an Allocate with this id, where a listen address sends or gets it.
+    /// The transaction of an Allocate with this id, if a listen address sends or gets it.
     pub(crate) fn of(
         is_asked: bool,
         client: Addr,
@@ -34,10 +34,10 @@ impl Transaction {
     }
 }
 
-/// Bytes of a message's header (RFC 8489, section 5).
+/// The size of a message's header in bytes (RFC 8489, section 5).
 const HEADER: usize = 20;
 
-/// The transaction id of a payload that begins as a message of this type.
+/// The transaction id of a payload that begins like a message of this type.
 pub(crate) fn id_in(kind: u16, payload: &[u8]) -> Option<[u8; 12]>
     ensures { result ≡ id_of kind payload.now }
 {

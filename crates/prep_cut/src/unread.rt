@@ -1,5 +1,5 @@
-//! Packets that aren't read and may carry the data of clients by TCP, TLS, DTLS or IPv6, and the
-//! departures that are excluded since such a packet may have carried their data.
+//! Unread packets that may carry the data of clients over TCP, TLS, DTLS or IPv6, and the
+//! departures excluded because such a packet may have carried their data.
 
 ghost use Rattle.std.specs.Prelude.{◌≡◌, ◌≤◌, List, ℕ, slice_get};
 ghost use Rattle.audit_packets.specs.Frame.{long_number};
@@ -23,13 +23,14 @@ const TCP: u8 = 6;
 
 const UDP: u8 = 17;
 
-/// The least bytes of the headers of Ethernet and IPv4.
+/// The least size of the headers of Ethernet and IPv4 in bytes.
 const LEAST_HEADERS: u32 = 34;
 
-/// The proposal has sizes in steps of 8 bytes.
+/// The tolerance for sizes: the proposal has them in steps of 8 bytes.
 const SIZE_STEP: u64 = 7;
 
-/// What leaves by DTLS has the header of a Data indication and what DTLS adds as well.
+/// The same for a departure over DTLS, plus the header of a Data indication and the overhead of
+/// DTLS.
 const ADDED_BY_DTLS: u64 = 104;
 
 /// An IP address in a frame.
@@ -55,7 +56,7 @@ fn is_of_service_at(policy: &Policy, frame: &[u8], at: usize) -> bool
         && (policy.service_ip(ip_at(frame, at + 12)) || policy.service_ip(ip_at(frame, at + 16)))
 }
 
-/// Whether a frame that holds no datagram of the service may carry data of a client.
+/// Whether a frame without a datagram of the service may carry data of a client.
 fn is_carrier(policy: &Policy, frame: &[u8]) -> bool
     ensures { result ≡ is_carrier policy.now frame.now }
 {
@@ -79,7 +80,7 @@ fn is_handshake(payload: &[u8]) -> bool
 }
 
 impl Reason {
-    /// Whether data that leaves by this line has come in packets that aren't read.
+    /// Whether the data of a departure excluded by this line came in unread packets.
     fn is_unread(&self, payload: &[u8]) -> bool
         ensures { result ≡ is_unread self.now payload.now }
     {
@@ -102,7 +103,8 @@ impl Plan {
         }
     }
 
-    /// Whether what leaves by a line needs an arrival, or a packet that may have carried it.
+    /// Whether a departure excluded by a line needs an arrival, or a packet that may have carried
+    /// it.
     fn owes_by(&self, line: LineNumber, payload: &[u8]) -> bool
         ensures { result ≡ owes_by (slice_get self.now.lines line) payload.now }
     {
@@ -112,8 +114,8 @@ impl Plan {
         }
     }
 
-    /// Whether a datagram is a departure that is excluded and needs an arrival, or a packet that
-    /// may have carried its data.
+    /// Whether a datagram is an excluded departure that needs an arrival, or a packet that may have
+    /// carried its data.
     pub(crate) fn owes(
         &self,
         line: Option<LineNumber>,
@@ -131,7 +133,7 @@ impl Plan {
         }
     }
 
-    /// How many bytes of a departure by a line its carrier may not have had.
+    /// By how many bytes a departure of a line may be longer than the data in its carrier.
     fn added_by(&self, line: LineNumber) -> u64
         ensures { result ≡ added_by (slice_get self.now.lines line) }
     {
@@ -141,7 +143,7 @@ impl Plan {
         }
     }
 
-    /// What a datagram that a line excludes is in its group.
+    /// The entry of an excluded datagram in its group.
     fn excluded_in(&self, line: LineNumber, block: &Block, datagram: &Datagram) -> Option<Unread>
         ensures { result ≡ by_side self.now line block.now datagram.now datagram.now.side }
     {
@@ -159,8 +161,8 @@ impl Plan {
         }
     }
 
-    /// What a block is in its group: a carrier if it is an arrival that is excluded, or a packet
-    /// that is no datagram of the service; and a departure if it needs one.
+    /// The entry of a block in its group: a carrier, if it is an excluded arrival or a packet that
+    /// isn't a datagram of the service; a departure, if it needs a carrier.
     pub(crate) fn unread_in(
         &self,
         line: Option<LineNumber>,

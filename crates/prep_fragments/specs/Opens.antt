@@ -1,4 +1,4 @@
--- Datagrams of which fragments are missing.
+-- Datagrams with missing fragments.
 use Rattle.std.specs.Prelude.{◌≡◌, ℕ, ◌+◌, ◌<◌, ◌≤◌, List, [], ◌∷◌, ◌++◌, length, Option, Some, None}
 use Rattle.std.specs.BTreeMap.{get}
 use Rattle.prep_blocks.specs.declared.block.Block.{Block}
@@ -10,7 +10,7 @@ use Rattle.prep_fragments.specs.declared.opens.Opens.{Opens}
 use Rattle.prep_fragments.specs.Parts.{key_cmp, frame_of, data_of}
 use Rattle.prep_fragments.specs.Wholes.{datas_of}
 
--- what is there of a datagram
+-- the fragments of a datagram so far
 unfoldable pub open_at : Opens → Key → Option Begun
 open_at opens key = get key_cmp opens.opens key
 
@@ -26,7 +26,7 @@ abbrev pub first_stamp : List Block → ℕ
 first_stamp [] = 0
 first_stamp (first ∷ others) = stamp_of first
 
--- it has these fragments, one at least, and notes the stamp of the first and how many bytes they have
+-- it has these fragments, at least one, the stamp of the first, and the number of their data bytes
 pub record IsBegun (begun : Begun) : Type 0 where
   pub first : Block
   pub others : List Block
@@ -46,7 +46,8 @@ abbrev pub IsTimely : ℕ → Option ℕ → Type 0
 IsTimely stamp None = Unit {0}
 IsTimely stamp (Some first) = stamp < first + 30000000000
 
--- a fragment's frame has all of its data, which begins where so many bytes end, less than 30 seconds behind the first
+-- a fragment's frame has all of its data, which begins at this offset, less than 30 seconds after
+-- the first
 pub record Fits (block : Block) (part : Fragment) (length_before : ℕ) (first : Option ℕ) : Type 0 where
   pub some : part.begin < part.end
   pub captured : part.end ≤ length (frame_of block)

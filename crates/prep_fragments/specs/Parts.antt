@@ -1,4 +1,4 @@
--- Fragments of UDP datagrams over IPv4 (RFC 791, section 3.1), by the places in their frames.
+-- Fragments of UDP datagrams over IPv4 (RFC 791, section 3.1), by the offsets in their frames.
 use Rattle.std.specs.Prelude.{◌≡◌, ℕ, ◌+◌, ◌-◌, ◌*◌, ◌/◌, ◌%◌, Bool, ◌==◌, List, [], ◌∷◌, ◌++◌, length, take, drop, Option, Some, None, slice_index}
 use Rattle.std.specs.declared.cmp.Ordering.{Ordering}
 use Rattle.std.specs.Ordering.{nat_cmp, ordering_then, is_eq}
@@ -11,16 +11,17 @@ use Rattle.prep_frames.specs.Frames.{frame_in, seen_in}
 use Rattle.prep_fragments.specs.declared.fragment.Key.{Key}
 use Rattle.prep_fragments.specs.declared.fragment.Fragment.{Fragment}
 
--- bytes from a place to another
+-- bytes from one offset to another
 abbrev pub between : ℕ → ℕ → List ℕ → List ℕ
 between from to bytes = take (to - from) (drop from bytes)
 
--- where the IPv4 header ends whose first byte is at this place
+-- the end of the IPv4 header whose first byte is at this offset
 abbrev pub header_end : List ℕ → ℕ → ℕ
 header_end frame at = at + slice_index frame at % 16 * 4
 
--- the datagram, by interface, source, destination and identification; where its data is that of the fragment, in units of eight bytes;
--- the flag "more fragments"; and where in the frame the data begins and ends
+-- the datagram, by interface, source, destination and identification; the offset of the fragment's
+-- data in the datagram's data, in units of eight bytes; the flag "more fragments"; and the start
+-- and the end of the data in the frame
 abbrev pub fragment_of : ℕ → List ℕ → Fragment
 fragment_of iface frame =
     let at = ethernet_length frame in
@@ -42,7 +43,7 @@ abbrev pub part_at : Block → Option PacketHead → Option Fragment
 part_at block None = None
 part_at block (Some head) = part_by head.iface (frame_in block head) (seen_in (frame_in block head) head)
 
--- the fragment that a block is, or none
+-- the fragment in a block, or none
 abbrev pub part_of : Block → Option Fragment
 part_of block = part_at block block.packet
 

@@ -15,11 +15,11 @@ abbrev pub pended_by : Key → List Block → Block → Option Fragment → List
 pended_by key held block None = held
 pended_by key held block (Some part) = if is_same part.key key then (if part.has_more then held ++ block ∷ [] else []) else held
 
--- a block more: a fragment of the datagram is added, and the last one ends it
+-- one more block: a fragment of the datagram is added, and the last one ends the datagram
 abbrev pub pended : Key → List Block → Block → List Block
 pended key held block = pended_by key held block (part_of block)
 
--- the fragments of a datagram that no last one has followed yet
+-- the fragments of a datagram whose last one hasn't come yet
 abbrev pub pending : Key → List Block → List Block
 pending key blocks = fold (pended key) [] blocks
 
@@ -27,17 +27,18 @@ abbrev pub out_by : List Block → Block → Option Fragment → List ℕ
 out_by earlier block None = block.bytes
 out_by earlier block (Some part) = if part.has_more then [] else whole_of (pending part.key earlier) block
 
--- what is written of a block behind earlier ones: all of it, or of a fragment nothing but where it is the last
+-- the output for a block after earlier ones: the whole block; of a fragment nothing, except the
+-- whole datagram for the last one
 abbrev pub out_of : List Block → Block → List ℕ
 out_of earlier block = out_by earlier block (part_of block)
 
--- what is written of blocks behind earlier ones
+-- the output for blocks after earlier ones
 abbrev pub reassembled : List Block → List Block → List ℕ
 reassembled earlier [] = []
 reassembled earlier (block ∷ others) = out_of earlier block ++ reassembled (earlier ++ block ∷ []) others
 
--- A fragment fits: its frame has all of its data, which begins where that of the datagram's fragments before it ends, less than
--- 30 seconds behind the first.
+-- A fragment fits: its frame has all of its data, which begins where the datagram's fragments
+-- before it end, less than 30 seconds after the first.
 pub record FitsPart (earlier : List Block) (block : Block) (part : Fragment) : Type 0 where
   pub some : part.begin < part.end
   pub captured : part.end ≤ length (frame_of block)
@@ -48,7 +49,7 @@ pub record FitsPart (earlier : List Block) (block : Block) (part : Fragment) : T
 abbrev pub FitsBlock : List Block → Block → Type 0
 FitsBlock earlier block = (part : Fragment) → part_of block ≡ Some part → FitsPart earlier block part
 
--- each block fits behind those before it
+-- each block fits after those before it
 abbrev pub AreFit : List Block → List Block → Type 0
 AreFit earlier [] = Unit {0}
 AreFit earlier (block ∷ others) = FitsBlock earlier block × AreFit (earlier ++ block ∷ []) others
@@ -57,17 +58,17 @@ abbrev pub IsHeld : Option Begun → List Block → Type 0
 IsHeld None held = held ≡ []
 IsHeld (Some begun) held = IsBegun begun × (begun.fragments ≡ held)
 
--- what is kept of datagrams is what is pending of each
+-- the entry of each datagram is its pending fragments
 abbrev pub Holds : Opens → List Block → Type 0
 Holds opens blocks = (key : Key) → IsHeld (open_at opens key) (pending key blocks)
 
--- behind this text of a capture, which has these whole blocks
+-- after this text of a capture, which has these complete blocks
 pub record IsReassembling (reassembler : Reassembler) (text : List ℕ) (blocks : List Block) : Type 0 where
   pub splits : StandsFor reassembler.splitter text blocks
   pub holds : Holds reassembler.opens blocks
   pub fit : AreFit [] blocks
 
--- the piece was taken up to the rest, and what is written of the blocks that are whole now was added
+-- the piece was read up to the rest, and the output for the blocks that are complete now was added
 pub record GoesOn (reassembler : Reassembler) (text : List ℕ) (blocks : List Block) (piece rest before after : List ℕ) : Type 0 where
   pub taken : List ℕ
   pub more : List Block
@@ -75,7 +76,7 @@ pub record GoesOn (reassembler : Reassembler) (text : List ℕ) (blocks : List B
   pub reassembling : IsReassembling reassembler (text ++ taken) (blocks ++ more)
   pub added : after ≡ before ++ reassembled blocks more
 
--- the capture was a whole one, and no datagram lacks fragments
+-- the capture was whole, and no datagram has missing fragments
 pub record IsDone (text : List ℕ) (blocks : List Block) : Type 0 where
   pub whole : IsWhole text blocks
   pub fit : AreFit [] blocks

@@ -1,4 +1,4 @@
--- The packet that fragments are together.
+-- The packet of a reassembled datagram.
 use Rattle.std.specs.Prelude.{ℕ, ◌+◌, ◌-◌, List, [], ◌∷◌, ◌++◌, length, take, ◌%◌, ◌==◌, if◌then◌else◌}
 use Rattle.std.specs.List.{flat_map}
 use Rattle.std.specs.Int.{w16, w32, to_be_bytes, to_le_bytes}
@@ -13,8 +13,8 @@ use Rattle.prep_fragments.specs.Parts.{between, header_end, frame_of, data_of}
 abbrev pub datas_of : List Block → List ℕ
 datas_of blocks = flat_map data_of blocks
 
--- a frame's Ethernet and IPv4 headers with other data: the total length is that of the whole, and no fragment is said. All else stays, the
--- header's checksum too.
+-- a frame's Ethernet and IPv4 headers with other data: the total length is that of the whole, and
+-- the fragment fields are zero. All other bytes stay, including the header's checksum.
 abbrev pub frame_with : List ℕ → List ℕ → List ℕ
 frame_with frame payload =
     let at = ethernet_length frame in
@@ -25,11 +25,12 @@ abbrev pub word : ByteOrder → ℕ → List ℕ
 word Little n = to_le_bytes w32 n
 word Big n = to_be_bytes w32 n
 
--- the zeros that fill so many bytes up to a multiple of four
+-- the zeros that pad this number of bytes to a multiple of four
 abbrev pub filling : ℕ → List ℕ
 filling size = if size % 4 == 0 then [] else if size % 4 == 1 then 0 ∷ 0 ∷ 0 ∷ [] else if size % 4 == 2 then 0 ∷ 0 ∷ [] else 0 ∷ []
 
--- what stands before the data in an Enhanced Packet Block (section 4.3), with the interface and stamp of another one
+-- the fields before the data in an Enhanced Packet Block (section 4.3), with the interface and
+-- stamp of another block
 abbrev pub front_with : Block → ℕ → ℕ → List ℕ
 front_with last total size = word last.order 6 ++ word last.order total ++ between 8 20 last.bytes ++ word last.order size ++ word last.order size
 

@@ -1,4 +1,4 @@
-//! A datagram of which fragments are missing.
+//! A datagram with missing fragments.
 
 use audit_model::Listed;
 use prep_blocks::Block;
@@ -6,9 +6,9 @@ use prep_blocks::Block;
 /// The fragments of a datagram so far, in the order of their data.
 #[derive(Debug, Drop)]
 pub struct Begun {
-    /// The stamp of the first, nanoseconds since 1970.
+    /// The stamp of the first fragment, in nanoseconds since 1970.
     pub stamp: u64,
-    /// How many bytes of data they have.
+    /// The number of their data bytes.
     pub length: usize,
     pub fragments: Listed<Block>,
 }

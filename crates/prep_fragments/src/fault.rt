@@ -8,20 +8,20 @@ use audit_pcapng::CaptureFault;
 use std::alloc::{AllocError, AllocFailed};
 use std::fmt;
 
-/// Why a fragment is not put to those before it.
+/// Why a fragment doesn't continue those before it.
 #[derive(Clone, Copy, Debug, PartialEq, Eq)]
 pub enum FragmentFault {
-    /// Less was captured of it than the link had, or its frame ends before its data or has none.
+    /// It is truncated, or its frame ends before its data or has no data.
     Cut,
     /// It begins before the end of those before it.
     Overlap,
-    /// It begins behind the end of those before it, or has none before it.
+    /// It begins after the end of those before it, or there is none before it.
     Hole,
     /// The datagram has more than 65,535 bytes.
     Long,
-    /// It is 30 seconds or more behind the first one.
+    /// It is 30 seconds or more after the first one.
     Late,
-    /// It is the first of a datagram, and of 1,024 others fragments are missing.
+    /// It is the first of a datagram, and 1,024 other datagrams have missing fragments.
     Many,
 }
 
@@ -30,9 +30,9 @@ pub enum FragmentFault {
 pub enum ReassembleFault {
     /// The capture has a fault of its own, or there was no memory.
     Capture(CaptureFault),
-    /// A fragment can't be put to those before it.
+    /// A fragment doesn't continue those before it.
     Fragment(FragmentFault),
-    /// At the end of the capture fragments of so many datagrams are missing.
+    /// At the end of the capture this number of datagrams have missing fragments.
     Missing { datagrams: usize },
 }
 
@@ -70,14 +70,14 @@ impl From<FragmentFault> for ReassembleFault {
     }
 }
 
-/// A capture is refused, with its number.
+/// A refused capture, by its number.
 #[derive(Clone, Copy, Debug, PartialEq, Eq)]
 pub struct Refused {
     pub capture: u32,
     pub fault: ReassembleFault,
 }
 
-/// What is wrong with a fragment.
+/// The fault of a fragment, in words.
 impl fmt::Display for FragmentFault {
     fn fmt<W: fmt::Write>(&self, f: &mut fmt::Formatter<W>) -> fmt::Result {
         f.write_str(match self {
@@ -91,7 +91,7 @@ impl fmt::Display for FragmentFault {
     }
 }
 
-/// What standard error tells of it.
+/// The text for standard error.
 impl fmt::Display for Refused {
     fn fmt<W: fmt::Write>(&self, f: &mut fmt::Formatter<W>) -> fmt::Result {
         let number = self.capture;

@@ -5,7 +5,7 @@ ghost use Rattle.std.specs.Prelude.{◌≡◌};
 use crate::places::{number_of_four, place_of_data};
 use prep_frames::{content_place, number_at};
 
-/// Which datagram a fragment is of.
+/// The datagram to which a fragment belongs.
 #[derive(Clone, Copy, Debug, PartialEq, Eq, PartialOrd, Ord)]
 pub struct Key {
     /// The interface's number in the file.
@@ -16,15 +16,15 @@ pub struct Key {
     pub id: u16,
 }
 
-/// A fragment, by places in its frame.
+/// A fragment, by offsets in its frame.
 #[derive(Clone, Copy, Debug, PartialEq, Eq)]
 pub struct Fragment {
     pub key: Key,
-    /// Where in the datagram's data its own begins.
+    /// The offset of its data in the datagram's data.
     pub offset: usize,
     /// The flag "more fragments".
     pub has_more: bool,
-    /// Where in the frame the data begins and ends.
+    /// The offsets of the start and the end of its data in the frame.
     pub begin: usize,
     pub end: usize,
 }
@@ -32,7 +32,7 @@ pub struct Fragment {
 impl Fragment {
     ghost use Rattle.prep_fragments.specs.Parts.{fragment_of};
 
-    /// What the frame says of its fragment, where it has one.
+    /// Parses the fragment of a frame that has one.
     pub fn read(iface: u32, frame: &[u8]) -> Fragment
         ensures { result ≡ fragment_of iface frame.now }
     {

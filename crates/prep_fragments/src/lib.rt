@@ -1,4 +1,4 @@
-//! Captures in which the fragments of UDP datagrams over IPv4 are put together (RFC 791).
+//! Reassembles the fragments of UDP datagrams over IPv4 in captures (RFC 791).
 #![tactic(auto)]
 
 mod begun;

@@ -1,4 +1,4 @@
-//! The datagrams of which fragments are missing.
+//! The datagrams with missing fragments.
 
 ghost use Rattle.std.specs.Prelude.{◌≡◌, None, Some, IsTrue, OnOk, if◌then◌else◌};
 ghost use Rattle.prep_fragments.specs.declared.fragment.Key.{Key as AnyKey};
@@ -8,7 +8,7 @@ use crate::fragment::Key;
 use std::alloc::{AllocError, Global};
 use std::collections::BTreeMap;
 
-/// Begun datagrams by their keys, which strangers choose: so the map is ordered.
+/// Incomplete datagrams by their keys. Strangers choose the keys, so the map is ordered.
 #[derive(Drop)]
 pub struct Opens {
     opens: BTreeMap<Key, Begun>,
@@ -18,7 +18,7 @@ impl Opens {
     ghost use Rattle.prep_fragments.specs.Parts.{is_same};
     ghost use Rattle.prep_fragments.specs.Opens.{open_at};
 
-    /// None. It takes no memory.
+    /// No datagrams. It takes no memory.
     #[tactic(auto, unfolding(crate::specs::Opens::open_at))]
     pub fn new(alloc: Global) -> Self
         ensures { (key : AnyKey) → open_at result key ≡ None }
@@ -28,7 +28,7 @@ impl Opens {
         }
     }
 
-    /// How many there are.
+    /// The number of datagrams.
     pub fn len(&self) -> usize {
         self.opens.len()
     }
@@ -41,7 +41,7 @@ impl Opens {
         self.opens.is_empty()
     }
 
-    /// Takes one out, if it is there. It takes logarithmic time.
+    /// Removes one, if it is there. It takes logarithmic time.
     #[tactic(auto, unfolding(crate::specs::Opens::open_at))]
     pub fn take_out(&mut self, key: Key) -> Option<Begun>
         ensures found { result ≡ open_at self.old key }
@@ -50,7 +50,7 @@ impl Opens {
         self.opens.remove(&key)
     }
 
-    /// Puts one in the place of any other of its key. It takes logarithmic time.
+    /// Inserts one, in place of any other with its key. It takes logarithmic time.
     #[tactic(auto, unfolding(crate::specs::Opens::open_at))]
     pub fn put(&mut self, key: Key, begun: Begun) -> Result<(), AllocError>
         ensures { OnOk result ((other : AnyKey) → open_at self.new other ≡ (if is_same key other then Some begun else open_at self.old other)) }

@@ -1,4 +1,4 @@
-//! Where a frame's IPv4 header begins and ends, and the data behind it.
+//! The offsets of a frame's IPv4 header and of the data after it.
 
 ghost use Rattle.std.specs.Prelude.{◌≡◌, ◌≤◌};
 ghost use Rattle.audit_packets.specs.Frame.{long_number};
@@ -15,7 +15,7 @@ pub fn number_of_four(frame: &[u8], at: usize) -> u32
     u32::from(number_at(frame, at)) * 65_536 + u32::from(number_at(frame, at + 2))
 }
 
-/// Where the IPv4 header ends whose first byte is at this place.
+/// The end of the IPv4 header whose first byte is at this offset.
 pub fn place_of_data(frame: &[u8], at: usize) -> usize
     requires { at ≤ 22 }
     ensures exact { result ≡ header_end frame.now at }
@@ -24,7 +24,7 @@ pub fn place_of_data(frame: &[u8], at: usize) -> usize
     at + (byte_at(frame, at) % 16) as usize * 4
 }
 
-/// The bytes from a place to another, as far as they are there.
+/// The bytes from one offset to another, as far as they exist.
 #[tactic(auto, using(std::proofs::lemmas::List::drop_min, std::proofs::lemmas::List::take_min))]
 pub fn between(bytes: &[u8], from: usize, to: usize) -> &[u8]
     ensures { result.now ≡ between from to bytes.now }
@@ -34,7 +34,7 @@ pub fn between(bytes: &[u8], from: usize, to: usize) -> &[u8]
     part
 }
 
-/// The frame of a block; no bytes where it has no packet.
+/// The frame of a block; no bytes if it has no packet.
 pub fn frame_in(block: &Block) -> &[u8]
     ensures { result.now ≡ frame_of block.now }
 {

@@ -1,4 +1,4 @@
-//! Reassembling a capture that comes in pieces.
+//! Reassembles a capture that comes in pieces.
 
 ghost use Rattle.std.specs.Prelude.{◌++◌, [], ℕ, List, OnOk};
 ghost use Rattle.prep_blocks.specs.declared.block.Block.{Block};
@@ -9,8 +9,9 @@ use crate::taking::{Reassembled, take_block};
 use prep_blocks::BlockSplitter;
 use std::alloc::Global;
 
-/// Reassembles one capture that comes in pieces, cut anywhere. It keeps the one block that is not yet whole, and the fragments of datagrams
-/// that are not yet whole. After a fault it is thrown away.
+/// Reassembles one capture that comes in pieces, cut anywhere. It keeps the one block that is not
+/// yet complete, and the fragments of incomplete datagrams. After a fault it can't be used any
+/// more.
 #[derive(Drop)]
 pub struct Reassembler {
     splitter: BlockSplitter,
@@ -37,7 +38,8 @@ impl Reassembler {
         }
     }
 
-    /// Takes the next piece of the capture, and adds what is written of the blocks that are whole now.
+    /// Feeds the next piece of the capture, and adds the output for the blocks that are complete
+    /// now.
     pub fn feed(&mut self, piece: &[u8], out: &mut Vec<u8>) -> Result<(), ReassembleFault>
         ensures { (text : List ℕ) (blocks : List Block) → IsReassembling self.old text blocks →
             OnOk result (GoesOn self.new text blocks piece.now [] out.old.items out.new.items) }
@@ -53,7 +55,7 @@ impl Reassembler {
         Ok(())
     }
 
-    /// Ends the capture, in which no datagram may lack a fragment, and tells what was put together.
+    /// Ends the capture, in which no datagram may have missing fragments, and returns the counts.
     pub fn finish(&self) -> Result<Reassembled, ReassembleFault>
         ensures { (text : List ℕ) (blocks : List Block) → IsReassembling self.now text blocks → OnOk result (IsDone text blocks) }
     {

@@ -1,4 +1,4 @@
-//! Taking one block.
+//! The reassembly of one block.
 
 ghost use Rattle.std.specs.Prelude.{◌≡◌, ◌++◌, ◌∷◌, [], true, List, OnOk, if◌then◌else◌};
 ghost use Rattle.prep_fragments.specs.declared.fragment.Key.{Key as AnyKey};
@@ -19,20 +19,20 @@ use prep_blocks::Block;
 use prep_frames::seen_of;
 use std::alloc::Global;
 
-/// Fragments of so many datagrams may be missing at a time.
+/// At most this number of datagrams may have missing fragments at the same time.
 const MAX_OPEN: usize = 1_024;
 
-/// How long after its first fragment one may come, in nanoseconds.
+/// The longest time from the first fragment to another one, in nanoseconds.
 const LONGEST: u64 = 30_000_000_000;
 
-/// How many fragments were put together to how many datagrams.
+/// How many fragments were reassembled to how many datagrams.
 #[derive(Clone, Copy, Debug, PartialEq, Eq)]
 pub struct Reassembled {
     pub datagrams: u64,
     pub fragments: u64,
 }
 
-/// The fragment that a block is, or none.
+/// The fragment in a block, or `None`.
 fn part_of(block: &Block) -> Option<Fragment>
     ensures { result ≡ part_of block.now }
 {
@@ -44,7 +44,7 @@ fn part_of(block: &Block) -> Option<Fragment>
     }
 }
 
-/// The stamp of a block; 0 where it has no packet.
+/// The stamp of a block; 0 if it has no packet.
 fn stamp_of(block: &Block) -> u64
     ensures { result ≡ stamp_of block.now }
 {
@@ -54,7 +54,7 @@ fn stamp_of(block: &Block) -> u64
     }
 }
 
-/// Whether all of a packet was captured.
+/// Whether a packet isn't truncated.
 fn is_uncut(block: &Block) -> bool {
     match block.packet {
         Some(head) => head.captured >= head.original,
@@ -62,7 +62,8 @@ fn is_uncut(block: &Block) -> bool {
     }
 }
 
-/// Whether a fragment goes on where those of its datagram end that came before it, less than 30 seconds behind the first of them.
+/// Checks that a fragment begins where the earlier ones of its datagram end, less than 30 seconds
+/// after the first of them.
 fn check(
     block: &Block,
     part: &Fragment,
@@ -88,7 +89,7 @@ fn check(
     Ok(())
 }
 
-/// Takes the first fragment of a datagram.
+/// Adds the first fragment of a datagram.
 fn start(
     alloc: Global,
     opens: &mut Opens,
@@ -121,7 +122,7 @@ fn start(
     Ok(())
 }
 
-/// Takes a fragment that isn't the last one.
+/// Adds a fragment that is neither the first nor the last one.
 fn go_on(
     opens: &mut Opens,
     begun: Begun,
@@ -147,8 +148,9 @@ fn go_on(
     Ok(())
 }
 
-/// Takes the next block, and adds what is written of it: all of it, or of a fragment nothing but where it is the last of its datagram. The
-/// cost is the size of the block, and of what is written, and n log n in the datagrams of which fragments are missing.
+/// Adds the output for the next block: the whole block; of a fragment nothing, except the whole
+/// datagram for its last fragment. The cost is the size of the block and of the output, and n log n
+/// in the datagrams with missing fragments.
 pub fn take_block(
     alloc: Global,
     opens: &mut Opens,

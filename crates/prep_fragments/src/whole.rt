@@ -1,4 +1,4 @@
-//! The packet that fragments are together.
+//! The packet of a reassembled datagram.
 
 ghost use Rattle.std.specs.Prelude.{◌≡◌, ◌++◌, OnOk, IfOk};
 ghost use Rattle.prep_fragments.specs.Wholes.{datas_of, frame_with, word, filling, front_with, block_with, whole_of};
@@ -13,15 +13,15 @@ use std::alloc::{AllocError, Global};
 /// The type of an Enhanced Packet Block.
 const PACKET_BLOCK: u32 = 6;
 
-/// Where its interface and stamp stand, and where they end.
+/// The offsets of its interface and of the end of its stamp.
 const INTERFACE: usize = 8;
 
 const STAMP_END: usize = 20;
 
-/// Bytes of it without its data.
+/// The size of the block without its data, in bytes.
 const AROUND: u32 = 32;
 
-/// The most bytes of a frame that is put together: Ethernet with two tags, and the longest IPv4 packet.
+/// The most bytes of a reassembled frame: Ethernet with two tags, and the longest IPv4 packet.
 const MAX_FRAME: usize = 65_600;
 
 /// A number in a byte order.
@@ -44,7 +44,7 @@ fn put_datas(blocks: &[Block], out: &mut Vec<u8>) -> Result<(), AllocError>
     Ok(())
 }
 
-/// A frame's headers with other data, which an IPv4 packet can have.
+/// A frame's headers with other data, if an IPv4 packet can have it.
 fn frame_with(alloc: Global, frame: &[u8], payload: &[u8]) -> Result<Vec<u8>, ReassembleFault>
     ensures { IfOk result (λ made. made.items ≡ frame_with frame.now payload.now) }
 {
@@ -63,7 +63,7 @@ fn frame_with(alloc: Global, frame: &[u8], payload: &[u8]) -> Result<Vec<u8>, Re
     Ok(made)
 }
 
-/// The zeros that fill so many bytes up to a multiple of four.
+/// The zeros that pad this number of bytes to a multiple of four.
 fn filling(size: u32) -> &'static [u8]
     ensures { result.now ≡ filling size }
 {
@@ -75,7 +75,8 @@ fn filling(size: u32) -> &'static [u8]
     }
 }
 
-/// Adds what stands before a packet's data in its block, with the interface and the stamp of another one.
+/// Adds the fields before a packet's data in its block, with the interface and the stamp of another
+/// block.
 fn put_front(last: &Block, total: u32, size: u32, out: &mut Vec<u8>) -> Result<(), AllocError>
     ensures { OnOk result (out.new.items ≡ out.old.items ++ front_with last.now total size) }
 {
@@ -88,7 +89,7 @@ fn put_front(last: &Block, total: u32, size: u32, out: &mut Vec<u8>) -> Result<(
     Ok(())
 }
 
-/// Adds a packet's block with the interface and the stamp of another one, and this frame.
+/// Adds a packet's block with the interface and the stamp of another block, and this frame.
 fn put_block(last: &Block, frame: &[u8], out: &mut Vec<u8>) -> Result<(), ReassembleFault>
     ensures { OnOk result (out.new.items ≡ out.old.items ++ block_with last.now frame.now) }
 {
@@ -104,7 +105,7 @@ fn put_block(last: &Block, frame: &[u8], out: &mut Vec<u8>) -> Result<(), Reasse
     Ok(())
 }
 
-/// Adds the packet that a datagram's fragments are together, in the block of the last one.
+/// Adds the packet of a datagram's fragments, in the block of the last one.
 pub fn put_whole(
     alloc: Global,
     held: &[Block],

@@ -8,6 +8,6 @@ use Rattle.prep_blocks.specs.declared.block.PacketHead.{PacketHead}
 abbrev pub frame_in : Block → PacketHead → List ℕ
 frame_in block head = take head.captured (drop 28 block.bytes)
 
--- what they hold
+-- their content
 abbrev pub seen_in : List ℕ → PacketHead → Datagram
 seen_in frame head = datagram_of frame (nat_lt head.captured head.original)

@@ -8,10 +8,10 @@ use audit_packets::{Seen, slice_datagram};
 use audit_pcapng::PacketSlice;
 use prep_blocks::{Block, PacketHead};
 
-/// So many bytes of an Enhanced Packet Block stand before those of its packet.
+/// The number of bytes of an Enhanced Packet Block before its packet.
 pub const BEFORE_PACKET: usize = 28;
 
-/// The captured bytes of a packet's block; of one that ends too early, those that are there.
+/// The captured bytes of a packet's block; if the block ends too early, those that exist.
 #[tactic(auto, using(std::proofs::lemmas::List::drop_min, std::proofs::lemmas::List::take_min))]
 pub fn frame_of(block: &Block, head: PacketHead) -> &[u8]
     ensures { result.now ≡ frame_in block.now head }
@@ -22,7 +22,7 @@ pub fn frame_of(block: &Block, head: PacketHead) -> &[u8]
     frame
 }
 
-/// What a packet's frame holds. It takes no memory.
+/// Parses a packet's frame. It takes no memory.
 pub fn seen_of<'a>(frame: &'a [u8], head: PacketHead) -> Seen<'a>
     ensures { view result ≡ seen_in frame.now head }
 {

@@ -1,4 +1,4 @@
-//! The frame of a captured block: its bytes, what they hold, and where its IPv4 packet begins.
+//! The frame of a captured block: its bytes, its content, and the offset of its IPv4 packet.
 #![tactic(auto)]
 
 mod frame;

@@ -1,4 +1,4 @@
--- How many blocks of each kind there are, up to what 64 bits hold.
+-- The number of blocks of each kind, saturated at 64 bits.
 use Rattle.std.specs.Prelude.{ℕ, ◌+◌, List, fold}
 use Rattle.std.specs.Prelude.{min}
 use Rattle.audit_pcapng.specs.declared.block_kind.BlockKind.{BlockKind}
@@ -20,6 +20,6 @@ counted counts kinds.Packet = record counts { packets = one_more counts.packets 
 counted counts kinds.NoStamp = counts
 counted counts kinds.Other = counts
 
--- of the blocks of a capture
+-- the numbers for the blocks of a capture
 abbrev pub counts_of : List Block → Counts
 counts_of blocks = fold (λ (counts : Counts) (b : Block). counted counts b.kind) no_counts blocks

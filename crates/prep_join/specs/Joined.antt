@@ -1,4 +1,4 @@
--- What a joiner took in and what it gave.
+-- The input and the output of a joiner.
 use Rattle.std.specs.Prelude.{◌≡◌, ◌≢◌, ℕ, List, [], ◌∷◌, ◌++◌}
 use Rattle.audit_pcapng.specs.declared.packet.Packet.{Packet}
 use Rattle.audit_pcapng.specs.declared.fault.CaptureFault.TheVariants as blocks
@@ -14,14 +14,15 @@ use Rattle.prep_join.specs.Rings.{written_of, interfaces_of, first_of}
 use Rattle.prep_join.specs.Counted.{counts_of}
 use Rattle.prep_join.specs.Joining.{IsAt, AllFit, Refuses}
 
--- behind captures that are done, and this text of the one that comes, which has these whole blocks, each of which goes on
+-- after captures that are done, and this text of the present one, which has these complete blocks,
+-- each of which fits
 pub record IsJoining (joiner : Joiner) (done : List (List Block)) (text : List ℕ) (current : List Block) : Type 0 where
   pub splits : StandsFor joiner.splitter text current
   pub at : IsAt joiner.ring done current
   pub counts : joiner.counts ≡ counts_of current
   pub fits : AllFit done [] current
 
--- the piece was taken up to the rest, and of the blocks that are whole now was added what is written
+-- the piece was read up to the rest, and the output for the blocks that are complete now was added
 pub record GoesOn (joiner : Joiner) (done : List (List Block)) (text : List ℕ) (current : List Block) (piece rest before after : List ℕ) : Type 0 where
   pub taken : List ℕ
   pub more : List Block
@@ -29,7 +30,7 @@ pub record GoesOn (joiner : Joiner) (done : List (List Block)) (text : List ℕ)
   pub joining : IsJoining joiner done (text ++ taken) (current ++ more)
   pub added : after ≡ before ++ written_of done more
 
--- a block of the text doesn't go on with what was before
+-- a block of the text doesn't continue those before it
 pub record Misfits (fault : JoinFault) (done : List (List Block)) (text : List ℕ) (current : List Block) : Type 0 where
   pub more : List Block
   pub block : Block
@@ -47,7 +48,7 @@ IsRefused faults.LateInterface done text current = Misfits faults.LateInterface 
 IsRefused faults.Interfaces done text current = Misfits faults.Interfaces done text current
 IsRefused (faults.Early iface) done text current = Misfits (faults.Early iface) done text current
 
--- the capture was a whole one that goes on with those before, and had all interfaces of the first
+-- the capture was a whole one that continues those before, and had all interfaces of the first
 pub record IsDone (joiner : Joiner) (done : List (List Block)) (text : List ℕ) (current : List Block) (counts : Counts) : Type 0 where
   pub whole : IsWhole text current
   pub fits : AllFit done [] current
@@ -55,7 +56,7 @@ pub record IsDone (joiner : Joiner) (done : List (List Block)) (text : List ℕ)
   pub joining : IsJoining joiner (done ++ current ∷ []) [] []
   pub counted : counts ≡ counts_of current
 
--- it ended too early, or lacked interfaces
+-- the capture ended too early, or lacked interfaces
 abbrev pub IsUndone : JoinFault → List (List Block) → List ℕ → List Block → Type 0
 IsUndone (faults.Capture blocks.Torn) done text current = text ≢ bytes_of current
 IsUndone (faults.Capture blocks.NoSection) done text current = text ≡ []

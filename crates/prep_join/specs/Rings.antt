@@ -1,4 +1,4 @@
--- What of captures is joined, over lists of their blocks.
+-- The joined blocks, by lists of the captures' blocks.
 use Rattle.std.specs.Prelude.{◌≡◌, ℕ, ◌≤◌, ◌^◌, ◌-◌, Bool, true, false, not, List, [], ◌∷◌, ◌++◌, length, map, filter, fold, max, Option, Some, None, ◌==◌, if◌then◌else◌}
 use Rattle.std.specs.List.{concat}
 use Rattle.std.specs.Int.{w64}
@@ -56,7 +56,7 @@ head_kind kinds.Other = false
 abbrev pub is_head : Block → Bool
 is_head block = head_kind block.kind
 
--- behind captures that are done a block is written, unless it is a head
+-- after captures that are done, a block is written unless it is a head
 abbrev pub is_kept : List (List Block) → Block → Bool
 is_kept [] block = true
 is_kept (first ∷ others) block = not (is_head block)
@@ -66,11 +66,12 @@ abbrev pub all_of : List (List Block) → List Block
 all_of [] = []
 all_of (first ∷ others) = first ++ all_of others
 
--- what of a capture's blocks is written
+-- the written bytes of a capture's blocks
 abbrev pub written_of : List (List Block) → List Block → List ℕ
 written_of done blocks = bytes_of (filter (is_kept done) blocks)
 
--- the first capture whole, and of each other one all blocks but the section header and the interfaces
+-- the whole first capture, and of each other one all blocks except the section header and the
+-- interfaces
 abbrev pub joined : List (List Block) → List ℕ
 joined [] = []
 joined (first ∷ others) = bytes_of first ++ concat (map (λ (blocks : List Block). bytes_of (filter (λ (b : Block). not (is_head b)) blocks)) others)
@@ -83,7 +84,7 @@ interfaces_of blocks = bytes_of (filter is_interface blocks)
 abbrev pub orders_of : List Block → List ByteOrder
 orders_of blocks = map (λ (b : Block). b.order) (filter is_section blocks)
 
--- the first capture, be it done or not
+-- the first capture, done or not
 abbrev pub first_of : List (List Block) → List Block → List Block
 first_of [] current = current
 first_of (first ∷ others) current = first

@@ -1,4 +1,4 @@
--- What is known of sections and interfaces, and what they are refused for.
+-- The state of sections and interfaces, and why blocks are refused.
 use Rattle.std.specs.Prelude.{◌≡◌, ◌≢◌, ℕ, Bool, true, false, List, [], ◌∷◌, ◌++◌, length, drop}
 use Rattle.std.specs.Option.{option_to_list}
 use Rattle.std.specs.List.{list_any}
@@ -13,7 +13,7 @@ abbrev pub is_nil : List (List Block) → Bool
 is_nil [] = true
 is_nil (first ∷ others) = false
 
--- behind captures that are done, and blocks of the one that comes
+-- after captures that are done, and blocks of the present one
 pub record IsShaped (shape : Shape) (done : List (List Block)) (current : List Block) : Type 0 where
   pub number : shape.is_first ≡ is_nil done
   pub sections : shape.has_section ≡ list_any is_section current
@@ -23,14 +23,14 @@ pub record IsShaped (shape : Shape) (done : List (List Block)) (current : List B
   pub shown : shape.shown ≡ length (interfaces_of current)
   pub front : shape.interfaces.items ≡ interfaces_of current ++ drop shape.shown shape.interfaces.items
 
--- the block is in its place
+-- the block is in the right place
 pub record FitsShape (done : List (List Block)) (current : List Block) (block : Block) : Type 0 where
   pub one : is_section block ≡ true → list_any is_section current ≡ false
   pub unbounded : is_section block ≡ true → IsUnbounded block
   pub order : is_section block ≡ true → done ≢ [] → orders_of (first_of done current) ≡ block.order ∷ []
   pub early : is_interface block ≡ true → list_any is_data current ≡ false
 
--- what the block is refused for
+-- why the block is refused
 abbrev pub RefusesShape : JoinFault → List (List Block) → List Block → Block → Type 0
 RefusesShape (faults.Capture fault) done current block = fault ≡ Memory
 RefusesShape faults.TwoSections done current block = (is_section block ≡ true) × (list_any is_section current ≡ true)

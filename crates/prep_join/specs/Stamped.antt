@@ -1,4 +1,4 @@
--- What is known of stamps, and what a packet is refused for.
+-- The state of stamps, and why packets are refused.
 use Rattle.std.specs.Prelude.{◌≡◌, ℕ, ◌<◌, ◌≤◌, false, nat_eq, List, ◌++◌, Some, ◌==◌, ◌||◌}
 use Rattle.std.specs.List.{list_any}
 use Rattle.std.specs.HashMap.{get}
@@ -16,12 +16,13 @@ pub record IsStamped (stamps : Stamps) (done : List (List Block)) (current : Lis
   pub latest : (iface : ℕ) → get nat_eq stamps.latest iface ≡ latest_on iface (all_of done ++ current)
   pub begun : (iface : ℕ) → contains nat_eq stamps.begun iface ≡ list_any (is_on iface) current
 
--- one packet more
+-- one more packet
 pub record Notes (old new : Stamps) (head : PacketHead) : Type 0 where
   pub latest : (iface : ℕ) → get nat_eq new.latest iface ≡ with_stamp iface (get nat_eq old.latest iface) (Some head)
   pub begun : (iface : ℕ) → contains nat_eq new.begun iface ≡ (contains nat_eq old.begun iface || (head.iface == iface))
 
--- the interface has had no packet in this capture, and one in an earlier capture that is later than this packet
+-- the interface has no packet yet in this capture, and one in an earlier capture that is later than
+-- this packet
 abbrev pub IsEarly : JoinFault → Stamps → PacketHead → Type 0
 IsEarly (faults.Capture fault) stamps head = fault ≡ Memory
 IsEarly (faults.Early iface) stamps head = (iface ≡ head.iface) × (contains nat_eq stamps.begun iface ≡ false) × (latest : ℕ) × (get nat_eq stamps.latest iface ≡ Some latest) × (head.stamp < latest)

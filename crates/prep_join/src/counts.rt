@@ -1,11 +1,11 @@
-//! How many blocks a capture had.
+//! The numbers of blocks of a capture.
 
 ghost use Rattle.std.specs.Prelude.{◌≡◌};
 ghost use Rattle.prep_join.specs.Counted.{no_counts, counted};
 
 use audit_pcapng::BlockKind;
 
-/// How many blocks of some kinds a capture had.
+/// The numbers of blocks of some kinds in a capture.
 #[derive(Clone, Copy, Debug, PartialEq, Eq)]
 pub struct Counts {
     pub interfaces: u64,
@@ -14,7 +14,7 @@ pub struct Counts {
 }
 
 impl Counts {
-    /// Of no block.
+    /// No blocks.
     pub fn none() -> Self
         ensures { result ≡ no_counts }
     {
@@ -25,7 +25,7 @@ impl Counts {
         }
     }
 
-    /// With one block more; no count goes over 64 bits.
+    /// With one more block; the counts saturate at 64 bits.
     pub fn with(self, kind: BlockKind) -> Self
         ensures { result ≡ counted self kind }
     {

@@ -8,7 +8,7 @@ use audit_pcapng::CaptureFault;
 use std::alloc::{AllocError, AllocFailed};
 use std::fmt;
 
-/// What keeps a capture from being joined to those before it.
+/// Why a capture isn't joined to those before it.
 #[derive(Clone, Copy, Debug, PartialEq, Eq)]
 pub enum JoinFault {
     /// The capture has a fault of its own, or there was no memory.
@@ -19,7 +19,7 @@ pub enum JoinFault {
     SectionLength,
     /// Its byte order is not the first capture's.
     Order,
-    /// An interface block stands behind a packet or statistics.
+    /// An interface block follows a packet or statistics.
     LateInterface,
     /// Its interface blocks are not the first capture's.
     Interfaces,
@@ -51,14 +51,14 @@ impl<T: Drop> From<AllocFailed<T>> for JoinFault {
     }
 }
 
-/// A capture is refused, with its number.
+/// A refused capture, by its number.
 #[derive(Clone, Copy, Debug, PartialEq, Eq)]
 pub struct Refused {
     pub capture: u32,
     pub fault: JoinFault,
 }
 
-/// What standard error tells of it.
+/// The text for standard error.
 impl fmt::Display for Refused {
     fn fmt<W: fmt::Write>(&self, f: &mut fmt::Formatter<W>) -> fmt::Result {
         let number = self.capture;

@@ -1,4 +1,4 @@
-//! Joining captures that come in pieces.
+//! Joins captures that come in pieces.
 
 ghost use Rattle.std.specs.Prelude.{◌≡◌, ◌∷◌, ◌++◌, [], ℕ, List, OnOk, IfOk, IfErr};
 ghost use Rattle.prep_blocks.specs.declared.block.Block.{Block};
@@ -10,8 +10,9 @@ use crate::ring::Ring;
 use prep_blocks::BlockSplitter;
 use std::alloc::Global;
 
-/// Joins captures, each of which comes in pieces, cut anywhere. It keeps the one block that is not yet whole, and
-/// the interface blocks of the first capture. After a fault it is thrown away.
+/// Joins captures, each of which comes in pieces, cut anywhere. It keeps the one block that is not
+/// yet complete, and the interface blocks of the first capture. After a fault it can't be used any
+/// more.
 #[derive(Debug, Drop)]
 pub struct Joiner {
     splitter: BlockSplitter,
@@ -21,7 +22,7 @@ pub struct Joiner {
 }
 
 impl Joiner {
-    /// A joiner of no captures. It takes no memory.
+    /// A joiner before the first capture. It takes no memory.
     pub fn new(alloc: Global) -> Self
         ensures { IsJoining result [] [] [] }
     {
@@ -33,7 +34,8 @@ impl Joiner {
         }
     }
 
-    /// Takes the next piece of the capture that comes, and adds what is written of the blocks that are whole now.
+    /// Feeds the next piece of the present capture, and adds the output for the blocks that are
+    /// complete now.
     pub fn feed(&mut self, piece: &[u8], out: &mut Vec<u8>) -> Result<(), JoinFault>
         ensures ok { (done : List (List Block)) (text : List ℕ) (current : List Block) → IsJoining self.old done text current →
             OnOk result (GoesOn self.new done text current piece.now [] out.old.items out.new.items) }
@@ -54,7 +56,7 @@ impl Joiner {
         Ok(())
     }
 
-    /// Ends the capture that came, and tells how many blocks it had. The next one begins.
+    /// Ends the present capture, returns its numbers of blocks, and begins the next one.
     pub fn end(&mut self) -> Result<Counts, JoinFault>
         ensures ok { (done : List (List Block)) (text : List ℕ) (current : List Block) → IsJoining self.old done text current →
             IfOk result (λ counts. IsDone self.new done text current counts) }

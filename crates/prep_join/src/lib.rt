@@ -1,4 +1,4 @@
-//! Captures of one ring, in order, as one capture.
+//! Joins captures of one ring, in order, to one capture.
 #![tactic(auto)]
 
 mod counts;

@@ -1,4 +1,4 @@
-//! Which blocks go on with the captures before.
+//! Which blocks continue the earlier captures.
 
 ghost use Rattle.std.specs.Prelude.{◌≡◌, ◌≢◌, ◌∷◌, ◌++◌, [], List, OnOk, IfOk, IfErr};
 ghost use Rattle.prep_blocks.specs.declared.block.Block.{Block};
@@ -12,7 +12,7 @@ use crate::stamps::Stamps;
 use prep_blocks::Block;
 use std::alloc::Global;
 
-/// What the captures so far say about the next block.
+/// The requirements of the captures so far on the next block.
 #[derive(Debug, Drop)]
 pub struct Ring {
     shape: Shape,
@@ -30,7 +30,7 @@ impl Ring {
         }
     }
 
-    /// Takes the next block of this capture, and tells whether it is written.
+    /// Checks the next block of this capture, and returns whether it is written.
     pub fn take(&mut self, block: &Block) -> Result<bool, JoinFault>
         ensures ok { (done : List (List Block)) (current : List Block) → IsAt self.old done current →
             OnOk result (IsAt self.new done (current ++ block.now ∷ [])) }

@@ -1,4 +1,4 @@
-//! Sections and interfaces, which are the first capture's.
+//! Sections and interfaces, which are those of the first capture.
 
 ghost use Rattle.std.specs.Prelude.{◌≡◌, ◌≢◌, ◌≤◌, ◌∷◌, ◌++◌, [], true, ℕ, List, length, OnOk, IfErr};
 ghost use Rattle.prep_blocks.specs.declared.block.Block.{Block};
@@ -11,7 +11,7 @@ use audit_pcapng::{BlockKind, ByteOrder};
 use prep_blocks::Block;
 use std::alloc::Global;
 
-/// Which sections and interfaces came.
+/// The sections and interfaces so far.
 #[derive(Debug, Drop)]
 pub struct Shape {
     /// Whether the capture is the first one.
@@ -27,10 +27,10 @@ pub struct Shape {
     has_data: bool,
 }
 
-/// Where a section block states the section's length.
+/// The offset of the section's length in a section block.
 const SECTION_LENGTH: usize = 16;
 
-/// So many bytes it has at least up to the end of that field.
+/// The least number of bytes of a section block up to the end of that field.
 const SECTION_LENGTH_END: usize = 24;
 
 impl Shape {
@@ -48,7 +48,7 @@ impl Shape {
         }
     }
 
-    /// Takes the next block of this capture.
+    /// Checks the next block of this capture.
     pub fn take(&mut self, block: &Block) -> Result<(), JoinFault>
         ensures ok { (done : List (List Block)) (current : List Block) → IsShaped self.old done current →
             OnOk result (IsShaped self.new done (current ++ block.now ∷ [])) }
@@ -68,7 +68,8 @@ impl Shape {
         }
     }
 
-    /// Whether the block is written: all of the first capture's are, and of another one all but the section header and interfaces.
+    /// Whether the block is written: all of the first capture, and of a later one all except the
+    /// section header and the interfaces.
     pub fn keeps(&self, block: &Block) -> bool
         ensures { (done : List (List Block)) (current : List Block) → IsShaped self.now done current → result ≡ is_kept done block.now }
     {
@@ -78,7 +79,7 @@ impl Shape {
         }
     }
 
-    /// Ends this capture, which has to have had all interfaces of the first one.
+    /// Ends this capture, which must have had all interfaces of the first one.
     pub fn end(&mut self) -> Result<(), JoinFault>
         ensures ok { (done : List (List Block)) (current : List Block) → IsShaped self.old done current →
             OnOk result (IsShaped self.new (done ++ current ∷ []) []) }

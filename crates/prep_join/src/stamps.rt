@@ -12,7 +12,7 @@ use prep_blocks::{Block, PacketHead};
 use std::alloc::Global;
 use std::collections::{HashMap, HashSet};
 
-/// When each interface's packets came.
+/// The stamps of each interface's packets.
 #[derive(Debug, Drop)]
 pub struct Stamps {
     /// The latest stamp of each interface.
@@ -32,7 +32,7 @@ impl Stamps {
         }
     }
 
-    /// Takes the next block of this capture.
+    /// Checks the next block of this capture.
     pub fn take(&mut self, block: &Block) -> Result<(), JoinFault>
         ensures ok { (done : List (List Block)) (current : List Block) → IsStamped self.old done current →
             OnOk result (IsStamped self.new done (current ++ block.now ∷ [])) }
@@ -47,7 +47,7 @@ impl Stamps {
         }
     }
 
-    /// The next capture begins.
+    /// Begins the next capture.
     pub fn end(&mut self)
         ensures { (done : List (List Block)) (current : List Block) → IsStamped self.old done current →
             IsStamped self.new (done ++ current ∷ []) [] }
@@ -55,7 +55,8 @@ impl Stamps {
         self.begun.clear();
     }
 
-    /// A packet: the first of its interface in this capture is no earlier than those of earlier captures.
+    /// Records a packet. The first one of its interface in this capture may not be earlier than
+    /// those of earlier captures.
     fn note(&mut self, head: PacketHead) -> Result<(), JoinFault>
         ensures ok { OnOk result (Notes self.old self.new head) }
         ensures in_order { OnOk result (contains nat_eq self.old.begun head.iface ≡ false →

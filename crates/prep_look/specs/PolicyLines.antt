@@ -1,4 +1,4 @@
--- The lines of a page of `look` on addresses, with what the policy has of them.
+-- The lines about addresses on a page of `look`, with whether the policy has these.
 use Rattle.std.specs.Prelude.{ℕ, min, zero, suc, ◌+◌, ◌-◌, Bool, true, false, not, ◌==◌, ◌&&◌, ◌||◌, nat_lt, if◌then◌else◌, List, [], ◌∷◌, ◌++◌, is_some, length, take, drop, codes, decimal, slice_index}
 use Rattle.std.specs.Int.{w32, to_be_bytes}
 use Rattle.std.specs.List.{count_by, flat_map, prefix_len}
@@ -12,17 +12,18 @@ use Rattle.audit_model.specs.Policy.{listens, relays, is_of_service}
 use Rattle.prep_look.specs.declared.survey.Answers.{Answers}
 use Rattle.prep_look.specs.declared.told.ToldAddress.{ToldAddress}
 
--- `not-in-policy` where the policy doesn't listen
+-- `not-in-policy` if the policy doesn't listen
 abbrev pub ending : Bool → List ℕ
 ending true = codes "\n"
 ending false = codes " not-in-policy\n"
 
--- how many responses an address sent
+-- the number of responses of an address
 abbrev pub answer_by : Addr → Answers → Bool → List ℕ
 answer_by addr answers listens =
     codes "answers " ++ (addr_text addr ++ (codes " " ++ (decimal (min (min (answers.binding + answers.allocate) 18446744073709551615 + answers.other) 18446744073709551615) ++ ending listens)))
 
--- an address of the service where it doesn't relay, or one that grants allocations; others that answer are peers
+-- an address of the service that isn't a relayed one, or one that grants allocations; others that
+-- send responses are peers
 abbrev pub answer_line : Policy → Addr → Answers → List ℕ
 answer_line policy addr answers =
     if listens policy addr || (is_of_service policy addr.ip && not (relays policy addr)) || nat_lt 0 answers.allocate then answer_by addr answers (listens policy addr) else []
@@ -31,7 +32,7 @@ answer_line policy addr answers =
 abbrev pub silent_line : List (Addr × Answers) → Addr → List ℕ
 silent_line entries addr = if is_some (lookup (is_at (addr_cmp addr)) entries) then [] else codes "silent " ++ (addr_text addr ++ codes "\n")
 
--- each address that answers, and then the listen addresses that don't
+-- each address that sends responses, and then the listen addresses that don't
 abbrev pub answers_text : Policy → List (Addr × Answers) → List ℕ
 answers_text policy entries = flat_map (λ entry. answer_line policy entry.0 entry.1) entries ++ flat_map (silent_line entries) policy.listen
 
@@ -49,7 +50,7 @@ abbrev pub last_port : ℕ → List ToldAddress → ℕ
 last_port port [] = port
 last_port port (one ∷ granted) = last_port one.relayed.port granted
 
--- an IP address, and its ports that were granted
+-- an IP address, and its granted ports
 abbrev pub ports_text : ToldAddress → List ToldAddress → List ℕ
 ports_text first granted =
     codes "told " ++ (ip_text first.relayed.ip ++ (codes " ports " ++ (decimal (length granted)
@@ -63,7 +64,7 @@ counts_text policy granted =
 abbrev pub granted_line : Policy → ToldAddress → List ToldAddress → List ℕ
 granted_line policy first granted = ports_text first granted ++ counts_text policy granted
 
--- a line for each IP address whose relayed addresses stand together, at most so many
+-- a line for each IP address whose relayed addresses are adjacent, at most `n` lines
 abbrev pub granted_lines : ℕ → Policy → List ToldAddress → List ℕ
 granted_lines zero policy granted = []
 granted_lines (suc n) policy [] = []
@@ -71,6 +72,6 @@ granted_lines (suc n) policy (first ∷ granted) =
     granted_line policy first (take (prefix_len (is_of_ip first.relayed.ip) (first ∷ granted)) (first ∷ granted))
     ++ granted_lines n policy (drop (prefix_len (is_of_ip first.relayed.ip) (first ∷ granted)) (first ∷ granted))
 
--- of all of them
+-- the lines of all addresses
 abbrev pub granted_text : Policy → List ToldAddress → List ℕ
 granted_text policy granted = granted_lines (length granted) policy granted

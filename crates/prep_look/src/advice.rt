@@ -1,4 +1,4 @@
-//! What is advised.
+//! The advice of the page.
 
 use crate::losses::Losses;
 use crate::survey::Closed;
@@ -6,7 +6,8 @@ use crate::told::Alias;
 use prep_cut::ReasonKind;
 use std::fmt;
 
-/// A line of advice, as data. Interfaces have numbers as in a `SightId`; lengths of time are nanoseconds, and moments such since 1970.
+/// A line of advice, as data. Interfaces have numbers as in a `SightId`; durations are nanoseconds,
+/// and moments nanoseconds since 1970.
 #[derive(Clone, Copy, Debug)]
 pub enum Advice {
     /// An interface has no statistics.
@@ -20,16 +21,16 @@ pub enum Advice {
     },
     /// Fragments of the service: `reassemble`.
     Fragments(u64),
-    /// Datagrams of the service of which too little was captured.
+    /// Truncated datagrams of the service.
     Truncated(u64),
-    /// Frames that are too long, and ChannelData with more after its data.
+    /// Frames that are too long, and ChannelData with more than padding after its data.
     Merged {
         frames: u64,
         channel_data: u64,
     },
-    /// Another address is granted than is on the wire: `translate`.
+    /// The granted address differs from the one on the wire: `translate`.
     Translate(Alias),
-    /// There is what `cut` excludes.
+    /// Lines by which `cut` excludes something.
     Exclude {
         kind: ReasonKind,
         lines: u64,
@@ -43,7 +44,7 @@ pub enum Advice {
         by: u64,
         skew: u64,
     },
-    /// The server takes longer than the policy says.
+    /// The server takes longer than the policy's hold.
     Hold {
         longest: u64,
     },
@@ -57,10 +58,11 @@ pub enum Advice {
     Ended(Ended),
 }
 
-/// What the server relays for clients after its success responses to their Refresh requests with LIFETIME 0. `cut` can exclude it.
+/// Data that the server relays for clients after its success responses to their Refresh requests
+/// with LIFETIME 0. `cut` can exclude it.
 #[derive(Clone, Copy, Debug)]
 pub struct Relaying {
-    /// Of how many success responses.
+    /// The number of such success responses.
     pub deletions: u64,
     pub departures: u64,
     /// The longest time from a response to a departure, in nanoseconds.
@@ -68,7 +70,7 @@ pub struct Relaying {
 }
 
 impl Relaying {
-    /// The whole milliseconds that exclude all of it.
+    /// The least number of whole milliseconds that excludes all of it.
     pub fn milliseconds(&self) -> u64 {
         self.longest.div_ceil(1_000_000)
     }
@@ -81,6 +83,6 @@ pub struct Ended {
     /// The stamp of its last frame.
     pub end: u64,
     pub departures: u64,
-    /// How much longer the last interface was captured.
+    /// How much longer the last interface was captured, in nanoseconds.
     pub gap: u64,
 }

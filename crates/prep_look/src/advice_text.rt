@@ -110,7 +110,8 @@ fn what_is_excluded(kind: ReasonKind) -> &'static str {
     }
 }
 
-/// Of the interfaces of arrival and departure the later one is taken to have the wrong clock.
+/// Writes the line about clocks. Of the interfaces of arrival and departure, the later one is
+/// assumed to have the wrong clock.
 fn write_clocks<W: fmt::Write>(
     f: &mut fmt::Formatter<W>,
     interfaces: (u16, u16),

@@ -1,4 +1,4 @@
-//! Advising, by what was found.
+//! Makes the advice from the findings.
 
 use crate::advice::{Advice, Ended, Relaying};
 use crate::crossings::{Crossings, find_crossings};
@@ -14,7 +14,7 @@ use prep_cut::ReasonKind;
 use prep_reasons::Sheet;
 use std::alloc::{AllocError, Global};
 
-/// What is found of the service.
+/// The findings about the service.
 #[derive(Drop)]
 pub(crate) struct Findings {
     pub(crate) answered: Answered,
@@ -23,16 +23,17 @@ pub(crate) struct Findings {
     losses: Option<Losses>,
     relaying: Option<Relaying>,
     ended: Option<Ended>,
-    /// Relayed addresses of nobody, up to the end of the interface that ended.
+    /// The number of relayed addresses without a client, up to the end of the interface that ended.
     unknown_addresses: u64,
-    /// When the last datagram left a listen address.
+    /// The stamp of the last datagram that left a listen address.
     last_response: u64,
 }
 
-/// Clocks are taken to differ if so many departures come before their arrivals.
+/// Clocks are assumed to differ if at least this number of departures come before their arrivals.
 const LEAST_CROSSINGS: u64 = 3;
 
-/// What is advised of captures, in the order of the page. The cost is the number of records times its logarithm.
+/// The advice about captures, in the order of the page. The cost is the number of records times its
+/// logarithm.
 pub fn advice_of(
     alloc: Global,
     survey: &Survey,
@@ -43,7 +44,7 @@ pub fn advice_of(
     advise(alloc, survey, policy, &found)
 }
 
-/// What the records show.
+/// Finds what the records show.
 pub(crate) fn find_all(
     alloc: Global,
     survey: &Survey,
@@ -68,7 +69,7 @@ pub(crate) fn find_all(
     })
 }
 
-/// When the last datagram left a listen address; 0 if none did.
+/// The stamp of the last datagram that left a listen address; 0 if none did.
 fn last_response(policy: &Policy, sheet: &Sheet<'_>) -> u64 {
     let mut last = 0u64;
     for at in 0..sheet.len() {
@@ -81,7 +82,7 @@ fn last_response(policy: &Policy, sheet: &Sheet<'_>) -> u64 {
     last
 }
 
-/// What is advised, in the order of the page.
+/// Makes the advice, in the order of the page.
 pub(crate) fn advise(
     alloc: Global,
     survey: &Survey,
@@ -152,7 +153,8 @@ fn of_frames(survey: &Survey, policy: &Policy, all: &mut Vec<Advice>) -> Result<
     Ok(())
 }
 
-/// The kinds for which `cut` is advised, in the order of the page. Those that go with clients from before are no lines of their own.
+/// The kinds for which `cut` is advised, in the order of the page. The kinds that belong to clients
+/// from before have no lines of their own.
 const ADVISED: [ReasonKind; 7] = [
     ReasonKind::Client,
     ReasonKind::Address,
@@ -178,7 +180,7 @@ fn of_unjudged(
     Ok(())
 }
 
-/// Whose an address is that nobody is seen to have, fragments may show.
+/// Adds the advice of one kind. Fragments may show who has an address that nobody is seen to have.
 fn of_kind(
     found: &Findings,
     one: &Unjudged,

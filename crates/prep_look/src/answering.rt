@@ -1,4 +1,4 @@
-//! The lines of addresses that answer.
+//! The lines of addresses that send responses.
 
 ghost use Rattle.std.specs.Prelude.{◌≡◌, ◌++◌, IfOk, OnOk, string_bytes};
 ghost use Rattle.std.specs.List.{flat_map};
@@ -9,14 +9,14 @@ use audit_model::{Addr, Policy};
 use std::alloc::{AllocError, Global};
 use std::collections::BTreeMap;
 
-/// How the line of an address that answers ends.
+/// The end of such a line.
 fn ending(listens: bool) -> &'static str
     ensures { result.now ≡ ending listens }
 {
     if listens { "\n" } else { " not-in-policy\n" }
 }
 
-/// The line of an address that answers.
+/// The line of an address that sends responses.
 fn line_of_answers(
     alloc: Global,
     addr: Addr,
@@ -33,8 +33,8 @@ fn line_of_answers(
     format!(in alloc; "answers {addr} {count}{ending}")
 }
 
-/// Adds the line of an address that answers, where it is one of the service or grants allocations: the others that answer a Binding are
-/// peers.
+/// Adds the line of an address that sends responses, if it is one of the service or grants
+/// allocations: others that respond to a Binding are peers.
 fn push_answers(
     alloc: Global,
     text: &mut String,
@@ -52,7 +52,7 @@ fn push_answers(
     Ok(())
 }
 
-/// Adds the line of a listen address, where it doesn't answer.
+/// Adds the line of a listen address, if it sends no response.
 fn push_silent(
     alloc: Global,
     text: &mut String,
@@ -68,7 +68,7 @@ fn push_silent(
     Ok(())
 }
 
-/// Adds the lines of the listen addresses that don't answer.
+/// Adds the lines of the listen addresses that send no response.
 fn push_all_silent(
     alloc: Global,
     text: &mut String,
@@ -83,7 +83,7 @@ fn push_all_silent(
     Ok(())
 }
 
-/// The lines of all addresses that answer, and of the listen addresses that don't.
+/// The lines of all addresses that send responses, and of the listen addresses that don't.
 pub(crate) fn lines_of_answers(
     alloc: Global,
     answers: &BTreeMap<Addr, Answers>,

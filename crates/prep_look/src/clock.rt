@@ -1,8 +1,8 @@
-//! When an interface's statistics were written (draft-ietf-opsawg-pcapng).
+//! The time at which an interface's statistics were written (draft-ietf-opsawg-pcapng).
 
 use prep_blocks::Block;
 
-/// Where the options of an Interface Description Block begin, and its length stands after them.
+/// The offset of the options in an Interface Description Block; the block's length follows them.
 const OPTIONS: usize = 16;
 
 /// The option with the resolution of stamps, and the one with their offset.
@@ -10,10 +10,10 @@ const RESOLUTION: u16 = 9;
 
 const OFFSET: u16 = 14;
 
-/// Where a statistics block has its moment, in ticks: the upper half first.
+/// The offset of the moment in a statistics block, in ticks, with the upper half first.
 const MOMENT: usize = 12;
 
-/// How many nanoseconds a tick of an interface has, whose description this is. None if stamps have an offset or
+/// The nanoseconds of a tick, by an interface's description. `None` if stamps have an offset or
 /// another resolution than seconds, milliseconds, microseconds or nanoseconds.
 pub(crate) fn nanoseconds_of_tick(block: &Block) -> Option<u64> {
     let bytes = block.bytes.as_slice();
@@ -36,7 +36,7 @@ pub(crate) fn nanoseconds_of_tick(block: &Block) -> Option<u64> {
     tick
 }
 
-/// Of a resolution in seconds, milliseconds, microseconds or nanoseconds.
+/// The tick of a resolution in seconds, milliseconds, microseconds or nanoseconds.
 fn tick_of(resolution: u8) -> Option<u64> {
     match resolution {
         0 => Some(1_000_000_000),
@@ -47,7 +47,7 @@ fn tick_of(resolution: u8) -> Option<u64> {
     }
 }
 
-/// When a statistics block was written, in nanoseconds since 1970.
+/// The time at which a statistics block was written, in nanoseconds since 1970.
 pub(crate) fn closing_time(block: &Block, tick: Option<u64>) -> Option<u64> {
     let bytes = block.bytes.as_slice();
     if bytes.len() < MOMENT + 8 {

@@ -1,4 +1,4 @@
-//! Data that arrives by one interface and leaves by another.
+//! Data that arrives on one interface and leaves on another.
 
 use audit_model::Side;
 use prep_reasons::Sheet;
@@ -6,10 +6,11 @@ use prep_records::{Content, Record};
 use std::alloc::{AllocError, Global};
 use std::collections::BTreeMap;
 
-/// Longer delays are none, in nanoseconds: twice as far as two clocks may differ.
+/// The limit of a delay, in nanoseconds: twice the most by which two clocks may differ.
 const LONGEST: u64 = 60_000_000_000;
 
-/// How long after their arrivals departures of the same data come, in nanoseconds. By wrong clocks they come before.
+/// How long after their arrivals departures of the same data come, in nanoseconds. With wrong
+/// clocks they come before.
 #[derive(Clone, Copy, Debug)]
 pub(crate) struct Crossing {
     pub(crate) count: u64,
@@ -17,12 +18,14 @@ pub(crate) struct Crossing {
     pub(crate) longest: i64,
 }
 
-/// What is relayed.
+/// The relayed data.
 #[derive(Drop)]
 pub(crate) struct Crossings {
-    /// By the interface of the arrival and that of the departure, of data that arrived once and left once.
+    /// By the interface of the arrival and that of the departure, for data that arrived once and
+    /// left once.
     pub(crate) between: BTreeMap<(u16, u16), Crossing>,
-    /// The stamps of departures that are more than the arrivals of their data, and that `cut` doesn't exclude.
+    /// The stamps of surplus departures, which outnumber the arrivals of their data and which `cut`
+    /// doesn't exclude.
     pub(crate) causeless: Vec<u64>,
 }
 
@@ -36,18 +39,18 @@ struct Carried {
     iface: u16,
 }
 
-/// Those with the same data so far.
+/// The datagrams with the same data so far.
 #[derive(Clone, Copy)]
 struct Group {
     arrivals: u64,
     departures: u64,
-    /// The last one that arrived, and the last one that left.
+    /// The last arrival, and the last departure.
     arrival: Carried,
     departure: Carried,
 }
 
 impl Group {
-    /// Of one.
+    /// A group of one datagram.
     fn of(one: &Carried) -> Self {
         Group {
             arrivals: u64::from(!one.leaves),
@@ -61,7 +64,7 @@ impl Group {
         self.arrival.digest == one.digest && self.arrival.is_for_peer == one.is_for_peer
     }
 
-    /// With one more.
+    /// With one more datagram.
     fn with(self, one: &Carried) -> Self {
         if one.leaves {
             Group {
@@ -79,7 +82,7 @@ impl Group {
     }
 }
 
-/// What the records show to be relayed. The cost is their number times its logarithm.
+/// Finds the relayed data in the records. The cost is their number times its logarithm.
 pub(crate) fn find_crossings(alloc: Global, sheet: &Sheet<'_>) -> Result<Crossings, AllocError> {
     let carried = carried_in(alloc, sheet)?;
     let mut all = Crossings {
@@ -113,7 +116,8 @@ pub(crate) fn find_crossings(alloc: Global, sheet: &Sheet<'_>) -> Result<Crossin
     Ok(all)
 }
 
-/// The numbers of the records with data: those with the same data that go the same way stand together, arrivals first.
+/// The numbers of the records with data. Those with the same data in the same direction are
+/// adjacent, arrivals first.
 fn carried_in(alloc: Global, sheet: &Sheet<'_>) -> Result<Vec<u32>, AllocError> {
     let mut all = Vec::new(alloc);
     for at in 0..sheet.len() {
@@ -147,7 +151,7 @@ fn carried_by(record: &Record) -> Option<Carried> {
     })
 }
 
-/// How long after a moment another one is, below the longest delay.
+/// The delay from one moment to another, if it is below the limit.
 fn delay(from: u64, to: u64) -> Option<i64> {
     let by = from.abs_diff(to);
     if by >= LONGEST {
@@ -160,7 +164,7 @@ fn delay(from: u64, to: u64) -> Option<i64> {
 }
 
 impl Crossings {
-    /// Notes a whole group.
+    /// Records a whole group.
     fn note(&mut self, group: &Group) -> Result<(), AllocError> {
         if group.arrivals != 1 || group.departures != 1 {
             return Ok(());

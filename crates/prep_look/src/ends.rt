@@ -7,10 +7,11 @@ use prep_reasons::Sheet;
 use std::alloc::{AllocError, Global};
 use std::collections::BTreeSet;
 
-/// A capture's interfaces end together, if they end within this time of each other, in nanoseconds.
+/// A capture's interfaces end together if they end within this time of each other, in nanoseconds.
 const TOGETHER: u64 = 1_000_000_000;
 
-/// The first interface, by its end, after which departures without a cause left before the next one's end.
+/// The first interface, by its end, after which surplus departures left before the next interface's
+/// end.
 pub(crate) fn find_ended(
     alloc: Global,
     interfaces: &[Interface],
@@ -52,7 +53,7 @@ fn last_stamp(interfaces: &[Interface]) -> u64 {
     last
 }
 
-/// The ends, in order, of the interfaces at which something arrives and that may have ended then.
+/// The ends, in order, of the interfaces with arrivals that may have ended then.
 fn ends_of(
     alloc: Global,
     interfaces: &[Interface],
@@ -70,8 +71,8 @@ fn ends_of(
     Ok(ends)
 }
 
-/// Whether an interface may have been captured no longer than to its last frame: its statistics were written soon afterwards, if they say
-/// when, or all interfaces end then.
+/// Whether the capture of an interface may have ended at its last frame: its statistics were
+/// written soon afterwards, if they have a time, or all interfaces end then.
 fn may_end(interface: &Interface, last: u64) -> bool {
     let end = interface.stamps.last.saturating_add(TOGETHER);
     match interface.until {

@@ -23,7 +23,7 @@ fn count_on_wire(granted: &[ToldAddress]) -> u64
     count
 }
 
-/// How many of them the policy has.
+/// How many of these addresses the policy has.
 fn count_in_policy(granted: &[ToldAddress], policy: &Policy) -> u64
     ensures { result ≡ count_by (λ one. relays policy.now one.relayed) granted.now }
 {
@@ -36,7 +36,7 @@ fn count_in_policy(granted: &[ToldAddress], policy: &Policy) -> u64
     count
 }
 
-/// The port of the last one, or this one.
+/// The port of the last address, or this port.
 fn last_port(granted: &[ToldAddress], port: u16) -> u16
     ensures { result ≡ last_port port granted.now }
 {
@@ -47,7 +47,7 @@ fn last_port(granted: &[ToldAddress], port: u16) -> u16
     last
 }
 
-/// An IP address, and its ports that were granted.
+/// The text of an IP address and its granted ports.
 fn text_of_ports(
     alloc: Global,
     first: &ToldAddress,
@@ -62,7 +62,7 @@ fn text_of_ports(
     format!(in alloc; "told {ip} ports {ports} from {from} to {to}")
 }
 
-/// How many of them are on the wire, and how many the policy has.
+/// The text of how many of them are on the wire, and how many the policy has.
 fn text_of_counts(
     alloc: Global,
     granted: &[ToldAddress],
@@ -75,7 +75,7 @@ fn text_of_counts(
     format!(in alloc; " on-wire {on_wire} in-policy {in_policy}\n")
 }
 
-/// The line of an IP address, of which these are the relayed addresses, by their ports.
+/// The line of an IP address with these relayed addresses, in the order of ports.
 fn line_of(
     alloc: Global,
     first: &ToldAddress,

@@ -1,4 +1,4 @@
-//! A policy out of what captures show, where none is said.
+//! Guesses a policy from the captures, if none is named.
 
 use crate::survey::Survey;
 use audit_model::{Addr, Policy, PolicyFault, PolicyFaultKind, read_policy};
@@ -7,18 +7,18 @@ use std::collections::BTreeMap;
 use std::fmt;
 use std::fmt::Write;
 
-/// Why no policy is guessed.
+/// Why no policy can be guessed.
 #[derive(Clone, Copy, Debug, PartialEq, Eq)]
 pub enum GuessFault {
-    /// Nothing answers.
+    /// No address sends responses.
     NoAnswer,
-    /// What answers makes no policy.
+    /// The addresses with responses make no policy.
     NoPolicy,
-    /// There was no memory.
+    /// Out of memory.
     Memory,
 }
 
-/// What standard error tells of it.
+/// The text for standard error.
 impl fmt::Display for GuessFault {
     fn fmt<W: fmt::Write>(&self, f: &mut fmt::Formatter<W>) -> fmt::Result {
         f.write_str(match self {
@@ -50,19 +50,19 @@ impl From<PolicyFault> for GuessFault {
     }
 }
 
-/// A policy that is guessed.
+/// A guessed policy.
 #[derive(Debug, Drop)]
 pub struct Guess {
     /// With the addresses on the wire.
     pub policy: Policy,
-    /// With the addresses that clients are told, as a text.
+    /// The same with the addresses that clients were granted, as a text.
     pub suggested: String,
 }
 
-/// The ports that are used unless others are said (RFC 8656, section 7.2).
+/// The default ports (RFC 8656, section 7.2).
 const LEAST_PORT: u16 = 49_152;
 
-/// Ports of an address from which the server relays, up to 65535.
+/// The ports of an address from which the server relays, up to 65535.
 #[derive(Clone, Copy)]
 struct Range {
     wire: u32,
@@ -70,8 +70,9 @@ struct Range {
     low: u16,
 }
 
-/// Guesses that those listen that grant allocations, or else that send other responses of TURN, or else to Binding, and that the server
-/// relays from the addresses that it grants.
+/// Guesses that the listen addresses are those that grant allocations, or else those that send
+/// other TURN responses, or else those that respond to Binding, and that the server relays from the
+/// addresses that it grants.
 pub fn guess_policy(alloc: Global, survey: &Survey) -> Result<Guess, GuessFault> {
     let listen = listening(alloc, survey)?;
     if listen.is_empty() {

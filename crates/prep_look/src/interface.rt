@@ -1,4 +1,4 @@
-//! What is counted of an interface.
+//! The counts of an interface.
 
 ghost use Rattle.std.specs.Prelude.{◌≡◌, ◌+◌, ◌<◌, ◌^◌, None};
 
@@ -10,16 +10,16 @@ use std::collections::BTreeMap;
 #[derive(Clone, Copy, Debug, PartialEq, Eq)]
 pub(crate) struct Stamps {
     pub(crate) frames: u64,
-    /// The least and the greatest: 0 of no frame.
+    /// The least and the greatest; 0 without a frame.
     pub(crate) first: u64,
     pub(crate) last: u64,
-    /// How many are less than an earlier one, and the most by which one is.
+    /// How many are less than an earlier one, and the greatest such difference.
     pub(crate) back: u64,
     pub(crate) most: u64,
 }
 
 impl Stamps {
-    /// Of no frame.
+    /// No frame.
     pub(crate) fn none() -> Self
         ensures { result.frames ≡ 0 }
     {
@@ -32,7 +32,7 @@ impl Stamps {
         }
     }
 
-    /// With a frame more.
+    /// With one more frame.
     pub(crate) fn with(self, stamp: u64) -> Self
         ensures { self.frames + 1 < 2 ^ 64 → result.frames ≡ self.frames + 1 }
     {
@@ -56,26 +56,27 @@ impl Stamps {
     }
 }
 
-/// What is counted of an interface.
+/// The counts of an interface.
 #[derive(Debug, Drop)]
 pub(crate) struct Interface {
-    /// As in a `SightId`: 64 times the capture's number, plus the interface's number in the capture.
+    /// As in a `SightId`: 64 times the capture's number, plus the interface's number in the
+    /// capture.
     pub(crate) number: u32,
     pub(crate) stamps: Stamps,
     /// UDP over IPv4, of the service or not.
     pub(crate) datagrams: u64,
     /// Statistics blocks.
     pub(crate) statistics: u64,
-    /// How many nanoseconds a tick of its stamps has, if that is known.
+    /// The nanoseconds of a tick of its stamps, if known.
     pub(crate) tick: Option<u64>,
-    /// When its last statistics were written; none if they don't say it.
+    /// The time at which its last statistics were written; `None` if they don't have it.
     pub(crate) until: Option<u64>,
-    /// Frames that hold no such datagram.
+    /// Frames without such a datagram.
     pub(crate) passed: BTreeMap<Passed, u64>,
 }
 
 impl Interface {
-    /// Without a frame. It takes no memory.
+    /// Before the first frame. It takes no memory.
     pub(crate) fn new(alloc: Global, number: u32, tick: Option<u64>) -> Self {
         Interface {
             number,
@@ -88,7 +89,7 @@ impl Interface {
         }
     }
 
-    /// Counts a frame that is passed over.
+    /// Counts a skipped frame.
     pub(crate) fn pass(&mut self, passed: Passed) -> Result<(), AllocError> {
         let count = match self.passed.get(&passed) {
             Some(count) => *count,

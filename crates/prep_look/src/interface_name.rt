@@ -2,11 +2,11 @@
 
 use std::fmt;
 
-/// How many interface numbers each capture has.
+/// The number of interface numbers for each capture.
 const INTERFACES: u32 = 64;
 
-/// An interface, by the number that the policy and reports have; of a later capture than the first
-/// also by its number there.
+/// An interface, by its number in the policy and in reports; for captures after the first one also
+/// by its number in the capture.
 #[derive(Clone, Copy, Drop)]
 pub(crate) struct InterfaceName(pub(crate) u32);
 

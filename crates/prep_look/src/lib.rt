@@ -1,4 +1,5 @@
-//! The page that is read before an audit: what captures hold, and what is advised. What it says of the policy's addresses is proved.
+//! The page that is read before an audit: the contents of captures, and advice. Its lines about the
+//! policy's addresses are proved.
 #![tactic(auto)]
 
 mod advice;

@@ -1,17 +1,17 @@
-//! Allocations that are gone before their end, as by a restart.
+//! Allocations that were lost before their end, as by a restart.
 
 use audit_model::Side;
 use audit_stun::numbers::method;
 use prep_reasons::{Exchanged, Sheet};
 use std::alloc::{AllocError, Global};
 
-/// What shows that allocations were lost. Moments are nanoseconds since 1970.
+/// The responses that show lost allocations. Moments are nanoseconds since 1970.
 #[derive(Clone, Copy, Debug)]
 pub struct Losses {
     pub count: u64,
-    /// When the first request arrived whose response shows it.
+    /// The stamp of the first request whose response shows a loss.
     pub first: u64,
-    /// The longest time before in which nothing left.
+    /// The longest time before `first` in which nothing left.
     pub quiet_from: u64,
     pub quiet_to: u64,
 }
@@ -20,11 +20,11 @@ pub struct Losses {
 #[derive(Clone, Copy)]
 struct Lease {
     end: u64,
-    /// Of the Allocate that made it.
+    /// The transaction id of the Allocate that made it.
     tid: [u8; 12],
 }
 
-/// The losses that responses show, if some do.
+/// The losses that responses show, if any.
 pub(crate) fn find_losses(alloc: Global, sheet: &Sheet<'_>) -> Result<Option<Losses>, AllocError> {
     let mut leases: Vec<Option<Lease>> = vec![in alloc; None; sheet.pair_count() as usize]?;
     let mut count = 0u64;
@@ -52,7 +52,7 @@ pub(crate) fn find_losses(alloc: Global, sheet: &Sheet<'_>) -> Result<Option<Los
     })
 }
 
-/// Whether a response shows that the allocation is gone that its client had.
+/// Whether a response shows that the allocation of its client was lost.
 fn is_lost(lease: Option<Lease>, answer: &Exchanged) -> bool {
     let Some(lease) = lease else {
         return false;
@@ -68,7 +68,7 @@ fn is_lost(lease: Option<Lease>, answer: &Exchanged) -> bool {
     is_new || (needs && answer.fails(437))
 }
 
-/// The allocation behind a response.
+/// The allocation after a response.
 fn lease_behind(lease: Option<Lease>, answer: &Exchanged) -> Option<Lease> {
     let end = answer.lease_end();
     if answer.succeeds(method::ALLOCATE) {
@@ -81,7 +81,7 @@ fn lease_behind(lease: Option<Lease>, answer: &Exchanged) -> Option<Lease> {
     }
 }
 
-/// With the longest time before the first in which nothing left.
+/// With the longest time before the first request in which nothing left.
 fn before(sheet: &Sheet<'_>, count: u64, first: u64) -> Losses {
     let mut found = Losses {
         count,
@@ -103,7 +103,7 @@ fn before(sheet: &Sheet<'_>, count: u64, first: u64) -> Losses {
 }
 
 impl Losses {
-    /// With the time from a departure, if there was one, to a moment, where it is the longest.
+    /// With the time from a departure, if there was one, to a moment, if it is the longest.
     fn with_quiet(self, from: Option<u64>, to: u64) -> Self {
         let Some(from) = from else {
             return self;

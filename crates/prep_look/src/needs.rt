@@ -1,4 +1,4 @@
-//! What captures need before an audit, as `turnprep ready` decides it.
+//! What captures need before an audit, for `turnprep ready`.
 
 use crate::advice::Advice;
 use crate::advising::{advise, find_all};
@@ -18,7 +18,7 @@ pub struct Restart {
     pub since: u64,
 }
 
-/// An IPv4 address that clients are granted in the place of the one on the server's interface.
+/// An IPv4 address that clients are granted instead of the one on the server's interface.
 #[derive(Clone, Copy, Debug, PartialEq, Eq)]
 pub struct Announced {
     pub public: u32,
@@ -34,11 +34,12 @@ pub struct Needs {
     pub until: Option<u64>,
     /// The server was restarted.
     pub restart: Option<Restart>,
-    /// What is advised in addition, a line each.
+    /// Further advice, a line each.
     pub notes: String,
 }
 
-/// What captures need, if so many milliseconds after deletions are excluded. The cost is the number of records times its logarithm.
+/// What captures need, if data up to this number of milliseconds after deletions is excluded. The
+/// cost is the number of records times its logarithm.
 pub fn needs_of(
     alloc: Global,
     survey: &Survey,
@@ -66,7 +67,7 @@ pub fn needs_of(
 }
 
 impl Needs {
-    /// With a line of advice.
+    /// Adds the need by a line of advice.
     fn take(&mut self, advice: &Advice) -> Result<(), AllocError> {
         match advice {
             Advice::Exclude { .. } => {}
@@ -90,7 +91,8 @@ impl Needs {
 }
 
 impl Survey {
-    /// Whether there are fragments of UDP datagrams over IPv4 with an address of the service, or with one of these.
+    /// Whether there are fragments of UDP datagrams over IPv4 with an address of the service, or
+    /// with one of these.
     pub fn has_fragments(&self, policy: &Policy, ips: &[u32]) -> bool {
         self.fragments_of(policy) > 0
             || self
@@ -99,7 +101,8 @@ impl Survey {
                 .any(|ends| ips.contains(&ends.0) || ips.contains(&ends.1))
     }
 
-    /// The addresses that clients are granted and that aren't in the captures, each with the one that has its ports there.
+    /// The addresses that clients are granted and that aren't in the captures, each with the
+    /// address that has its ports there.
     pub fn announced(&self, alloc: Global) -> Result<Vec<Announced>, AllocError> {
         let mut all = Vec::new(alloc);
         for alias in &self.aliases {
@@ -113,7 +116,8 @@ impl Survey {
         Ok(all)
     }
 
-    /// The IPv4 addresses from which success responses to Allocate, or else to Binding, left, in their order and each once.
+    /// The IPv4 addresses from which Allocate success responses, or else Binding success responses,
+    /// left, in order and each once.
     pub fn answering(&self, alloc: Global) -> Result<Vec<u32>, AllocError> {
         let allocate = self.answers.values().any(|one| one.allocate > 0);
         let mut ips: Vec<u32> = Vec::new(alloc);

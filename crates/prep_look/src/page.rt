@@ -37,7 +37,7 @@ impl Sides {
         }
     }
 
-    /// With a datagram more.
+    /// With one more datagram.
     fn with(self, record: &Record) -> Self {
         let mut sides = self;
         match (record.content, record.side) {
@@ -63,8 +63,9 @@ fn one_more(count: u64) -> u64 {
     count.saturating_add(1)
 }
 
-/// The page up to the suggested policy, whose heading is its last line. It holds numbers, addresses and words of its own, nothing as the
-/// captures spell it. The cost is the number of records times its logarithm. Of its lines those on addresses of the policy are stated.
+/// The page up to the suggested policy, whose heading is its last line. It contains only numbers,
+/// addresses and fixed words, no bytes of the captures. The cost is the number of records times its
+/// logarithm. The contract states the lines about addresses of the policy.
 pub fn page_of(
     alloc: Global,
     survey: Survey,
@@ -148,7 +149,8 @@ fn write_interfaces(
     Ok(())
 }
 
-/// Captures that drop packets are refused, so that an interface has none.
+/// Writes the lines of an interface. Captures that drop packets are refused, so no dropped packets
+/// are counted.
 fn write_interface(page: &mut String, one: &Interface) -> Result<(), AllocError> {
     let number = one.number;
     let frames = one.stamps.frames;
@@ -196,7 +198,7 @@ fn write_passed(page: &mut String, one: &Interface) -> Result<(), AllocError> {
     page.push_str("\n")
 }
 
-/// Delays, and what `cut` would set aside.
+/// Writes the delays, and what `cut` would exclude.
 fn write_findings(page: &mut String, found: &Findings) -> Result<(), AllocError> {
     let answered = found.answered.count;
     if answered > 0 {

@@ -1,4 +1,4 @@
-//! Frames that are no datagram of the service.
+//! Frames that aren't datagrams of the service.
 
 ghost use Rattle.std.specs.Prelude.{◌≤◌};
 
@@ -6,15 +6,15 @@ use audit_model::Addr;
 use prep_frames::{byte_at, content_place, number_at};
 use std::fmt;
 
-/// Why a frame is passed over. They stand in the order of the page.
+/// Why a frame is skipped. The reasons are in the order of the page.
 #[derive(Clone, Copy, Debug, PartialEq, Eq, PartialOrd, Ord)]
 pub(crate) enum Passed {
     Arp,
-    /// Less was captured than the link had, and too little to say more.
+    /// Truncated, with too little captured to know more.
     Cut,
     /// UDP over IPv4 with no end in the service.
     Elsewhere,
-    /// Of another type of Ethernet.
+    /// Another Ethernet type.
     Ethertype,
     /// A fragment of UDP over IPv4.
     Fragment,
@@ -22,7 +22,7 @@ pub(crate) enum Passed {
     /// An IPv4 header whose fields contradict one another.
     Ipv4,
     Ipv6,
-    /// Of another protocol over IPv4.
+    /// Another protocol over IPv4.
     Protocol,
     /// A frame that ends within a header.
     Short,
@@ -31,7 +31,7 @@ pub(crate) enum Passed {
     Udp,
 }
 
-/// The word of the page.
+/// The word on the page.
 impl fmt::Display for Passed {
     fn fmt<W: fmt::Write>(&self, f: &mut fmt::Formatter<W>) -> fmt::Result {
         f.write_str(match self {
@@ -51,20 +51,20 @@ impl fmt::Display for Passed {
     }
 }
 
-/// Types of Ethernet.
+/// Ethernet types.
 const IPV4: u16 = 0x0800;
 
 const ARP: u16 = 0x0806;
 
 const IPV6: u16 = 0x86DD;
 
-/// Bytes of an IPv4 header without options (RFC 791).
+/// The size of an IPv4 header without options in bytes (RFC 791).
 const IPV4_HEADER: usize = 20;
 
-/// Bytes of a UDP header (RFC 768).
+/// The size of a UDP header in bytes (RFC 768).
 const UDP_HEADER: usize = 8;
 
-/// Why a frame is passed over that is no datagram, no fragment of one and not cut.
+/// Why a frame is skipped that is no datagram, no fragment of one and not truncated.
 pub(crate) fn passed_as(frame: &[u8]) -> Passed {
     let at = content_place(frame);
     if frame.len() < at {
@@ -78,7 +78,7 @@ pub(crate) fn passed_as(frame: &[u8]) -> Passed {
     }
 }
 
-/// How many bytes the IPv4 header has that begins at a place.
+/// The size of the IPv4 header at an offset, in bytes.
 fn header_length(frame: &[u8], at: usize) -> usize
     ensures { result ≤ 60 }
 {
@@ -104,7 +104,8 @@ fn passed_ipv4(frame: &[u8], at: usize) -> Passed
     }
 }
 
-/// Of the UDP header at a place, which with its payload has so many bytes of the packet.
+/// The reason for the UDP header at an offset; the header and its payload have `room` bytes of the
+/// packet.
 fn passed_udp(frame: &[u8], at: usize, room: usize) -> Passed
     requires { at ≤ 82 }
 {
@@ -119,7 +120,7 @@ fn passed_udp(frame: &[u8], at: usize, room: usize) -> Passed
     }
 }
 
-/// Where a UDP datagram was sent that an ICMP error says found its port closed (RFC 792: type 3, code 3).
+/// The destination of a UDP datagram in an ICMP error "port unreachable" (RFC 792: type 3, code 3).
 pub(crate) fn closed_in(frame: &[u8]) -> Option<Addr> {
     let at = content_place(frame);
     let error = frame.get(at + header_length(frame, at)..)?;

@@ -1,4 +1,4 @@
-//! What the server relays for clients after it deleted their allocations.
+//! Data that the server relays for clients after it deleted their allocations.
 
 use crate::advice::Relaying;
 use audit_model::Side;
@@ -6,7 +6,7 @@ use prep_cut::Reason;
 use prep_reasons::Sheet;
 use std::alloc::{AllocError, Global};
 
-/// What lines of deletions exclude, if anything leaves.
+/// The data that lines of deletions exclude, if any of it leaves.
 pub(crate) fn find_relaying(
     alloc: Global,
     sheet: &Sheet<'_>,

@@ -1,4 +1,4 @@
-//! What captures hold, whatever the policy.
+//! The contents of captures, independent of the policy.
 
 use crate::interface::Interface;
 use crate::told::{Alias, ToldAddress};
@@ -13,12 +13,12 @@ pub(crate) struct Answers {
     pub(crate) binding: u64,
     /// Success responses to Allocate.
     pub(crate) allocate: u64,
-    /// All other responses except errors to Binding: a peer sends none of these.
+    /// All other responses except error responses to Binding: a peer sends none of these.
     pub(crate) other: u64,
 }
 
 impl Answers {
-    /// None.
+    /// No responses.
     pub(crate) fn none() -> Self {
         Answers {
             binding: 0,
@@ -27,7 +27,7 @@ impl Answers {
         }
     }
 
-    /// With those of another count.
+    /// The sum of two counts.
     pub(crate) fn plus(self, more: Answers) -> Self {
         Answers {
             binding: self.binding.saturating_add(more.binding),
@@ -37,7 +37,7 @@ impl Answers {
     }
 }
 
-/// ICMP errors that say that a port is closed, with their least and greatest stamps.
+/// ICMP errors that report a closed port, with their least and greatest stamps.
 #[derive(Clone, Copy, Debug)]
 pub struct Closed {
     pub count: u64,
@@ -46,7 +46,7 @@ pub struct Closed {
 }
 
 impl Closed {
-    /// With those of another address.
+    /// The sum with those of another address.
     pub(crate) fn plus(self, other: Closed) -> Self {
         Closed {
             count: self.count.saturating_add(other.count),
@@ -64,22 +64,22 @@ pub struct Survey {
     pub(crate) answers: BTreeMap<Addr, Answers>,
     /// By address.
     pub(crate) told: Vec<ToldAddress>,
-    /// Of each address that was told and isn't on the wire at most one.
+    /// At most one for each address that was granted and isn't on the wire.
     pub(crate) aliases: Vec<Alias>,
     /// By source and destination.
     pub(crate) fragments: BTreeMap<(u32, u32), u64>,
     pub(crate) cuts: BTreeMap<(u32, u32), u64>,
-    /// Those that are cut before their addresses.
+    /// Truncated datagrams that end before their addresses.
     pub(crate) unnamed_cuts: u64,
-    /// UDP that mustn't be fragmented, in frames that are longer than Ethernet's.
+    /// UDP with "don't fragment", in frames that are longer than Ethernet's.
     pub(crate) long: u64,
-    /// ChannelData with more behind it than padding, by source and destination.
+    /// ChannelData with more than padding after its data, by source and destination.
     pub(crate) merged: BTreeMap<(Addr, Addr), u64>,
     pub(crate) closed: BTreeMap<Addr, Closed>,
 }
 
 impl Survey {
-    /// Of no capture. It takes no memory.
+    /// No captures. It takes no memory.
     pub(crate) fn new(alloc: Global) -> Self {
         Survey {
             interfaces: Vec::new(alloc),
@@ -100,12 +100,12 @@ impl Survey {
         count_of_service(&self.fragments, policy)
     }
 
-    /// Datagrams of which too little was captured, and which have an address of the service or tell none.
+    /// Truncated datagrams that have an address of the service or show no address.
     pub(crate) fn cuts_of(&self, policy: &Policy) -> u64 {
         count_of_service(&self.cuts, policy).saturating_add(self.unnamed_cuts)
     }
 
-    /// ChannelData between clients and the service with more behind it than padding.
+    /// ChannelData between clients and the service with more than padding after its data.
     pub(crate) fn merged_of(&self, policy: &Policy) -> u64 {
         let mut total = 0u64;
         for (ends, count) in self.merged.iter() {
@@ -116,7 +116,7 @@ impl Survey {
         total
     }
 
-    /// ICMP errors that say that a listen address is closed.
+    /// ICMP errors that report a closed listen address.
     pub(crate) fn closed_of(&self, policy: &Policy) -> Option<Closed> {
         let mut all: Option<Closed> = None;
         for (addr, closed) in self.closed.iter() {

@@ -1,4 +1,4 @@
-//! Surveying captures that come in pieces.
+//! Surveys captures that come in pieces.
 
 use crate::clock::{closing_time, nanoseconds_of_tick};
 use crate::interface::Interface;
@@ -16,33 +16,34 @@ use prep_frames::{byte_at, content_place, frame_of, seen_of};
 use std::alloc::{AllocError, Global};
 use std::collections::{BTreeMap, BTreeSet};
 
-/// Where a statistics block names its interface.
+/// The offset of the interface number in a statistics block.
 const STATISTICS_INTERFACE: usize = 8;
 
-/// A frame of Ethernet with two VLAN tags and 1,500 bytes of content has at most so many bytes, its checksum among them.
+/// The most bytes of an Ethernet frame with two VLAN tags and 1,500 bytes of content, including its
+/// checksum.
 const LONGEST_FRAME: u32 = 1_526;
 
-/// ChannelData has at most so many bytes of padding (RFC 8656, section 12.5).
+/// The most bytes of padding of ChannelData (RFC 8656, section 12.5).
 const MOST_PADDING: usize = 3;
 
-/// Surveys captures, each of which comes in pieces, cut anywhere. It keeps each address once, and no payload. After a fault it is thrown
-/// away.
+/// Surveys captures, each of which comes in pieces, cut anywhere. It keeps each address once, and
+/// no payload. After a fault it can't be used any more.
 #[derive(Drop)]
 pub struct Surveyor {
     splitter: BlockSplitter,
     all: Survey,
     told: BTreeSet<Addr>,
-    /// The ends of datagrams.
+    /// The addresses at the ends of datagrams.
     wire: BTreeSet<Addr>,
     capture: u32,
-    /// How many interfaces there were before the capture that comes, and before its section.
+    /// The number of interfaces before the present capture, and before its present section.
     before_capture: usize,
     before_section: usize,
     alloc: Global,
 }
 
 impl Surveyor {
-    /// A surveyor of no capture. It takes no memory.
+    /// A surveyor before the first capture. It takes no memory.
     pub fn new(alloc: Global) -> Self {
         Surveyor {
             splitter: BlockSplitter::new(alloc),
@@ -56,7 +57,7 @@ impl Surveyor {
         }
     }
 
-    /// Takes the next piece of the capture that comes.
+    /// Feeds the next piece of the present capture.
     pub fn feed(&mut self, piece: &[u8]) -> Result<(), CaptureFault> {
         let mut rest = piece;
         for _ in 0..piece.len() {
@@ -69,7 +70,7 @@ impl Surveyor {
         Ok(())
     }
 
-    /// Ends the capture that came. The next one begins.
+    /// Ends the present capture, and begins the next one.
     pub fn end(&mut self) -> Result<(), CaptureFault> {
         self.splitter.finish()?;
         self.splitter = BlockSplitter::new(self.alloc);
@@ -79,7 +80,7 @@ impl Surveyor {
         Ok(())
     }
 
-    /// What the captures hold that ended.
+    /// The contents of the captures that ended.
     pub fn finish(self) -> Result<Survey, AllocError> {
         let Surveyor {
             mut all,
@@ -106,7 +107,7 @@ impl Surveyor {
         }
     }
 
-    /// An interface more.
+    /// Adds an interface.
     fn describe(&mut self, block: &Block) -> Result<(), AllocError> {
         let in_capture = self
             .all
@@ -176,7 +177,7 @@ impl Surveyor {
         }
     }
 
-    /// Notes what says that a port is closed.
+    /// Records an ICMP error that reports a closed port.
     fn take_other(&mut self, frame: &[u8], stamp: u64) -> Result<(), AllocError> {
         if passed_as(frame) != Passed::Icmp {
             return Ok(());
@@ -237,7 +238,8 @@ impl Surveyor {
     }
 }
 
-/// A message as a response. A peer sends errors to Binding, too, so that they are none here.
+/// The count of a message as a response. Error responses to Binding aren't counted: peers send
+/// them, too.
 fn answers_in(message: &Message<'_>) -> Option<Answers> {
     let none = Answers::none();
     match (message.class(), message.method()) {
@@ -253,7 +255,8 @@ fn answers_in(message: &Message<'_>) -> Option<Answers> {
     }
 }
 
-/// Whether an IPv4 packet mustn't be fragmented (RFC 791). What fragments are reassembled to may be, whatever its length.
+/// Whether an IPv4 packet has "don't fragment" (RFC 791). Reassembled datagrams don't have it,
+/// whatever their length.
 fn is_unfragmentable(frame: &[u8]) -> bool {
     byte_at(frame, content_place(frame) + 6) & 0x40 != 0
 }

@@ -1,4 +1,4 @@
-//! The relayed addresses that Allocate successes tell.
+//! The relayed addresses that Allocate success responses grant.
 
 ghost use Rattle.std.specs.Prelude.{◌≡◌, ◌≤◌, length, take, drop};
 ghost use Rattle.std.specs.List.{prefix_len};
@@ -9,7 +9,7 @@ use audit_model::Addr;
 use std::alloc::{AllocError, Global};
 use std::collections::{BTreeMap, BTreeSet};
 
-/// A relayed address that was told over UDP and IPv4.
+/// A relayed address that was granted over UDP and IPv4.
 #[derive(Clone, Copy, Debug)]
 pub(crate) struct ToldAddress {
     pub(crate) relayed: Addr,
@@ -17,28 +17,30 @@ pub(crate) struct ToldAddress {
     pub(crate) is_on_wire: bool,
 }
 
-/// An address that was told and isn't on the wire, and one that answers and has ports that were told of the other.
+/// An address that was granted and isn't on the wire, and an address with responses that has ports
+/// which were granted for the first one.
 #[derive(Clone, Copy, Debug)]
 pub struct Alias {
     pub public: u32,
     pub private: u32,
-    /// How many ports.
+    /// The number of such ports.
     pub ports: u64,
     /// How many ports were granted.
     pub of: u64,
 }
 
 impl Alias {
-    /// Whether it is worth telling: where half of what was told, or more than two, is there.
+    /// Whether it is likely: at least half of the granted ports, or more than two, are there.
     pub(crate) fn is_likely(&self) -> bool {
         self.ports > 2 || self.ports.saturating_mul(2) >= self.of
     }
 }
 
-/// So many addresses that answer are asked whether they use ports that were told of another, so that the cost is bounded.
+/// At most this number of addresses with responses is checked for ports that were granted for
+/// another address, so that the cost is bounded.
 const MOST_ASKED: usize = 8;
 
-/// The addresses that were told, in their order.
+/// The addresses that were granted, in order.
 pub(crate) fn told_on_wire(
     alloc: Global,
     told: &BTreeSet<Addr>,
@@ -54,7 +56,8 @@ pub(crate) fn told_on_wire(
     Ok(all)
 }
 
-/// For each address that was told and isn't on the wire, the one that answers and has most of its ports there.
+/// For each address that was granted and isn't on the wire, the address with responses that has
+/// most of its ports.
 pub(crate) fn aliases_of(
     alloc: Global,
     told: &[ToldAddress],
@@ -80,7 +83,7 @@ pub(crate) fn aliases_of(
     Ok(aliases)
 }
 
-/// The first addresses that answer, without their ports, each once.
+/// The first addresses with responses, without ports, each once.
 fn ips_of(alloc: Global, answers: &BTreeMap<Addr, Answers>) -> Result<Vec<u32>, AllocError> {
     let mut ips = Vec::new(alloc);
     for addr in answers.keys() {
@@ -91,7 +94,7 @@ fn ips_of(alloc: Global, answers: &BTreeMap<Addr, Answers>) -> Result<Vec<u32>, 
     Ok(ips)
 }
 
-/// The addresses on the wire, without their ports, each once and in their order.
+/// The addresses on the wire, without ports, each once and in order.
 fn ips_on_wire(alloc: Global, wire: &BTreeSet<Addr>) -> Result<Vec<u32>, AllocError> {
     let mut ips = Vec::new(alloc);
     for addr in wire.iter() {
@@ -102,7 +105,7 @@ fn ips_on_wire(alloc: Global, wire: &BTreeSet<Addr>) -> Result<Vec<u32>, AllocEr
     Ok(ips)
 }
 
-/// How many stand at the front that are of one IP address.
+/// How many addresses at the front are of one IP address.
 fn length_at(told: &[ToldAddress], ip: u32) -> usize
     ensures count { result ≡ prefix_len (is_of_ip ip) told.now }
     ensures within { result ≤ length told.now }
@@ -115,7 +118,8 @@ fn length_at(told: &[ToldAddress], ip: u32) -> usize
     told.len()
 }
 
-/// Those of one IP address at the front, and the others. The cost is the number of those at the front.
+/// The addresses of one IP address at the front, and the others. The cost is the number of those at
+/// the front.
 pub(crate) fn split_ip(told: &[ToldAddress], ip: u32) -> (&[ToldAddress], &[ToldAddress])
     ensures front { result.0.now ≡ take (prefix_len (is_of_ip ip) told.now) told.now }
     ensures others { result.1.now ≡ drop (prefix_len (is_of_ip ip) told.now) told.now }
@@ -123,7 +127,7 @@ pub(crate) fn split_ip(told: &[ToldAddress], ip: u32) -> (&[ToldAddress], &[Told
     told.split_at(length_at(told, ip))
 }
 
-/// The one of those asked that has most of the ports.
+/// The candidate that has most of the ports.
 fn alias_of(told: &[ToldAddress], asked: &[u32], wire: &BTreeSet<Addr>) -> Option<Alias> {
     let mut best: Option<Alias> = None;
     for private in asked {

@@ -1,4 +1,4 @@
-//! What `cut` would set aside.
+//! What `cut` would exclude.
 
 use audit_model::Side;
 use prep_cut::{Reason, ReasonKind};
@@ -6,7 +6,7 @@ use prep_reasons::Sheet;
 use std::alloc::{AllocError, Global};
 use std::collections::BTreeMap;
 
-/// What `cut` would set aside for one kind of reason.
+/// What `cut` would exclude by one kind of reason.
 #[derive(Clone, Copy, Debug)]
 pub(crate) struct Unjudged {
     pub(crate) kind: ReasonKind,
@@ -23,7 +23,7 @@ struct Sides {
     left: u64,
 }
 
-/// What is set aside by kind, in the order of the list.
+/// Counts what is excluded by kind, in the order of the list.
 pub(crate) fn count_unjudged(
     alloc: Global,
     sheet: &Sheet<'_>,
@@ -52,7 +52,7 @@ pub(crate) fn count_unjudged(
     Ok(all)
 }
 
-/// The lines of each kind together. One by which nothing is set aside is none.
+/// Adds up the lines of each kind. A line that excludes nothing isn't counted.
 fn sum_kinds(
     alloc: Global,
     reasons: &[Reason],
@@ -78,7 +78,7 @@ fn sum_kinds(
 }
 
 impl Unjudged {
-    /// With a line more.
+    /// With one more line.
     fn plus(self, sides: Sides) -> Self {
         Unjudged {
             kind: self.kind,

@@ -1,12 +1,12 @@
-//! Relayed addresses of which the captures don't show whose they are.
+//! Relayed addresses without a known client.
 
 use prep_cut::Reason;
 use prep_reasons::Sheet;
 use std::alloc::{AllocError, Global};
 use std::collections::BTreeSet;
 
-/// How many lines exclude such an address up to a moment. If another line names the client of an address, its grant is known, or it is of
-/// a client from before.
+/// How many lines exclude such an address up to a moment. An address isn't counted if another line
+/// names its client: then its grant is known, or it is of a client from before.
 pub(crate) fn count_unknown(
     alloc: Global,
     sheet: &Sheet<'_>,

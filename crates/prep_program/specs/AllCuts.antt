@@ -26,15 +26,15 @@ abbrev pub all_marks : List (List Marked) → List Marked
 all_marks [] = []
 all_marks (first ∷ others) = first ++ all_marks others
 
--- a file of each
+-- the file of each capture
 abbrev pub files_cut : Plan → List ToCut → List (List Marked) → List FileMade
 files_cut plan [] marks = []
 files_cut plan (one ∷ others) [] = []
 files_cut plan (one ∷ others) (blocks ∷ marks) = record { name = string_bytes one.file; bytes = file_of plan blocks } ∷ files_cut plan others marks
 
--- The texts are whole captures, each of which was cut to its file. The tallies are those of all of
--- them. Of the departures that need one, these have an arrival of their own, and those packets that
--- may have carried their data.
+-- The texts are whole captures, each of which was cut to its file. The tallies are those of all
+-- captures. They count the departures that have the arrival which they need, and those whose data
+-- unread packets may have carried.
 pub record CutsAll (all : AllCut) (plan : Plan) (to_cut : List ToCut) (texts : List (List ℕ)) (before after : Option (List FileMade)) : Type 0 where
   pub captures : List (List Block)
   pub spelled : map bytes_of captures ≡ texts

@@ -1,5 +1,4 @@
--- What a request comes to: what is written to standard output and to standard error, and the exit
--- status.
+-- The result of a request: the bytes on standard output and on standard error, and the exit status.
 use Rattle.std.specs.Prelude.{◌≡◌, ◌⊎◌, ◌==◌, ◌||◌, true, ℕ, List, Option, Ok, Err, Result, IfOk, OnOk, string_bytes}
 use Rattle.audit_model.specs.Sink.{followed_by}
 use Rattle.clap.specs.Words.{Text, fault_of, subcommand_of}
@@ -31,11 +30,10 @@ IsSuccess done = IfOk done (λ status. status ≡ 0)
 abbrev pub IsReady : Result ℕ Stop → Type 0
 IsReady done = IfOk done (λ status. ((status == 0) || (status == 6)) ≡ true)
 
--- `cut` has status 6 and a line on standard error if it kept no datagram, and else status 0 and
--- none. A page of help, or the line of the release, goes to standard output alone, and what is no
--- request to standard error alone, with status 5.
--- What each command makes is in the contract of its own function; those that take no standard error
--- leave it.
+-- `cut` has status 6 and a line on standard error if it kept no datagram, and else status 0 and no
+-- line. A help page, or the line of the release, goes to standard output alone, and a usage error
+-- to standard error alone, with status 5. The contract of each command's function says which files
+-- it makes; commands without standard error leave it unchanged.
 abbrev pub Answers : Streams → Request → Result ℕ Stop → Type 0
 Answers streams (Join captures file) done = IsSilent streams × IsSuccess done
 Answers streams (Look request) done = IsSilent streams × IsSuccess done
@@ -54,8 +52,8 @@ abbrev pub status_of_run : Result ℕ Stop → ℕ
 status_of_run (Ok status) = status
 status_of_run (Err stop) = status_of_stop stop
 
--- The request is what the arguments are, and was answered; a line about what stopped it may follow
--- on standard error. Or there was no memory for the arguments.
+-- The arguments are the request, and it was answered; a line about the failure may follow on
+-- standard error. Or there was no memory for the arguments.
 abbrev pub IsRun : List Text → Streams → ℕ → Type 0
 IsRun words streams status =
     ((request : Request) × IsRequested (subcommand_of turnprep words) (fault_of turnprep words) request × (done : Result ℕ Stop) × (said : Option (List ℕ)) × Answers (record streams { said_after = said }) request done

@@ -1,4 +1,4 @@
--- What a capture that was cut says of itself, in a section header at its end.
+-- The comment of a capture that was cut, in a section header at its end.
 use Rattle.std.specs.Prelude.{ℕ, List, ◌++◌, codes, decimal, map}
 use Rattle.hex.specs.Hex.{encode_lower}
 use Rattle.sha2.specs.Sha256.{sha256}
@@ -10,7 +10,8 @@ use Rattle.prep_cut.specs.declared.tally.Totals.{Totals}
 use Rattle.prep_cut.specs.Marks.{Marked, written_of}
 use Rattle.prep_cut.specs.Marking.{totals_of}
 
--- by what it was cut, how many packets were kept and excluded, and the original's digest in hexadecimal digits
+-- the program, how many packets were kept and excluded, and the original's digest in hexadecimal
+-- digits
 abbrev pub comment_text : Totals → List ℕ → List ℕ
 comment_text totals digest =
     codes "turnprep cut: kept " ++ (decimal totals.written ++ (codes " packets and excluded " ++ (decimal totals.left
@@ -19,7 +20,7 @@ comment_text totals digest =
 abbrev pub comment_of_cut : Totals → List ℕ → List ℕ
 comment_of_cut totals digest = section_of (comment_text totals (encode_lower digest))
 
--- the blocks of a capture, those that are excluded among them
+-- the blocks of a capture, including the excluded ones
 abbrev pub blocks_of : List Marked → List Block
 blocks_of marks = map (λ (one : Marked). one.block) marks
 

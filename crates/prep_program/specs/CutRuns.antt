@@ -15,15 +15,15 @@ use Rattle.prep_program.specs.ListText.{kept_of, list_text}
 use Rattle.prep_program.specs.Making.{FileMade, with_files}
 use Rattle.prep_program.specs.Recordings.{RecordedAll}
 
--- by the policy that the text spells, by what is stated, and by what the captures show from the
--- stated moment on
+-- by the policy that the text spells, the operator's options, and the captures from the stated
+-- moment on
 pub record IsPlanOf (plan : Plan) (stated : Stated) (policy : List ℕ) (captures : List (List ℕ)) : Type 0 where
   pub policy_is : policy_of policy ≡ Ok plan.policy
   pub stated_is : plan.stated ≡ stated
   pub noted : RecordedAll captures plan.policy stated.since plan.allocations
 
--- each capture was cut to its file by a plan of what was requested, and the list of that plan was
--- written and printed. The status says whether a datagram of the service was written
+-- each capture was cut to its file by a plan for the request, and the list of that plan was written
+-- and printed. The status depends on whether a datagram of the service was written
 pub record IsCutRun (request : CutRequest) (policy : List ℕ) (captures : List (List ℕ)) (before after : Option (List FileMade)) (unprinted printed unsaid said : Option (List ℕ)) (status : ℕ) : Type 0 where
   pub plan : Plan
   pub says : Notes

@@ -1,4 +1,4 @@
--- How a call of `cut` ends that nothing stopped, by the number of datagrams of the service that it
+-- The end of a call of `cut` without a failure, by the number of datagrams of the service that it
 -- wrote.
 use Rattle.std.specs.Prelude.{◌≡◌, ℕ, ◌==◌, if◌then◌else◌, List, Option, codes}
 use Rattle.audit_model.specs.Sink.{followed_by}
@@ -7,7 +7,7 @@ use Rattle.audit_model.specs.Sink.{followed_by}
 abbrev pub status_of_kept : ℕ → ℕ
 status_of_kept kept = if kept == 0 then 6 else 0
 
--- and a line on standard error, which has nothing else
+-- and a line on standard error; nothing else is written there
 abbrev pub said_of_kept : ℕ → Option (List ℕ) → Option (List ℕ)
 said_of_kept kept before = if kept == 0 then followed_by before (codes "turnprep: kept 0 datagrams\n") else before
 

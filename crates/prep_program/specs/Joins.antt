@@ -1,4 +1,4 @@
--- Captures that are joined, and what was written of them.
+-- Captures that are joined, and the bytes that were written.
 use Rattle.std.specs.Prelude.{◌≡◌, ℕ, List, [], map, Option}
 use Rattle.std.specs.List.{AllByRecursion}
 use Rattle.audit_model.specs.Sink.{followed_by}
@@ -11,7 +11,7 @@ use Rattle.prep_join.specs.Rings.{interfaces_of, first_of, joined, written_of}
 use Rattle.prep_join.specs.Joining.{GoOn}
 use Rattle.prep_join.specs.Joined.{IsJoining, IsDone}
 
--- of a capture's text so far what is joined was written
+-- of a capture's text so far, the joined blocks were written
 pub record SoFar (joiner : Joiner) (done : List (List Block)) (text : List ℕ) (before after : Option (List ℕ)) : Type 0 where
   pub current : List Block
   pub joining : IsJoining joiner done text current
@@ -27,8 +27,8 @@ pub record Joins (joiner : Joiner) (done : List (List Block)) (text : List ℕ) 
 abbrev pub IsPart : List (List Block) → List Block → Type 0
 IsPart captures blocks = IsWhole (bytes_of blocks) blocks × (interfaces_of blocks ≡ interfaces_of (first_of captures []))
 
--- the texts are whole captures, each of which goes on with those before it, and what was written is
--- what they are joined
+-- the texts are whole captures, each of which continues those before it, and the joined capture was
+-- written
 pub record JoinsAll (texts : List (List ℕ)) (before after : Option (List ℕ)) : Type 0 where
   pub captures : List (List Block)
   pub spelled : map bytes_of captures ≡ texts

@@ -1,5 +1,5 @@
--- The list of what is set aside, line by line. A decimal number has no leading zero, and moments
--- are nanoseconds.
+-- The list of what is excluded, line by line. A decimal number has no leading zero, and moments are
+-- nanoseconds.
 use Rattle.std.specs.Prelude.{ℕ, ◌+◌, ◌*◌, ◌-◌, ◌/◌, nat_lt, ◌==◌, if◌then◌else◌, Bool, true, false, not, List, [], ◌∷◌, ◌++◌, Option, Some, None, codes, decimal}
 use Rattle.prep_cut.specs.declared.plan.Plan.{Plan}
 use Rattle.prep_cut.specs.declared.reason.Reason.{Reason}
@@ -18,7 +18,7 @@ use Rattle.prep_program.specs.declared.list_totals.Departures.{Departures}
 use Rattle.prep_program.specs.declared.list_totals.Sums.{Sums}
 use Rattle.prep_program.specs.declared.list_totals.Notes.{Notes}
 
--- `WORD MOMENT`, where one is stated
+-- `WORD MOMENT`, if a moment is stated
 abbrev pub moment_line : List ℕ → Option ℕ → List ℕ
 moment_line word None = []
 moment_line word (Some moment) = word ++ (codes " " ++ (decimal moment ++ codes "\n"))
@@ -33,12 +33,12 @@ abbrev pub printed_line : Bool → List ℕ → List ℕ
 printed_line false line = []
 printed_line true line = line
 
--- `begin MOMENT`, and the moments that are stated
+-- `begin MOMENT`, and the stated moments
 abbrev pub moments_text : Stated → ℕ → List ℕ
 moments_text stated begin =
     ((codes "turnprep-set-aside 1\nbegin " ++ (decimal begin ++ codes "\n")) ++ moment_line (codes "since") stated.since) ++ moment_line (codes "until") stated.until
 
--- all that the operator states; of a lifetime only one that isn't the usual one
+-- all options that the operator states; a lifetime only if it isn't the default
 abbrev pub head_text : Stated → ℕ → List ℕ
 head_text stated begin =
     ((((moments_text stated begin
@@ -53,12 +53,12 @@ abbrev pub counts_text : Count → Count → List ℕ
 counts_text arrived left =
     codes " in " ++ (decimal arrived.datagrams ++ (codes " " ++ (decimal arrived.bytes ++ (codes " out " ++ (decimal left.datagrams ++ (codes " " ++ decimal left.bytes))))))
 
--- packets that are no datagrams of the service, where there are any
+-- packets that aren't datagrams of the service, if there are any
 abbrev pub others_text : Bool → ℕ → List ℕ
 others_text false others = []
 others_text true others = codes " other " ++ decimal others
 
--- the longest time after a release, in microseconds
+-- the longest time after a deletion, in microseconds
 abbrev pub longest_text : Reason → ℕ → List ℕ
 longest_text (reasons.Released pair relayed moment) last = codes " longest-us " ++ decimal ((last - moment) / 1000)
 longest_text other last = []
@@ -72,7 +72,7 @@ line_text reason tally =
     ++ longest_text reason tally.last)
     ++ codes "\n"
 
--- of a line that counts nothing there is none
+-- a line that counts nothing is absent
 abbrev pub counted_line : Bool → Reason → Tally → List ℕ
 counted_line false reason tally = []
 counted_line true reason tally = line_text reason tally
@@ -87,7 +87,7 @@ abbrev pub capture_text : ℕ → Totals → List ℕ
 capture_text number totals =
     codes "capture " ++ (decimal number ++ (codes " packets " ++ (decimal totals.written ++ (codes " left " ++ (decimal totals.left ++ codes "\n")))))
 
--- numbered in their order
+-- numbered in order
 abbrev pub captures_text : ℕ → List Totals → List ℕ
 captures_text number [] = []
 captures_text number (first ∷ others) = capture_text number first ++ captures_text (capped (number + 1)) others
@@ -103,7 +103,7 @@ sums_with sums (first ∷ others) =
 abbrev pub sums_of : List Tally → Sums
 sums_of tallies = sums_with (record { arrived = no_count; left = no_count; others = 0 }) tallies
 
--- of all that is set aside
+-- the sums of all that is excluded
 abbrev pub sums_text : Sums → List ℕ
 sums_text sums = ((codes "aside" ++ counts_text sums.arrived sums.left) ++ others_text (nat_lt 0 sums.others) sums.others) ++ codes "\n"
 
@@ -115,7 +115,7 @@ kept_with kept (first ∷ others) = kept_with (capped (kept + first.datagrams)) 
 abbrev pub kept_of : List Totals → ℕ
 kept_of totals = kept_with 0 totals
 
--- what isn't in a lane, and what is kept
+-- the departures that no state from before allows, the kept datagrams, and the lanes
 abbrev pub kept_text : Notes → ℕ → List ℕ
 kept_text notes kept =
     codes "beyond " ++ (decimal notes.beyond ++ (codes "\nkept " ++ (decimal kept ++ (codes " datagrams " ++ (decimal notes.lanes ++ codes " lanes\n")))))
@@ -129,18 +129,18 @@ abbrev pub is_client : Reason → Tally → Bool
 is_client (reasons.Client pair) tally = is_counted tally
 is_client other tally = false
 
--- how many such lines there are, with these
+-- the number of such lines, added to these
 abbrev pub clients_with : ℕ → List Reason → List Tally → ℕ
 clients_with clients [] tallies = clients
 clients_with clients (reason ∷ lines) [] = clients
 clients_with clients (reason ∷ lines) (tally ∷ tallies) = clients_with (if is_client reason tally then capped (clients + 1) else clients) lines tallies
 
--- Of the departures that need an arrival, or a packet that may have carried their data, some have
--- one or the other.
+-- The excluded departures: those that lack both an arrival and a packet that may have carried their
+-- data, and those whose data unread packets may have carried.
 abbrev pub departures_of : List Reason → Tallies → Departures
 departures_of lines tallies = record { unpaired = (tallies.owing - pairs_in tallies.causes.slots.items) - carried_of tallies; unread = carried_of tallies; clients = clients_with 0 lines tallies.lines.items }
 
--- the datagrams that are set aside
+-- the excluded datagrams
 abbrev pub excluded_of : Sums → ℕ
 excluded_of sums = capped (sums.arrived.datagrams + sums.left.datagrams)
 
@@ -162,7 +162,7 @@ excluded_text sums all departures = share_text (excluded_of sums) all ++ departu
 abbrev pub totals_text : Notes → Sums → ℕ → Departures → List ℕ
 totals_text notes sums kept departures = (sums_text sums ++ excluded_text sums (capped (excluded_of sums + kept)) departures) ++ kept_text notes kept
 
--- the whole list of a plan, whose captures were cut
+-- the whole list of a plan and of its captures
 abbrev pub list_text : Plan → Notes → AllCut → List ℕ
 list_text plan notes all =
     ((head_text plan.stated notes.begin ++ lines_text plan.lines all.tallies.lines.items)

@@ -1,4 +1,4 @@
--- The file of the list.
+-- The file of the list of what is excluded.
 use Rattle.std.specs.Prelude.{ℕ, List, [], ◌∷◌, ◌++◌, codes}
 use Rattle.prep_program.specs.Making.{FileMade}
 

@@ -1,4 +1,4 @@
--- Captures that are recorded, and what is noted of their Allocates.
+-- Captures that are recorded, and their Allocate requests and responses.
 use Rattle.std.specs.Prelude.{◌≡◌, ℕ, List, [], ◌∷◌, ◌++◌, map, Option}
 use Rattle.std.specs.List.{AllByRecursion}
 use Rattle.audit_model.specs.declared.policy.Policy.{Policy}
@@ -25,8 +25,8 @@ abbrev pub blocks_of : List (List Block) → List Block
 blocks_of [] = []
 blocks_of (first ∷ others) = first ++ blocks_of others
 
--- the texts are whole captures, and what their blocks ask and grant from the stated moment on is
--- noted
+-- the texts are whole captures, and the Allocate requests and responses of their blocks from the
+-- stated moment on are recorded
 pub record RecordedAll (texts : List (List ℕ)) (policy : Policy) (since : Option ℕ) (allocations : Allocations) : Type 0 where
   pub captures : List (List Block)
   pub spelled : map bytes_of captures ≡ texts

@@ -1,4 +1,4 @@
--- What the arguments of a command say, and which request they are.
+-- The arguments of a command, and their request.
 use Rattle.std.specs.Prelude.{◌≡◌, ◌≢◌, ◌⊎◌, ◌≤◌, ℕ, Bool, true, false, nat_le, List, [], ◌∷◌, length, Option, Some, None, unwrap_or, option_map, Result, Ok, Err, map, codes}
 use Rattle.audit_model.specs.AddressText.{ip_of}
 use Rattle.audit_text.specs.Token.{number_of}
@@ -15,23 +15,23 @@ use Rattle.prep_program.specs.declared.users.UsersSource.{UsersSource}
 use Rattle.prep_program.specs.declared.users.UsersSource.TheVariants.{Configuration, Secret}
 use Rattle.prep_translate.specs.Words.{pair_of}
 
--- an option without a value is given, or isn't
+-- an option without a value is present, or isn't
 abbrev pub HasFlag : Text → List Row → Bool → Type 0
 HasFlag name rows true = (one_of name rows ≢ None) × (one_of name rows ≢ Some (codes "false"))
 HasFlag name rows false = one_of name rows ≢ Some (codes "true")
 
--- the number that is read, as one that is given
+-- the number, as the number of an option that is present
 abbrev pub read_number : Result ℕ TokenFault → Option (Option ℕ)
 read_number (Ok number) = Some (Some number)
 read_number (Err fault) = None
 
--- the number that a value is, none without a value, and nothing where a value is no number of
--- digits up to `most`
+-- the number of a value; `Some None` without a value, and `None` if the value isn't a decimal
+-- number up to `most`
 abbrev pub number_in : ℕ → Option Text → Option (Option ℕ)
 number_in most None = Some None
 number_in most (Some text) = read_number (number_of most text)
 
--- the number that an option is given
+-- the number of an option
 abbrev pub number_named : ℕ → Text → List Row → Option (Option ℕ)
 number_named most name rows = number_in most (first_of name rows)
 
@@ -40,20 +40,20 @@ one_more (Ok one) (Some more) = Some (one ∷ more)
 one_more (Ok one) None = None
 one_more (Err fault) more = None
 
--- what the words are read as, in their order, and nothing where one can't be read
+-- the values that the arguments are parsed to, in order; `None` if one can't be parsed
 abbrev pub all_read : {A : Type 0} → (Text → Result A TokenFault) → List Text → Option (List A)
 all_read read [] = Some []
 all_read read (word ∷ words) = one_more (read word) (all_read read words)
 
--- the values of an option that may be there several times
+-- the values of an option that may occur several times
 abbrev pub values_of : Text → List Row → List Text
 values_of name rows = unwrap_or (all_of name rows) []
 
--- the addresses that an option is given, in their order
+-- the addresses of an option, in order
 abbrev pub HasAddresses : Text → List Row → List ℕ → Type 0
 HasAddresses name rows addresses = all_read ip_of (values_of name rows) ≡ Some addresses
 
--- the captures, as many as are audited together at the most
+-- the captures, at most as many as one audit takes
 abbrev pub HasCaptures : List Row → List Text → Type 0
 HasCaptures rows names = (all_of (codes "captures") rows ≡ Some names) × (length names ≤ 16)
 
@@ -63,7 +63,7 @@ are_ordered None until = true
 are_ordered (Some since) None = true
 are_ordered (Some since) (Some until) = nat_le since until
 
--- what an operator states for `cut`: moments in nanoseconds since 1970, seconds of a lifetime,
+-- the operator's options for `cut`: moments in nanoseconds since 1970, a lifetime in seconds,
 -- milliseconds after a Refresh with LIFETIME 0
 pub record IsStated (rows : List Row) (stated : Stated) : Type 0 where
   pub since' : number_named 18446744073709551615 (codes "since") rows ≡ Some stated.since
@@ -75,12 +75,12 @@ pub record IsStated (rows : List Row) (stated : Stated) : Type 0 where
   pub no_tcp' : HasFlag (codes "no-tcp") rows stated.has_no_tcp
   pub keep_inner' : HasFlag (codes "keep-inner") rows stated.keeps_inner
 
--- one of both sources of users, and not the other
+-- one source of users, and not the other
 abbrev pub HasSource : List Row → UsersSource → Type 0
 HasSource rows (Configuration file) = (first_of (codes "turnserver-conf") rows ≡ Some file.now) × (first_of (codes "secret") rows ≡ None)
 HasSource rows (Secret secret) = (first_of (codes "turnserver-conf") rows ≡ None) × (first_of (codes "secret") rows ≡ Some secret.now)
 
--- one of both sources of a policy, and not the other
+-- one source of a policy, and not the other
 abbrev pub HasPolicySource : List Row → PolicySource → Type 0
 HasPolicySource rows (policies.Configuration file) = (first_of (codes "turnserver-conf") rows ≡ Some file.now) × (first_of (codes "policy") rows ≡ None)
 HasPolicySource rows (policies.Policy file) = (first_of (codes "turnserver-conf") rows ≡ None) × (first_of (codes "policy") rows ≡ Some file.now)
@@ -99,7 +99,7 @@ command_of (Help page) = []
 command_of Release = []
 command_of (Usage text) = []
 
--- the arguments of its command say what the request has
+-- the arguments of its command have the contents of the request
 abbrev pub Says : List Row → Request → Type 0
 Says rows (Join captures file) = (first_of (codes "out") rows ≡ Some file.now) × (all_of (codes "captures") rows ≡ Some (map (λ name. name.now) captures.items))
 Says rows (Policy file listening relaying translated) =
@@ -123,7 +123,7 @@ Says rows (Help page) = ⊥
 Says rows Release = ⊥
 Says rows (Usage text) = ⊥
 
--- The command that the words name, and what they name for it, is the request.
+-- The request is the command that the arguments name, with the contents that they have for it.
 abbrev pub Names : Option (Text × List Row) → Request → Type 0
 Names named request = (rows : List Row) × (named ≡ Some (command_of request, rows)) × Says rows request
 
@@ -131,11 +131,11 @@ Names named request = (rows : List Row) × (named ≡ Some (command_of request, 
 abbrev pub NamesNothing : Option (Text × List Row) → Type 0
 NamesNothing named = (request : Request) → Names named request → ⊥
 
--- one of the kinds is printed on standard error, which help and the release aren't
+-- one of the kinds is printed on standard error; help and the release aren't
 abbrev pub IsRefused : Kinds → Type 0
 IsRefused kinds = (k : ErrorKind) × IsAmong k kinds × (k ≢ kind.DisplayHelp) × (k ≢ kind.DisplayVersion)
 
--- what a command's own arguments are: no request where they lack something
+-- the request of a command's own arguments: a usage error if they lack something
 abbrev pub Requests : Option (Text × List Row) → Request → Type 0
 Requests named (Usage text) = NamesNothing named
 Requests named (Help page) = ⊥
@@ -149,8 +149,8 @@ Requests named (Reassemble request) = Names named (Reassemble request)
 Requests named (Users request) = Names named (Users request)
 Requests named (Ready request) = Names named (Ready request)
 
--- A command is requested by its name, and help and the release by what stands for them. Arguments
--- are no request where `clap` refuses them for one of these kinds, or they name no command with all
+-- A command is requested by its name, and help and the release by their options. It is a usage
+-- error if `clap` refuses the arguments for one of these kinds, or if they name no command with all
 -- that it needs.
 abbrev pub IsRequested : Option (Text × List Row) → Kinds → Request → Type 0
 IsRequested named kinds (Help page) = IsAmong kind.DisplayHelp kinds

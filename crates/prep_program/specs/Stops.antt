@@ -1,4 +1,4 @@
--- The exit statuses that say why a run ended.
+-- The exit statuses of runs that end early.
 use Rattle.std.specs.Prelude.{ℕ}
 use Rattle.prep_program.specs.declared.stop.Stop.{Stop}
 use Rattle.prep_program.specs.declared.stop.Stop.TheVariants.{Conf, Text, ReadOnce, Capture, Cut, Missing, Policy, Renaming, Translate, Reassemble, Users, SameName, Guess, Restarted, Words, Memory, Read, Write, Exists}

@@ -1,4 +1,4 @@
--- Captures that are translated, and what was written of them.
+-- Captures that are translated, and the bytes that were written.
 use Rattle.std.specs.Prelude.{◌≡◌, ℕ, List, Option}
 use Rattle.audit_model.specs.Sink.{followed_by}
 use Rattle.prep_blocks.specs.declared.block.Block.{Block}
@@ -7,7 +7,7 @@ use Rattle.prep_translate.specs.declared.translator.Translator.{Translator}
 use Rattle.prep_translate.specs.declared.tally.Tally.{Tally}
 use Rattle.prep_translate.specs.Translating.{translated, IsDone, IsTranslating}
 
--- of a capture's text so far what is translated was written
+-- of a capture's text so far, the translated blocks were written
 pub record TranslatesSoFar (renaming : Renaming) (translator : Translator) (text : List ℕ) (before after : Option (List ℕ)) : Type 0 where
   pub blocks : List Block
   pub translating : IsTranslating renaming translator text blocks

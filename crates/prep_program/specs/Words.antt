@@ -1,5 +1,5 @@
--- The program's commands as they are written, and what the arguments name for each by what `clap`
--- says of such commands.
+-- The program's commands as they are written, and the values that the arguments have for each by
+-- the specification of `clap`.
 use Rattle.std.specs.Prelude.{true, Some, codes}
 use Rattle.clap.specs.Lexer.{usize_max}
 use Rattle.clap.specs.Words.{App, Rule, Text, new_app, new_rule, with_rule, with_subcommand}
@@ -10,15 +10,15 @@ use Rattle.clap.specs.declared.builder.value_parser.ValueParser.TheVariants.{Non
 abbrev pub valued : Text → Rule
 valued name = record (new_rule name) { long = Some name; value_names = 1; action = Some Set }
 
--- an option with the name of a file, which isn't empty
+-- an option with the name of a file, which may not be empty
 abbrev pub file : Text → Rule
 file name = record (valued name) { parser = Some NonEmptyString }
 
--- one that has to be there
+-- the same, required
 abbrev pub required_file : Text → Rule
 required_file name = record (file name) { required = true }
 
--- an option that may be there several times, each time with a value
+-- an option that may occur several times, each time with a value
 abbrev pub repeated : Text → Rule
 repeated name = record (new_rule name) { long = Some name; value_names = 1; action = Some Append }
 
@@ -26,11 +26,11 @@ repeated name = record (new_rule name) { long = Some name; value_names = 1; acti
 abbrev pub flag : Text → Rule
 flag name = record (new_rule name) { long = Some name; action = Some SetTrue }
 
--- `-o`, what is made, whose name isn't empty
+-- `-o`, the output, whose name may not be empty
 abbrev pub output : Rule
 output = record (new_rule (codes "out")) { short = Some 111; value_names = 1; required = true; action = Some Set; parser = Some NonEmptyString }
 
--- what is no option: captures
+-- the operands: captures
 abbrev pub any_captures : Rule
 any_captures = record (new_rule (codes "captures")) {
   value_names = 1;
@@ -55,7 +55,7 @@ join = with_rule (with_rule (new_app (codes "join")) output) captures
 abbrev pub reassemble : App
 reassemble = with_rule (with_rule (new_app (codes "reassemble")) output) captures
 
--- addresses that stand for others
+-- pairs of public and private addresses
 abbrev pub external : Rule
 external = record (repeated (codes "external-ip")) { required = true }
 
@@ -75,7 +75,7 @@ cut_numbers = with_rule (with_rule (with_rule (with_rule cut_files (valued (code
 abbrev pub cut : App
 cut = with_rule (with_rule (with_rule (with_rule cut_numbers (flag (codes "from-start"))) (flag (codes "no-tcp"))) (flag (codes "keep-inner"))) captures
 
--- what the policy and the credentials are made of, and the folder
+-- the sources of the policy and of the credentials, and the folder
 abbrev pub ready_files : App
 ready_files = with_rule (with_rule (with_rule (with_rule (new_app (codes "ready")) (file (codes "turnserver-conf"))) (file (codes "policy"))) (file (codes "creds"))) output
 
@@ -90,11 +90,11 @@ program =
     let named = new_app (codes "turnprep") in
     record named { top = record named.top { has_version = true; arg_required_else_help = true; subcommand_required = true } }
 
--- with the command that does all that captures need
+-- with the command that does all steps
 abbrev pub preparing : App
 preparing = with_subcommand program ready.top
 
--- and with the commands that write a policy and credentials
+-- with also the commands that write a policy and credentials
 abbrev pub writing : App
 writing = with_subcommand (with_subcommand preparing policy.top) users.top
 

@@ -5,21 +5,21 @@ ghost use Rattle.std.specs.Prelude.{◌≡◌, None};
 use audit_model::{Sink, SinkFailed};
 use std::alloc::Global;
 
-/// Keeps what it takes.
+/// A sink that keeps the output in memory.
 #[derive(Drop)]
 pub struct Collected {
     bytes: Vec<u8>,
 }
 
 impl Collected {
-    /// With nothing in it.
+    /// An empty sink.
     pub fn new(alloc: Global) -> Self {
         Collected {
             bytes: Vec::new(alloc),
         }
     }
 
-    /// What it took.
+    /// The bytes that were written.
     pub fn as_slice(&self) -> &[u8] {
         self.bytes.as_slice()
     }

@@ -1,5 +1,4 @@
-//! The command line, as clap reads it. No file but this one and those in `command_line/` knows
-//! clap.
+//! The command line, parsed by clap. Only this file and those in `command_line/` use clap.
 
 ghost use Rattle.std.specs.Prelude.{◌≡◌, IfNone, IfOk, IfSome, List, Option, Some, codes, map};
 ghost use Rattle.clap.specs.Words.{HasKind, Kinds, Row, Text, fault_of, found_of, rows_of, subcommand_of, subcommand_rows_of};
@@ -41,7 +40,7 @@ use clap::{ArgMatches, Error};
 use std::alloc::{AllocError, Global};
 use std::convert::AsStr;
 
-/// What the arguments request.
+/// The request of the arguments.
 #[derive(Drop)]
 pub enum Request<'a> {
     /// Join captures to a new file.
@@ -49,16 +48,16 @@ pub enum Request<'a> {
         captures: Vec<&'a str>,
         file: &'a str,
     },
-    /// Write the policy that a configuration of coturn comes to.
+    /// Write the policy of a coturn configuration.
     Policy {
         file: &'a str,
         listening: Vec<u32>,
         relaying: Vec<u32>,
         is_translated: bool,
     },
-    /// Print what captures hold.
+    /// Print what captures contain.
     Look(LookRequest<'a>),
-    /// Leave out of captures what can't be judged.
+    /// Exclude from captures what can't be judged.
     Cut(CutRequest<'a>),
     /// Translate captures to files in a folder.
     Translate(TranslateRequest<'a>),
@@ -66,17 +65,17 @@ pub enum Request<'a> {
     Reassemble(ReassembleRequest<'a>),
     /// Write credentials.
     Users(UsersRequest<'a>),
-    /// Do all that captures need before an audit.
+    /// Do all steps that captures need before an audit.
     Ready(ReadyRequest<'a>),
-    /// Print how to use the program, on standard output.
+    /// Print a help page on standard output.
     Help(Page),
-    /// Print the release, on standard output.
+    /// Print the release on standard output.
     Release,
-    /// The arguments are no request; what is wrong with them, for standard error.
+    /// Usage error; the text for standard error.
     Usage(String),
 }
 
-/// Arguments of a command that are no request.
+/// A usage error of a command.
 fn usage<'a>(alloc: Global, text: &str) -> Result<Option<Request<'a>>, AllocError>
     ensures some { (named : Option (Text × List Row)) → NamesNothing named → IfOk result (λ found. IfSome found (Requests named)) }
     ensures none { (named : Option (Text × List Row)) → NamesNothing named → IfOk result (λ found. IfNone found (NamesNothing named)) }
@@ -84,7 +83,7 @@ fn usage<'a>(alloc: Global, text: &str) -> Result<Option<Request<'a>>, AllocErro
     Ok(Some(Request::Usage(String::from_str(alloc, text)?)))
 }
 
-/// The request that an error of clap stands for, which is no command's.
+/// The request for an error of clap that is no command's: help, the release, or a usage error.
 fn refused<'a, N: AsStr>(
     alloc: Global,
     error: Error,
@@ -105,7 +104,7 @@ fn refused<'a, N: AsStr>(
     Ok(Request::Usage(usage_text(alloc, words)?))
 }
 
-/// The request that the arguments of the command `join` are.
+/// The request of the arguments of `join`.
 fn join_request<'a>(
     alloc: Global,
     matches: &ArgMatches<'a>,
@@ -125,7 +124,7 @@ fn join_request<'a>(
     }))
 }
 
-/// The arguments of a command, where it is the one of this name.
+/// The arguments of a command, if it is the one of this name.
 fn arguments_of<'m, 'a>(matches: &'m ArgMatches<'a>, name: &str) -> Option<&'m ArgMatches<'a>>
     ensures some { IfSome result (λ command. subcommand_rows_of matches.now ≡ Some (name.now, rows_of (found_of command.now))) }
     ensures none { IfNone result ((rows : List Row) → subcommand_rows_of matches.now ≡ Some (name.now, rows) → ⊥) }
@@ -133,7 +132,7 @@ fn arguments_of<'m, 'a>(matches: &'m ArgMatches<'a>, name: &str) -> Option<&'m A
     matches.subcommand_matches(name)
 }
 
-/// The request that the arguments of a command are.
+/// The request of a command's arguments.
 fn request_of<'a>(
     alloc: Global,
     matches: &ArgMatches<'a>,
@@ -168,7 +167,7 @@ fn request_of<'a>(
     Ok(None)
 }
 
-/// Reads the arguments, the first of which is the program's name.
+/// Parses the arguments, the first of which is the program's name.
 pub fn read<'a, N: AsStr>(alloc: Global, words: &'a [N]) -> Result<Request<'a>, AllocError>
     ensures { IfOk result (IsRequested (subcommand_of turnprep (map N.text words.now)) (fault_of turnprep (map N.text words.now))) }
 {

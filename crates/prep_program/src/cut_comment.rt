@@ -1,4 +1,4 @@
-//! What a capture that was cut says of itself.
+//! The comment at the end of a capture that was cut.
 
 ghost use Rattle.std.specs.Prelude.{◌≡◌, IfOk, string_bytes};
 ghost use Rattle.prep_program.specs.CutComment.{comment_text, comment_of_cut};
@@ -19,7 +19,7 @@ fn text_of_cut(alloc: Global, totals: &Totals, digest: &str) -> Result<String, A
 }
 
 /// The section at the end of a capture that was cut: how many packets were kept and excluded, and
-/// the SHA-256 of the capture that it was cut out of.
+/// the SHA-256 of the original capture.
 pub fn section_of_cut(
     alloc: Global,
     totals: &Totals,

@@ -1,4 +1,4 @@
-//! Cutting captures that are files.
+//! Cuts captures that are files.
 
 ghost use Rattle.std.specs.Prelude.{◌≡◌, ◌++◌, [], ℕ, List, Option, Some, IfOk, OnOk};
 ghost use Rattle.std.specs.List.{AllZip};
@@ -20,10 +20,10 @@ use prep_cut::{CauseNumber, CutFault, Cutter, Plan, Proposal, Tallies, Totals, W
 use sha2::{Digest, Sha256};
 use std::thread::{Threads, join_mut};
 
-/// How many bytes are taken at once, so that starting a thread for them takes no time beside them.
+/// How many bytes are read at once: so many that the time to start a thread for them is negligible.
 const PIECE: usize = 262_144;
 
-/// Writes a capture without what is set aside, from its first byte to its last, to the file that
+/// Writes a capture without the excluded packets, from its first byte to its last, to the file that
 /// was made last.
 pub fn cut_capture<R: Threads + AllocGlobal, S: Source, M: Maker>(
     rt: &R,
@@ -64,7 +64,7 @@ pub fn cut_capture<R: Threads + AllocGlobal, S: Source, M: Maker>(
     Err(Stop::Read)
 }
 
-/// Has the next piece cut, and hashed by another thread meanwhile.
+/// Cuts the next piece, while another thread hashes it.
 fn take_piece<R: Threads>(
     rt: &R,
     cutter: &mut Cutter<'_>,
@@ -85,7 +85,7 @@ fn take_piece<R: Threads>(
     fed
 }
 
-/// Ends a capture.
+/// Ends a capture, and returns its result.
 fn end_capture(cutter: Cutter<'_>, capture: u32) -> Result<WasCut, Stop>
     ensures { (plan : Plan) (proposals : List Proposal) (earlier : List Marked) (text : List ℕ) (current : List Block) →
         IsCutting cutter.entry plan proposals earlier text current → IfOk result (λ cut. IsCut cut plan proposals earlier text current) }
@@ -100,9 +100,9 @@ fn end_capture(cutter: Cutter<'_>, capture: u32) -> Result<WasCut, Stop>
 #[derive(Debug, Drop)]
 pub struct ToCut<'a> {
     pub name: &'a str,
-    /// The file that is made of it.
+    /// The name of its output file.
     pub file: String,
-    /// What is proposed for each of its packets.
+    /// The proposal for each of its packets.
     pub proposals: Vec<Proposal>,
 }
 
@@ -113,8 +113,8 @@ pub struct AllCut {
     pub tallies: Tallies,
 }
 
-/// Cuts captures one after another, each to a file of its own. The tallies are those of all of
-/// them, with this count of groups of what isn't read.
+/// Cuts captures one after another, each to its own file. The tallies are those of all captures,
+/// with this number of groups of unread packets.
 pub fn cut_captures<R: Threads + AllocGlobal, S: Source, M: Maker>(
     rt: &R,
     source: &mut S,

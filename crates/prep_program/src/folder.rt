@@ -1,4 +1,4 @@
-//! Files of a folder that are named as others are.
+//! Output files of a folder that are named as the input files.
 
 ghost use Rattle.std.specs.Prelude.{◌≡◌, ◌++◌, IfOk, codes, string_bytes};
 
@@ -13,7 +13,7 @@ pub fn path_in(alloc: Global, folder: &str, name: &str) -> Result<String, AllocE
     format!(in alloc; "{folder}/{name}")
 }
 
-/// The last part of a capture's name. A name without one is no file's.
+/// The last part of a capture's name. A name without one is refused.
 pub fn last_part(name: &str) -> Result<&str, Stop> {
     match Path::new(name).file_name() {
         Some(part) => Ok(part),
@@ -21,8 +21,7 @@ pub fn last_part(name: &str) -> Result<&str, Stop> {
     }
 }
 
-/// Refuses captures of which one's last part is an earlier one's. The cost is their number,
-/// squared.
+/// Refuses captures if two have the same last part. The cost is their number, squared.
 pub fn check_parts(names: &[&str]) -> Result<(), Stop> {
     let mut number = 0u32;
     for (at, name) in names.iter().enumerate() {

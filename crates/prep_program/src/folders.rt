@@ -3,20 +3,20 @@
 use crate::maker::MakeFault;
 use host_files::Failure;
 
-/// Makes, renames and removes folders. It claims nothing of what is in them.
+/// Makes, renames and removes folders. It has no contract about their contents.
 pub trait Folders {
-    /// Refuses a name that a file or a folder has.
+    /// Refuses the name of an existing file or folder.
     fn check_new(&mut self, name: &str) -> Result<(), MakeFault>;
 
     /// Makes an empty folder.
     fn make_folder(&mut self, name: &str) -> Result<(), MakeFault>;
 
-    /// Gives a file or a folder another name, which nothing has.
+    /// Renames a file or a folder to a name that is free.
     fn rename(&mut self, from: &str, to: &str) -> Result<(), MakeFault>;
 
-    /// Removes a folder and what is in it, as far as the system allows.
+    /// Removes a folder and its contents, as far as the system permits.
     fn remove_folder(&mut self, name: &str);
 
-    /// The folder that couldn't be made or renamed, and why; none where none was noted.
+    /// The folder that couldn't be made or renamed, and why; `None` if none was recorded.
     fn failure(&self) -> Option<&Failure>;
 }

@@ -1,4 +1,4 @@
-//! Joining captures that are files.
+//! Joins captures that are files.
 
 ghost use Rattle.std.specs.Prelude.{◌≡◌, [], ℕ, List, Some, IfOk, OnOk};
 ghost use Rattle.std.specs.List.{AllZip};
@@ -13,7 +13,7 @@ use audit_model::put_all;
 use prep_join::{Counts, Joiner};
 use std::alloc::Global;
 
-/// Joins a capture more, from its first byte to its last.
+/// Joins one more capture, from its first byte to its last.
 fn join_capture<S: Source, M: Maker>(
     alloc: Global,
     source: &mut S,
@@ -49,7 +49,7 @@ fn join_capture<S: Source, M: Maker>(
     Err(Stop::Read)
 }
 
-/// Ends a capture.
+/// Ends a capture, and returns its counts.
 fn end_capture(joiner: &mut Joiner, capture: u32) -> Result<Counts, Stop>
     ensures { (done : List (List Block)) (text : List ℕ) (current : List Block) → IsJoining joiner.old done text current →
         IfOk result (λ counts. IsDone joiner.new done text current counts) }
@@ -60,8 +60,8 @@ fn end_capture(joiner: &mut Joiner, capture: u32) -> Result<Counts, Stop>
     }
 }
 
-/// Joins captures in their order to the file that was made last, and tells how many blocks each
-/// has. Of a capture that is refused the blocks before its fault are written.
+/// Joins captures in order to the file that was made last, and returns the number of blocks of
+/// each. If a capture is refused, the blocks before its fault are written.
 pub fn join_captures<S: Source, M: Maker>(
     alloc: Global,
     source: &mut S,

@@ -1,5 +1,5 @@
-//! The whole program as a function: words in, files by a source, new files by a maker, output
-//! to two sinks, and the exit status.
+//! The whole program as a function of the arguments, a source of files, a maker of new files, and
+//! two output sinks. It returns the exit status.
 #![tactic(auto)]
 
 mod collected;

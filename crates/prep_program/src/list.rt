@@ -1,4 +1,4 @@
-//! The list of what is set aside.
+//! The list of what is excluded.
 
 ghost use Rattle.std.specs.Prelude.{◌≡◌, ◌++◌, IfOk, codes, decimal, string_bytes};
 ghost use Rattle.prep_cut.specs.ReasonText.{reason_text};
@@ -13,7 +13,7 @@ use crate::list_totals::{
 use prep_cut::{Plan, Reason, Tally, Totals};
 use std::alloc::{AllocError, Global};
 
-/// Of what is relayed after a release the longest time after it, in microseconds.
+/// The longest time after a deletion, in microseconds, of data relayed after it.
 fn text_of_longest(alloc: Global, reason: &Reason, last: u64) -> Result<String, AllocError>
     ensures { IfOk result (λ text. string_bytes text ≡ longest_text reason.now last) }
 {
@@ -26,7 +26,7 @@ fn text_of_longest(alloc: Global, reason: &Reason, last: u64) -> Result<String, 
     }
 }
 
-/// A reason, and the moments of what it sets aside.
+/// A reason, and the moments of the packets that it excludes.
 fn text_of_reason(alloc: Global, reason: &Reason, tally: &Tally) -> Result<String, AllocError>
     ensures { IfOk result (λ text. string_bytes text ≡ reason_text reason.now ++ (codes " from " ++ (decimal tally.now.first ++ (codes " to " ++ decimal tally.now.last)))) }
 {
@@ -35,7 +35,7 @@ fn text_of_reason(alloc: Global, reason: &Reason, tally: &Tally) -> Result<Strin
     format!(in alloc; "{reason} from {first} to {last}")
 }
 
-/// A line that counts something.
+/// A line of the list with counts.
 fn line_of_reason(alloc: Global, reason: &Reason, tally: &Tally) -> Result<String, AllocError>
     ensures { IfOk result (λ line. string_bytes line ≡ line_text reason.now tally.now) }
 {
@@ -47,7 +47,7 @@ fn line_of_reason(alloc: Global, reason: &Reason, tally: &Tally) -> Result<Strin
     Ok(line)
 }
 
-/// The line, where it counts something.
+/// The line, if it counts something.
 fn line_of_tally(alloc: Global, reason: &Reason, tally: &Tally) -> Result<String, AllocError>
     ensures { IfOk result (λ line. string_bytes line ≡ counted_line (is_counted tally.now) reason.now tally.now) }
 {
@@ -58,7 +58,7 @@ fn line_of_tally(alloc: Global, reason: &Reason, tally: &Tally) -> Result<String
     }
 }
 
-/// A line for each reason that sets something aside.
+/// A line for each reason that excludes something.
 fn lines_of(alloc: Global, lines: &[Reason], tallies: &[Tally]) -> Result<String, AllocError>
     ensures { IfOk result (λ text. string_bytes text ≡ lines_text lines.now tallies.now) }
 {

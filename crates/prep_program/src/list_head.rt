@@ -1,4 +1,4 @@
-//! The head of the list of what is set aside.
+//! The head of the list of what is excluded.
 
 ghost use Rattle.std.specs.Prelude.{◌≡◌, IfOk, string_bytes};
 ghost use Rattle.prep_program.specs.ListText.{moment_line, number_line, printed_line, moments_text, head_text};
@@ -6,11 +6,10 @@ ghost use Rattle.prep_program.specs.ListText.{moment_line, number_line, printed_
 use prep_cut::Stated;
 use std::alloc::{AllocError, Global};
 
-/// The lifetime of an allocation from before, in seconds, unless another is said: coturn's
-/// greatest.
+/// The default lifetime of an allocation from before, in seconds: coturn's greatest.
 pub const USUAL_LIFETIME: u64 = 3_600;
 
-/// The line of a moment that may be stated.
+/// The line of an optional moment.
 fn line_of_moment(alloc: Global, word: &str, moment: Option<u64>) -> Result<String, AllocError>
     ensures { IfOk result (λ line. string_bytes line ≡ moment_line word.now moment) }
 {
@@ -43,7 +42,7 @@ fn line_if(is_printed: bool, line: &str) -> &str
     if is_printed { line } else { "" }
 }
 
-/// The first lines, with the moments that are stated.
+/// The first lines, with the stated moments.
 fn moments_of(alloc: Global, stated: &Stated, begin: u64) -> Result<String, AllocError>
     ensures { IfOk result (λ text. string_bytes text ≡ moments_text stated.now begin) }
 {
@@ -53,7 +52,7 @@ fn moments_of(alloc: Global, stated: &Stated, begin: u64) -> Result<String, Allo
     Ok(text)
 }
 
-/// The list's head: all that the operator states, of a lifetime only one that isn't the usual one.
+/// The list's head: all options that the operator states; a lifetime only if it isn't the default.
 pub fn head_of(alloc: Global, stated: &Stated, begin: u64) -> Result<String, AllocError>
     ensures { IfOk result (λ text. string_bytes text ≡ head_text stated.now begin) }
 {

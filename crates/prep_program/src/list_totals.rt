@@ -1,4 +1,4 @@
-//! The end of the list of what is set aside: what its lines and captures add up to.
+//! The end of the list of what is excluded: the sums over its lines and captures.
 
 ghost use Rattle.std.specs.Prelude.{◌≡◌, IfOk, string_bytes};
 ghost use Rattle.prep_program.specs.ListText.{counts_text, others_text, sums_of, sums_text, kept_of, kept_text, share_of, is_client, clients_with, departures_of, excluded_of, share_text, departures_text, excluded_text, totals_text};
@@ -6,7 +6,7 @@ ghost use Rattle.prep_program.specs.ListText.{counts_text, others_text, sums_of,
 use prep_cut::{Count, Reason, Tallies, Tally, Totals};
 use std::alloc::{AllocError, Global};
 
-/// What the list has in addition to counts.
+/// The numbers of the list that the lines don't count.
 #[derive(Clone, Copy)]
 pub struct Notes {
     pub begin: u64,
@@ -14,16 +14,16 @@ pub struct Notes {
     pub lanes: u64,
 }
 
-/// All that is set aside.
+/// The sums of all that is excluded.
 #[derive(Clone, Copy)]
 pub struct Sums {
     pub arrived: Count,
     pub left: Count,
-    /// Packets that are no datagrams of the service.
+    /// Packets that aren't datagrams of the service.
     pub others: u64,
 }
 
-/// The departures that are set aside.
+/// The excluded departures.
 #[derive(Clone, Copy)]
 pub struct Departures {
     /// Those that need an arrival of their own, or a packet that may have carried their data, and
@@ -31,11 +31,11 @@ pub struct Departures {
     pub unpaired: u64,
     /// Those whose data packets that aren't read may have carried.
     pub unread: u64,
-    /// How many clients from before there are.
+    /// The number of clients from before.
     pub clients: u64,
 }
 
-/// What a line counts, as ` in 3 4 out 5 6`.
+/// The counts of a line, as ` in 3 4 out 5 6`.
 pub fn text_of_counts(alloc: Global, arrived: Count, left: Count) -> Result<String, AllocError>
     ensures { IfOk result (λ text. string_bytes text ≡ counts_text arrived left) }
 {
@@ -46,7 +46,7 @@ pub fn text_of_counts(alloc: Global, arrived: Count, left: Count) -> Result<Stri
     format!(in alloc; " in {arrivals} {in_bytes} out {departures} {out_bytes}")
 }
 
-/// Packets that are no datagrams of the service, where there are any.
+/// The number of packets that aren't datagrams of the service, if there are any.
 pub fn text_of_others(alloc: Global, is_printed: bool, others: u64) -> Result<String, AllocError>
     ensures { IfOk result (λ text. string_bytes text ≡ others_text is_printed others) }
 {
@@ -57,7 +57,7 @@ pub fn text_of_others(alloc: Global, is_printed: bool, others: u64) -> Result<St
     }
 }
 
-/// All that is set aside.
+/// The sums of all that is excluded.
 pub fn add_up(tallies: &[Tally]) -> Sums
     ensures { result ≡ sums_of tallies.now }
 {
@@ -76,7 +76,7 @@ pub fn add_up(tallies: &[Tally]) -> Sums
     sums
 }
 
-/// The line of all that is set aside.
+/// The line of the sums of all that is excluded.
 fn line_of_sums(alloc: Global, sums: &Sums) -> Result<String, AllocError>
     ensures { IfOk result (λ line. string_bytes line ≡ sums_text sums.now) }
 {
@@ -127,7 +127,7 @@ fn names_client(reason: &Reason, tally: &Tally) -> bool
     }
 }
 
-/// How many clients from before the lines name.
+/// The number of clients from before that the lines name.
 fn clients_in(lines: &[Reason], tallies: &[Tally]) -> u64
     ensures { result ≡ clients_with 0 lines.now tallies.now }
 {
@@ -145,8 +145,8 @@ fn clients_in(lines: &[Reason], tallies: &[Tally]) -> u64
     clients
 }
 
-/// The departures that are excluded, of which some have an arrival of their own, and packets that
-/// aren't read may have carried others.
+/// The numbers of excluded departures: those with neither an arrival of their own nor a packet that
+/// may have carried their data, and those whose data unread packets may have carried.
 pub fn departures_in(lines: &[Reason], tallies: &Tallies) -> Departures
     ensures { result ≡ departures_of lines.now tallies.now }
 {
@@ -159,7 +159,7 @@ pub fn departures_in(lines: &[Reason], tallies: &Tallies) -> Departures
     }
 }
 
-/// How many datagrams are excluded, of how many, with their share.
+/// How many datagrams are excluded, of how many, and the share.
 fn text_of_share(alloc: Global, excluded: u64, all: u64) -> Result<String, AllocError>
     ensures { IfOk result (λ text. string_bytes text ≡ share_text excluded all) }
 {
@@ -181,7 +181,7 @@ fn text_of_departures(
     format!(in alloc; " departures {all} unpaired {unpaired} unread {unread} clients {clients}\n")
 }
 
-/// The line of the datagrams that are set aside, with their share.
+/// The line of the excluded datagrams, with their share.
 fn line_of_excluded(
     alloc: Global,
     sums: &Sums,
@@ -195,14 +195,14 @@ fn line_of_excluded(
     Ok(line)
 }
 
-/// The datagrams that are set aside.
+/// The excluded datagrams.
 fn excluded_in(sums: &Sums) -> u64
     ensures { result ≡ excluded_of sums.now }
 {
     sums.arrived.datagrams.saturating_add(sums.left.datagrams)
 }
 
-/// The last lines of the list, of all lines together.
+/// The last lines of the list, with the sums over all lines.
 pub fn lines_of_totals(
     alloc: Global,
     notes: &Notes,

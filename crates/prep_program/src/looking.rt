@@ -16,22 +16,22 @@ use std::alloc::Global;
 /// The arguments of the command `look`.
 #[derive(Drop)]
 pub struct LookRequest<'a> {
-    /// Without one a policy is guessed.
+    /// The policy's file; without it a policy is guessed.
     pub policy: Option<&'a str>,
     /// The longest lifetime of an allocation from before, in seconds.
     pub lifetime: u64,
     pub captures: Vec<&'a str>,
 }
 
-/// The policy by which the captures are looked at, and the text of the one that is suggested.
+/// The policy by which the captures are read, and the text of the suggested one.
 #[derive(Drop)]
 struct Taken {
     policy: Policy,
     suggested: Vec<u8>,
 }
 
-/// Tells what captures hold. It reads them twice: a guess needs all answers before the first
-/// datagram is taken for one of the service.
+/// Prints what captures contain. It reads them twice: a guess needs all responses before it is
+/// known which datagrams are of the service.
 pub fn run_look<S: Source, O: Sink>(
     alloc: Global,
     request: &LookRequest<'_>,
@@ -58,14 +58,14 @@ pub fn run_look<S: Source, O: Sink>(
     Ok(0)
 }
 
-/// A policy that is a file. Its text is suggested as it is.
+/// A policy from a file. Its text is suggested unchanged.
 fn policy_in<S: Source>(alloc: Global, name: &str, source: &mut S) -> Result<Taken, Stop> {
     let suggested = read_policy_text(alloc, source, name)?;
     let policy = read_policy(alloc, &suggested)?;
     Ok(Taken { policy, suggested })
 }
 
-/// A policy out of what the captures show.
+/// A policy guessed from the captures.
 fn guessed(alloc: Global, survey: &Survey) -> Result<Taken, Stop> {
     let Guess { policy, suggested } = guess_policy(alloc, survey)?;
     Ok(Taken {
@@ -74,10 +74,10 @@ fn guessed(alloc: Global, survey: &Survey) -> Result<Taken, Stop> {
     })
 }
 
-/// The longest time that `cut` takes for what is relayed after deletions, in milliseconds.
+/// The longest time after deletions that `cut` accepts, in milliseconds.
 pub const LONGEST_RELEASED: u64 = 60_000;
 
-/// How long allocations from before last, and the longest time after deletions, so that the page
+/// The lifetime of allocations from before, and the longest time after deletions, so that the page
 /// has the time that the captures show.
 fn stated_for(lifetime: u64) -> Stated {
     Stated {

@@ -1,4 +1,4 @@
-//! Where new files are written.
+//! Makes and writes new files.
 
 ghost use Rattle.std.specs.Prelude.{◌≡◌, ◌≤◌, length, take, IfOk, OnOk, OnErr};
 ghost use Rattle.audit_model.specs.Sink.{followed_by};
@@ -10,21 +10,21 @@ use host_files::Failure;
 /// Why a file could not be made.
 #[derive(Clone, Copy, Debug, PartialEq, Eq)]
 pub enum MakeFault {
-    /// A file of that name is there.
+    /// A file of that name exists.
     Exists,
     Failed,
     Memory,
 }
 
-/// Makes files, and puts what it is given into the one that it made last. They get their names once
-/// all are written: before, no other program finds one under its name. A file that is there is
-/// never written over.
+/// Makes files, and appends bytes to the file that it made last. The files get their names when all
+/// are written: until then, no other program finds one under its name. An existing file is never
+/// overwritten.
 pub trait Maker: Sink {
     ghost use Rattle.std.specs.Prelude.{Option};
     ghost use Rattle.prep_program.specs.Making.{Making};
 
-    /// The files that it made, but for what the last of them takes. A maker that is None claims
-    /// nothing of them.
+    /// The files that it made, except the bytes of the last one. For a maker that is `None`,
+    /// nothing is claimed.
     ghost making: { Self → Option Making };
 
     /// Makes an empty file.
@@ -32,14 +32,14 @@ pub trait Maker: Sink {
         ensures empty { OnOk result (Self.taken self.new ≡ emptied (Self.taken self.old)) }
         ensures opened { OnOk result (making self.new ≡ opened_by name.now (files_of (making self.old) (Self.taken self.old))) };
 
-    /// Writes a front of the piece to the file that it made last, and returns its length.
+    /// Writes a prefix of the piece to the file that it made last, and returns its length.
     fn append(&mut self, piece: &[u8]) -> Result<usize, SinkFailed>
         ensures within { IfOk result (λ n. n ≤ length piece.now) }
         ensures took { IfOk result (λ n. Self.taken self.new ≡ followed_by (Self.taken self.old) (take n piece.now)) }
         ensures failed { OnErr result (Self.taken self.new ≡ Self.taken self.old) }
         ensures others { making self.new ≡ making self.old };
 
-    /// Gives the files that it made their names: all, or none.
+    /// Publishes the files under their names: all, or none.
     fn publish(&mut self) -> Result<(), MakeFault>
         ensures files { making self.new ≡ making self.old }
         ensures bytes { Self.taken self.new ≡ Self.taken self.old };
@@ -47,7 +47,7 @@ pub trait Maker: Sink {
     /// Removes the files that have no names yet.
     fn discard(&mut self);
 
-    /// The file that couldn't be made, written or named, and why; none where none was noted.
+    /// The file that couldn't be made, written or named, and why; `None` if none was recorded.
     fn failure(&self) -> Option<&Failure>;
 }
 

@@ -1,11 +1,11 @@
-//! Which page of help a text is.
+//! Finds the help page of a text.
 
 ghost use Rattle.std.specs.Prelude.{◌≡◌, IfSome};
 ghost use Rattle.prep_program.specs.Pages.{page_text};
 
 use crate::pages::Page;
 
-/// The page of this text, if it is one.
+/// The page with this text, if there is one.
 pub fn page_of(text: &str) -> Option<Page>
     ensures { IfSome result (λ page. page_text page ≡ text.now) }
 {

@@ -26,7 +26,7 @@ pub enum Page {
     Ready,
 }
 
-/// The release, and the line of `rt version` that names what it is proved with.
+/// The line of the release, with the line of `rt version` for the tools of the proofs.
 const RELEASE: &str = "turnprep 0.1.0, proved with rattle-kit-13f logic dac8208d650f15bf\n";
 
 const PROGRAM: &str = "\
@@ -268,7 +268,7 @@ command that audits the folder.
 ";
 
 impl Page {
-    /// What is printed, with its last LF. It is the front of no report.
+    /// The text of the page, with its last LF. It doesn't begin like a report.
     pub fn text(self) -> &'static str
         ensures text { result.now ≡ page_text self }
         ensures no_report { begins_a_report result.now ≡ false }
@@ -287,7 +287,7 @@ impl Page {
     }
 }
 
-/// The line of the release, with its LF. It is the front of no report.
+/// The line of the release, with its LF. It doesn't begin like a report.
 pub fn release() -> &'static str
     ensures text { result.now ≡ release_text }
     ensures no_report { begins_a_report result.now ≡ false }

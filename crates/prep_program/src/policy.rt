@@ -1,4 +1,4 @@
-//! A policy out of a configuration that is a file.
+//! Makes a policy from a configuration that is a file.
 
 ghost use Rattle.prep_program.specs.Answered.{IsSuccess};
 
@@ -9,7 +9,7 @@ use audit_model::{Sink, put_all};
 use prep_coturn::{Asked, prepare};
 use std::alloc::Global;
 
-/// Writes the policy that a configuration results in, and the notes on it.
+/// Writes the policy of a configuration, and the notes about it.
 pub fn run_policy<S: Source, O: Sink, E: Sink>(
     alloc: Global,
     file: &str,

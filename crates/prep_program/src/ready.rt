@@ -1,5 +1,4 @@
-//! The command `ready`: from the captures of a relay in use to a folder that `turnaudit audit`
-//! takes.
+//! The command `ready`: makes a folder for `turnaudit audit` from the captures of a relay in use.
 
 ghost use Rattle.prep_program.specs.Answered.{IsReady};
 
@@ -30,7 +29,7 @@ use prep_cut::Stated;
 use std::alloc::Global;
 use std::thread::Threads;
 
-/// What the policy is made of.
+/// The source of the policy.
 #[derive(Clone, Copy)]
 pub enum PolicySource<'a> {
     /// The file of coturn's configuration.
@@ -43,7 +42,7 @@ pub enum PolicySource<'a> {
 #[derive(Drop)]
 pub struct ReadyRequest<'a> {
     pub source: PolicySource<'a>,
-    /// The file of the credentials. Without one they are those that the configuration names.
+    /// The file of the credentials; without it the users of the configuration are used.
     pub creds: Option<&'a str>,
     /// The folder that is made.
     pub folder: &'a str,
@@ -51,9 +50,9 @@ pub struct ReadyRequest<'a> {
     pub captures: Vec<&'a str>,
 }
 
-/// Prepares captures in a folder of another name, which gets its own name once all is done: a call
-/// that fails leaves no folder. The exit status is 6, and no folder is left, if no datagram of the
-/// service is kept.
+/// Prepares captures in a temporary folder, which is renamed when all is done: a call that fails
+/// leaves no folder. The exit status is 6, and no folder remains, if no datagram of the service is
+/// kept.
 pub fn run_ready<R: Threads + AllocGlobal, S: Source, M: Maker, F: Folders, O: Sink, E: Sink>(
     rt: &R,
     request: &ReadyRequest<'_>,
@@ -100,7 +99,7 @@ fn check_inputs<S: Source>(
     check_repeatable(alloc, source, &request.captures)
 }
 
-/// Gives the folder its name.
+/// Renames the temporary folder.
 fn give_name<F: Folders>(work: &Work, folders: &mut F) -> Result<(), Stop> {
     match folders.rename(work.part(), work.folder()) {
         Ok(()) => Ok(()),
@@ -111,7 +110,7 @@ fn give_name<F: Folders>(work: &Work, folders: &mut F) -> Result<(), Stop> {
     }
 }
 
-/// All steps, in the folder that has another name, and whether a datagram of the service is kept.
+/// All steps, in the temporary folder. Returns whether a datagram of the service is kept.
 fn prepare<R: Threads + AllocGlobal, S: Source, M: Maker, F: Folders, E: Sink>(
     rt: &R,
     request: &ReadyRequest<'_>,
@@ -154,7 +153,7 @@ fn prepare_by<R: Threads + AllocGlobal, S: Source, M: Maker, F: Folders, E: Sink
     Ok(true)
 }
 
-/// Writes the commands that repeat it by hand, and removes what only the steps needed.
+/// Writes the commands that repeat the steps manually, and removes temporary files.
 fn write_steps<M: Maker, F: Folders>(
     work: &Work,
     maker: &mut M,

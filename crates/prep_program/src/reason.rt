@@ -1,4 +1,4 @@
-//! What a refusal's code says, in words.
+//! The meaning of a refusal's code, in words.
 
 use crate::stop::Stop;
 use explain_text::refusal_reason;
@@ -8,8 +8,7 @@ use prep_join::JoinFault;
 use prep_translate::TranslateFault;
 use std::fmt;
 
-/// What stands after the line of a refusal: a colon and the words of its code; nothing if it has no
-/// code.
+/// The end of a refusal's line: a colon and the meaning of its code; nothing if it has no code.
 #[derive(Clone, Copy)]
 pub struct Reason<'a> {
     pub stop: &'a Stop,

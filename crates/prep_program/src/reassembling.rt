@@ -1,4 +1,4 @@
-//! Reassembling captures that are files.
+//! Reassembles captures that are files.
 
 ghost use Rattle.std.specs.Prelude.{◌≡◌, ℕ, List, Some, OnOk};
 ghost use Rattle.prep_blocks.specs.declared.block.Block.{Block};
@@ -18,13 +18,13 @@ use std::alloc::Global;
 /// The arguments of the command `reassemble`.
 #[derive(Drop)]
 pub struct ReassembleRequest<'a> {
-    /// A folder that is there.
+    /// An existing folder.
     pub folder: &'a str,
     pub captures: Vec<&'a str>,
 }
 
-/// Reassembles a capture to the file that was made last, and tells what was put together. Of a
-/// capture that is refused the blocks before its fault are written.
+/// Reassembles a capture to the file that was made last, and returns the counts. If a capture is
+/// refused, the blocks before its fault are written.
 pub fn reassemble_capture<S: Source, M: Maker>(
     alloc: Global,
     source: &mut S,
@@ -60,7 +60,7 @@ pub fn reassemble_capture<S: Source, M: Maker>(
     Err(Stop::Read)
 }
 
-/// Ends a capture.
+/// Ends a capture, and returns the counts.
 fn end_capture(reassembler: &Reassembler, capture: u32) -> Result<Reassembled, Stop>
     ensures { (text : List ℕ) (blocks : List Block) → IsReassembling reassembler.now text blocks → OnOk result (IsDone text blocks) }
 {
@@ -70,7 +70,7 @@ fn end_capture(reassembler: &Reassembler, capture: u32) -> Result<Reassembled, S
     }
 }
 
-/// A capture's fault, by its number.
+/// The fault of a capture, by its number.
 fn stop_of(capture: u32, fault: ReassembleFault) -> Stop {
     match fault {
         ReassembleFault::Capture(CaptureFault::Memory) => Stop::Memory,
@@ -78,8 +78,8 @@ fn stop_of(capture: u32, fault: ReassembleFault) -> Stop {
     }
 }
 
-/// Reassembles captures to files of their names in a folder, and writes how many fragments were put
-/// together.
+/// Reassembles captures to files of the same names in a folder, and prints how many fragments were
+/// reassembled.
 pub fn run_reassemble<S: Source, M: Maker, O: Sink>(
     alloc: Global,
     request: &ReassembleRequest<'_>,

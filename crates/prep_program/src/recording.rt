@@ -1,4 +1,4 @@
-//! Recording captures that are files.
+//! Records captures that are files.
 
 ghost use Rattle.std.specs.Prelude.{◌≡◌, [], ℕ, List, Option, Some, OnOk, IfOk};
 ghost use Rattle.std.specs.List.{AllZip};
@@ -14,7 +14,7 @@ use prep_cut::Stated;
 use prep_records::{Recorder, Records};
 use std::alloc::Global;
 
-/// Records a capture more, from its first byte to its last.
+/// Records one more capture, from its first byte to its last.
 fn record_capture<S: Source>(
     alloc: Global,
     source: &mut S,
@@ -55,8 +55,8 @@ fn end_capture(recorder: &mut Recorder<'_>, capture: u32) -> Result<(), Stop>
     }
 }
 
-/// Reads captures for what is to be proposed. What they ask and grant of allocations is noted
-/// whole, but for packets before the moment that is stated.
+/// Reads captures for the proposals. All Allocate requests and responses are recorded, except those
+/// in packets before the stated moment.
 pub fn record_captures<S: Source>(
     alloc: Global,
     source: &mut S,

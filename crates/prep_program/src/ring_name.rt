@@ -1,23 +1,22 @@
-//! The numbers that dumpcap gives the files of a ring.
+//! The numbers in dumpcap's names for the files of a ring.
 
 ghost use Rattle.std.specs.Prelude.{◌≡◌, ◌<◌, ◌≤◌, length, IfSome, slice_index, true};
 
-/// A name that dumpcap gives: what is before `_00001_20261126120000.pcapng`, and the number in it.
+/// A name by dumpcap: the part before `_00001_20261126120000.pcapng`, and the number in it.
 #[derive(Clone, Copy, Debug)]
 pub struct RingName<'a> {
     pub stem: &'a [u8],
     pub number: u32,
 }
 
-/// How long `_00001_20261126120000.` is.
+/// The length of `_00001_20261126120000.`.
 const MARK: usize = 22;
 
-/// Where the second line of it stands.
+/// The index of its second underscore.
 const SECOND: usize = 6;
 
 impl<'a> RingName<'a> {
-    /// The numbers of a name, where dumpcap gave it: those of the last mark in it that has no `/`
-    /// behind it.
+    /// Parses a name by dumpcap: the last mark in it that no `/` follows.
     pub fn of(name: &'a [u8]) -> Option<Self> {
         if name.len() < MARK {
             return None;
@@ -38,7 +37,7 @@ impl<'a> RingName<'a> {
     }
 }
 
-/// Whether these bytes are a line, five digits, a line, fourteen digits and a dot.
+/// Whether these bytes are an underscore, five digits, an underscore, fourteen digits and a dot.
 fn is_mark(mark: &[u8]) -> bool {
     if mark.len() != MARK {
         return false;
@@ -52,7 +51,7 @@ fn is_mark(mark: &[u8]) -> bool {
             .all(|b| b.is_ascii_digit())
 }
 
-/// The number that decimal digits spell, of which there are few.
+/// The number that a few decimal digits spell.
 fn number_in(digits: &[u8]) -> u32 {
     let mut number = 0u32;
     for digit in digits {
@@ -63,8 +62,8 @@ fn number_in(digits: &[u8]) -> u32 {
     number
 }
 
-/// Two files of one ring between which a file is missing: the number of the second one among the
-/// names, and the numbers in both.
+/// Two files of one ring between which a file is missing: the index of the second one among the
+/// names, and the numbers of both.
 #[derive(Clone, Copy, Debug, PartialEq, Eq)]
 pub struct Gap {
     pub capture: u32,
@@ -72,7 +71,7 @@ pub struct Gap {
     pub here: u32,
 }
 
-/// The first two names that follow one another, are of one ring, and have numbers that don't.
+/// The first two adjacent names of one ring whose numbers aren't adjacent.
 pub fn gap_in(names: &[&str]) -> Option<Gap> {
     let mut before: Option<RingName<'_>> = None;
     let mut capture = 0u32;

@@ -27,8 +27,8 @@ use std::alloc::{AllocError, Global};
 use std::convert::AsStr;
 use std::thread::Threads;
 
-/// The line that says why a run ended: what can't be read or written by its name, and the system's
-/// reason.
+/// The line with the reason why a run ended: the name of what can't be read or written, and the
+/// system's reason.
 fn line_of<'x, S: Source, M: Maker, F: Folders>(
     alloc: Global,
     source: &'x S,
@@ -50,7 +50,7 @@ fn line_of<'x, S: Source, M: Maker, F: Folders>(
     format!(in alloc; "turnprep: can't {verb} {name}: {failure}\n")
 }
 
-/// Puts the line that says why the run ended. Nothing more can be done where that fails.
+/// Prints the line with the reason why the run ended. If that fails, nothing more can be done.
 fn put_stop<S: Source, M: Maker, F: Folders, W: Sink>(
     alloc: Global,
     source: &S,
@@ -67,12 +67,12 @@ fn put_stop<S: Source, M: Maker, F: Folders, W: Sink>(
     }
 }
 
-/// Puts that there was no memory.
+/// Prints that there was no memory.
 fn put_no_memory<W: Sink>(err: &mut W) {
     let _ = put_all(err, b"turnprep: out of memory\n");
 }
 
-/// Puts a text.
+/// Prints a text.
 fn put_text<W: Sink>(sink: &mut W, text: &str) -> Result<(), Stop>
     ensures { OnOk result (W.taken sink.new ≡ followed_by (W.taken sink.old) text.now) }
 {
@@ -80,7 +80,7 @@ fn put_text<W: Sink>(sink: &mut W, text: &str) -> Result<(), Stop>
     Ok(())
 }
 
-/// Joins captures to a new file, and prints how many blocks each has.
+/// Joins captures to a new file, and prints the number of blocks of each.
 fn run_join<S: Source, M: Maker, O: Sink>(
     alloc: Global,
     captures: &[&str],
@@ -110,7 +110,7 @@ fn run_join<S: Source, M: Maker, O: Sink>(
     Ok(0)
 }
 
-/// Cuts captures, which are read twice, and gives the files that are made their names at the end.
+/// Cuts captures, which are read twice, and publishes the output files at the end.
 fn cut_and_publish<R: Threads + AllocGlobal, S: Source, M: Maker, O: Sink, E: Sink>(
     rt: &R,
     request: &CutRequest<'_>,
@@ -128,7 +128,7 @@ fn cut_and_publish<R: Threads + AllocGlobal, S: Source, M: Maker, O: Sink, E: Si
     Ok(status)
 }
 
-/// Prints what captures have, which are read twice.
+/// Prints what captures contain, which are read twice.
 fn look<S: Source, O: Sink>(
     alloc: Global,
     request: &LookRequest<'_>,
@@ -141,7 +141,7 @@ fn look<S: Source, O: Sink>(
     run_look(alloc, request, source, out)
 }
 
-/// Does what is requested, and returns the exit status.
+/// Executes the request, and returns the exit status.
 fn run_request<R: Threads + AllocGlobal, S: Source, M: Maker, F: Folders, O: Sink, E: Sink>(
     rt: &R,
     request: &Request<'_>,
@@ -190,10 +190,10 @@ fn run_request<R: Threads + AllocGlobal, S: Source, M: Maker, F: Folders, O: Sin
     }
 }
 
-/// Runs the program on its words, the first of which is its name, and gives its exit status: 0
-/// done, help or the release; 2 an input is refused; 3 out of memory; 4 a file that can't be read
-/// or made, or something that can't be written; 5 words that are no request; 6 `cut` is done, or
-/// `ready`, and kept no datagram. What ended it is one line on `err`.
+/// Runs the program on its arguments, the first of which is its name, and returns its exit status:
+/// 0 done, help or the release; 2 an input is refused; 3 out of memory; 4 a file can't be read or
+/// made, or output can't be written; 5 usage error; 6 `cut` or `ready` is done and kept no
+/// datagram. A run that fails prints one line on `err`.
 pub fn run<R: Threads + AllocGlobal, N: AsStr, S: Source, M: Maker, F: Folders, O: Sink, E: Sink>(
     rt: &R,
     words: &[N],

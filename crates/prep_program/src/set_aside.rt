@@ -28,7 +28,7 @@ use std::thread::Threads;
 #[derive(Drop)]
 pub struct CutRequest<'a> {
     pub policy: &'a str,
-    /// A folder that is there.
+    /// An existing folder.
     pub folder: &'a str,
     pub stated: Stated,
     pub captures: Vec<&'a str>,
@@ -37,22 +37,22 @@ pub struct CutRequest<'a> {
 /// The list's name in its folder.
 const LIST: &str = "set-aside";
 
-/// What standard error has where no datagram is kept.
+/// The line on standard error if no datagram is kept.
 const NOTHING_KEPT: &str = "turnprep: kept 0 datagrams\n";
 
-/// What is to be cut, and how.
+/// The plan of a cut.
 #[derive(Drop)]
 struct Planned {
     plan: Plan,
     notes: Notes,
-    /// What is proposed for the packets of each capture.
+    /// The proposals for the packets of each capture.
     proposals: Vec<Vec<Proposal>>,
-    /// How many groups of what isn't read these have.
+    /// The number of groups of unread packets in them.
     groups: CauseNumber,
 }
 
-/// Writes the captures without what is set aside into a folder, and the list of that, which is
-/// printed, too. Where no datagram is kept, it says so on `err`, and the exit status is 6.
+/// Writes the captures without the excluded packets into a folder, and also the list, which is
+/// printed, too. If no datagram is kept, it reports that on `err`, and the exit status is 6.
 pub fn run_cut<R: Threads + AllocGlobal, S: Source, M: Maker, O: Sink, E: Sink>(
     rt: &R,
     request: &CutRequest<'_>,
@@ -84,7 +84,7 @@ pub fn run_cut<R: Threads + AllocGlobal, S: Source, M: Maker, O: Sink, E: Sink>(
     Ok(status)
 }
 
-/// The exit status of a call that kept so many datagrams. Where there are none, it says so on
+/// The exit status of a call that kept this number of datagrams. If it is 0, it reports that on
 /// `err`.
 fn end_cut<E: Sink>(kept: u64, err: &mut E) -> Result<u8, Stop>
     ensures { IfOk result (λ status. EndsByKept kept status (E.taken err.old) (E.taken err.new)) }
@@ -96,7 +96,7 @@ fn end_cut<E: Sink>(kept: u64, err: &mut E) -> Result<u8, Stop>
     Ok(6)
 }
 
-/// Reads the policy and the captures, and has lines proposed.
+/// Reads the policy and the captures, and makes the proposals.
 fn plan_of<S: Source>(
     alloc: Global,
     request: &CutRequest<'_>,
@@ -158,7 +158,7 @@ fn write_list<M: Maker, O: Sink>(
     Ok(())
 }
 
-/// The captures with their files and what is proposed for them.
+/// The captures with their output files and their proposals.
 fn captures_of<'a>(
     alloc: Global,
     request: &CutRequest<'a>,

@@ -1,4 +1,4 @@
-//! Where files are read from.
+//! Reads files.
 
 ghost use Rattle.std.specs.Prelude.{◌≡◌, ◌≤◌, ℕ, IfOk, List, Some, length};
 ghost use Rattle.prep_program.specs.Pieces.{IsPieceAt};
@@ -14,28 +14,28 @@ pub const PIECE: usize = 65_536;
 #[derive(Clone, Copy, Debug, PartialEq, Eq)]
 pub struct ReadFailed;
 
-/// Gives the bytes of files, piece by piece.
+/// Reads the bytes of files, piece by piece.
 pub trait Source {
     ghost use Rattle.std.specs.Prelude.{ℕ, List, Option};
 
-    /// The bytes of the file of a name. A source that is None claims nothing of them.
+    /// The bytes of the file of a name. For a source that is `None`, nothing is claimed.
     ghost holds: { Self → List ℕ → Option (List ℕ) };
 
-    /// Reads bytes of the file from an offset on into the buffer, and tells how many: 0 at the end
-    /// of the file, or where the buffer has no room.
+    /// Reads bytes of the file from an offset on into the buffer, and returns their number: 0 at
+    /// the end of the file, or if the buffer is empty.
     fn piece(&mut self, name: &str, at: u64, into: &mut [u8]) -> Result<usize, ReadFailed>
         ensures within { IfOk result (λ n. n ≤ length into.old) }
         ensures kept { holds self.new ≡ holds self.old }
         ensures bytes { (bytes : List ℕ) → holds self.old name.now ≡ Some bytes → IfOk result (λ n. IsPieceAt bytes at n into.new) };
 
-    /// Whether a file can be read more than once, as a pipe can't.
+    /// Whether a file can be read more than once; a pipe can't.
     fn is_repeatable(&self, name: &str) -> bool;
 
-    /// The file that couldn't be read, and why; none where none was noted.
+    /// The file that couldn't be read, and why; `None` if none was recorded.
     fn failure(&self) -> Option<&Failure>;
 }
 
-/// Refuses captures of which one can't be read twice, before any is read.
+/// Refuses captures if one can't be read twice, before any is read.
 pub fn check_repeatable<S: Source>(alloc: Global, source: &S, names: &[&str]) -> Result<(), Stop> {
     for name in names {
         if !source.is_repeatable(name) {

@@ -1,4 +1,4 @@
-//! Why a run ends before its end.
+//! Why a run ended early.
 
 ghost use Rattle.std.specs.Prelude.{◌≡◌};
 ghost use Rattle.prep_program.specs.Stops.{status_of_stop};
@@ -21,51 +21,51 @@ use prep_users::{ConfiguredFault, UsersFault};
 use std::alloc::{AllocError, AllocFailed};
 use std::fmt;
 
-/// What ended a run.
+/// Why a run ended early.
 #[derive(Debug, Drop)]
 pub enum Stop {
-    /// No policy is made of a configuration.
+    /// No policy can be made from a configuration.
     Conf(ConfFault),
-    /// A file is no configuration.
+    /// A file isn't a configuration.
     Text(TextFault),
     /// The capture of this name can't be read twice.
     ReadOnce(String),
     /// A capture was refused.
     Capture(Refused),
-    /// A capture was refused that is to be cut.
+    /// A capture that is to be cut was refused.
     Cut(CutRefused),
     /// A file of a ring is missing.
     Missing(Gap),
     /// The policy was refused.
     Policy(PolicyFault),
-    /// Translations don't go with the policy.
+    /// Translations don't fit the policy.
     Renaming(RenamingFault),
     /// A capture can't be translated.
     Translate(TranslateRefused),
-    /// A capture's fragments can't be put together.
+    /// A capture's fragments can't be reassembled.
     Reassemble(ReassembleRefused),
-    /// A configuration tells no users.
+    /// A configuration names no users.
     Users(UsersFault),
     /// The capture of this number has the name of an earlier one.
     SameName(u32),
-    /// No policy is guessed.
+    /// No policy can be guessed.
     Guess(GuessFault),
-    /// The server was restarted: which of both times is meant is for the caller to say.
+    /// The server was restarted: the operator must state which of the two times is meant.
     Restarted(Restart),
-    /// The words are no request.
+    /// Usage error.
     Words(&'static str),
-    /// There was no memory.
+    /// Out of memory.
     Memory,
     /// A file could not be read.
     Read,
-    /// A file could not be made, or something not written.
+    /// A file couldn't be made, or output couldn't be written.
     Write,
-    /// A file that was to be made is there.
+    /// An output file exists already.
     Exists,
 }
 
 impl Stop {
-    /// The exit status that says so.
+    /// The exit status.
     pub fn status(&self) -> u8
         ensures { result ≡ status_of_stop self.now }
     {
@@ -95,7 +95,7 @@ impl Stop {
         }
     }
 
-    /// A capture's fault, by its number.
+    /// The fault of a capture, by its number.
     pub fn of_capture(capture: u32, fault: JoinFault) -> Stop {
         match fault {
             JoinFault::Capture(CaptureFault::Memory) => Stop::Memory,
@@ -104,7 +104,7 @@ impl Stop {
     }
 }
 
-/// The line that goes to standard error, without its end.
+/// The line for standard error, without its LF.
 impl fmt::Display for Stop {
     fn fmt<W: fmt::Write>(&self, f: &mut fmt::Formatter<W>) -> fmt::Result {
         let reason = Reason { stop: self };

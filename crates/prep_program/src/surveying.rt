@@ -1,11 +1,11 @@
-//! Surveying captures that are files.
+//! Surveys captures that are files.
 
 use crate::source::{PIECE, Source};
 use crate::stop::Stop;
 use prep_look::{Survey, Surveyor};
 use std::alloc::Global;
 
-/// Surveys a capture more, from its first byte to its last.
+/// Surveys one more capture, from its first byte to its last.
 fn survey_capture<S: Source>(
     alloc: Global,
     source: &mut S,
@@ -36,7 +36,7 @@ fn survey_capture<S: Source>(
     Err(Stop::Read)
 }
 
-/// What captures hold.
+/// Reads what captures contain.
 pub fn survey_captures<S: Source>(
     alloc: Global,
     source: &mut S,

@@ -1,4 +1,4 @@
-//! Texts that are kept whole, and checked while they are read.
+//! Reads whole text files, and checks them meanwhile.
 
 ghost use Rattle.std.specs.Prelude.{◌≡◌, ℕ, List, Some, IfOk};
 
@@ -7,7 +7,7 @@ use crate::stop::Stop;
 use crate::text_check::{ConfCheck, PolicyCheck, TextCheck};
 use std::alloc::Global;
 
-/// The bytes of a file, from its first to its last, unless the check refuses what was read so far.
+/// The bytes of a file, from its first to its last, unless the check refuses a prefix.
 fn read_checked<S: Source, C: TextCheck>(
     alloc: Global,
     source: &mut S,
@@ -35,7 +35,7 @@ fn read_checked<S: Source, C: TextCheck>(
     Err(Stop::Read)
 }
 
-/// The bytes of a policy's file. A wrong file is refused at its first fault, and not read on.
+/// The bytes of a policy's file. A wrong file is refused at its first fault, and not read further.
 pub fn read_policy_text<S: Source>(
     alloc: Global,
     source: &mut S,
@@ -47,8 +47,8 @@ pub fn read_policy_text<S: Source>(
     read_checked(alloc, source, name, &mut PolicyCheck::new(alloc))
 }
 
-/// The bytes of a configuration's file. A file that no configuration is, is refused where that
-/// shows, and not read on.
+/// The bytes of a configuration's file. A file that isn't a configuration is refused at its first
+/// fault, and not read further.
 pub fn read_conf_text<S: Source>(alloc: Global, source: &mut S, name: &str) -> Result<Vec<u8>, Stop>
     ensures kept { S.holds source.new ≡ S.holds source.old }
     ensures whole { (bytes : List ℕ) → S.holds source.old name.now ≡ Some bytes → IfOk result (λ text. text.items ≡ bytes) }

@@ -1,30 +1,30 @@
-//! What is checked of a text while it is read, so that a wrong file isn't read whole.
+//! Checks of a text while it is read, so that a wrong file isn't read whole.
 
 use crate::stop::Stop;
 use crate::text_fault::{TextFault, TextFaultKind};
 use audit_model::PolicyReader;
 use std::alloc::Global;
 
-/// So many bytes a line of a configuration may have.
+/// The most bytes of a configuration's line.
 const LONGEST_LINE: u64 = 65_536;
 
-/// So many bytes a configuration may have.
+/// The most bytes of a configuration.
 const LONGEST_TEXT: u64 = 16_777_216;
 
 /// Checks a text piece by piece.
 pub trait TextCheck {
-    /// Takes the next piece; refused where the text so far has a fault.
+    /// Checks the next piece; refused if the text so far has a fault.
     fn take(&mut self, piece: &[u8]) -> Result<(), Stop>;
 }
 
-/// Checks a policy: refused is the first line that no policy has.
+/// Checks a policy: the first line that is no policy line is refused.
 #[derive(Drop)]
 pub struct PolicyCheck {
     reader: Option<PolicyReader>,
 }
 
 impl PolicyCheck {
-    /// Of a policy of which nothing was read.
+    /// Nothing was read yet.
     pub fn new(alloc: Global) -> PolicyCheck {
         PolicyCheck {
             reader: Some(PolicyReader::new(alloc)),
@@ -41,8 +41,8 @@ impl TextCheck for PolicyCheck {
     }
 }
 
-/// Checks a configuration: its lines say what they say, but a file of which they would fill the
-/// memory is none.
+/// Checks the size of a configuration, and that it has no NUL, so that no file fills the memory.
+/// The contents of its lines aren't checked here.
 #[derive(Drop)]
 pub struct ConfCheck {
     /// The number of the line that is read, from 1.
@@ -54,7 +54,7 @@ pub struct ConfCheck {
 }
 
 impl ConfCheck {
-    /// Of a configuration of which nothing was read.
+    /// Nothing was read yet.
     pub fn new() -> ConfCheck {
         ConfCheck {
             line: 1,
@@ -63,7 +63,7 @@ impl ConfCheck {
         }
     }
 
-    /// Takes a byte, and says what no configuration has.
+    /// Checks a byte, and returns its fault, if any.
     fn take_byte(&mut self, byte: u8) -> Option<TextFaultKind> {
         self.total = self.total.saturating_add(1);
         if self.total > LONGEST_TEXT {

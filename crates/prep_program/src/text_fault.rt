@@ -1,11 +1,11 @@
-//! Why a file is no configuration of coturn, whatever its lines say.
+//! Why a file isn't a coturn configuration, whatever its lines contain.
 
 use std::fmt;
 
-/// What a line of a file has that no configuration has.
+/// The fault of a line that no configuration has.
 #[derive(Clone, Copy, Debug, PartialEq, Eq)]
 pub enum TextFaultKind {
-    /// A byte that is zero.
+    /// A NUL byte.
     Nul,
     /// More bytes than a line may have.
     LongLine,

@@ -1,4 +1,4 @@
-//! Translating captures that are files.
+//! Translates captures that are files.
 
 ghost use Rattle.std.specs.Prelude.{◌≡◌, ℕ, List, Some, IfOk};
 ghost use Rattle.prep_blocks.specs.declared.block.Block.{Block};
@@ -25,13 +25,13 @@ use std::fmt::Write;
 pub struct TranslateRequest<'a> {
     pub policy: &'a str,
     pub translations: Vec<Translation>,
-    /// A folder that is there.
+    /// An existing folder.
     pub folder: &'a str,
     pub captures: Vec<&'a str>,
 }
 
-/// Translates a capture to the file that was made last, and tells what was translated. Of a capture
-/// that is refused the blocks before its fault are written.
+/// Translates a capture to the file that was made last, and returns the counts. If a capture is
+/// refused, the blocks before its fault are written.
 pub fn translate_capture<S: Source, M: Maker>(
     alloc: Global,
     source: &mut S,
@@ -68,7 +68,7 @@ pub fn translate_capture<S: Source, M: Maker>(
     Err(Stop::Read)
 }
 
-/// Ends a capture.
+/// Ends a capture, and returns the counts.
 fn end_capture(translator: &Translator, capture: u32) -> Result<Tally, Stop>
     ensures { (renaming : Renaming) (text : List ℕ) (blocks : List Block) → IsTranslating renaming translator.now text blocks →
         IfOk result (λ tally. IsDone renaming text blocks tally) }
@@ -79,7 +79,7 @@ fn end_capture(translator: &Translator, capture: u32) -> Result<Tally, Stop>
     }
 }
 
-/// A capture's fault, by its number.
+/// The fault of a capture, by its number.
 fn stop_of(capture: u32, fault: TranslateFault) -> Stop {
     match fault {
         TranslateFault::Capture(CaptureFault::Memory) => Stop::Memory,
@@ -100,7 +100,7 @@ fn renaming_of(
     Ok(renaming)
 }
 
-/// The line that tells what was translated of a capture.
+/// The line with the counts of a capture.
 fn write_tally(report: &mut String, capture: u32, tally: &Tally) -> Result<(), AllocError> {
     let outgoing = tally.outgoing;
     let incoming = tally.incoming;
@@ -126,12 +126,12 @@ fn report_of(alloc: Global, translations: &[Translation]) -> Result<String, Allo
     Ok(report)
 }
 
-/// What standard error has if no datagram is translated.
+/// The line on standard error if no datagram is translated.
 const NOTHING_TRANSLATED: &str =
     "turnprep: translated 0 datagrams: the captures have no private address of --external-ip at a relayed port\n";
 
-/// The exit status of a call that translated so many datagrams. If there are none, it says so on
-/// `err`.
+/// The exit status of a call that translated this number of datagrams. If it is 0, it reports that
+/// on `err`.
 fn end_translate<E: Sink>(total: u64, err: &mut E) -> Result<u8, Stop>
     ensures done { IsSuccess result }
     ensures said { IfOk result (λ status. EndsByTranslated total status (E.taken err.old) (E.taken err.new)) }
@@ -143,8 +143,8 @@ fn end_translate<E: Sink>(total: u64, err: &mut E) -> Result<u8, Stop>
     Ok(0)
 }
 
-/// Translates captures to files of their names in a folder, and writes what was translated there
-/// and to `out`. If no datagram is translated, it says so on `err`.
+/// Translates captures to files of the same names in a folder, and writes the counts there and to
+/// `out`. If no datagram is translated, it reports that on `err`.
 pub fn run_translate<S: Source, M: Maker, O: Sink, E: Sink>(
     alloc: Global,
     request: &TranslateRequest<'_>,

@@ -1,4 +1,4 @@
-//! Users out of a configuration, or out of a secret and captures.
+//! Makes credentials from a configuration, or from a secret and captures.
 
 ghost use Rattle.prep_program.specs.Answered.{IsSuccess};
 
@@ -11,7 +11,7 @@ use prep_join::JoinFault;
 use prep_users::{Roll, Scan, Secret, Wanted, text_of, wanted_of};
 use std::alloc::Global;
 
-/// What says which users there are.
+/// The source of the users.
 #[derive(Clone, Copy)]
 pub enum UsersSource<'a> {
     /// The file of coturn's configuration.
@@ -28,12 +28,12 @@ pub struct UsersRequest<'a> {
     pub captures: Vec<&'a str>,
 }
 
-/// A capture's fault, by its number.
+/// The fault of a capture, by its number.
 fn stop_of(capture: u32, fault: CaptureFault) -> Stop {
     Stop::of_capture(capture, JoinFault::Capture(fault))
 }
 
-/// Gives the roll the payloads of a capture, from its first byte to its last.
+/// Passes the payloads of a capture to the roll, from its first byte to its last.
 fn scan_capture<S: Source>(
     alloc: Global,
     source: &mut S,
@@ -60,8 +60,8 @@ fn scan_capture<S: Source>(
     Err(Stop::Read)
 }
 
-/// Writes the users of captures whose requests are signed by passwords made of these secrets, and
-/// notes on the others.
+/// Writes the users of captures whose requests are signed with passwords made from these secrets,
+/// and notes about the others.
 fn write_signed<S: Source, O: Sink, E: Sink>(
     alloc: Global,
     mut roll: Roll,
@@ -87,7 +87,7 @@ fn write_signed<S: Source, O: Sink, E: Sink>(
     Ok(0)
 }
 
-/// Writes a line of a credentials text for each user that is named.
+/// Writes a line of a credentials text for each user.
 pub fn run_users<S: Source, O: Sink, E: Sink>(
     alloc: Global,
     request: &UsersRequest<'_>,

@@ -1,4 +1,4 @@
-//! Relayed addresses that nobody was given.
+//! Relayed addresses that no judged client was granted.
 
 use crate::hang_ups::HangUps;
 use crate::late::{Owners, exclude_late_to_peer};
@@ -14,11 +14,11 @@ use prep_records::Record;
 use std::alloc::AllocError;
 use std::collections::BTreeSet;
 
-/// Addresses in a tenure of which something that leaves is set aside.
+/// The addresses and tenures of which a departure is excluded.
 type LeftOf = BTreeSet<(Addr, u32)>;
 
-/// Excludes what leaves relayed addresses that nobody was granted, and what arrives there. It
-/// returns which of these clients from before have.
+/// Excludes the departures from relayed addresses that nobody was granted, and the arrivals there.
+/// Returns which of these addresses clients from before have.
 pub(crate) fn exclude_addresses(
     sheet: &mut Sheet<'_>,
     shown: &Shown,
@@ -57,9 +57,9 @@ fn tenure_of(sheet: &Sheet<'_>, shown: &Shown, stray: Stray) -> Option<(Addr, u3
     Some((relayed, shown.tenures.begun(relayed, record.stamp)))
 }
 
-/// The line of what leaves an address that nobody was granted, if it looks like what can't be
-/// judged. What leaves after the deletion of a client from before is excluded at once, with its
-/// arrival.
+/// The line for a departure from an address that nobody was granted, if it looks like data that
+/// can't be judged. A departure after the deletion by a client from before is excluded at once,
+/// with its arrival.
 fn reason_to_exclude(
     sheet: &mut Sheet<'_>,
     shown: &Shown,
@@ -100,8 +100,8 @@ fn reason_to_exclude(
     }
 }
 
-/// Excludes what arrives at an address that nobody was granted, if the address is of a client from
-/// before, or something that left it is excluded.
+/// Excludes an arrival at an address that nobody was granted, if the address belongs to a client
+/// from before, or a departure from it is excluded.
 fn exclude_arrival(
     sheet: &mut Sheet<'_>,
     shown: &Shown,

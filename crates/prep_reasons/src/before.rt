@@ -1,4 +1,4 @@
-//! Clients from before the captures, and what their allocations from before may explain.
+//! Clients from before the captures, and what their earlier allocations may explain.
 
 use crate::channels::Channels;
 use crate::exchanged::Exchanged;
@@ -16,7 +16,7 @@ pub(crate) const PERMISSION: u64 = 300 * SECOND;
 /// A channel's lifetime (RFC 8656, section 12).
 pub(crate) const CHANNEL: u64 = 600 * SECOND;
 
-/// When a client's time before ends: by its arrivals, and by its departures.
+/// The end of a client's time before, for its arrivals and for its departures.
 #[derive(Clone, Copy)]
 pub(crate) struct TimeBefore {
     pub(crate) arrivals: u64,
@@ -64,7 +64,7 @@ pub(crate) fn time_before(sheet: &Sheet<'_>, pair: u32) -> TimeBefore {
     }
 }
 
-/// Whether an answer shows that its client has no allocation from before.
+/// Whether a response shows that its client has no allocation from before.
 fn shows_none(answer: &Exchanged) -> bool {
     let ends = answer.succeeds(method::REFRESH) && answer.stun.lifetime == Some(0);
     let asked = answer.stun.method;
@@ -74,10 +74,10 @@ fn shows_none(answer: &Exchanged) -> bool {
     answer.succeeds(method::ALLOCATE) || ends || (answer.fails(437) && needs)
 }
 
-/// The most generous state from before of a client, and what was added to it since.
+/// The most generous state from before of a client, and its later leases.
 #[derive(Drop)]
 struct Generous {
-    /// Until when all permissions and channels from before last.
+    /// The end of all permissions and channels from before.
     permissions_end: u64,
     channels_end: u64,
     permissions: BTreeMap<u32, u64>,
@@ -86,7 +86,7 @@ struct Generous {
     latest: u64,
 }
 
-/// Notes of each record of a client whether such a state may explain it.
+/// Records for each record of a client whether such a state may explain it.
 pub(crate) fn explain(
     sheet: &mut Sheet<'_>,
     channels: &Channels,
@@ -115,7 +115,7 @@ pub(crate) fn explain(
     Ok(())
 }
 
-/// Whether the state may explain a record, where only such a state can.
+/// Whether the state may explain a record that only such a state can.
 fn explained_by(
     sheet: &Sheet<'_>,
     channels: &Channels,
@@ -165,7 +165,8 @@ impl Generous {
         stamp <= self.permissions_end.max(own)
     }
 
-    /// Whether a channel is bound at a moment, and what it carries to the client permitted.
+    /// Whether a channel is bound at a moment, and the data that it carries to the client is
+    /// permitted.
     fn binds(&self, record: &Record, number: u16, peer: Option<Addr>, stamp: u64) -> bool {
         let own = match self.channels.get(&number) {
             Some(end) => *end,
@@ -183,7 +184,7 @@ impl Generous {
         }
     }
 
-    /// Takes an answer, and tells whether it may be explained.
+    /// Reads a response, and returns whether it may be explained.
     fn answer(
         &mut self,
         sheet: &Sheet<'_>,

@@ -1,19 +1,20 @@
-//! Departures whose data may have come in packets that aren't read, or in DTLS records: each with
-//! the packet that may have carried it, its carrier.
+//! Departures whose data may have arrived in packets that aren't read, or in DTLS records, each
+//! with its carrier: the packet that may have carried it.
 
 use crate::links::Links;
 use prep_records::{Carrier, CarrierKind};
 use std::alloc::{AllocError, Global};
 use std::collections::{BTreeMap, BTreeSet};
 
-/// A datagram that has more than so many bytes besides its load is taken only if no nearer one is
-/// there: so many are headers and what DTLS adds.
+/// A datagram with more than this number of bytes in addition to its load is taken only if no
+/// nearer one is there: the headers and the overhead of DTLS.
 const NEAR: u32 = 112;
 
-/// Among so many datagrams of nearly one length the one of the nearest moment is looked for.
+/// The number of datagrams of nearly one length among which the one of the nearest moment is
+/// chosen.
 const TRIED: usize = 64;
 
-/// A carrier that may carry more, by its kind, by how many bytes that is, and its number.
+/// A carrier that may carry more, ordered by its kind, its remaining bytes, and its number.
 #[derive(Clone, Copy, PartialEq, Eq, PartialOrd, Ord)]
 struct Open {
     kind: CarrierKind,
@@ -21,21 +22,21 @@ struct Open {
     number: u32,
 }
 
-/// What a departure needs of a carrier.
+/// The requirements of a departure on its carrier.
 #[derive(Clone, Copy)]
 pub(crate) struct Load {
     /// The departure's record.
     pub(crate) departure: u32,
     /// The departure's moment, in nanoseconds since 1970.
     pub(crate) moment: u64,
-    /// The carrier's moment is between these.
+    /// The least and the greatest moment of the carrier.
     pub(crate) from: u64,
     pub(crate) to: u64,
-    /// How many bytes of the carrier it takes, which is at least 1.
+    /// How many bytes of the carrier it takes, at least 1.
     pub(crate) bytes: u32,
     /// How many bytes the carrier has at most.
     pub(crate) most: u32,
-    /// Whether it takes all bytes of the carrier, as of a datagram that causes one departure.
+    /// Whether it takes all bytes of the carrier, as for a datagram that causes one departure.
     pub(crate) takes_all: bool,
 }
 
@@ -46,27 +47,27 @@ pub(crate) struct Carried {
     pub(crate) carrier: u32,
 }
 
-/// The carriers, each with what it may carry still.
+/// The carriers, each with its remaining bytes.
 #[derive(Drop)]
 pub(crate) struct Carriers {
     alloc: Global,
-    /// In the order of their moments.
+    /// In the order of time.
     all: Vec<Carrier>,
     links: Links,
     /// The departures in the order in which they took carriers.
     carried: Vec<Carried>,
-    /// Those between the moments of the last load that may carry more.
+    /// The carriers between the moments of the last load that may carry more.
     open: BTreeSet<Open>,
-    /// Of each connection the last of these.
+    /// For each connection, the last of these carriers.
     last: BTreeMap<u64, u32>,
-    /// How many came before the last moment of a load.
+    /// How many carriers came before the last moment of a load.
     entered: usize,
-    /// How many came before the first.
+    /// How many carriers came before the first moment of a load.
     over: usize,
 }
 
 impl Carriers {
-    /// These carriers. The cost is their number times its logarithm.
+    /// Indexes the carriers. The cost is their number times its logarithm.
     pub(crate) fn new(alloc: Global, carriers: Vec<Carrier>) -> Result<Self, AllocError> {
         let mut all = carriers;
         all.sort_by_key(|carrier| carrier.stamp)?;
@@ -82,7 +83,7 @@ impl Carriers {
         })
     }
 
-    /// Begins again with the first moment. What is carried stays so.
+    /// Starts again with the first moment. The departures that are carried keep their carriers.
     pub(crate) fn rewind(&mut self) {
         self.open = BTreeSet::new(self.alloc);
         self.last = BTreeMap::new(self.alloc);
@@ -103,14 +104,15 @@ impl Carriers {
         self.carried.as_slice()
     }
 
-    /// The least carrier of the group of one. Departures with carriers of one group may have bytes
+    /// The least carrier of a carrier's group. Departures with carriers of one group may have bytes
     /// of any of them.
     pub(crate) fn group(&mut self, carrier: u32) -> u32 {
         self.links.root(carrier)
     }
 
-    /// Has the carrier of these kinds that fits best carry a load, and returns its number; none if there is no such carrier. The next load isn't before it. The cost of all is
-    /// the number of carriers and loads, times its logarithm.
+    /// Assigns a load to the carrier of these kinds that fits best, and returns its number; `None`
+    /// if there is no such carrier. Loads come in the order of time. The cost of all is the number
+    /// of carriers and loads, times its logarithm.
     pub(crate) fn take(
         &mut self,
         load: Load,
@@ -146,8 +148,8 @@ impl Carriers {
         Ok(Some(found.number))
     }
 
-    /// The carrier of a kind that fits best: of datagrams that are little longer than what is needed
-    /// the last one before the departure, and else the shortest.
+    /// The carrier of a kind that fits best: among datagrams at most `NEAR` bytes longer than
+    /// needed the last one before the departure, and else the shortest.
     fn fitting(&self, kind: CarrierKind, load: Load) -> Option<Open> {
         let least = self.least_of(kind, load)?;
         if kind == CarrierKind::TcpOrIpv6 {
@@ -166,7 +168,8 @@ impl Carriers {
         Some(best)
     }
 
-    /// How far a carrier is from a departure. It is nearer before than after that.
+    /// The distance of a carrier from a departure. A carrier before the departure is nearer than
+    /// one after it.
     fn distance(&self, number: u32, load: Load) -> (bool, u64) {
         match self.all.get(number as usize) {
             Some(carrier) => (
@@ -177,7 +180,7 @@ impl Carriers {
         }
     }
 
-    /// The carrier of a kind that is just long enough.
+    /// The shortest carrier of a kind that is long enough.
     fn least_of(&self, kind: CarrierKind, load: Load) -> Option<Open> {
         let least = Open {
             kind,
@@ -192,7 +195,7 @@ impl Carriers {
         }
     }
 
-    /// Notes what a carrier may carry still.
+    /// Sets the remaining bytes of a carrier.
     fn set(&mut self, number: u32, bytes: u32) -> Result<(), AllocError> {
         let Some(carrier) = self.all.get_mut(number as usize) else {
             return Ok(());
@@ -205,7 +208,7 @@ impl Carriers {
         Ok(())
     }
 
-    /// Takes the carriers that came up to a load's last moment.
+    /// Adds the carriers up to a load's last moment.
     fn enter_until(&mut self, load: Load) -> Result<(), AllocError> {
         for at in self.entered..self.all.len() {
             let Some(carrier) = self.all.get(at).copied() else {
@@ -222,8 +225,8 @@ impl Carriers {
         Ok(())
     }
 
-    /// Takes a carrier, with what the one before it on its connection didn't carry, if its data may
-    /// go on in this one.
+    /// Adds a carrier, with the remaining bytes of the one before it on its connection if the data
+    /// may continue in this one.
     fn enter(&mut self, at: usize, carrier: Carrier) -> Result<(), AllocError> {
         let number = u32::try_from(at).unwrap_or(u32::MAX);
         let mut bytes = carrier.bytes;
@@ -240,7 +243,7 @@ impl Carriers {
         self.set(number, bytes)
     }
 
-    /// Lets go of the carriers that came before a moment.
+    /// Drops the carriers before a moment.
     fn end_before(&mut self, from: u64) {
         for at in self.over..self.entered {
             let Some(carrier) = self.all.get(at).copied() else {

@@ -1,9 +1,9 @@
-//! The peers of channels, as far as the captures show them.
+//! The peers of channels, if the captures show them.
 
 use audit_model::Addr;
 use std::alloc::AllocError;
 
-/// A channel of a client that was bound to a peer.
+/// A channel of a client, bound to a peer.
 #[derive(Clone, Copy)]
 pub(crate) struct Binding {
     pub(crate) pair: u32,

@@ -1,4 +1,4 @@
-//! What is proposed to be set aside, out of the records of captures.
+//! Proposes which packets of the captures are excluded.
 
 use crate::addresses::exclude_addresses;
 use crate::before::{TimeBefore, explain, time_before};
@@ -19,8 +19,8 @@ use prep_records::Records;
 use std::alloc::{AllocError, Global};
 use std::mem;
 
-/// Proposes for each packet of the captures a line of the list by which it is set aside, or none.
-/// The cost is the number of records times its logarithm.
+/// Proposes for each packet of the captures the line of the list that excludes it, or none. The
+/// cost is the number of records times its logarithm.
 pub fn decide(
     alloc: Global,
     policy: &Policy,
@@ -38,7 +38,7 @@ pub fn decide(
     propose(&mut sheet, &packets, &pairing, &mut carrying)
 }
 
-/// What is sorted out, with the departures that have an arrival or a carrier.
+/// The sheet after all decisions, with the departures that have an arrival or a carrier.
 #[derive(Drop)]
 struct Sorted<'a> {
     sheet: Sheet<'a>,
@@ -46,8 +46,8 @@ struct Sorted<'a> {
     carrying: Carrying,
 }
 
-/// The records of captures in the order of their moments, with what is set aside and what answers
-/// what. The cost is their number times its logarithm.
+/// The records of the captures in the order of time, with the excluded ones, and the request of
+/// each response. The cost is their number times its logarithm.
 pub fn sort_out<'a>(
     alloc: Global,
     policy: &'a Policy,
@@ -83,7 +83,7 @@ fn sort_all<'a>(
     let owners = exclude_addresses(&mut sheet, &shown, &hang_ups, by_client, &mut unread)?;
     exclude_clients(&mut sheet, &times, &shown)?;
     exclude_late_data(&mut sheet, &shown.tenures, &hang_ups, &owners)?;
-    // What is paired is no carrier of DTLS, and DTLS is in no pair.
+    // A paired record is no carrier of DTLS, and DTLS is in no pair.
     let pairing = Pairing::new(&sheet, &shown.channels)?;
     exclude_dtls(&mut sheet, &shown.tenures, &pairing, &mut unread)?;
     let Unread { carrying, .. } = unread;

@@ -1,4 +1,4 @@
-//! DTLS, which isn't read: what leaves for a client by DTLS needs a carrier.
+//! DTLS, which isn't decrypted: a departure to a client over DTLS needs a carrier.
 
 use crate::addresses::elsewhere;
 use crate::carriers::{Carriers, Load};
@@ -13,20 +13,20 @@ use prep_cut::Reason;
 use prep_records::{CarrierKind, Content, Record};
 use std::alloc::AllocError;
 
-/// A record that leaves for a client has at most so many bytes that its carrier hasn't: the header
-/// of a Data indication and what DTLS adds.
+/// The most bytes that a record to a client has in addition to its carrier: the header of a Data
+/// indication and the overhead of DTLS.
 const ADDED: u16 = 96;
 
 /// Data that arrives at relayed addresses that no judged client has.
 #[derive(Drop)]
 pub(crate) struct Relayed {
     pub(crate) carriers: Carriers,
-    /// Of each carrier its record.
+    /// The record of each carrier.
     records: Vec<u32>,
 }
 
 impl Relayed {
-    /// What is in no pair. The cost is the number of records times its logarithm.
+    /// The arrivals that are in no pair. The cost is the number of records times its logarithm.
     fn new(sheet: &Sheet<'_>, tenures: &Tenures, pairing: &Pairing) -> Result<Self, AllocError> {
         let mut records = Vec::new(sheet.alloc);
         let mut carriers = Vec::new(sheet.alloc);
@@ -49,7 +49,7 @@ impl Relayed {
         })
     }
 
-    /// Has the one that fits best carry a load, if there is one, and excludes it.
+    /// Assigns a load to the arrival that fits best, if there is one, and excludes that arrival.
     fn take(
         &mut self,
         sheet: &mut Sheet<'_>,
@@ -73,7 +73,7 @@ impl Relayed {
 }
 
 /// Excludes DTLS with clients that send nothing else, unless the operator states that no client
-/// comes by DTLS. Application data that leaves without a carrier stays in.
+/// uses DTLS. Application data that leaves without a carrier stays in.
 pub(crate) fn exclude_dtls(
     sheet: &mut Sheet<'_>,
     tenures: &Tenures,
@@ -108,8 +108,8 @@ pub(crate) fn exclude_dtls(
 }
 
 /// Whether application data has a carrier within the hold before, which it then takes: data at a
-/// relayed address, if possible data that isn't longer than the departure, a DTLS record, or a
-/// packet over TCP or IPv6.
+/// relayed address, preferably no longer than the departure, a DTLS record, or a packet over TCP or
+/// IPv6.
 fn is_carried(
     sheet: &mut Sheet<'_>,
     tenures: &Tenures,

@@ -19,17 +19,17 @@ impl Exchanged {
             && matches!(self.stun.class, Class::Success | Class::Error)
     }
 
-    /// Whether it is a success of this method.
+    /// Whether it is a success response of this method.
     pub fn succeeds(&self, method: u16) -> bool {
         matches!(self.stun.class, Class::Success) && self.stun.method == method
     }
 
-    /// Whether it is an error of this code.
+    /// Whether it is an error response with this code.
     pub fn fails(&self, code: u16) -> bool {
         matches!(self.stun.class, Class::Error) && self.stun.code == Some(code)
     }
 
-    /// The moment at which a lease of its lifetime ends, without the grace.
+    /// The end of a lease of its lifetime, without the grace.
     pub fn lease_end(&self) -> u64 {
         let lifetime = u64::from(self.stun.lifetime.unwrap_or(0));
         self.record

@@ -1,4 +1,4 @@
-//! Setting aside what clients from before need.
+//! Excludes packets of clients from before the captures.
 
 use crate::before::TimeBefore;
 use crate::inner::{inner_peer, is_data};
@@ -13,9 +13,9 @@ use prep_cut::Reason;
 use prep_records::Record;
 use std::alloc::AllocError;
 
-/// Sets aside what is left of clients from before, with what asked for it, and answers that may be
-/// to what came before. It counts the departures of such clients that no state from before allows,
-/// or that have no arrival of their own.
+/// Excludes the remaining packets of clients from before, with their requests and arrivals, and
+/// responses that may be to requests from before. Counts the departures of such clients that no
+/// state from before allows, or that have no arrival of their own.
 pub(crate) fn exclude_clients(
     sheet: &mut Sheet<'_>,
     times: &[TimeBefore],
@@ -50,7 +50,7 @@ pub(crate) fn exclude_clients(
     Ok(())
 }
 
-/// Excludes what is left of the clients that need an allocation from before.
+/// Excludes the remaining records of the clients that need an allocation from before.
 fn exclude_needing(sheet: &mut Sheet<'_>, shown: &Shown, needs: &[bool]) -> Result<(), AllocError> {
     let mut peer_data = PeerData::new(sheet, shown)?;
     for at in 0..sheet.records.len() {
@@ -85,8 +85,8 @@ fn needing(sheet: &Sheet<'_>, at: usize) -> Option<u32> {
     }
 }
 
-/// From where the server has what leaves for a client from before. Data of a judged client's
-/// relayed address has no such origin.
+/// The origin of a departure to a client from before. Data of a judged client's relayed address has
+/// no such origin.
 fn origin_of(
     sheet: &mut Sheet<'_>,
     shown: &Shown,
@@ -140,8 +140,8 @@ fn exclude_explained(
     Ok(())
 }
 
-/// Excludes a response without a request in the captures that may be to one before them, unless it
-/// grants a judged client's relayed address.
+/// Excludes a response without a request in the captures that may answer an earlier request, unless
+/// it grants a judged client's relayed address.
 fn exclude_answer(
     sheet: &mut Sheet<'_>,
     shown: &Shown,

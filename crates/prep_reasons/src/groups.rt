@@ -1,4 +1,4 @@
-//! The numbers of groups: of carriers, and of the departures whose data they may have carried.
+//! The numbers of groups: a group is carriers, and the departures whose data they may have carried.
 
 use crate::carriers::Carriers;
 use crate::pairing::Pairing;
@@ -8,15 +8,15 @@ use prep_causes::{CauseNumber, MaybeNumber};
 use prep_cut::Proposal;
 use std::alloc::AllocError;
 
-/// A packet by the number of its capture, and its own among those of the capture.
+/// A packet by the number of its capture, and its own number in the capture.
 #[derive(Clone, Copy)]
 struct Packet {
     capture: u16,
     number: u32,
 }
 
-/// Numbers the groups from behind the numbers of pairs on, gives each packet of a group its number,
-/// and returns how many groups there are.
+/// Numbers the groups after the pairs, assigns each packet of a group its number, and returns the
+/// number of groups.
 pub(crate) fn propose_groups(
     sheet: &Sheet<'_>,
     pairing: &Pairing,
@@ -31,7 +31,7 @@ pub(crate) fn propose_groups(
     Ok(next.saturating_sub(pairs))
 }
 
-/// Numbers the groups that have a departure that is excluded and in no pair, from this number on,
+/// Numbers the groups that have an excluded departure outside of all pairs, from this number on,
 /// and returns the next number. The cost is the number of carriers times its logarithm.
 fn number_groups(
     sheet: &Sheet<'_>,
@@ -44,7 +44,7 @@ fn number_groups(
     if carriers.carried().is_empty() {
         return Ok(next);
     }
-    // Of each carrier that is the least of its group the group's number.
+    // For each carrier that is the least of its group, the group's number.
     let mut numbers = vec![in sheet.alloc; MaybeNumber::none(); carriers.len()]?;
     for place in 0..carriers.carried().len() {
         let Some(carried) = carriers.carried().get(place).copied() else {
@@ -87,7 +87,7 @@ fn number_groups(
     Ok(next)
 }
 
-/// Gives a packet the number of its group, unless it has a number or the group has none.
+/// Assigns a packet the number of its group, unless it has a number or the group has none.
 fn propose_number(captures: &mut [Vec<Proposal>], packet: Packet, number: MaybeNumber) {
     if let Some(proposals) = captures.get_mut(packet.capture as usize) {
         if let Some(proposal) = proposals.get_mut(packet.number as usize) {

@@ -1,4 +1,4 @@
-//! What is relayed for clients behind their releases, where the operator states for how long.
+//! Data relayed after deletions, if the operator states for how long it may be.
 
 use crate::inner::{is_data, wanted_of};
 use crate::pool::{Group, Grouping, Pool};
@@ -10,16 +10,16 @@ use prep_cut::Reason;
 use prep_records::{Content, Record};
 use std::alloc::AllocError;
 
-/// The allocations of which clients let go.
+/// The allocations that clients deleted.
 #[derive(Drop)]
 pub(crate) struct HangUps {
     /// By client and moment.
     all: Vec<Released>,
-    /// Their places, by relayed address and moment.
+    /// The indexes of `all`, by relayed address and moment.
     by_address: Vec<u32>,
 }
 
-/// A line that sets aside what is relayed behind a release.
+/// A line that excludes data relayed after a deletion.
 #[derive(Clone, Copy)]
 struct Allowed {
     client: u32,
@@ -29,7 +29,7 @@ struct Allowed {
 }
 
 impl Allowed {
-    /// Where the arrival of data that leaves for the client is.
+    /// The group of the arrivals for data that leaves for the client.
     fn group(&self) -> Group {
         Group::Between {
             relayed: self.relayed,
@@ -45,7 +45,7 @@ impl Allowed {
 }
 
 impl HangUps {
-    /// Those of the captures; none where the operator states no time.
+    /// The deleted allocations of the captures; none if the operator states no time.
     pub(crate) fn new(sheet: &Sheet<'_>) -> Result<Self, AllocError> {
         let mut found = HangUps {
             all: Vec::new(sheet.alloc),
@@ -66,7 +66,7 @@ impl HangUps {
         Ok(found)
     }
 
-    /// The last release of a client before a moment.
+    /// The last deletion by a client before a moment.
     fn last_of(&self, client: u32, stamp: u64) -> Option<&Released> {
         let behind = self
             .all
@@ -79,7 +79,7 @@ impl HangUps {
         }
     }
 
-    /// What a client lets go of next.
+    /// The next deletion by a client.
     fn next_of(&self, client: u32, stamp: u64) -> Option<&Released> {
         let behind = self
             .all
@@ -92,7 +92,7 @@ impl HangUps {
         }
     }
 
-    /// The last release of a relayed address before a moment.
+    /// The last deletion of a relayed address before a moment.
     fn last_at(&self, relayed: Addr, stamp: u64) -> Option<&Released> {
         let all = self.all.as_slice();
         let behind = self
@@ -107,7 +107,7 @@ impl HangUps {
         }
     }
 
-    /// The last release of a client before a moment, if the client is from before.
+    /// The last deletion by a client before a moment, if the client is from before.
     pub(crate) fn from_before(&self, client: u32, stamp: u64) -> Option<&Released> {
         let one = self.last_of(client, stamp)?;
         match one.relayed {
@@ -116,18 +116,18 @@ impl HangUps {
         }
     }
 
-    /// Whether some client from before lets go of what it has.
+    /// Whether some client from before deleted its allocation.
     pub(crate) fn has_from_before(&self) -> bool {
         self.all.iter().any(|one| one.relayed.is_none())
     }
 
-    /// Whether a client lets go of a relayed address at some time.
+    /// Whether a relayed address is ever deleted.
     fn has_address(&self, relayed: Addr) -> bool {
         self.last_at(relayed, u64::MAX).is_some()
     }
 
-    /// The line of data that leaves for a client, where it is behind a release that would have
-    /// allowed it.
+    /// The line for data that leaves for a client, if it is after a deletion of a lease that would
+    /// have allowed it.
     fn to_client(
         &self,
         sheet: &Sheet<'_>,
@@ -140,9 +140,9 @@ impl HangUps {
         allowed_by(sheet, tenures, one, peer, record.stamp)
     }
 
-    /// Excludes data that leaves a relayed address for a peer behind a release that would have
-    /// allowed it, with its arrival: the same data of that client for that peer. Without one it
-    /// stays in. It tells whether it is behind such a release.
+    /// Excludes data that leaves a relayed address for a peer after the deletion of a lease that
+    /// would have allowed it, with its arrival: the same data of that client for that peer. Without
+    /// such an arrival it stays in. Returns whether it is after such a deletion.
     pub(crate) fn exclude_to_peer(
         &self,
         sheet: &mut Sheet<'_>,
@@ -169,7 +169,7 @@ impl HangUps {
     }
 }
 
-/// For whom a client's data is, by what the client had.
+/// The peer of a client's data, by the client's leases.
 fn sent_to(sheet: &Sheet<'_>, one: &Released, arrival: usize) -> Option<Addr> {
     let sent = sheet.record(arrival)?;
     one.peer_of(sent.content, sent.stamp.saturating_sub(sheet.slack))
@@ -180,8 +180,9 @@ fn key_at(all: &[Released], place: u32) -> Option<(Option<Addr>, u64)> {
     Some((one.relayed, one.moment))
 }
 
-/// The line of data from or for a peer at a moment: in the time that is stated, before the client
-/// asks for an allocation anew, and before the address is another's.
+/// The line for data from or for a peer at a moment: within the time that the operator states,
+/// before the client requests another allocation, and before the address is granted to another
+/// client.
 fn allowed_by(
     sheet: &Sheet<'_>,
     tenures: &Tenures,
@@ -219,7 +220,7 @@ fn allowed_by(
     })
 }
 
-/// What arrived at relayed addresses of which clients let go.
+/// The arrivals at relayed addresses that clients deleted.
 fn arrivals_at(sheet: &Sheet<'_>, hang_ups: &HangUps) -> Result<Pool, AllocError> {
     let mut arrivals = Vec::new(sheet.alloc);
     for at in 0..sheet.records.len() {
@@ -237,7 +238,7 @@ fn arrivals_at(sheet: &Sheet<'_>, hang_ups: &HangUps) -> Result<Pool, AllocError
     Pool::new(sheet, Grouping::ByEnds, arrivals)
 }
 
-/// Has data that leaves for a client before its release take its arrival.
+/// Takes the arrival of data that leaves for a client before its deletion.
 fn take_own(sheet: &mut Sheet<'_>, one: &Released, record: &Record, pool: &mut Pool) {
     let peer = one.peer_of(record.content, record.stamp);
     if let (Some(relayed), Some(peer)) = (one.relayed, peer) {
@@ -247,8 +248,8 @@ fn take_own(sheet: &mut Sheet<'_>, one: &Released, record: &Record, pool: &mut P
     }
 }
 
-/// Sets aside data that leaves for clients behind their releases, with its arrivals. What left
-/// before takes its own arrivals first.
+/// Excludes data that leaves for clients after their deletions, with its arrivals. Departures
+/// before a deletion take their own arrivals first.
 pub(crate) fn exclude_hang_ups(
     sheet: &mut Sheet<'_>,
     tenures: &Tenures,

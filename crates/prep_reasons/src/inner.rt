@@ -39,7 +39,7 @@ pub(crate) fn inner_peer(sheet: &Sheet<'_>, channels: &Channels, at: usize) -> O
     }
 }
 
-/// The data that clients sent, each client's apart.
+/// The data that clients sent, separate for each client.
 pub(crate) fn pool_of_arrivals(sheet: &Sheet<'_>) -> Result<Pool, AllocError> {
     let mut arrivals = Vec::new(sheet.alloc);
     for at in 0..sheet.records.len() {
@@ -53,7 +53,7 @@ pub(crate) fn pool_of_arrivals(sheet: &Sheet<'_>) -> Result<Pool, AllocError> {
     Pool::new(sheet, Grouping::ByClient, arrivals)
 }
 
-/// What clients from before sent to addresses of the service.
+/// The data that clients from before sent to addresses of the service.
 fn pool_from_before(sheet: &Sheet<'_>, channels: &Channels) -> Result<Pool, AllocError> {
     let mut arrivals = Vec::new(sheet.alloc);
     for at in 0..sheet.records.len() {
@@ -73,7 +73,7 @@ fn pool_from_before(sheet: &Sheet<'_>, channels: &Channels) -> Result<Pool, Allo
     Pool::new(sheet, Grouping::Together, arrivals)
 }
 
-/// Whether a record is outside the moments that are stated.
+/// Whether a record is outside the stated moments.
 pub(crate) fn is_outside(sheet: &Sheet<'_>, at: usize) -> bool {
     match sheet.line_of(at) {
         Some(line) => matches!(
@@ -84,7 +84,7 @@ pub(crate) fn is_outside(sheet: &Sheet<'_>, at: usize) -> bool {
     }
 }
 
-/// What is looked for of a departure: data that arrived within the hold before it.
+/// The search for a departure's data: data that arrived within the hold before it.
 pub(crate) fn wanted_of(sheet: &Sheet<'_>, record: &Record, group: Group) -> Wanted {
     let before = sheet.policy.hold.saturating_add(sheet.slack);
     Wanted {
@@ -95,7 +95,7 @@ pub(crate) fn wanted_of(sheet: &Sheet<'_>, record: &Record, group: Group) -> Wan
     }
 }
 
-/// Sets aside datagrams inside the service, and the data of such.
+/// Excludes datagrams inside the service, and their data.
 pub(crate) fn exclude_inner(
     sheet: &mut Sheet<'_>,
     shown: &Shown,
@@ -116,16 +116,16 @@ pub(crate) fn exclude_inner(
     exclude_inner_departures(sheet, shown, by_client, unread)
 }
 
-/// Excludes the data that leaves for clients from addresses of the service: from an address that a
-/// client has if that client sent it to this one, and from another one if a client from before did,
-/// or one by TCP, TLS, DTLS or IPv6 may have.
+/// Excludes the data that leaves for clients from addresses of the service. For an address that a
+/// client has, that client must have sent it to this one; for another address, a client from before
+/// must have sent it, or one over TCP, TLS, DTLS or IPv6 may have.
 fn exclude_inner_departures(
     sheet: &mut Sheet<'_>,
     shown: &Shown,
     by_client: &mut Pool,
     unread: &mut Unread,
 ) -> Result<(), AllocError> {
-    // It is made where it is needed first, since most captures have no such data.
+    // The pool is made when it is first needed: most captures have no such data.
     let mut from_before: Option<Pool> = None;
     for at in 0..sheet.records.len() {
         let (Some(record), true) = (sheet.record(at), sheet.is_kept(at)) else {
@@ -163,7 +163,7 @@ fn exclude_inner_departures(
     Ok(())
 }
 
-/// From where the server has data that leaves a judged client's address: from that client alone.
+/// The origin of data that leaves a judged client's address: that client alone.
 fn origin_at(
     sheet: &mut Sheet<'_>,
     shown: &Shown,
@@ -180,8 +180,8 @@ fn origin_at(
     }
 }
 
-/// Takes the arrival that is wanted for data that leaves for a client, and tells whether it was
-/// sent to an address that this client may have.
+/// Takes the wanted arrival for data that leaves for a client, and returns whether it was sent to
+/// an address that this client may have.
 fn take_inner(
     sheet: &mut Sheet<'_>,
     shown: &Shown,

@@ -1,5 +1,5 @@
-//! What is relayed for clients from before after their deletions, if the operator states for how
-//! long.
+//! Data relayed for clients from before after their deletions, if the operator states for how long
+//! it may be.
 
 use crate::hang_ups::HangUps;
 use crate::inner::{is_data, wanted_of};
@@ -16,7 +16,7 @@ use std::collections::BTreeMap;
 /// The clients from before of relayed addresses.
 pub(crate) type Owners = BTreeMap<Addr, u32>;
 
-/// The line of data between a relayed address and a peer, after the deletion of the client from
+/// The line for data between a relayed address and a peer, after the deletion by the client from
 /// before that has the address.
 fn line_of(
     sheet: &Sheet<'_>,
@@ -42,8 +42,8 @@ fn line_of(
     })
 }
 
-/// Excludes data that leaves a relayed address for a peer after the deletion of its client from
-/// before, with that client's arrival, if the two are the same data for the same peer. It tells
+/// Excludes data that leaves a relayed address for a peer after the deletion by its client from
+/// before, with that client's arrival, if the two are the same data for the same peer. Returns
 /// whether it does.
 pub(crate) fn exclude_late_to_peer(
     sheet: &mut Sheet<'_>,
@@ -77,7 +77,7 @@ pub(crate) fn exclude_late_to_peer(
     Ok(true)
 }
 
-/// What arrived at relayed addresses of clients from before that let go of them.
+/// The arrivals at relayed addresses that clients from before deleted.
 fn late_arrivals(
     sheet: &Sheet<'_>,
     hang_ups: &HangUps,

@@ -1,5 +1,5 @@
-//! What is proposed to be set aside, and by which line of the list. Nothing rests on it: what is
-//! written goes by `prep_cut`, which keeps a packet that a line may not set aside, and counts the
+//! Proposes which packets are excluded, and by which line of the list. No guarantee depends on it:
+//! `prep_cut` checks each proposal, keeps a packet that a line may not exclude, and counts the
 //! others.
 #![tactic(auto)]
 

@@ -5,7 +5,7 @@ use prep_cut::{FarEnd, LineNumber, Reason, ReasonKind};
 use std::alloc::{AllocError, Global};
 use std::collections::BTreeMap;
 
-/// A reason as a key, by what it says and what it names.
+/// A reason as a key, by its kind, its numbers and its addresses.
 #[derive(Clone, Copy, PartialEq, Eq, PartialOrd, Ord)]
 struct ReasonKey {
     kind: ReasonKind,
@@ -18,7 +18,7 @@ struct ReasonKey {
 
 const NO_ADDRESS: Addr = Addr { ip: 0, port: 0 };
 
-/// The client of a relayed address as two addresses, of which IPv6 leaves out a part.
+/// The client of a relayed address as two addresses, without the first three words of an IPv6 one.
 fn parts_of(client: FarEnd) -> (Addr, Addr) {
     match client {
         FarEnd::Tcp(addr) => (addr, NO_ADDRESS),
@@ -76,7 +76,7 @@ fn key_of(reason: &Reason) -> ReasonKey {
     }
 }
 
-/// Reasons in the order in which they were first given, each once.
+/// Reasons in the order of their first use, each once.
 #[derive(Drop)]
 pub(crate) struct Lines {
     pub(crate) reasons: Vec<Reason>,

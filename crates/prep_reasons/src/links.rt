@@ -1,29 +1,29 @@
-//! Which carriers are of one group, since the bytes of one of them may be in another's data.
+//! Groups of carriers: the bytes of one carrier may be in the data of another one of its group.
 
 use prep_causes::MaybeNumber;
 use std::alloc::{AllocError, Global};
 
-/// What a carrier has of an earlier one.
+/// The link of a carrier to an earlier one.
 #[derive(Clone, Copy)]
 struct Link {
     /// A carrier of its group, which is itself or a lesser one.
     lesser: u32,
-    /// The earlier one of its connection, some of whose bytes moved to it and none of these to a
-    /// departure so far.
+    /// The earlier carrier of its connection, some of whose bytes moved to this one. No departure
+    /// has taken any of them so far.
     before: MaybeNumber,
-    /// How many of the bytes that it may carry still are such.
+    /// How many of its remaining bytes were moved.
     moved: u32,
 }
 
-/// The links of all carriers. A group is joined only where a departure takes moved bytes, so that
-/// one connection is many groups if its packets carry whole messages.
+/// The links of all carriers. Groups are joined only if a departure takes moved bytes, so one
+/// connection is many groups if its packets carry whole messages.
 #[derive(Drop)]
 pub(crate) struct Links {
     all: Vec<Link>,
 }
 
 impl Links {
-    /// Of so many carriers, each of which is a group of its own.
+    /// Links of this number of carriers, each of which is a group of its own.
     pub(crate) fn new(alloc: Global, count: usize) -> Result<Self, AllocError> {
         let mut all = Vec::with_capacity(alloc, count)?;
         for at in 0..count {
@@ -36,7 +36,7 @@ impl Links {
         Ok(Links { all })
     }
 
-    /// Notes that a carrier gets bytes of an earlier one, all that the earlier one has.
+    /// Records that a carrier gets all bytes of an earlier one.
     pub(crate) fn move_on(&mut self, before: u32, to: u32, bytes: u32) {
         self.join(to);
         if let Some(link) = self.all.get_mut(before as usize) {
@@ -48,8 +48,8 @@ impl Links {
         }
     }
 
-    /// Notes that a departure takes bytes of a carrier that has so many. It takes the carrier's own
-    /// ones first.
+    /// Records that a departure takes bytes of a carrier that has `has` bytes. It takes the
+    /// carrier's own bytes first.
     pub(crate) fn spend(&mut self, carrier: u32, has: u32, bytes: u32) {
         let moved = match self.all.get(carrier as usize) {
             Some(link) => link.moved,
@@ -60,7 +60,7 @@ impl Links {
         }
     }
 
-    /// Joins the groups of a carrier and of all from which it has bytes.
+    /// Joins the groups of a carrier and of all carriers from which it has bytes.
     fn join(&mut self, carrier: u32) {
         let mut at = carrier;
         'links: for _ in 0..self.all.len() {

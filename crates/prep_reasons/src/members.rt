@@ -5,16 +5,16 @@ use prep_causes::MaybeNumber;
 use prep_records::Kept;
 use std::alloc::{AllocError, Global};
 
-/// The numbers of the records of each client, client by client, in the order of their moments.
+/// The numbers of the records of each client, client by client, in the order of time.
 #[derive(Drop)]
 pub(crate) struct Members {
     records: Vec<u32>,
-    /// Where each client's begin, by its number.
+    /// Where each client's records begin, by its number.
     starts: Vec<u32>,
 }
 
 impl Members {
-    /// Of no client. It takes no memory.
+    /// No client. It takes no memory.
     pub(crate) fn new(alloc: Global) -> Self {
         Members {
             records: Vec::new(alloc),
@@ -22,7 +22,7 @@ impl Members {
         }
     }
 
-    /// Of so many clients, without the records that a line sets aside. The cost is linear.
+    /// The records of each client, except the records that a line excludes. The cost is linear.
     pub(crate) fn of_clients(
         alloc: Global,
         records: &[Kept],
@@ -70,7 +70,7 @@ impl Members {
     }
 }
 
-/// Turns how many each has into where each begins, and tells how many there are in all.
+/// Turns the counts into the starts, and returns the sum.
 fn begin_each(counts: &mut Vec<u32>) -> u32 {
     let mut total = 0u32;
     for place in 0..counts.len() {

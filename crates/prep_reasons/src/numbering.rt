@@ -1,4 +1,4 @@
-//! Which records are after the stated moments, and whose the others are.
+//! Which records are after the stated moments, and to which client the others belong.
 
 use crate::members::Members;
 use crate::sheet::Sheet;
@@ -10,7 +10,7 @@ use std::alloc::AllocError;
 use std::collections::BTreeMap;
 
 impl<'a> Sheet<'a> {
-    /// The line of what is after the moments that are stated.
+    /// Excludes the records after the stated moments.
     pub(crate) fn exclude_outside(&mut self) -> Result<(), AllocError> {
         let stated = self.stated;
         for at in 0..self.records.len() {

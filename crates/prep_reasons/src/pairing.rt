@@ -1,4 +1,4 @@
-//! Which departure and which arrival are proposed as a pair, if both are excluded.
+//! Pairs of a departure and its arrival, both excluded.
 
 use crate::channels::Channels;
 use crate::sheet::Sheet;
@@ -13,7 +13,7 @@ use std::alloc::AllocError;
 /// The numbers of the pairs, from 0.
 #[derive(Drop)]
 pub(crate) struct Pairing {
-    /// Of each record the number of its pair.
+    /// The number of each record's pair.
     numbers: Vec<MaybeNumber>,
     count: CauseNumber,
 }
@@ -25,7 +25,7 @@ enum Key {
         digest: u64,
         peer: Option<Addr>,
     },
-    /// Data under a channel whose peer isn't known, and data of or for any peer.
+    /// Data under a channel whose peer isn't known, and data from or for any peer.
     Channel {
         digest: u64,
         is_for_client: bool,
@@ -37,7 +37,7 @@ enum Key {
     },
 }
 
-/// A record that may be paired, by its key and its moment.
+/// A record that may be paired, ordered by its key and its moment.
 #[derive(Clone, Copy, PartialEq, Eq, PartialOrd, Ord)]
 struct Placed {
     key: Key,
@@ -46,22 +46,22 @@ struct Placed {
     at: u32,
 }
 
-/// By what data is compared.
+/// How data is compared.
 #[derive(Clone, Copy, PartialEq, Eq)]
 enum By {
-    /// Its peer, which a channel's number may stand for.
+    /// By data and peer; the peer may be that of a channel.
     Peer,
-    /// The data alone, which one of the two has under a channel.
+    /// By data alone; one of the two has it under a channel.
     Channel,
 }
 
-/// Stands for each address of the service, since two clients that relay to each other name each
+/// Replaces each address of the service: two clients that relay to each other name different ones.
 /// other's.
 const OF_SERVICE: Addr = Addr { ip: 0, port: 0 };
 
 impl Pairing {
-    /// Pairs what is excluded: each departure with the first arrival that can have caused it and
-    /// that no departure before has. The cost is the number of records times its logarithm.
+    /// Pairs the excluded records: each departure with the first arrival that can have caused it
+    /// and that no earlier departure has. The cost is the number of records times its logarithm.
     pub(crate) fn new(sheet: &Sheet<'_>, channels: &Channels) -> Result<Self, AllocError> {
         let mut pairing = Pairing {
             numbers: vec![in sheet.alloc; MaybeNumber::none(); sheet.records.len()]?,
@@ -77,7 +77,7 @@ impl Pairing {
         self.numbers.get(at)?.get()
     }
 
-    /// The same in four bytes.
+    /// The same number, in four bytes.
     pub(crate) fn kept_number(&self, at: usize) -> MaybeNumber {
         match self.numbers.get(at) {
             Some(number) => *number,
@@ -85,12 +85,12 @@ impl Pairing {
         }
     }
 
-    /// How many numbers there are.
+    /// The number of pairs.
     pub(crate) fn count(&self) -> CauseNumber {
         self.count
     }
 
-    /// Pairs what isn't yet, by these keys.
+    /// Pairs the records that have no pair, by these keys.
     fn add(&mut self, sheet: &Sheet<'_>, channels: &Channels, by: By) -> Result<(), AllocError> {
         let arrivals = self.rest(sheet, channels, by, Side::Arrives)?;
         let departures = self.rest(sheet, channels, by, Side::Leaves)?;
@@ -101,8 +101,9 @@ impl Pairing {
         Ok(())
     }
 
-    /// Pairs a departure with an arrival from this place on, and returns the place from which the
-    /// next departure's is. Both lists are in one order, so none before it is needed any more.
+    /// Pairs a departure with an arrival from this index on, and returns the index from which the
+    /// next departure searches. Both lists are in one order, so no earlier arrival is needed any
+    /// more.
     fn pair_with(
         &mut self,
         sheet: &Sheet<'_>,
@@ -136,7 +137,7 @@ impl Pairing {
         }
     }
 
-    /// What is excluded on a side, has a key and no number, by key and moment.
+    /// The excluded records of a side that have a key and no number, by key and moment.
     fn rest(
         &self,
         sheet: &Sheet<'_>,
@@ -193,7 +194,7 @@ fn is_among(records: &[u32], at: usize) -> bool {
     }
 }
 
-/// Whether a record is excluded, and a departure by a line that needs its arrival.
+/// Whether a record is excluded; for a departure, by a line that needs its arrival.
 fn is_proposed(sheet: &Sheet<'_>, at: usize, side: Side) -> bool {
     let Some(line) = sheet.line_of(at) else {
         return false;
@@ -204,7 +205,7 @@ fn is_proposed(sheet: &Sheet<'_>, at: usize, side: Side) -> bool {
     }
 }
 
-/// A record of this side, by its key and its moment; none if it has no key.
+/// A record of this side, with its key and its moment; `None` if it has no key.
 fn place_of(
     sheet: &Sheet<'_>,
     channels: &Channels,

@@ -1,4 +1,4 @@
-//! What arrives at relayed addresses, and which departures to clients from before it explains.
+//! Arrivals at relayed addresses, and which departures to clients from before they explain.
 
 use crate::channels::Channels;
 use crate::inner::{inner_peer, is_data, is_outside, wanted_of};
@@ -14,15 +14,15 @@ use std::alloc::AllocError;
 /// The arrivals that may be the data of departures to clients.
 #[derive(Drop)]
 pub(crate) struct PeerData {
-    /// At a relayed address that a judged client has, or of such a client for a peer.
+    /// At a relayed address of a judged client, or from such a client to a peer.
     judged: Pool,
-    /// At any other relayed address, or of a client for an address of the service.
+    /// At any other relayed address, or from a client to an address of the service.
     other: Pool,
 }
 
 impl PeerData {
-    /// Those of the captures within the moments that are stated. The cost is the number of records
-    /// times its logarithm.
+    /// The arrivals within the stated moments. The cost is the number of records times its
+    /// logarithm.
     pub(crate) fn new(sheet: &Sheet<'_>, shown: &Shown) -> Result<Self, AllocError> {
         let mut judged = Vec::new(sheet.alloc);
         let mut other = Vec::new(sheet.alloc);
@@ -51,10 +51,10 @@ impl PeerData {
         })
     }
 
-    /// From where the server has data that leaves for a client from before: from an arrival of its
-    /// own, which it takes, with the same data within the hold before, at a relayed address that no
-    /// judged client has. Or it is from before the captures, unless a judged client's address got
-    /// the same data.
+    /// The origin of data that leaves for a client from before: an unused arrival, which it takes,
+    /// with the same data within the hold before, at a relayed address that no judged client has.
+    /// Otherwise the data is from before the captures, unless a judged client's address got the
+    /// same data.
     pub(crate) fn origin(&mut self, sheet: &mut Sheet<'_>, record: &Record) -> Origin {
         let wanted = wanted_of(sheet, record, Group::All);
         if self.other.take(sheet, wanted).is_some() {
@@ -66,8 +66,8 @@ impl PeerData {
         }
     }
 
-    /// Whether the same data arrived at a relayed address of a judged client, or of such a client,
-    /// within the hold before.
+    /// Whether the same data arrived at a relayed address of a judged client, or from such a
+    /// client, within the hold before.
     pub(crate) fn has_judged(&self, sheet: &Sheet<'_>, record: &Record) -> bool {
         let wanted = wanted_of(sheet, record, Group::All);
         self.judged.first(sheet, wanted).is_some()

@@ -1,20 +1,20 @@
-//! Records by what they carry, of which each is taken once.
+//! Records by their data, each of which is taken once.
 
 use crate::sheet::Sheet;
 use crate::state_before::StateBefore;
 use audit_model::Addr;
 use std::alloc::AllocError;
 
-/// Which records a pool has apart, besides those of other data.
+/// How a pool groups its records, in addition to their data.
 #[derive(Clone, Copy, PartialEq, Eq)]
 pub(crate) enum Grouping {
-    /// None.
+    /// No groups.
     Together,
-    /// Those of each client, by its number.
+    /// By client number.
     ByClient,
-    /// Those that a state from before may explain.
+    /// By whether a state from before may explain them.
     ByState,
-    /// Those that arrive at each relayed address from each peer.
+    /// By the relayed address at which and the peer from which they arrive.
     ByEnds,
 }
 
@@ -24,13 +24,13 @@ pub(crate) enum Group {
     All,
     Client(u32),
     Between { relayed: Addr, peer: Addr },
-    /// Whatever was before.
+    /// Not explained by a state from before.
     Judged,
-    /// By a state from before.
+    /// Explained by a state from before.
     Explained,
 }
 
-/// Where a record stands in a pool.
+/// The sort key of a record in a pool.
 #[derive(Clone, Copy, PartialEq, Eq, PartialOrd, Ord)]
 struct Place {
     digest: u64,
@@ -39,7 +39,7 @@ struct Place {
     record: u32,
 }
 
-/// What is looked for: a digest and a group, between two moments.
+/// A search: a digest and a group, between two moments.
 #[derive(Clone, Copy)]
 pub(crate) struct Wanted {
     pub(crate) digest: u64,
@@ -53,12 +53,12 @@ pub(crate) struct Wanted {
 pub(crate) struct Pool {
     grouping: Grouping,
     records: Vec<u32>,
-    /// For each place a later one or the same, before which all behind it are used.
+    /// For each index a later one or the same, before which all from this one on are used.
     next: Vec<u32>,
 }
 
 impl Pool {
-    /// A pool of these records. The cost is their number times its logarithm.
+    /// Makes a pool of these records. The cost is their number times its logarithm.
     pub(crate) fn new(
         sheet: &Sheet<'_>,
         grouping: Grouping,
@@ -77,7 +77,7 @@ impl Pool {
         })
     }
 
-    /// The first place that is wanted or behind such.
+    /// The first index that fits the search or is after it.
     fn begin(&self, sheet: &Sheet<'_>, wanted: Wanted) -> usize {
         let least = Place {
             digest: wanted.digest,
@@ -90,7 +90,7 @@ impl Pool {
             .partition_point(|at| place_of(sheet, grouping, *at) < least)
     }
 
-    /// The record at a place, where it is wanted.
+    /// The record at an index, if it fits the search.
     fn fitting(&self, sheet: &Sheet<'_>, at: usize, wanted: Wanted) -> Option<usize> {
         let record = *self.records.get(at)?;
         let place = place_of(sheet, self.grouping, record);
@@ -104,20 +104,19 @@ impl Pool {
         }
     }
 
-    /// The first record that is wanted, used or not.
+    /// The first record that fits, used or not.
     pub(crate) fn first(&self, sheet: &Sheet<'_>, wanted: Wanted) -> Option<usize> {
         self.fitting(sheet, self.begin(sheet, wanted), wanted)
     }
 
-    /// Takes the first record that is wanted and is not used, which it then is. Places that are
-    /// used are passed over at once the next time, so that the cost of all is nearly their number
-    /// times its logarithm.
+    /// Takes the first unused record that fits, and marks it as used. The next search skips used
+    /// records at once, so the cost of all is nearly their number times its logarithm.
     pub(crate) fn take(&mut self, sheet: &mut Sheet<'_>, wanted: Wanted) -> Option<usize> {
         let begin = self.begin(sheet, wanted);
         let mut at = begin;
         'places: for _ in 0..self.records.len() {
             let Some(record) = self.fitting(sheet, at, wanted) else {
-                // All from the first place to this one are used.
+                // All from the first index to this one are used.
                 self.shorten(begin, at);
                 return None;
             };
@@ -136,7 +135,7 @@ impl Pool {
         None
     }
 
-    /// The next place that may be unused, behind one that is used.
+    /// The next index that may be unused, after one that is used.
     fn behind(&mut self, at: usize) -> usize {
         let next = match self.next.get(at) {
             Some(next) => *next as usize,
@@ -153,7 +152,7 @@ impl Pool {
         behind
     }
 
-    /// Has the places from one on lead straight to another, all between which are used.
+    /// Makes the indexes from one on lead straight to another one; all between them are used.
     fn shorten(&mut self, from: usize, to: usize) {
         let mut at = from;
         'path: for _ in 0..self.records.len() {
@@ -173,7 +172,7 @@ impl Pool {
     }
 }
 
-/// Where a record stands. One that isn't there stands first.
+/// The sort key of a record. A number without a record comes first.
 fn place_of(sheet: &Sheet<'_>, grouping: Grouping, at: u32) -> Place {
     let Some(record) = sheet.record(at as usize) else {
         return Place {

@@ -1,4 +1,4 @@
-//! The lines in the order of the list, and what is proposed for each packet.
+//! The lines in the order of the list, and the proposal for each packet.
 
 use crate::groups::propose_groups;
 use crate::pairing::Pairing;
@@ -10,22 +10,22 @@ use prep_cut::{LineNumber, Proposal, Reason};
 use prep_records::CapturePackets;
 use std::alloc::{AllocError, Global};
 
-/// What is proposed.
+/// The result of the decisions.
 #[derive(Debug, Drop)]
 pub struct Proposed {
     /// The moment at which the captures begin, in nanoseconds since 1970.
     pub begin: u64,
-    /// The reasons of the list's lines, in order. A line may be one by which no packet is left out.
+    /// The reasons of the list's lines, in order. A line may exclude no packet.
     pub lines: Vec<Reason>,
-    /// Of each capture what is proposed for each of its packets.
+    /// For each capture the proposal for each of its packets.
     pub captures: Vec<Vec<Proposal>>,
-    /// How many numbers of departures with their arrivals there are.
+    /// The number of pairs of a departure and its arrival.
     pub causes: CauseNumber,
-    /// How many groups of carriers and departures there are, whose numbers are the next ones.
+    /// The number of groups of carriers and departures. Their numbers follow those of the pairs.
     pub groups: CauseNumber,
     /// Departures of clients from before that no state from before allows, and that stay in.
     pub beyond: u64,
-    /// Clients with their listen addresses from which something that stays in arrived.
+    /// Clients with their listen addresses from which an arrival stays in.
     pub lanes: u64,
 }
 
@@ -36,7 +36,7 @@ struct Ordered {
     numbers: Vec<LineNumber>,
 }
 
-/// Orders the lines by what they say, and then by their first datagram.
+/// Orders the lines by their reasons, and then by their first datagram.
 fn order_lines(sheet: &Sheet<'_>) -> Result<Ordered, AllocError> {
     let count = sheet.lines.reasons.len();
     let mut first = vec![in sheet.alloc; usize::MAX; count]?;
@@ -66,7 +66,7 @@ fn order_lines(sheet: &Sheet<'_>) -> Result<Ordered, AllocError> {
     Ok(Ordered { reasons, numbers })
 }
 
-/// Of a packet that stays in.
+/// The proposal for a packet that stays in.
 fn no_proposal() -> Proposal {
     Proposal {
         line: MaybeNumber::none(),
@@ -74,7 +74,7 @@ fn no_proposal() -> Proposal {
     }
 }
 
-/// A line by its number in the list, with the number that a departure and its arrival have.
+/// The proposal of a line by its number in the list, with the number of a pair.
 fn proposal_of(ordered: &Ordered, line: LineNumber, cause: MaybeNumber) -> Proposal {
     let line = match ordered.numbers.get(line as usize) {
         Some(line) => MaybeNumber::some(*line),
@@ -83,7 +83,7 @@ fn proposal_of(ordered: &Ordered, line: LineNumber, cause: MaybeNumber) -> Propo
     Proposal { line, cause }
 }
 
-/// What is proposed, behind all decisions.
+/// Proposes the lines, after all decisions.
 pub(crate) fn propose(
     sheet: &mut Sheet<'_>,
     packets: &[CapturePackets],
@@ -134,7 +134,7 @@ pub(crate) fn propose(
     })
 }
 
-/// How many clients have an arrival that stays in.
+/// The number of clients with an arrival that stays in.
 fn lanes_of(alloc: Global, sheet: &Sheet<'_>) -> Result<u64, AllocError> {
     let mut seen = vec![in alloc; false; sheet.pairs.len()]?;
     let mut lanes = 0u64;

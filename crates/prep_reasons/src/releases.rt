@@ -1,4 +1,4 @@
-//! Allocations that clients let go of, by Refresh successes with LIFETIME 0, and what they allowed.
+//! Allocations that clients deleted, by a Refresh with LIFETIME 0, and the data that they allowed.
 
 use crate::before::{CHANNEL, PERMISSION};
 use crate::exchanged::Exchanged;
@@ -10,20 +10,19 @@ use prep_records::{Content, Record, Stun};
 use std::alloc::AllocError;
 use std::collections::BTreeMap;
 
-/// A peer to which a channel is bound, up to a moment.
+/// The peer of a channel, and the end of its binding.
 #[derive(Clone, Copy)]
 struct Bound {
     peer: Addr,
     until: u64,
 }
 
-/// An allocation that a client has, with its permissions and channels. To each end the grace is
-/// added.
+/// An allocation that a client has, with its permissions and channels. Each end includes the grace.
 #[derive(Drop)]
 struct Held {
-    /// Of a client from before it isn't known.
+    /// `None` for a client from before: its address isn't known.
     relayed: Option<Addr>,
-    /// Of the Allocate that made it.
+    /// The transaction id of the Allocate that made it.
     tid: [u8; 12],
     until: u64,
     /// By the peer's address.
@@ -34,22 +33,22 @@ struct Held {
     channels_end: u64,
 }
 
-/// An allocation of which its client let go.
+/// An allocation that its client deleted.
 #[derive(Drop)]
 pub(crate) struct Released {
     /// The number of the client and its listen address.
     pub(crate) client: u32,
-    /// Of a client from before it isn't known.
+    /// `None` for a client from before: its address isn't known.
     pub(crate) relayed: Option<Addr>,
-    /// When the success left.
+    /// When the success response to the Refresh left.
     pub(crate) moment: u64,
-    /// When the client asked for an allocation the next time.
+    /// When the client next requested an allocation.
     pub(crate) closed: u64,
     held: Held,
 }
 
-/// What clients let go of, client by client, in the order of their moments. The cost is the number
-/// of records times its logarithm.
+/// The deleted allocations, client by client, in the order of time. The cost is the number of
+/// records times its logarithm.
 pub(crate) fn find_released(sheet: &Sheet<'_>) -> Result<Vec<Released>, AllocError> {
     let mut all = Vec::new(sheet.alloc);
     for client in 0..sheet.pair_count() {
@@ -80,7 +79,7 @@ pub(crate) fn find_released(sheet: &Sheet<'_>) -> Result<Vec<Released>, AllocErr
     Ok(all)
 }
 
-/// Whether a record asks for an allocation.
+/// Whether a record is an Allocate request.
 fn is_asked(sheet: &Sheet<'_>, at: usize) -> bool {
     match sheet.exchanged(at) {
         Some(exchanged) => {
@@ -92,8 +91,8 @@ fn is_asked(sheet: &Sheet<'_>, at: usize) -> bool {
     }
 }
 
-/// Notes when a client asked for an allocation the next time, where it let go of one. Its own begin
-/// at a place.
+/// Records when a client that deleted its allocation next requested one. The client's own deletions
+/// begin at `first`.
 fn close_last(sheet: &Sheet<'_>, at: usize, first: usize, all: &mut Vec<Released>) {
     let (Some(record), Some(last)) = (sheet.record(at), all.len().checked_sub(1)) else {
         return;
@@ -106,7 +105,7 @@ fn close_last(sheet: &Sheet<'_>, at: usize, first: usize, all: &mut Vec<Released
     }
 }
 
-/// What a client has behind a response.
+/// The allocation of a client after a response.
 #[derive(Drop)]
 enum After {
     Held(Option<Held>),
@@ -156,7 +155,7 @@ fn held_behind(
     Ok(After::Held(Some(held)))
 }
 
-/// The allocation behind an Allocate success. The same success again changes nothing.
+/// The allocation after an Allocate success response. A repeated one changes nothing.
 fn allocated(sheet: &Sheet<'_>, held: Option<Held>, answer: &Exchanged) -> Option<Held> {
     let Some(relayed) = answer.stun.relayed else {
         return held;
@@ -180,7 +179,7 @@ fn allocated(sheet: &Sheet<'_>, held: Option<Held>, answer: &Exchanged) -> Optio
 }
 
 impl Held {
-    /// What a client from before may have; none if the server started with the captures.
+    /// What a client from before may have; `None` if the server started with the captures.
     fn from_before(sheet: &Sheet<'_>) -> Option<Held> {
         if sheet.stated.is_from_start {
             return None;
@@ -207,7 +206,7 @@ impl Held {
         Ok(())
     }
 
-    /// Binds a channel from a moment on, where the request has its number and a peer.
+    /// Binds a channel from a moment on, if the request has its number and a peer.
     fn bind(
         &mut self,
         moment: u64,
@@ -244,8 +243,8 @@ impl Released {
         }
     }
 
-    /// The peer whose data a payload to the client carries, where a channel that it names would
-    /// have been bound at a moment.
+    /// The peer whose data a payload to the client carries, if the channel that it names would have
+    /// been bound at a moment.
     pub(crate) fn peer_of(&self, content: Content, moment: u64) -> Option<Addr> {
         match content {
             Content::Data { peer } => peer,

@@ -1,4 +1,4 @@
-//! Responses with their requests, and what they show: leases and channels.
+//! Responses with their requests, and the leases and channels that they show.
 
 use crate::channels::{Binding, Channels};
 use crate::exchanged::Exchanged;
@@ -30,8 +30,8 @@ struct Requests {
 }
 
 impl Requests {
-    /// The request to which one more response belongs, if there is one without a response from a
-    /// moment on.
+    /// The request to which one more response belongs, if a request from a moment on has no
+    /// response yet.
     fn answer(&mut self, from: u64) -> Option<usize> {
         let early = self.moments.partition_point(|moment| *moment < from);
         let next = self.over.max(early);
@@ -47,21 +47,21 @@ impl Requests {
 /// The lease that a client has.
 #[derive(Clone, Copy)]
 struct Lease {
-    /// Its number among the tenures.
+    /// Its index among the tenures.
     tenure: usize,
     key: RequestKey,
     /// Its end with the grace, without the skews.
     until: u64,
 }
 
-/// What the responses show.
+/// The leases and channels that the responses show.
 #[derive(Drop)]
 pub(crate) struct Shown {
     pub(crate) tenures: Tenures,
     pub(crate) channels: Channels,
 }
 
-/// What was read of the responses so far.
+/// The leases and channels of the responses that were read so far.
 #[derive(Drop)]
 struct Reading {
     tenures: Vec<Tenure>,
@@ -77,7 +77,7 @@ fn key_of(exchanged: &Exchanged) -> RequestKey {
     }
 }
 
-/// Notes each response's request, and tells what the responses show.
+/// Records each response's request, and returns the leases and channels that the responses show.
 pub(crate) fn read_responses(sheet: &mut Sheet<'_>) -> Result<Shown, AllocError> {
     let alloc = sheet.alloc;
     let mut reading = Reading {
@@ -130,7 +130,7 @@ fn read_pair(sheet: &mut Sheet<'_>, pair: u32, reading: &mut Reading) -> Result<
     Ok(())
 }
 
-/// Notes a request, by its number and its moment.
+/// Records a request, by its number and its moment.
 fn note_asked(
     alloc: Global,
     asked: &mut BTreeMap<RequestKey, Requests>,
@@ -152,7 +152,7 @@ fn note_asked(
     Ok(())
 }
 
-/// The lease behind a response with its request.
+/// The lease after a response with its request.
 fn read_answer(
     sheet: &Sheet<'_>,
     pair: u32,

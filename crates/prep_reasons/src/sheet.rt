@@ -1,4 +1,4 @@
-//! The records in the order of their moments, and what is found of each.
+//! The records in the order of time, and the decisions about each.
 
 use crate::exchanged::Exchanged;
 use crate::lines::Lines;
@@ -10,12 +10,12 @@ use prep_cut::{LineNumber, Reason, Stated, slack_of};
 use prep_records::{Carrier, Content, Kept, Record, Records, Stun, UnreadGrant};
 use std::alloc::{AllocError, Global};
 
-/// Nanoseconds of a second.
+/// The nanoseconds of a second.
 pub(crate) const SECOND: u64 = 1_000_000_000;
 
-/// What is known of the captures: their records by number, from 0, in the order of their moments.
-/// Of each datagram it keeps little: what is numbered takes four bytes, and what was needed to
-/// decide is let go of.
+/// The state of the decisions: the records by number, from 0, in the order of time. Memory for each
+/// datagram is small: numbers take four bytes, and marks that only the decisions need are freed
+/// after them.
 #[derive(Drop)]
 pub struct Sheet<'a> {
     pub(crate) alloc: Global,
@@ -25,32 +25,32 @@ pub struct Sheet<'a> {
     pub(crate) slack: u64,
     /// The moment at which the captures begin.
     pub(crate) begin: u64,
-    /// In the order of their moments.
+    /// In the order of time.
     pub(crate) records: Vec<Kept>,
     pub(crate) stun: Vec<Stun>,
-    /// Of each response among these its request's record.
+    /// For each response among these, the record of its request.
     pub(crate) requests: Vec<MaybeNumber>,
     pub(crate) peers: Vec<Addr>,
     /// By address and moment.
     pub(crate) unread_grants: Vec<UnreadGrant>,
-    /// What may carry data that isn't read.
+    /// The packets that may carry data that isn't read.
     pub(crate) carriers: Vec<Carrier>,
     pub(crate) pairs: Vec<Pair>,
     pub(crate) lines: Lines,
-    /// Of each record the line by which it is set aside.
+    /// For each record, the line that excludes it.
     pub(crate) why: Vec<MaybeNumber>,
     pub(crate) old: Vec<StateBefore>,
-    /// Of each record whether its data has left already.
+    /// For each record, whether its data has left already.
     pub(crate) used: Vec<bool>,
-    /// The records of each client within the moments that are stated.
+    /// The records of each client within the stated moments.
     pub(crate) members: Members,
     /// Departures of clients from before that no state from before allows, and that stay in.
     pub(crate) beyond: u64,
 }
 
 impl<'a> Sheet<'a> {
-    /// The records in their order, none of which is set aside but those outside the moments that
-    /// are stated.
+    /// The records in order. Only those after the stated moments are excluded: earlier ones aren't
+    /// recorded.
     pub(crate) fn new(
         alloc: Global,
         policy: &'a Policy,
@@ -100,7 +100,7 @@ impl<'a> Sheet<'a> {
         Ok(sheet)
     }
 
-    /// How many records there are.
+    /// The number of records.
     pub fn len(&self) -> usize {
         self.records.len()
     }
@@ -110,12 +110,12 @@ impl<'a> Sheet<'a> {
         Some(self.records.get(at)?.record())
     }
 
-    /// The lines by which records are set aside, in no order.
+    /// The lines that exclude records, in no order.
     pub fn reasons(&self) -> &[Reason] {
         self.lines.reasons.as_slice()
     }
 
-    /// The line by which a record is set aside.
+    /// The line that excludes a record.
     pub fn line_of(&self, at: usize) -> Option<LineNumber> {
         self.why.get(at)?.get()
     }
@@ -129,7 +129,7 @@ impl<'a> Sheet<'a> {
         Some(request as usize)
     }
 
-    /// Notes the request of a response.
+    /// Records the request of a response.
     pub(crate) fn note_request(&mut self, at: usize, request: Option<usize>) {
         let Some(Content::Stun { place }) = self.content(at) else {
             return;
@@ -161,7 +161,7 @@ impl<'a> Sheet<'a> {
         }
     }
 
-    /// The number of a record's client, where it has one.
+    /// The number of a record's client, if it has one.
     pub fn pair_number(&self, at: usize) -> Option<u32> {
         self.records.get(at)?.client.get()
     }
@@ -170,7 +170,7 @@ impl<'a> Sheet<'a> {
         self.pairs.get(number as usize).copied()
     }
 
-    /// A record's request or response, where it is one.
+    /// A record's request or response, if it is one.
     pub fn exchanged(&self, at: usize) -> Option<Exchanged> {
         let record = self.record(at)?;
         let Content::Stun { place } = record.content else {
@@ -199,7 +199,7 @@ impl<'a> Sheet<'a> {
         self.members.of(number)
     }
 
-    /// How many clients there are.
+    /// The number of clients.
     pub fn pair_count(&self) -> u32 {
         u32::try_from(self.pairs.len()).unwrap_or(u32::MAX)
     }
@@ -217,20 +217,20 @@ impl<'a> Sheet<'a> {
         }
     }
 
-    /// Whether what explains a departure may have arrived before the captures begin.
+    /// Whether the arrival that explains a departure may be from before the captures.
     pub(crate) fn is_early(&self, stamp: u64) -> bool {
         let hold = self.policy.hold.saturating_add(self.slack);
         !self.stated.is_from_start && stamp <= self.begin.saturating_add(hold)
     }
 
-    /// Lets go of what only decisions need.
+    /// Frees the marks that only the decisions need.
     pub(crate) fn forget_marks(&mut self) {
         self.requests = Vec::new(self.alloc);
         self.old = Vec::new(self.alloc);
         self.used = Vec::new(self.alloc);
     }
 
-    /// Excludes a record by a line, unless it is already.
+    /// Excludes a record by a line, unless it is excluded already.
     pub(crate) fn exclude(&mut self, at: usize, reason: Reason) -> Result<(), AllocError> {
         if !self.is_kept(at) {
             return Ok(());
@@ -245,7 +245,7 @@ impl<'a> Sheet<'a> {
         }
     }
 
-    /// Excludes a record by this line, and by no other one.
+    /// Excludes a record by this line, in place of any other one.
     pub(crate) fn move_to(&mut self, at: usize, reason: Reason) -> Result<(), AllocError> {
         let line = self.lines.number_of(reason)?;
         if let Some(mark) = self.why.get_mut(at) {

@@ -1,4 +1,4 @@
-//! Which clients speak DTLS, and what of it may be data.
+//! Which clients use DTLS, and which records of it may be data.
 
 use crate::inner::is_outside;
 use crate::sheet::Sheet;
@@ -9,19 +9,19 @@ use std::alloc::AllocError;
 /// The type of a DTLS record with application data (RFC 9147, section 4).
 const APPLICATION_DATA: u64 = 23;
 
-/// The first byte of an encrypted record of DTLS 1.3 is between these (RFC 9147, section 4). It may
+/// The range of the first byte of an encrypted DTLS 1.3 record (RFC 9147, section 4), which may
 /// have application data, too.
 const LEAST_ENCRYPTED: u64 = 32;
 
 const GREATEST_ENCRYPTED: u64 = 63;
 
-/// How a client speaks.
+/// The protocol of a client.
 #[derive(Clone, Copy, PartialEq, Eq)]
 pub(crate) enum Speech {
     Nothing,
-    /// DTLS alone.
+    /// Only DTLS.
     Dtls,
-    /// Something else, too.
+    /// Other packets, too.
     Other,
 }
 
@@ -31,7 +31,7 @@ pub(crate) fn may_have_data(record: &Record) -> bool {
         || (LEAST_ENCRYPTED <= record.digest && record.digest <= GREATEST_ENCRYPTED)
 }
 
-/// How each client speaks within the moments that are stated.
+/// The protocol of each client within the stated moments.
 pub(crate) fn speech_of(sheet: &Sheet<'_>) -> Result<Vec<Speech>, AllocError> {
     let mut all = vec![in sheet.alloc; Speech::Nothing; sheet.pairs.len()]?;
     for at in 0..sheet.records.len() {

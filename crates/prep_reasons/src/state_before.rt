@@ -1,18 +1,18 @@
-//! What allocations from before explain.
+//! Whether allocations from before explain a record.
 
 /// Whether a client's allocation from before explains a record.
 #[derive(Clone, Copy, Debug, PartialEq, Eq)]
 pub(crate) enum StateBefore {
-    /// The record needs none.
+    /// The record needs no such allocation.
     IsNotNeeded,
-    /// Only such a one can, and one may.
+    /// Only such an allocation can explain it, and one may.
     Explains,
-    /// Only such a one could, and none may.
+    /// Only such an allocation could explain it, and none may.
     Forbids,
 }
 
 impl StateBefore {
-    /// Whether one may explain what only such a one can.
+    /// The state of a record that only such an allocation can explain.
     pub(crate) fn of(may_explain: bool) -> Self {
         if may_explain {
             StateBefore::Explains

@@ -1,4 +1,4 @@
-//! What is at relayed addresses that nobody was given, and whose data it carries.
+//! Records at relayed addresses that nobody was granted, and whose data they carry.
 
 use crate::hang_ups::HangUps;
 use crate::inner::{is_data, wanted_of};
@@ -17,15 +17,15 @@ const FAR: u64 = 60 * SECOND;
 /// Whose data a departure carries.
 #[derive(Clone, Copy)]
 pub(crate) enum Cause {
-    /// That of no client.
+    /// The data of no client.
     Nobody,
-    /// That of a client that is judged, and its arrival, unless another departure took it.
+    /// The data of a judged client, with its arrival, unless another departure took it.
     Judged(Option<u32>),
-    /// That of a client from before, by its number.
+    /// The data of a client from before, by its number.
     FromBefore(u32),
 }
 
-/// A record at an address that nobody was given.
+/// A record at an address that nobody was granted.
 #[derive(Clone, Copy)]
 pub(crate) struct Stray {
     /// Its number.
@@ -33,18 +33,18 @@ pub(crate) struct Stray {
     pub(crate) cause: Cause,
 }
 
-/// What is found of the addresses that nobody was given.
+/// The records at addresses that nobody was granted, and whose addresses these may be.
 #[derive(Drop)]
 pub(crate) struct Strays {
-    /// In the order of their moments.
+    /// In the order of time.
     pub(crate) all: Vec<Stray>,
     /// How often data of a client was found at an address.
     votes: BTreeMap<(Addr, u32), u64>,
-    /// The client of most votes for each address.
+    /// The client with the most votes for each address.
     pub(crate) owners: BTreeMap<Addr, u32>,
 }
 
-/// The relayed address of a record, where it is one between such an address and a peer.
+/// The relayed address of a record between such an address and a peer.
 pub(crate) fn relayed_in(record: &Record) -> Option<Addr> {
     match (record.content, record.side) {
         (Content::Relayed, Side::Leaves) => Some(record.from),
@@ -53,7 +53,7 @@ pub(crate) fn relayed_in(record: &Record) -> Option<Addr> {
     }
 }
 
-/// Finds what is at addresses that nobody was given, and whose it looks to be.
+/// Finds the records at addresses that nobody was granted, and whose addresses these may be.
 pub(crate) fn find_strays(
     sheet: &mut Sheet<'_>,
     tenures: &Tenures,
@@ -71,8 +71,8 @@ pub(crate) fn find_strays(
     Ok(found)
 }
 
-/// Takes the data that left from its client's own address, and finds what is at addresses that
-/// nobody was given. What leaves for a peer behind a release is set aside, with its arrival.
+/// Takes the data that left from its client's own address, and finds the records at addresses that
+/// nobody was granted. Departures to a peer after a deletion are excluded, with their arrivals.
 fn strays_of(
     sheet: &mut Sheet<'_>,
     tenures: &Tenures,
@@ -109,7 +109,7 @@ fn strays_of(
     Ok(strays)
 }
 
-/// The data of clients that is not set aside, by whether a state from before may explain it.
+/// The data of clients that isn't excluded, by whether a state from before may explain it.
 fn pool_by_state(sheet: &Sheet<'_>, side: Side) -> Result<Pool, AllocError> {
     let mut records = Vec::new(sheet.alloc);
     for at in 0..sheet.records.len() {
@@ -127,7 +127,7 @@ fn pool_by_state(sheet: &Sheet<'_>, side: Side) -> Result<Pool, AllocError> {
     Pool::new(sheet, Grouping::ByState, records)
 }
 
-/// Whose data left from addresses that nobody was given.
+/// Finds whose data left from addresses that nobody was granted.
 fn find_causes(sheet: &mut Sheet<'_>, found: &mut Strays) -> Result<(), AllocError> {
     let mut pool = pool_by_state(sheet, Side::Arrives)?;
     for place in 0..found.all.len() {
@@ -151,7 +151,7 @@ fn find_causes(sheet: &mut Sheet<'_>, found: &mut Strays) -> Result<(), AllocErr
     Ok(())
 }
 
-/// Whose data a departure carries. A client that is judged comes first.
+/// Whose data a departure carries. A judged client comes first.
 fn cause_of(sheet: &mut Sheet<'_>, record: &Record, pool: &mut Pool) -> Cause {
     let judged = Wanted {
         digest: record.digest,
@@ -164,7 +164,7 @@ fn cause_of(sheet: &mut Sheet<'_>, record: &Record, pool: &mut Pool) -> Cause {
     }
     let explained = wanted_of(sheet, record, Group::Explained);
     let Some(cause) = pool.take(sheet, explained) else {
-        // A copy of what left already is still data of a judged client.
+        // A copy of data that left already is still data of a judged client.
         let copied = wanted_of(sheet, record, Group::Judged);
         return match pool.first(sheet, copied) {
             Some(_) => Cause::Judged(None),
@@ -177,7 +177,7 @@ fn cause_of(sheet: &mut Sheet<'_>, record: &Record, pool: &mut Pool) -> Cause {
     }
 }
 
-/// Whose data arrived at addresses that nobody was given.
+/// Finds whose data arrived at addresses that nobody was granted.
 fn find_arrivals(sheet: &Sheet<'_>, found: &mut Strays) -> Result<(), AllocError> {
     let pool = pool_by_state(sheet, Side::Leaves)?;
     for place in 0..found.all.len() {
@@ -216,7 +216,7 @@ impl Strays {
     }
 }
 
-/// The client of most votes for each address, of equal ones the least address.
+/// The client with the most votes for each address; of equal ones the client of the least address.
 fn find_owners(sheet: &Sheet<'_>, found: &mut Strays) -> Result<(), AllocError> {
     let mut best: BTreeMap<Addr, u64> = BTreeMap::new(sheet.alloc);
     for (vote, count) in found.votes.iter() {

@@ -1,9 +1,9 @@
-//! Who was given which relayed address, and when.
+//! Which client was granted which relayed address, and when.
 
 use audit_model::Addr;
 use std::alloc::{AllocError, Global};
 
-/// A client's lease of a relayed address, the skews added to both ends.
+/// A client's lease of a relayed address, with the skews added to both ends.
 #[derive(Clone, Copy)]
 pub(crate) struct Tenure {
     pub(crate) relayed: Addr,
@@ -17,12 +17,13 @@ pub(crate) struct Tenure {
 pub(crate) struct Tenures {
     /// By address and start.
     all: Vec<Tenure>,
-    /// Of each place the one with the greatest end among those of its address up to it.
+    /// For each index, the tenure with the greatest end among those of its address up to this
+    /// index.
     longest: Vec<usize>,
 }
 
 impl Tenures {
-    /// Of these tenures. The cost is their number times its logarithm.
+    /// Indexes the tenures. The cost is their number times its logarithm.
     pub(crate) fn new(alloc: Global, tenures: Vec<Tenure>) -> Result<Self, AllocError> {
         let mut all = tenures;
         all.sort_by_key(|tenure| (tenure.relayed, tenure.start))?;
@@ -42,12 +43,12 @@ impl Tenures {
         Ok(Tenures { all, longest })
     }
 
-    /// How many tenures began before a moment or at it, those of lesser addresses among them.
+    /// How many tenures began before a moment or at it, including those of lesser addresses.
     fn behind(&self, relayed: Addr, stamp: u64) -> usize {
         self.all.partition_point(|tenure| (tenure.relayed, tenure.start) <= (relayed, stamp))
     }
 
-    /// Who holds an address at a moment.
+    /// The client that has an address at a moment.
     pub(crate) fn holder(&self, relayed: Addr, stamp: u64) -> Option<u32> {
         let last = self.behind(relayed, stamp).checked_sub(1)?;
         let longest = *self.longest.get(last)?;

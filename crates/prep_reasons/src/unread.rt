@@ -1,4 +1,4 @@
-//! What clients by TCP, TLS, DTLS or IPv6 may have sent, which isn't read.
+//! Data that clients over TCP, TLS, DTLS or IPv6 may have sent, which isn't read.
 
 use crate::carriers::{Carried, Carriers, Load};
 use crate::inner::wanted_of;
@@ -12,10 +12,10 @@ use prep_records::{CarrierKind, Record};
 use std::alloc::{AllocError, Global};
 use std::mem;
 
-/// The least that data has before it in a carrier, in bytes: the header of ChannelData.
+/// The least number of bytes before data in a carrier: the header of ChannelData.
 const HEADER: u32 = 4;
 
-/// What data of clients that aren't judged may have come in.
+/// The carriers of data of clients that aren't judged.
 const ALL: [CarrierKind; 3] = [
     CarrierKind::TcpOrIpv6,
     CarrierKind::DtlsData,
@@ -27,7 +27,7 @@ const ALL: [CarrierKind; 3] = [
 pub(crate) struct Carrying {
     /// TCP, IPv6 and DTLS.
     pub(crate) carriers: Carriers,
-    /// Data at relayed addresses, for what leaves by DTLS.
+    /// Data at relayed addresses, for departures over DTLS.
     pub(crate) relayed: Option<Carriers>,
 }
 
@@ -51,18 +51,18 @@ fn add_departures(all: &mut Vec<u32>, carried: &[Carried]) -> Result<(), AllocEr
     Ok(())
 }
 
-/// The packets that may carry data of such clients, and the data of others.
+/// The packets that may carry data of such clients, and the data of other clients.
 #[derive(Drop)]
 pub(crate) struct Unread {
     pub(crate) carrying: Carrying,
-    /// How each client speaks; of none if the operator states that none comes by DTLS.
+    /// The protocol of each client; empty if the operator states that no client uses DTLS.
     pub(crate) speech: Vec<Speech>,
-    /// It is made where it is needed first, since most captures have no data that isn't read.
+    /// Made when it is first needed: most captures have no data that isn't read.
     peer_data: Option<PeerData>,
 }
 
 impl Unread {
-    /// Of a sheet, which has the carriers no more.
+    /// Takes the carriers out of a sheet.
     pub(crate) fn new(sheet: &mut Sheet<'_>) -> Result<Self, AllocError> {
         let mut carriers = mem::replace(&mut sheet.carriers, Vec::new(sheet.alloc));
         let mut speech = Vec::new(sheet.alloc);
@@ -82,19 +82,19 @@ impl Unread {
         })
     }
 
-    /// Begins again with the first departure.
+    /// Starts again with the first departure.
     pub(crate) fn rewind(&mut self) {
         self.carrying.carriers.rewind();
     }
 
-    /// Whether a DTLS record may have been the cause of what leaves by DTLS, which then takes it.
-    /// Departures come in the order of their moments.
+    /// Whether a DTLS record may have caused a departure over DTLS, which then takes it. Departures
+    /// come in the order of time.
     pub(crate) fn takes_record(&mut self, load: Load) -> Result<bool, AllocError> {
         let taken = self.carrying.carriers.take(load, &[CarrierKind::DtlsData])?;
         Ok(taken.is_some())
     }
 
-    /// The same of a packet over TCP or IPv6, which may have carried more.
+    /// The same for a packet over TCP or IPv6, which may carry more.
     pub(crate) fn takes_packet(&mut self, load: Load) -> Result<bool, AllocError> {
         let load = Load {
             bytes: load.bytes.saturating_add(HEADER),
@@ -108,9 +108,9 @@ impl Unread {
         Ok(taken.is_some())
     }
 
-    /// From where the server may have the data of a departure that isn't a judged client's: such a
-    /// client may have sent it in a packet within the hold before, which then carried it, or it may
-    /// be from before the captures. Departures come in the order of their moments.
+    /// The origin of a departure's data that isn't a judged client's: such a client may have sent
+    /// it in a packet within the hold before, which it then takes, or it may be from before the
+    /// captures. Departures come in the order of time.
     pub(crate) fn origin(
         &mut self,
         sheet: &Sheet<'_>,

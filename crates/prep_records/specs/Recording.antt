@@ -1,4 +1,4 @@
--- A capture that comes in pieces, and what is noted of its Allocates.
+-- A capture that comes in pieces, and the recorded Allocates.
 use Rattle.std.specs.Prelude.{◌≡◌, ℕ, Bool, true, not, filter, List, [], ◌++◌, Option, Some, None}
 use Rattle.audit_model.specs.declared.policy.Policy.{Policy}
 use Rattle.prep_blocks.specs.declared.block.Block.{Block}
@@ -8,7 +8,7 @@ use Rattle.prep_cut.specs.Allocating.{AreNoted}
 use Rattle.prep_cut.specs.Guard.{is_early}
 use Rattle.prep_records.specs.declared.recorder.Recorder.{Recorder}
 
--- it isn't before the moment that is stated
+-- it isn't before the stated moment
 abbrev pub is_from : Option ℕ → Option PacketHead → Bool
 is_from since None = true
 is_from since (Some head) = not (is_early since head.stamp)
@@ -17,15 +17,15 @@ is_from since (Some head) = not (is_early since head.stamp)
 abbrev pub blocks_from : Option ℕ → List Block → List Block
 blocks_from since blocks = filter (λ (block : Block). is_from since block.packet) blocks
 
--- After this text of a capture, which has these whole blocks, and the blocks of the captures
--- before: what those from the stated moment on ask and grant is noted.
+-- After this text of a capture, which has these complete blocks, and after the blocks of the
+-- earlier captures: the Allocates from the stated moment on are recorded.
 pub record IsRecording (recorder : Recorder) (policy : Policy) (since : Option ℕ) (earlier : List Block) (text : List ℕ) (current : List Block) : Type 0 where
   pub policy_is : recorder.policy.now ≡ policy
   pub splits : StandsFor recorder.splitter text current
   pub since_is : recorder.stated.since ≡ since
   pub noted : AreNoted policy recorder.allocations (blocks_from since (earlier ++ current))
 
--- the piece was taken up to the rest
+-- the piece was read up to the rest
 pub record GoesOn (recorder : Recorder) (policy : Policy) (since : Option ℕ) (earlier : List Block) (text : List ℕ) (current : List Block) (piece rest : List ℕ) : Type 0 where
   pub taken : List ℕ
   pub more : List Block

@@ -1,17 +1,17 @@
-//! Packets that may carry data of clients, which isn't read.
+//! Packets that may carry data of clients and that aren't read.
 
 use crate::elsewhere::behind_ethernet;
 use audit_model::Policy;
 use std::hash::{DefaultHasher, Hasher};
 
-/// What a carrier is.
+/// The kind of a carrier.
 #[derive(Clone, Copy, Debug, PartialEq, Eq, PartialOrd, Ord)]
 pub enum CarrierKind {
     /// A TCP segment or an IPv6 packet.
     TcpOrIpv6,
     /// A DTLS record with application data that arrives at a listen address.
     DtlsData,
-    /// Another DTLS record that comes to the server.
+    /// Another DTLS record that arrives at the server.
     Dtls,
     /// Data that arrives at a relayed address.
     Relayed,
@@ -30,17 +30,17 @@ pub struct Carrier {
     pub packet: u32,
     /// The capture's number.
     pub capture: u16,
-    /// Whether what it carries may go on in the next packet of its connection.
+    /// Whether its data may continue in the next packet of its connection.
     pub goes_on: bool,
     pub kind: CarrierKind,
 }
 
-/// Where and when a packet was captured.
+/// The place and the time of a captured packet.
 #[derive(Clone, Copy)]
 pub(crate) struct Captured {
     /// Nanoseconds since 1970.
     pub(crate) stamp: u64,
-    /// The frame's bytes, those that weren't captured among them.
+    /// The frame's original size in bytes, including those that weren't captured.
     pub(crate) original: u32,
     /// The packet's number among those of its capture, from 0.
     pub(crate) packet: u32,
@@ -48,32 +48,32 @@ pub(crate) struct Captured {
     pub(crate) capture: u16,
 }
 
-/// The bytes of the headers of Ethernet and IPv4, the least before a transport header.
+/// The size of the headers of Ethernet and IPv4 in bytes, the least before a transport header.
 const LEAST_HEADERS: u32 = 34;
 
-/// A TCP segment of fewer bytes ends where its data ends: each host has to take one of 536 (RFC
-/// 9293, section 3.7.1).
+/// Data ends at the end of a TCP segment with fewer bytes: each host must accept 536 (RFC 9293,
+/// section 3.7.1).
 const LEAST_FULL: u32 = 500;
 
 const TCP: u8 = 6;
 
 const UDP: u8 = 17;
 
-/// The two ends of a packet, and where its transport header begins.
+/// The two ends of a packet, and its transport header.
 #[derive(Clone, Copy)]
 struct Ends<'a> {
     from: &'a [u8],
     to: &'a [u8],
     transport: &'a [u8],
     protocol: u8,
-    /// Whether the addresses tell that it comes to the service or leaves it.
+    /// Whether it arrives at the service or leaves it, if the addresses show that.
     arrives: Option<bool>,
     /// How many bytes the packet has from the transport header on.
     bytes: usize,
 }
 
-/// The carrier that a frame is: a packet of TCP or IPv6 that comes to the service and has data.
-/// Where addresses don't tell which end is the service's, it is the one of the lesser port.
+/// The carrier in a frame: a TCP or IPv6 packet that arrives at the service and has data. If
+/// addresses don't show which end is the service's, it is the one with the lesser port.
 pub(crate) fn carrier_in(policy: &Policy, captured: Captured, frame: &[u8]) -> Option<Carrier> {
     let (kind, packet) = behind_ethernet(frame)?;
     let ends = match kind {
@@ -99,7 +99,7 @@ pub(crate) fn carrier_in(policy: &Policy, captured: Captured, frame: &[u8]) -> O
     Some(Carrier {
         stamp: captured.stamp,
         connection: hasher.finish(),
-        // A header may tell a greater length than the frame has.
+        // The length in a header may be greater than the frame.
         bytes: bytes.min(captured.original.saturating_sub(LEAST_HEADERS)),
         packet: captured.packet,
         capture: captured.capture,
@@ -114,7 +114,7 @@ fn ends_ipv4<'a>(policy: &Policy, packet: &'a [u8]) -> Option<Ends<'a>> {
     if protocol != TCP {
         return None;
     }
-    // A segment that the network card cuts can have no length yet.
+    // A segment that the network card is going to split can have length 0.
     let whole = match u16_at(packet, 2)? {
         0 => packet.len(),
         length => length as usize,

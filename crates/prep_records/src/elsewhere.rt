@@ -1,4 +1,4 @@
-//! Relayed addresses that are granted over TCP or IPv6, as far as they can be read.
+//! Relayed addresses that are granted over TCP or IPv6, if the responses can be parsed.
 
 use crate::record::UnreadGrant;
 use audit_model::{Addr, Policy};
@@ -7,10 +7,11 @@ use audit_stun::{address, message};
 use prep_cut::FarEnd;
 use std::alloc::AllocError;
 
-/// So many messages are tried in a frame, so that its cost is bounded.
+/// At most this number of messages is tried in a frame, so that the cost is bounded.
 const MOST_TRIED: usize = 16;
 
-/// Adds the relayed addresses in the Allocate successes of a frame that is TCP over IPv4, or IPv6.
+/// Adds the relayed addresses in the Allocate success responses of a frame with TCP over IPv4, or
+/// IPv6.
 pub fn note_granted_address(
     policy: &Policy,
     stamp: u64,
@@ -50,7 +51,7 @@ fn relayed_in(bytes: &[u8]) -> Option<Addr> {
     address(message(bytes)?.first(XOR_RELAYED_ADDRESS)?)
 }
 
-/// What follows the Ethernet header and up to two VLAN tags, with its type.
+/// The packet after the Ethernet header and up to two VLAN tags, with its type.
 pub(crate) fn behind_ethernet(frame: &[u8]) -> Option<(u16, &[u8])> {
     let mut rest = frame.get(12..)?;
     for _ in 0..3 {
@@ -66,7 +67,7 @@ pub(crate) fn behind_ethernet(frame: &[u8]) -> Option<(u16, &[u8])> {
     None
 }
 
-/// Where a TCP segment over IPv4, or a packet of IPv6, goes.
+/// The destination of a TCP segment over IPv4, or of an IPv6 packet.
 fn far_end(frame: &[u8]) -> Option<FarEnd> {
     let (kind, packet) = behind_ethernet(frame)?;
     match kind {

@@ -1,4 +1,4 @@
-//! What is kept of each packet.
+//! Makes the records of packets.
 
 ghost use Rattle.std.specs.Prelude.{◌≡◌};
 
@@ -22,7 +22,7 @@ pub(crate) struct Keeper<'p> {
     slack: u64,
     all: Records,
     capture: u16,
-    /// Of the capture that comes.
+    /// The packets of the present capture.
     packets: CapturePackets,
     alloc: Global,
 }
@@ -36,7 +36,7 @@ struct Found<'a> {
 }
 
 impl<'p> Keeper<'p> {
-    /// Of no packet. It takes no memory.
+    /// No packets. It takes no memory.
     pub(crate) fn new(alloc: Global, policy: &'p Policy, stated: Stated) -> Self {
         Keeper {
             policy,
@@ -52,7 +52,7 @@ impl<'p> Keeper<'p> {
         }
     }
 
-    /// Ends the capture that came. The next one begins.
+    /// Ends the present capture, and begins the next one.
     pub(crate) fn end(&mut self) -> Result<(), AllocError> {
         let next = CapturePackets {
             count: 0,
@@ -64,7 +64,7 @@ impl<'p> Keeper<'p> {
         Ok(())
     }
 
-    /// What was kept, with these allocations.
+    /// The records, with these allocations.
     pub(crate) fn finish(self, allocations: Allocations) -> Records
         ensures { result.allocations ≡ allocations }
     {
@@ -73,7 +73,7 @@ impl<'p> Keeper<'p> {
         all
     }
 
-    /// Takes the next block. One without a packet changes nothing.
+    /// Reads the next block. One without a packet changes nothing.
     pub(crate) fn take(&mut self, block: &Block) -> Result<(), AllocError> {
         match block.packet {
             Some(head) => self.take_packet(block, head),
@@ -109,7 +109,7 @@ impl<'p> Keeper<'p> {
         Ok(())
     }
 
-    /// Takes a frame that is no UDP over IPv4.
+    /// Records a frame that isn't UDP over IPv4.
     fn take_elsewhere(&mut self, head: PacketHead, frame: &[u8]) -> Result<(), AllocError> {
         let captured = Captured {
             stamp: head.stamp,
@@ -123,7 +123,7 @@ impl<'p> Keeper<'p> {
         note_granted_address(self.policy, head.stamp, frame, &mut self.all.unread_grants)
     }
 
-    /// Takes a DTLS record that comes to an address of the server and is no datagram of the
+    /// Records a DTLS record that arrives at an address of the server and isn't a datagram of the
     /// service.
     fn take_dtls(&mut self, stamp: u64, payload: &[u8]) -> Result<(), AllocError> {
         self.all.carriers.push(Carrier {
@@ -138,7 +138,7 @@ impl<'p> Keeper<'p> {
         Ok(())
     }
 
-    /// Notes a packet's moment, and whether it is outside what the operator states.
+    /// Records a packet's stamp, and whether it is outside the stated moments.
     fn note_moment(&mut self, stamp: u64) -> Result<(), AllocError> {
         self.all.first = match self.all.first {
             Some(first) => Some(first.min(stamp)),

@@ -1,11 +1,11 @@
-//! A record as it is kept.
+//! A record in compact form.
 
 use crate::record::{Content, Record};
 use audit_model::{Addr, Side};
 use prep_causes::MaybeNumber;
 
-/// A record in 48 bytes: the addresses stand in parts, so that no byte between them is lost. The
-/// other parts are those of a `Record`.
+/// A record in 48 bytes: the addresses are split, so that there is no padding between them. The
+/// other fields are those of a `Record`.
 #[derive(Clone, Copy, Debug)]
 pub struct Kept {
     stamp: u64,
@@ -15,11 +15,11 @@ pub struct Kept {
     from_port: u16,
     to_port: u16,
     packet: u32,
-    /// The number of its client and listen address, where it has them and they are numbered.
+    /// The number of its client and listen address, if it has them and they are numbered.
     pub client: MaybeNumber,
     iface: u16,
     side: Side,
-    /// How many times 8 bytes its data has.
+    /// The length of its data in multiples of 8 bytes.
     eights: u8,
     content: KeptContent,
 }
@@ -40,7 +40,7 @@ enum KeptContent {
 }
 
 impl Kept {
-    /// As it is read. Its client has no number yet.
+    /// The compact form of a record. Its client has no number yet.
     pub fn new(record: Record) -> Self {
         let Record {
             stamp,
@@ -69,8 +69,8 @@ impl Kept {
         }
     }
 
-    /// By what records are put in their order: moments, and of one moment the interface and the
-    /// packet's number. No two have the same.
+    /// The sort key of records: the moment, then the interface and the packet's number. No two are
+    /// equal.
     pub fn order(&self) -> (u64, u16, u32) {
         (self.stamp, self.iface, self.packet)
     }

@@ -1,5 +1,5 @@
-//! A record of each datagram of the service, for what is to be set aside. Nothing rests on it but
-//! on the Allocates: what else it holds is only proposed.
+//! A record of each datagram of the service, for the proposals of what is excluded. Guarantees
+//! depend only on its Allocates: the rest is only for proposals.
 #![tactic(auto)]
 
 mod carrier;

@@ -1,4 +1,4 @@
-//! What a payload between a client and the server is.
+//! Parses a payload between a client and the server.
 
 use crate::record::{Content, Records, Stun};
 use audit_stun::numbers::attribute::{
@@ -9,24 +9,24 @@ use audit_stun::{Class, Message, address, channel_data, error_code, message};
 use std::alloc::AllocError;
 use std::hash::{DefaultHasher, Hasher};
 
-/// A digest of data. Who makes two data of one digest changes only what is proposed.
+/// A digest of data. Two data with one digest, even if made on purpose, change only proposals.
 fn digest_of(data: &[u8]) -> u64 {
     let mut hasher = DefaultHasher::new();
     hasher.write(data);
     hasher.finish()
 }
 
-/// What a payload is, with its data.
+/// The kind of a payload, with its data.
 #[derive(Clone, Copy)]
 pub(crate) struct Read {
     pub(crate) content: Content,
     pub(crate) digest: u64,
-    /// How many bytes the data has, as far as 16 bits count.
+    /// The number of data bytes, saturated at 16 bits.
     pub(crate) length: u16,
 }
 
 impl Read {
-    /// Of no data.
+    /// No data.
     pub(crate) fn without_data(content: Content) -> Self {
         Read {
             content,
@@ -35,7 +35,7 @@ impl Read {
         }
     }
 
-    /// Of a DTLS record. In place of a digest it has the record's type (RFC 9147, section 4).
+    /// A DTLS record. Instead of a digest it has the record's type (RFC 9147, section 4).
     fn of_record(payload: &[u8]) -> Self {
         let kind = match payload {
             [first, ..] => *first,
@@ -48,7 +48,7 @@ impl Read {
         }
     }
 
-    /// Of this data.
+    /// This data.
     pub(crate) fn of_data(content: Content, data: &[u8]) -> Self {
         Read {
             content,
@@ -58,7 +58,7 @@ impl Read {
     }
 }
 
-/// What a payload is, whose request or response is added to those of all.
+/// The kind of a payload. A request or response is added to `all`.
 pub(crate) fn read_payload(
     payload: &[u8],
     is_dtls: bool,
@@ -119,7 +119,7 @@ fn of_message(message: &Message<'_>, all: &mut Records) -> Result<Content, Alloc
     Ok(Content::Stun { place })
 }
 
-/// A length, as far as 32 bits count.
+/// A length, saturated at 32 bits.
 fn count_in(length: usize) -> u32 {
     u32::try_from(length).unwrap_or(u32::MAX)
 }

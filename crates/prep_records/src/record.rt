@@ -1,4 +1,4 @@
-//! What is kept of captures.
+//! The records of captures.
 
 ghost use Rattle.std.specs.Prelude.{◌≡◌, ◌/◌};
 
@@ -14,7 +14,7 @@ use std::alloc::Global;
 pub struct Record {
     /// Nanoseconds since 1970.
     pub stamp: u64,
-    /// Equal data has one digest. Of a DTLS record it is the record's type.
+    /// Equal data has the same digest. For a DTLS record it is the record's type.
     pub digest: u64,
     pub from: Addr,
     pub to: Addr,
@@ -24,7 +24,7 @@ pub struct Record {
     /// than 64.
     pub iface: u16,
     pub side: Side,
-    /// The data has at least so many bytes: its length, rounded down to a multiple of 8, and at
+    /// The least length of the data in bytes: its length, rounded down to a multiple of 8, and at
     /// most 2,040.
     pub least: u16,
     pub content: Content,
@@ -39,7 +39,7 @@ impl Record {
     }
 }
 
-/// What the payload is.
+/// The kind of the payload.
 #[derive(Clone, Copy, Debug, PartialEq, Eq)]
 pub enum Content {
     /// Of a datagram with both ends in the service.
@@ -50,7 +50,7 @@ pub enum Content {
     Data { peer: Option<Addr> },
     /// Data under a channel's number.
     Channel { number: u16 },
-    /// A request or a response, by its place among them.
+    /// A request or a response, by its index among them.
     Stun { place: u32 },
     Dtls,
     Other,
@@ -67,12 +67,12 @@ pub struct Stun {
     pub relayed: Option<Addr>,
     pub code: Option<u16>,
     pub channel: Option<u16>,
-    /// The peers that it names: where they begin among all, and how many they are.
+    /// The peers that it names: the index of the first one among all, and their number.
     pub peers_from: u32,
     pub peers: u32,
 }
 
-/// A relayed address in an Allocate success over TCP or IPv6.
+/// A relayed address in an Allocate success response over TCP or IPv6.
 #[derive(Clone, Copy, Debug)]
 pub struct UnreadGrant {
     pub stamp: u64,
@@ -80,7 +80,7 @@ pub struct UnreadGrant {
     pub client: FarEnd,
 }
 
-/// A packet before or after the moments that the operator states.
+/// A packet outside the stated moments.
 #[derive(Clone, Copy, Debug)]
 pub struct Outside {
     pub packet: u32,
@@ -94,24 +94,24 @@ pub struct CapturePackets {
     pub outside: Vec<Outside>,
 }
 
-/// What is kept of captures, in the order in which it came.
+/// The records of captures, in the order of the captures.
 #[derive(Debug, Drop)]
 pub struct Records {
     pub records: Vec<Kept>,
     pub stun: Vec<Stun>,
     pub peers: Vec<Addr>,
     pub unread_grants: Vec<UnreadGrant>,
-    /// What may carry data that isn't read.
+    /// The packets that may carry data that isn't read.
     pub carriers: Vec<Carrier>,
     pub captures: Vec<CapturePackets>,
     /// The least moment of a packet.
     pub first: Option<u64>,
-    /// What Allocates they show.
+    /// The Allocates and leases that they show.
     pub allocations: Allocations,
 }
 
 impl Records {
-    /// Of no capture. It takes no memory.
+    /// No captures. It takes no memory.
     pub fn new(alloc: Global) -> Self {
         Records {
             records: Vec::new(alloc),

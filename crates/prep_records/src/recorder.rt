@@ -1,4 +1,4 @@
-//! Recording captures that come in pieces.
+//! Records captures that come in pieces.
 
 ghost use Rattle.std.specs.Prelude.{◌≡◌, [], ◌∷◌, ◌++◌, ℕ, List, Option, OnOk};
 ghost use Rattle.audit_model.specs.declared.policy.Policy.{Policy as AnyPolicy};
@@ -14,9 +14,9 @@ use prep_blocks::{Block, BlockSplitter};
 use prep_cut::{Allocations, Stated};
 use std::alloc::{AllocError, Global};
 
-/// Records captures, each of which comes in pieces, cut anywhere. After a fault it is thrown away.
-/// What it holds besides the allocations is only proposed. Of packets before the moment that is
-/// stated it notes nothing: the captures are taken as if they began there.
+/// Records captures, each of which comes in pieces, cut anywhere. After a fault it can't be used
+/// any more. Except the allocations, its results are only for proposals. Packets before the stated
+/// moment aren't recorded: the captures are treated as if they began there.
 #[derive(Drop)]
 pub struct Recorder<'p> {
     policy: &'p Policy,
@@ -28,7 +28,7 @@ pub struct Recorder<'p> {
 }
 
 impl<'p> Recorder<'p> {
-    /// A recorder of no capture. It takes no memory.
+    /// A recorder before the first capture. It takes no memory.
     pub fn new(alloc: Global, policy: &'p Policy, stated: Stated) -> Self
         ensures { IsRecording result policy.now stated.since [] [] [] }
     {
@@ -42,7 +42,7 @@ impl<'p> Recorder<'p> {
         }
     }
 
-    /// Takes the next piece of the capture that comes.
+    /// Feeds the next piece of the present capture.
     pub fn feed(&mut self, piece: &[u8]) -> Result<(), CaptureFault>
         ensures { (policy : AnyPolicy) (since : Option ℕ) (earlier : List Block) (text : List ℕ) (current : List Block) →
             IsRecording self.old policy since earlier text current → OnOk result (GoesOn self.new policy since earlier text current piece.now []) }
@@ -59,7 +59,8 @@ impl<'p> Recorder<'p> {
         Ok(())
     }
 
-    /// Notes what a block asks and grants, unless its packet is before the moment that is stated.
+    /// Records the Allocate, the lease and the sender of a block, unless its packet is before the
+    /// stated moment.
     fn note(&mut self, block: &Block) -> Result<(), AllocError>
         ensures noted { (blocks : List Block) → AreNoted self.old.policy.now self.old.allocations (blocks_from self.old.stated.since blocks) →
             OnOk result (AreNoted self.old.policy.now self.new.allocations (blocks_from self.old.stated.since (blocks ++ block.now ∷ []))) }
@@ -74,7 +75,7 @@ impl<'p> Recorder<'p> {
         Ok(())
     }
 
-    /// Whether a block has no packet before the moment that is stated.
+    /// Whether a block has no packet before the stated moment.
     fn is_from(&self, block: &Block) -> bool
         ensures { result ≡ is_from self.now.stated.since block.now.packet }
     {
@@ -84,7 +85,7 @@ impl<'p> Recorder<'p> {
         }
     }
 
-    /// Ends the capture that came. The next one begins.
+    /// Ends the present capture, and begins the next one.
     pub fn end(&mut self) -> Result<(), CaptureFault>
         ensures { (policy : AnyPolicy) (since : Option ℕ) (earlier : List Block) (text : List ℕ) (current : List Block) →
             IsRecording self.old policy since earlier text current → OnOk result (Ended self.new policy since earlier text current) }
@@ -95,7 +96,7 @@ impl<'p> Recorder<'p> {
         Ok(())
     }
 
-    /// What was kept of the captures that ended.
+    /// The records of the captures that ended.
     pub fn finish(self) -> Records
         ensures { (policy : AnyPolicy) (since : Option ℕ) (earlier : List Block) → IsRecording self.entry policy since earlier [] [] →
             AreNoted policy result.allocations (blocks_from since earlier) }

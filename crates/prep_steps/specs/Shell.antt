@@ -1,4 +1,5 @@
--- Words of a command line, as a POSIX shell reads them (POSIX.1-2024, Shell Command Language, section 2.2).
+-- Words of a command line, as a POSIX shell reads them (POSIX.1-2024, Shell Command Language,
+-- section 2.2).
 use Rattle.std.specs.Prelude.{ℕ, Bool, not, ◌&&◌, ◌||◌, ◌==◌, if◌then◌else◌, nat_le, List, [], ◌∷◌, ◌++◌, codes, length}
 use Rattle.std.specs.List.{list_all, list_any}
 
@@ -9,11 +10,11 @@ is_from_to low high byte = nat_le low byte && nat_le byte high
 abbrev pub is_plain_byte : ℕ → Bool
 is_plain_byte byte = (is_from_to 48 57 byte || (is_from_to 65 90 byte || is_from_to 97 122 byte)) || list_any (λ one. one == byte) (codes "%+,-./:=@_")
 
--- it means itself without quotes
+-- a shell reads it literally without quotes
 abbrev pub is_plain : List ℕ → Bool
 is_plain word = not (length word == 0) && list_all is_plain_byte word
 
--- a single quote ends the quotes, stands after a backslash, and begins them again
+-- a single quote ends the quotes, follows a backslash, and begins them again
 abbrev pub quoted_byte : ℕ → List ℕ
 quoted_byte byte = if byte == 39 then codes "'\\''" else byte ∷ []
 

@@ -6,21 +6,21 @@ ghost use Rattle.prep_steps.specs.Shell.{is_plain, is_plain_byte, quoted, quoted
 
 use std::alloc::AllocError;
 
-/// Whether a byte of a word means itself to a shell, also without quotes.
+/// Whether a shell reads a byte literally, also without quotes.
 fn is_plain_byte(byte: u8) -> bool
     ensures { result ≡ is_plain_byte byte }
 {
     byte.is_ascii_alphanumeric() || b"%+,-./:=@_".contains(&byte)
 }
 
-/// Whether all bytes mean themselves to a shell.
+/// Whether a shell reads all bytes literally.
 fn are_plain(word: &[u8]) -> bool
     ensures { result ≡ list_all is_plain_byte word.now }
 {
     word.iter().all(|byte| is_plain_byte(*byte))
 }
 
-/// Whether a word means itself to a shell, also without quotes.
+/// Whether a shell reads a word literally, also without quotes.
 fn is_plain(word: &[u8]) -> bool
     ensures { result ≡ is_plain word.now }
 {
@@ -57,7 +57,7 @@ fn push_quoted(text: &mut Vec<u8>, word: &[u8]) -> Result<(), AllocError>
     text.extend_from_slice(b"'")
 }
 
-/// Appends a word, between single quotes unless it means itself without them.
+/// Appends a word, between single quotes unless a shell reads it literally without them.
 pub fn push_word(text: &mut Vec<u8>, word: &[u8]) -> Result<(), AllocError>
     ensures { OnOk result (text.new.items ≡ text.old.items ++ word_text word.now) }
 {

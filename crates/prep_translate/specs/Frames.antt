@@ -1,4 +1,4 @@
--- Blocks as they are on the outer side.
+-- Blocks on the outer side.
 use Rattle.std.specs.Prelude.{◌≡◌, ℕ, ◌+◌, ◌<◌, slice_index, true, false, List, take, drop, ◌++◌, Option, Some, None, ◌&&◌}
 use Rattle.std.specs.Int.{w32, to_be_bytes}
 use Rattle.audit_model.specs.declared.address.Addr.{Addr}
@@ -29,7 +29,7 @@ moved_of renaming seen.Other = None
 moved_of renaming (seen.Fragment from to) = None
 moved_of renaming (seen.Cut ips) = None
 
--- other addresses at a place of an IPv4 header
+-- other addresses at an offset of an IPv4 header
 abbrev pub with_ips : ℕ → ℕ → ℕ → List ℕ → List ℕ
 with_ips at from to bytes = take at bytes ++ to_be_bytes w32 from ++ to_be_bytes w32 to ++ drop (at + 8) bytes
 
@@ -41,7 +41,7 @@ abbrev pub moved_at : Renaming → Block → Option PacketHead → Option Moved
 moved_at renaming block None = None
 moved_at renaming block (Some head) = moved_of renaming (seen_in (frame_in block head) head)
 
--- what becomes of a block's datagram
+-- the translation of a block's datagram
 abbrev pub moved_in : Renaming → Block → Option Moved
 moved_in renaming block = moved_at renaming block block.packet
 
@@ -49,7 +49,7 @@ abbrev pub written_at : Renaming → Block → Option PacketHead → List ℕ
 written_at renaming block None = block.bytes
 written_at renaming block (Some head) = turned block.bytes (frame_in block head) (moved_of renaming (seen_in (frame_in block head) head))
 
--- what is written of a block
+-- the output for a block
 abbrev pub written_of : Renaming → Block → List ℕ
 written_of renaming block = written_at renaming block block.packet
 
@@ -61,8 +61,9 @@ fault_at renaming block (Some head) = fault_of renaming (seen_in (frame_in block
 abbrev pub fault_in : Renaming → Block → Option Untranslatable
 fault_in renaming block = fault_at renaming block block.packet
 
--- A datagram's block is written with its addresses renamed. In front of the four bytes of each, between them and behind them stands what
--- was read, and the frame then holds the same payload from and to the renamed addresses.
+-- A datagram's block is written with its addresses translated. The bytes before, between and after
+-- the four bytes of each are unchanged, and the frame then contains the same payload from and to
+-- the translated addresses.
 pub record IsRenamed (renaming : Renaming) (head : PacketHead) (read written : List ℕ) (from to : Addr) (payload : List ℕ) : Type 0 where
   pub front : List ℕ
   pub behind : List ℕ
@@ -70,7 +71,7 @@ pub record IsRenamed (renaming : Renaming) (head : PacketHead) (read written : L
   pub is : written ≡ front ++ to_be_bytes w32 (renamed renaming from).ip ++ to_be_bytes w32 (renamed renaming to).ip ++ behind
   pub holds : HoldsUdp (take head.captured (drop 28 written)) (renamed renaming from) (renamed renaming to) payload
 
--- no packet, or one that holds no UDP datagram
+-- no packet, or a packet without a UDP datagram
 abbrev pub IsNoDatagram : Block → Type 0
 IsNoDatagram block = (head : PacketHead) (from to : Addr) (payload : List ℕ) → block.packet ≡ Some head → HoldsUdp (frame_in block head) from to payload → ⊥
 

@@ -1,4 +1,4 @@
--- Addresses as they are on the outer side of a translation.
+-- Addresses on the outer side of a translation.
 use Rattle.std.specs.Prelude.{◌≡◌, ℕ, Bool, true, not, List, Option, Some, None, option_map, ◌==◌, ◌&&◌, ◌||◌, if◌then◌else◌}
 use Rattle.std.specs.List.{find, list_any}
 use Rattle.audit_model.specs.declared.address.Addr.{Addr}
@@ -20,7 +20,7 @@ use Rattle.audit_pcapng.specs.declared.fault.CaptureFault.TheVariants.{Memory}
 abbrev pub at_ip : ℕ → Addr → Addr
 at_ip ip addr = record { ip = ip; port = addr.port }
 
--- the public address for an inner one
+-- the public address for a private one
 abbrev pub public_of : Renaming → ℕ → Option ℕ
 public_of renaming ip = option_map (λ (t : Translation). t.public) (find (λ (t : Translation). t.inner == ip) renaming.translations)
 
@@ -30,7 +30,7 @@ is_inner renaming ip = list_any (λ (t : Translation). t.inner == ip) renaming.t
 abbrev pub is_public : Renaming → ℕ → Bool
 is_public renaming ip = list_any (λ (t : Translation). t.public == ip) renaming.translations
 
--- an inner address becomes its public one where that one's port is relayed from
+-- a private address becomes its public one if the port is relayed there
 abbrev pub outer_by : Policy → Addr → Option ℕ → Option Addr
 outer_by policy addr None = None
 outer_by policy addr (Some ip) = if relays policy (at_ip ip addr) then Some (at_ip ip addr) else None
@@ -46,7 +46,7 @@ or_same addr (Some outer) = outer
 abbrev pub renamed : Renaming → Addr → Addr
 renamed renaming addr = or_same addr (outer_of renaming addr)
 
--- a public address with a port that is relayed from
+-- a public address with a relayed port
 abbrev pub is_outside : Renaming → Addr → Bool
 is_outside renaming addr = is_public renaming addr.ip && relays renaming.policy addr
 
@@ -54,7 +54,7 @@ is_outside renaming addr = is_public renaming addr.ip && relays renaming.policy 
 abbrev pub is_service : Policy → Addr → Bool
 is_service policy addr = listens policy addr || relays policy addr
 
--- of a datagram with no inner address at a relayed port: the first of its ends that is outside
+-- for a datagram with no private address at a relayed port: the first of its ends that is outside
 abbrev pub outside_of : Renaming → Addr → Addr → Option Untranslatable
 outside_of renaming from to =
     if is_outside renaming from then Some (why.Outside from)
@@ -76,19 +76,20 @@ abbrev pub cut_of : Renaming → Option (ℕ × ℕ) → Option Untranslatable
 cut_of renaming None = Some why.Cut
 cut_of renaming (Some ips) = if is_inner renaming ips.0 || is_inner renaming ips.1 then Some why.Cut else None
 
--- why a frame that holds this is refused
+-- why a frame with this content is refused
 abbrev pub fault_of : Renaming → Datagram → Option Untranslatable
 fault_of renaming (seen.Udp from to payload) = left_out renaming from to
 fault_of renaming seen.Other = None
 fault_of renaming (seen.Fragment from to) = fragment_of renaming from to
 fault_of renaming (seen.Cut ips) = cut_of renaming ips
 
--- what a block is refused for, unless memory ran out
+-- why a block is refused, unless memory ran out
 abbrev pub Refuses : TranslateFault → Option Untranslatable → Type 0
 Refuses (faults.Capture fault) found = fault ≡ Memory
 Refuses (faults.Datagram fault) found = found ≡ Some fault
 
--- a policy with no range of the public address, with one of the inner address, or with a listen address inside the range
+-- a policy with no range of the public address, with one of the private address, or with a listen
+-- address inside the range
 abbrev pub has_range : Policy → ℕ → Bool
 has_range policy ip = list_any (λ range. range.ip == ip) policy.relay
 
@@ -105,11 +106,11 @@ misfit_of policy t =
     else if has_range policy t.inner then Some (setup.InnerRange t.inner)
     else first_covered t (option_map (λ (addr : Addr). addr.port) (find (is_covered policy t) policy.listen))
 
--- an earlier translation has one of the addresses in the same place
+-- an earlier translation has one of the addresses on the same side
 abbrev pub is_taken : List Translation → Translation → Bool
 is_taken earlier t = list_any (λ (e : Translation). (e.inner == t.inner) || (e.public == t.public)) earlier
 
--- what a translation more is refused for
+-- why another translation is refused
 abbrev pub Misfits : RenamingFault → Renaming → Translation → Type 0
 Misfits setup.Memory renaming t = Unit {0}
 Misfits (setup.Twice twice) renaming t = (twice ≡ t) × (is_taken renaming.translations t ≡ true)

@@ -1,4 +1,4 @@
--- What was translated, by counts.
+-- The counts of translations.
 use Rattle.std.specs.Prelude.{ℕ, ◌+◌, min, Bool, true, false, not, Option, Some, None, if◌then◌else◌}
 use Rattle.prep_translate.specs.declared.tally.Tally.{Tally}
 use Rattle.prep_translate.specs.declared.tally.Moved.{Moved}
@@ -7,7 +7,7 @@ use Rattle.prep_translate.specs.declared.tally.Ends.{Ends}
 abbrev pub no_tally : Tally
 no_tally = record { outgoing = 0; incoming = 0; inside = 0; first = None }
 
--- one more where it is so
+-- plus one if the condition is true
 abbrev pub one_if : ℕ → Bool → ℕ
 one_if count true = min (count + 1) 18446744073709551615
 one_if count false = count

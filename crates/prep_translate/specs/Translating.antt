@@ -16,11 +16,11 @@ use Rattle.prep_translate.specs.declared.fault.Untranslatable.{Untranslatable}
 use Rattle.prep_translate.specs.Frames.{moved_in, written_of, fault_in}
 use Rattle.prep_translate.specs.Tallied.{no_tally, tallied}
 
--- what is written of blocks: each is translated for itself, in their order
+-- the output for blocks: each is translated separately, in order
 abbrev pub translated : Renaming → List Block → List ℕ
 translated renaming blocks = concat (map (written_of renaming) blocks)
 
--- what was translated of them
+-- the counts of their translations
 abbrev pub tally_of : Renaming → List Block → Tally
 tally_of renaming blocks = fold (λ (tally : Tally) (b : Block). tallied tally (moved_in renaming b)) no_tally blocks
 
@@ -28,13 +28,13 @@ tally_of renaming blocks = fold (λ (tally : Tally) (b : Block). tallied tally (
 abbrev pub AreFit : Renaming → List Block → Type 0
 AreFit renaming blocks = All (λ (b : Block). fault_in renaming b ≡ None) blocks
 
--- behind this text of a capture, which has these whole blocks
+-- after this text of a capture, which has these complete blocks
 pub record IsTranslating (renaming : Renaming) (translator : Translator) (text : List ℕ) (blocks : List Block) : Type 0 where
   pub splits : StandsFor translator.splitter text blocks
   pub fit : AreFit renaming blocks
   pub tally : translator.tally ≡ tally_of renaming blocks
 
--- the piece was taken up to the rest, and the blocks that are whole now were added translated
+-- the piece was read up to the rest, and the blocks that are complete now were added translated
 pub record GoesOn (renaming : Renaming) (translator : Translator) (text : List ℕ) (blocks : List Block) (piece rest before after : List ℕ) : Type 0 where
   pub taken : List ℕ
   pub more : List Block
@@ -55,13 +55,13 @@ abbrev pub IsRefused : Renaming → TranslateFault → List ℕ → List Block �
 IsRefused renaming (faults.Capture fault) text bs = fault ≢ blocks.Memory → (packets : List Packet) × FirstFault text packets fault
 IsRefused renaming (faults.Datagram why) text bs = Misfit renaming why text bs
 
--- the capture was a whole one
+-- the capture was whole
 pub record IsDone (renaming : Renaming) (text : List ℕ) (blocks : List Block) (tally : Tally) : Type 0 where
   pub whole : IsWhole text blocks
   pub fit : AreFit renaming blocks
   pub tally_is : tally ≡ tally_of renaming blocks
 
--- it ended too early
+-- the text ended too early
 abbrev pub IsUndone : TranslateFault → List ℕ → List Block → Type 0
 IsUndone (faults.Capture blocks.Torn) text bs = text ≢ bytes_of bs
 IsUndone (faults.Capture blocks.NoSection) text bs = text ≡ []

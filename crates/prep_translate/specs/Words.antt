@@ -1,4 +1,4 @@
--- A translation in a word: two addresses, parted by a slash.
+-- A translation as text: two addresses, separated by a slash.
 use Rattle.std.specs.Prelude.{ℕ, List, Result, Ok}
 use Rattle.audit_text.specs.declared.token.TokenFault.{TokenFault}
 use Rattle.audit_text.specs.Token.{◌>>=◌, halves_of, both_of}

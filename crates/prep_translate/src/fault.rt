@@ -11,18 +11,18 @@ use audit_pcapng::CaptureFault;
 use std::alloc::{AllocError, AllocFailed};
 use std::fmt;
 
-/// What is wrong with translations, by the policy on their outer side.
+/// Why translations don't fit the policy on their outer side.
 #[derive(Clone, Copy, Debug, PartialEq, Eq)]
 pub enum RenamingFault {
-    /// An address of it is named twice.
+    /// One of its addresses is named twice.
     Twice(Translation),
     /// The policy has no relay range of a public address.
     NoRange(u32),
-    /// It has a relay range of an inner address.
+    /// It has a relay range of a private address.
     InnerRange(u32),
-    /// A listen address has an inner address and a port of the public one's range.
+    /// A listen address has a private address and a port of the public one's range.
     ListenInside(Addr),
-    /// There was no memory.
+    /// Out of memory.
     Memory,
 }
 
@@ -34,7 +34,7 @@ impl<T: Drop> From<AllocFailed<T>> for RenamingFault {
     }
 }
 
-/// What standard error tells of it.
+/// The text for standard error.
 impl fmt::Display for RenamingFault {
     fn fmt<W: fmt::Write>(&self, f: &mut fmt::Formatter<W>) -> fmt::Result {
         match self {
@@ -57,14 +57,14 @@ impl fmt::Display for RenamingFault {
     }
 }
 
-/// What is wrong with a datagram.
+/// Why a datagram can't be translated.
 #[derive(Clone, Copy, Debug, PartialEq, Eq)]
 pub enum Untranslatable {
-    /// A fragment with an inner address tells no port.
+    /// A fragment with a private address has no port.
     Fragment,
-    /// Of a datagram that may have an inner address too little was captured.
+    /// A truncated datagram may have a private address.
     Cut,
-    /// A public address at a port that is relayed from, where nothing of the datagram is translated.
+    /// A public address at a relayed port, in a datagram of which nothing is translated.
     Outside(Addr),
 }
 
@@ -101,14 +101,14 @@ impl<T: Drop> From<AllocFailed<T>> for TranslateFault {
     }
 }
 
-/// A capture is refused, with its number.
+/// A refused capture, by its number.
 #[derive(Clone, Copy, Debug, PartialEq, Eq)]
 pub struct Refused {
     pub capture: u32,
     pub fault: TranslateFault,
 }
 
-/// What standard error tells of it.
+/// The text for standard error.
 impl fmt::Display for Refused {
     fn fmt<W: fmt::Write>(&self, f: &mut fmt::Formatter<W>) -> fmt::Result {
         let number = self.capture;

@@ -1,4 +1,4 @@
-//! What it means that a block is translated. It does nothing when it runs.
+//! Laws about the translation of a block. They do nothing at run time.
 
 ghost use Rattle.std.specs.Prelude.{◌≡◌, ◌<◌, ◌^◌, ℕ, List, Some};
 ghost use Rattle.audit_model.specs.declared.address.Addr.{Addr};
@@ -10,8 +10,8 @@ ghost use Rattle.prep_translate.specs.declared.renaming.Renaming.{Renaming};
 ghost use Rattle.prep_translate.specs.Renaming.{renamed};
 ghost use Rattle.prep_translate.specs.Frames.{written_of, AreBytes, IsNoDatagram, IsRenamed};
 
-/// Of a block with a UDP datagram the four bytes of each address are renamed, and nothing else. What is written holds the same payload,
-/// between the renamed addresses.
+/// In a block with a UDP datagram, the four bytes of each address are translated, and nothing else
+/// changes. The output contains the same payload, between the translated addresses.
 pub fn renames_alone()
     ensures { (renaming : Renaming) (block : Block) (head : PacketHead) (from to : Addr) (payload : List ℕ) → block.packet ≡ Some head
         → AreBytes (frame_in block head) → HoldsUdp (frame_in block head) from to payload
@@ -19,7 +19,7 @@ pub fn renames_alone()
         → IsRenamed renaming head block.bytes (written_of renaming block) from to payload }
 {}
 
-/// Each other block is written as it is, byte for byte.
+/// Each other block is written unchanged, byte for byte.
 pub fn keeps_others()
     ensures { (renaming : Renaming) (block : Block) → ((head : PacketHead) → AreBytes (frame_in block head)) → IsNoDatagram block
         → written_of renaming block ≡ block.bytes }

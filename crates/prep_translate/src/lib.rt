@@ -1,4 +1,4 @@
-//! Captures from the inner side of a one-to-one address translation, as they would be on its outer side.
+//! Translates captures from the inner side of a one-to-one address translation to its outer side.
 #![tactic(auto)]
 
 mod fault;

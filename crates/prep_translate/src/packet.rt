@@ -1,4 +1,4 @@
-//! Translating a block.
+//! The translation of a block.
 
 ghost use Rattle.std.specs.Prelude.{◌≡◌, ◌++◌, None, OnOk, IfOk, IfErr};
 ghost use Rattle.audit_packets.specs.View.{view};
@@ -13,13 +13,13 @@ use prep_blocks::Block;
 use prep_frames::{BEFORE_PACKET, content_place, frame_of, seen_of};
 use std::alloc::AllocError;
 
-/// So many bytes of an IPv4 header stand before its two addresses.
+/// The offset of the two addresses in an IPv4 header.
 const BEFORE_ADDRESSES: usize = 12;
 
-/// Of so many bytes are the two addresses.
+/// The size of the two addresses, in bytes.
 const ADDRESSES: usize = 8;
 
-/// Adds the bytes, with these two addresses at this place in the place of the eight bytes there.
+/// Adds the bytes, with the eight bytes at this offset replaced by these two addresses.
 #[tactic(auto, using(std::proofs::lemmas::List::drop_min, std::proofs::lemmas::List::take_min))]
 fn put_with_ips(
     bytes: &[u8],
@@ -39,7 +39,7 @@ fn put_with_ips(
     Ok(())
 }
 
-/// What becomes of a datagram between these ends, where an end of it is translated.
+/// The translation of a datagram between these ends, if an end of it is translated.
 fn moved(renaming: &Renaming, ends: Ends) -> Option<Moved>
     ensures { result ≡ moved_by renaming.now ends.from ends.to }
 {
@@ -58,7 +58,7 @@ fn moved(renaming: &Renaming, ends: Ends) -> Option<Moved>
     })
 }
 
-/// Why a datagram of which nothing is translated is refused.
+/// Why a datagram is refused of which nothing is translated.
 fn outside(renaming: &Renaming, ends: Ends) -> Option<Untranslatable>
     ensures { result ≡ outside_of renaming.now ends.from ends.to }
 {
@@ -81,7 +81,7 @@ fn fragment(renaming: &Renaming, from: u32, to: u32) -> Option<Untranslatable>
     None
 }
 
-/// Why a datagram is refused of which too little was captured.
+/// Why a truncated datagram is refused.
 fn cut(renaming: &Renaming, ips: Option<(u32, u32)>) -> Option<Untranslatable>
     ensures { result ≡ cut_of renaming.now ips }
 {
@@ -94,7 +94,7 @@ fn cut(renaming: &Renaming, ips: Option<(u32, u32)>) -> Option<Untranslatable>
     None
 }
 
-/// Adds a block as it is, where it may stay so.
+/// Adds a block unchanged, if it may stay so.
 fn keep(
     block: &Block,
     fault: Option<Untranslatable>,
@@ -134,7 +134,7 @@ fn translate_datagram(
     Ok(Some(moved))
 }
 
-/// Adds the block of a frame that holds this.
+/// Adds the block of a frame with this content.
 fn translate_seen(
     renaming: &Renaming,
     block: &Block,
@@ -157,9 +157,10 @@ fn translate_seen(
     }
 }
 
-/// Adds the block as it is on the outer side, and tells what was translated of it. The addresses of a UDP datagram over IPv4 are renamed,
-/// four bytes each; all else is kept, checksums too. What can't be translated is refused. The cost is the size of the block, and of the
-/// renaming.
+/// Adds the block as it is on the outer side, and returns the translated ends. The addresses of a
+/// UDP datagram over IPv4 are translated, four bytes each; all other bytes are kept, including
+/// checksums. A datagram that can't be translated is refused. The cost is the size of the block,
+/// and of the translations and the policy.
 pub fn translate(
     renaming: &Renaming,
     block: &Block,

@@ -1,4 +1,4 @@
-//! Addresses as they are on the outer side of translations.
+//! Addresses on the outer side of translations.
 
 ghost use Rattle.std.specs.Prelude.{◌≡◌, ◌==◌, ◌∷◌, ◌++◌, [], false, true, Some, OnOk, OnErr, IfErr, option_map};
 ghost use Rattle.std.specs.List.{find, list_any};
@@ -29,8 +29,8 @@ impl Renaming {
         }
     }
 
-    /// Adds a translation, or tells why it is none by the policy and those before it. Then nothing is added. It goes over the
-    /// translations and the policy once.
+    /// Adds a translation, or returns why it doesn't fit the policy and the earlier ones. Then
+    /// nothing is added. It visits the translations and the policy once.
     pub fn add(&mut self, translation: Translation) -> Result<(), RenamingFault>
         ensures policy { self.new.policy ≡ self.old.policy }
         ensures added { OnOk result (self.new.translations ≡ self.old.translations ++ translation ∷ []) }
@@ -49,7 +49,7 @@ impl Renaming {
         Ok(())
     }
 
-    /// Whether one of the two addresses is in an earlier translation, in the same place.
+    /// Whether one of the two addresses is in an earlier translation, on the same side.
     fn is_taken(&self, translation: Translation) -> bool
         ensures { result ≡ is_taken self.now.translations translation }
     {
@@ -58,7 +58,7 @@ impl Renaming {
         })
     }
 
-    /// Why the policy is not one of the translation's outer side.
+    /// Why the policy isn't one of the translation's outer side.
     fn misfit(&self, translation: Translation) -> Option<RenamingFault>
         ensures { result ≡ misfit_of self.now.policy translation }
     {
@@ -104,7 +104,7 @@ impl Renaming {
         }
     }
 
-    /// Whether an address is inner, at a port that is relayed from outside.
+    /// Whether an address is private, at a relayed port of its public address.
     fn is_covered(&self, translation: Translation, addr: Addr) -> bool
         ensures { result ≡ is_covered self.now.policy translation addr }
     {
@@ -115,7 +115,7 @@ impl Renaming {
         addr.ip == translation.inner && self.policy.relays(outer)
     }
 
-    /// The public address of the translation whose inner address this is.
+    /// The public address of the translation with this private address.
     fn public_of(&self, ip: u32) -> Option<u32>
         ensures { result ≡ public_of self.now ip }
     {
@@ -130,7 +130,7 @@ impl Renaming {
         }
     }
 
-    /// Whether this is an inner address.
+    /// Whether this is a private address.
     pub fn is_inner(&self, ip: u32) -> bool
         ensures { result ≡ is_inner self.now ip }
     {
@@ -140,7 +140,7 @@ impl Renaming {
             .any(|translation| translation.inner == ip)
     }
 
-    /// Whether this is a public address at a port that is relayed from.
+    /// Whether this is a public address at a relayed port.
     pub fn is_outside(&self, addr: Addr) -> bool
         ensures { result ≡ is_outside self.now addr }
     {
@@ -156,8 +156,8 @@ impl Renaming {
             .any(|translation| translation.public == ip)
     }
 
-    /// As which address this one is seen outside, where it is translated: an inner address at a port that is in a relay range of the
-    /// public address.
+    /// The public address and the same port, if this address is translated: a private address at a
+    /// port in a relay range of the public address.
     pub fn outer_of(&self, addr: Addr) -> Option<Addr>
         ensures { result ≡ outer_of self.now addr }
     {

@@ -1,43 +1,43 @@
-//! What was translated of a capture.
+//! The counts of a capture's translations.
 
 ghost use Rattle.std.specs.Prelude.{◌≡◌};
 ghost use Rattle.prep_translate.specs.Tallied.{no_tally, tallied, one_if, first_or};
 
 use audit_model::Addr;
 
-/// A datagram of which an address was translated.
+/// A datagram with a translated address.
 #[derive(Clone, Copy, Debug, PartialEq, Eq)]
 pub struct Moved {
-    /// Whether its source was; else its destination alone.
+    /// Whether its source was translated; else only its destination.
     pub is_out: bool,
-    /// Whether both ends are then endpoints of the service.
+    /// Whether both ends are endpoints of the service after the translation.
     pub is_inside: bool,
-    /// Its ends as they are then.
+    /// Its ends after the translation.
     pub ends: Ends,
 }
 
-/// From where to where a datagram goes.
+/// The source and the destination of a datagram.
 #[derive(Clone, Copy, Debug, PartialEq, Eq)]
 pub struct Ends {
     pub from: Addr,
     pub to: Addr,
 }
 
-/// How many datagrams of a capture were translated.
+/// The numbers of a capture's translated datagrams.
 #[derive(Clone, Copy, Debug, PartialEq, Eq)]
 pub struct Tally {
-    /// Those whose source was.
+    /// Those with a translated source.
     pub outgoing: u64,
-    /// Those whose destination alone was.
+    /// Those with only a translated destination.
     pub incoming: u64,
-    /// Those of both with both ends in the service.
+    /// Those of both kinds with both ends in the service.
     pub inside: u64,
     /// The first of these.
     pub first: Option<Ends>,
 }
 
 impl Tally {
-    /// Of no datagram.
+    /// No datagrams.
     pub fn none() -> Self
         ensures { result ≡ no_tally }
     {
@@ -49,7 +49,7 @@ impl Tally {
         }
     }
 
-    /// With what one block more gave; no count goes over 64 bits.
+    /// With one more block; the counts saturate at 64 bits.
     pub fn with(self, moved: Option<Moved>) -> Self
         ensures { result ≡ tallied self moved }
     {
@@ -65,7 +65,7 @@ impl Tally {
     }
 }
 
-/// A count, with one more where it is so.
+/// A count, plus one if the condition is true.
 fn with_one_if(count: u64, is_so: bool) -> u64
     ensures { result ≡ one_if count is_so }
 {

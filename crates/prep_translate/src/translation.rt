@@ -1,4 +1,4 @@
-//! Two addresses, one for the other.
+//! A pair of addresses, of which one replaces the other.
 
 ghost use Rattle.std.specs.Prelude.{◌≡◌};
 ghost use Rattle.prep_translate.specs.Words.{pair_of};
@@ -7,17 +7,17 @@ use audit_model::read_ip;
 use audit_text::{TokenFault, both, halves};
 use std::fmt;
 
-/// A one-to-one translation of an IPv4 address, as `external-ip` of coturn has it.
+/// A one-to-one translation of an IPv4 address, like `external-ip` of coturn.
 #[derive(Clone, Copy, Debug, PartialEq, Eq)]
 pub struct Translation {
     /// The address that clients and peers see.
     pub public: u32,
-    /// The address on the wire of the server.
+    /// The private address on the wire of the server.
     pub inner: u32,
 }
 
 impl Translation {
-    /// The translation that a word spells, as `198.18.0.1/192.0.2.1`. It takes no memory.
+    /// Parses a translation, as `198.18.0.1/192.0.2.1`. It takes no memory.
     #[tactic(auto, unfolding(crate::specs::Words::pair_of))]
     pub fn read(word: &[u8]) -> Result<Translation, TokenFault>
         ensures { result ≡ pair_of word.now }

@@ -1,4 +1,4 @@
-//! Translating a capture that comes in pieces.
+//! Translates a capture that comes in pieces.
 
 ghost use Rattle.std.specs.Prelude.{◌≡◌, ◌++◌, [], ℕ, List, OnOk, IfOk, IfErr};
 ghost use Rattle.prep_blocks.specs.declared.block.Block.{Block};
@@ -10,8 +10,8 @@ use crate::tally::Tally;
 use prep_blocks::BlockSplitter;
 use std::alloc::Global;
 
-/// Translates one capture that comes in pieces, cut anywhere. It keeps the one block that is not yet whole. After a fault it is thrown
-/// away.
+/// Translates one capture that comes in pieces, cut anywhere. It keeps the one block that is not
+/// yet complete. After a fault it can't be used any more.
 #[derive(Debug, Drop)]
 pub struct Translator {
     splitter: BlockSplitter,
@@ -32,7 +32,7 @@ impl Translator {
         }
     }
 
-    /// Takes the next piece of the capture, and adds the blocks that are whole now, translated.
+    /// Feeds the next piece of the capture, and adds the blocks that are complete now, translated.
     pub fn feed(
         &mut self,
         renaming: &Renaming,
@@ -56,7 +56,7 @@ impl Translator {
         Ok(())
     }
 
-    /// Ends the capture, and tells what was translated of it.
+    /// Ends the capture, and returns its counts.
     pub fn finish(&self) -> Result<Tally, TranslateFault>
         ensures ok { (renaming : Renaming) (text : List ℕ) (blocks : List Block) → IsTranslating renaming self.now text blocks →
             IfOk result (λ tally. IsDone renaming text blocks tally) }

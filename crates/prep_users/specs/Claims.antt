@@ -1,4 +1,4 @@
--- Requests that name a user, and the passwords that secrets make of names.
+-- Requests that name a user, and the passwords derived from names and secrets.
 use Rattle.std.specs.Prelude.{◌≡◌, ℕ, List, Some, Any}
 use Rattle.audit_stun.specs.declared.class.Class.TheVariants.{Request}
 use Rattle.audit_stun.specs.declared.numbers.attribute.TheConstants.{USERNAME, REALM}
@@ -21,21 +21,22 @@ pub record Claims (payload user realm : List ℕ) : Type 0 where
   pub names_user : first_of USERNAME (parts_of payload).attributes ≡ Some user
   pub names_realm : first_of REALM (parts_of payload).attributes ≡ Some realm
 
--- the base64 of the HMAC-SHA1 of the name, under the secret
+-- the base64 of the HMAC-SHA1 of the name, with the secret as key
 abbrev pub password_by : List ℕ → List ℕ → List ℕ
 password_by secret user = encode_of standard (hmac_of secret user)
 
--- the request is signed under the key that it chooses of this password's
+-- the request is signed with the key that it chooses of this password's keys
 pub record IsSignedBy (request user realm password : List ℕ) : Type 0 where
   pub key : List ℕ
   pub chosen : chosen_key (parts_of request).attributes (record { md5 = key_of user realm password; sha256 = key256_of user realm password }) ≡ Some key
   pub signed : IsSigned request key
 
--- one of the secrets makes the password of the name
+-- the password is derived from the name and one of the secrets
 abbrev pub IsMade : List Secret → List ℕ → List ℕ → Type 0
 IsMade secrets user password = Any (λ (s : Secret). password ≡ password_by s.bytes user) secrets
 
--- The request proves the user: it names the user and the realm, and is signed by a password that one of the secrets makes of the name.
+-- The request names the user and the realm, and is signed with a password that is derived from the
+-- name and one of the secrets.
 pub record Proves (secrets : List Secret) (account : Account) (payload : List ℕ) : Type 0 where
   pub claims : Claims payload account.user account.realm
   pub made : IsMade secrets account.user account.password

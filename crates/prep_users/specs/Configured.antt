@@ -16,11 +16,11 @@ abbrev pub account_by : List ℕ → Option (List ℕ × List ℕ) → List Acco
 account_by realm None = []
 account_by realm (Some parts) = account_at parts.0 realm parts.1 ∷ []
 
--- the user that a line names, or none
+-- the user of a line, or none
 abbrev pub accounts_of : List ℕ → Row → List Account
 accounts_of realm row = if is_named row then account_by realm (cut_of 58 row.value.now) else []
 
--- what stands before the colon, and after it
+-- the part before the colon, and the part after it
 abbrev pub LacksName : Option (List ℕ × List ℕ) → Type 0
 LacksName None = Unit {0}
 LacksName (Some parts) = parts.0 ≡ []
@@ -33,7 +33,7 @@ abbrev pub IsUnprintable : List ℕ → Option (List ℕ × List ℕ) → Type 0
 IsUnprintable realm None = ⊥
 IsUnprintable realm (Some parts) = (is_field parts.0 && is_field realm && is_password parts.1) ≡ false
 
--- what the line of a user is refused for
+-- why the line of a user is refused
 abbrev pub Refuses : ConfiguredFault → List ℕ → Row → Type 0
 Refuses (faults.NoColon line) realm row = (line ≡ row.line) × (is_named row ≡ true) × LacksName (cut_of 58 row.value.now)
 Refuses (faults.Hashed line name) realm row = (line ≡ row.line) × (is_named row ≡ true) × IsHashed name (cut_of 58 row.value.now)

@@ -1,4 +1,4 @@
--- Users that requests prove.
+-- Users whose requests are signed.
 use Rattle.std.specs.Prelude.{◌≡◌, ℕ, List, [], ◌∷◌, ◌++◌, All, Option, Some, None}
 use Rattle.std.specs.List.{flat_map}
 use Rattle.audit_packets.specs.Reading.{Datagram}
@@ -12,7 +12,7 @@ use Rattle.prep_users.specs.declared.account.Account.{Account}
 use Rattle.prep_users.specs.declared.claim.Secret.{Secret}
 use Rattle.prep_users.specs.Claims.{Proves}
 
--- one of the payloads proves the user
+-- one of the payloads is the user's signed request
 pub record IsProved (secrets : List Secret) (payloads : List (List ℕ)) (account : Account) : Type 0 where
   pub before : List (List ℕ)
   pub payload : List ℕ
@@ -20,7 +20,7 @@ pub record IsProved (secrets : List Secret) (payloads : List (List ℕ)) (accoun
   pub among : payloads ≡ before ++ payload ∷ after
   pub proves : Proves secrets account payload
 
--- each of the users is proved by one of the payloads
+-- each of the users has a signed request among the payloads
 abbrev pub AreProved : List Secret → List Account → List (List ℕ) → Type 0
 AreProved secrets accounts payloads = All (IsProved secrets payloads) accounts
 
@@ -39,13 +39,13 @@ payload_at block (Some head) = payload_of (seen_in (frame_in block head) head)
 abbrev pub payloads_in : List Block → List (List ℕ)
 payloads_in blocks = flat_map (λ (b : Block). payload_at b b.packet) blocks
 
--- Behind this text of a capture, which has these whole blocks, and behind other payloads: each of the users is proved by one of the
--- other payloads or one of the capture's.
+-- After this text of a capture, which has these complete blocks, and after other payloads: each of
+-- the users has a signed request among the other payloads or those of the capture.
 pub record IsScanning (splitter : BlockSplitter) (secrets : List Secret) (accounts : List Account) (text : List ℕ) (blocks : List Block) (earlier : List (List ℕ)) : Type 0 where
   pub splits : StandsFor splitter text blocks
   pub proved : AreProved secrets accounts (earlier ++ payloads_in blocks)
 
--- the piece was taken up to the rest
+-- the piece was read up to the rest
 pub record ScansOn (splitter : BlockSplitter) (secrets : List Secret) (accounts : List Account) (text : List ℕ) (blocks : List Block) (earlier : List (List ℕ)) (piece rest : List ℕ) : Type 0 where
   pub taken : List ℕ
   pub more : List Block

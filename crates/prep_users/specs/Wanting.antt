@@ -1,4 +1,4 @@
--- Which users a configuration wants.
+-- The users of a configuration.
 use Rattle.std.specs.Prelude.{◌≡◌, ℕ, List, [], ◌∷◌, Option, Some, None, All, Any, codes, find, if◌then◌else◌}
 use Rattle.std.specs.Str.{bytes_eq}
 use Rattle.std.specs.List.{flat_map}
@@ -32,7 +32,7 @@ abbrev pub last_with : List ℕ → Option (List ℕ) → List Row → Option (L
 last_with name value [] = value
 last_with name value (row ∷ rows) = last_with name (if bytes_eq row.name.now name then Some row.value.now else value) rows
 
--- the line of a switch that is set last, where that switches it on
+-- the line of a switch that is set last, if that switches it on
 abbrev pub switched_with : List ℕ → Option ℕ → List Row → Option ℕ
 switched_with name on [] = on
 switched_with name on (row ∷ rows) = switched_with name (if bytes_eq row.name.now name then (if is_on row.value.now then Some row.line else None) else on) rows
@@ -40,7 +40,7 @@ switched_with name on (row ∷ rows) = switched_with name (if bytes_eq row.name.
 abbrev pub switched_on : List ℕ → List Row → Option ℕ
 switched_on name rows = switched_with name None rows
 
--- the realm that is said, or else the configuration's
+-- the realm of the option, or else of the configuration
 abbrev pub realm_for : Option (List ℕ) → List Row → Option (List ℕ)
 realm_for None rows = last_with (codes "realm") None rows
 realm_for (Some realm) rows = Some realm
@@ -48,7 +48,7 @@ realm_for (Some realm) rows = Some realm
 abbrev pub secrets_at : Row → List Secret
 secrets_at row = if bytes_eq row.name.now (codes "static-auth-secret") then record { bytes = row.value.now } ∷ [] else []
 
--- the secrets that lines say
+-- the secrets of lines
 abbrev pub secrets_of : List Row → List Secret
 secrets_of rows = flat_map secrets_at rows
 
@@ -67,7 +67,7 @@ AreUsersHere rows = (switched_on (codes "use-auth-secret") rows ≡ None) × All
 abbrev pub AreJudged : List Row → Type 0
 AreJudged rows = All (λ setting. switched_on (no_users_name setting) rows ≡ None) (NoAuth ∷ Oauth ∷ [])
 
--- without a secret the users that the lines name, in their order; with secrets those of the realm
+-- without a secret the users that the lines name, in order; with secrets those of the realm
 abbrev pub IsOf : List Row → List ℕ → Wanted → Type 0
 IsOf rows realm (Named accounts) = (secrets_of rows ≡ []) × AreUsersHere rows × (accounts.items ≡ flat_map (accounts_of realm) rows)
 IsOf rows realm (Signed secrets of) = (secrets.items ≡ secrets_of rows) × (of ≡ realm)
@@ -75,7 +75,7 @@ IsOf rows realm (Signed secrets of) = (secrets.items ≡ secrets_of rows) × (of
 abbrev pub IsWanted : List Row → Option (List ℕ) → Wanted → Type 0
 IsWanted rows said wanted = AreJudged rows × (realm : List ℕ) × (realm_for said rows ≡ Some realm) × IsOf rows realm wanted
 
--- why the lines want no users in a realm
+-- why the lines have no users in a realm
 abbrev pub RefusesIn : List Row → List ℕ → UsersFault → Type 0
 RefusesIn rows realm (faults.Database line database) = (secrets_of rows ≡ []) × Any (IsOfDatabase line database) rows
 RefusesIn rows realm (faults.SecretInDatabase line) = (secrets_of rows ≡ []) × (switched_on (codes "use-auth-secret") rows ≡ Some line)

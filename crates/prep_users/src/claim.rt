@@ -10,7 +10,7 @@ use audit_stun::numbers::attribute::{REALM, USERNAME};
 use audit_stun::{Class, Message, message};
 use std::alloc::{AllocError, Global};
 
-/// A secret that the server shares with those who name its users.
+/// A secret that the server shares with the service that makes its users' names.
 #[derive(Debug, Drop)]
 pub struct Secret {
     pub bytes: Listed<u8>,
@@ -27,7 +27,7 @@ pub struct Claim<'a> {
 impl<'a> Claim<'a> {
     ghost use Rattle.prep_users.specs.Claims.{Claims, IsSignedBy, Proves};
 
-    /// The request that the payload is, where it names a user and a realm. It takes no memory.
+    /// The request in the payload, if it names a user and a realm. It takes no memory.
     pub fn of(payload: &'a [u8]) -> Option<Claim<'a>>
         ensures { IfSome result (λ claim. (claim.request ≡ payload.now) × Claims payload.now claim.user.now claim.realm.now) }
     {
@@ -44,7 +44,7 @@ impl<'a> Claim<'a> {
         })
     }
 
-    /// Whether the request is signed by this password of its user. It takes no memory.
+    /// Whether the request is signed with this password of its user. It takes no memory.
     pub fn is_signed_by(&self, password: &[u8]) -> bool
         ensures { IsTrue result → IsSignedBy self.now.request self.now.user.now self.now.realm.now password.now }
     {
@@ -58,7 +58,8 @@ impl<'a> Claim<'a> {
         }
     }
 
-    /// The request's user, with the first of the passwords that the secrets make of its name by which the request is signed.
+    /// The request's user with its password: the first of the passwords derived from the secrets
+    /// and the user's name with which the request is signed.
     pub fn proved(&self, alloc: Global, secrets: &[Secret]) -> Result<Option<Account>, AllocError>
         ensures { Claims self.now.request self.now.user.now self.now.realm.now →
             IfOk result (λ found. IfSome found (λ account. Proves secrets.now account self.now.request)) }

@@ -13,10 +13,10 @@ use audit_text::cut;
 use prep_coturn::Row;
 use std::alloc::Global;
 
-/// How the value of a user begins that has a key in place of a password.
+/// The start of a user's value that has a key instead of a password.
 const HASHED: &[u8] = b"0x";
 
-/// The users that the lines name, in this realm, in their order. The cost is the size of the lines.
+/// The users of the lines, in this realm, in order. The cost is the size of the lines.
 pub fn accounts_in(
     alloc: Global,
     rows: &[Row<'_>],
@@ -32,7 +32,7 @@ pub fn accounts_in(
     Ok(accounts)
 }
 
-/// Adds the user that a line names, where it names one.
+/// Adds the user of a line, if it names one.
 fn push_user(
     alloc: Global,
     accounts: &mut Vec<Account>,

@@ -10,16 +10,16 @@ use audit_model::Listed;
 use std::alloc::{AllocError, AllocFailed};
 use std::fmt;
 
-/// What is wrong with a line that names a user.
+/// The fault of a line that names a user.
 #[derive(Debug, Drop)]
 pub enum ConfiguredFault {
     /// It has no name before a colon.
     NoColon { line: u64 },
-    /// It has a key in place of a password; the name, which is printable.
+    /// It has a key instead of a password; the name, which is printable.
     Hashed { line: u64, name: Listed<u8> },
     /// A credentials text can't have the name, the realm or the password.
     NotPrintable { line: u64 },
-    /// There was no memory.
+    /// Out of memory.
     Memory,
 }
 
@@ -39,10 +39,10 @@ impl<T: Drop> From<AllocFailed<T>> for ConfiguredFault {
     }
 }
 
-/// Why a configuration tells no users.
+/// Why a configuration has no users.
 #[derive(Debug, Drop)]
 pub enum UsersFault {
-    /// With this setting there are none to be judged by.
+    /// With this setting there are no users to judge by.
     NoUsers { line: u64, setting: NoUsers },
     /// No realm.
     NoRealm,
@@ -50,7 +50,7 @@ pub enum UsersFault {
     Database { line: u64, setting: Database },
     /// The secret is in a database.
     SecretInDatabase { line: u64 },
-    /// The line of a user.
+    /// The fault of a user's line.
     Configured(ConfiguredFault),
     /// No user at all.
     Nobody,
@@ -80,7 +80,7 @@ impl<T: Drop> From<AllocFailed<T>> for UsersFault {
     }
 }
 
-/// What standard error tells of it.
+/// The text for standard error.
 impl fmt::Display for ConfiguredFault {
     fn fmt<W: fmt::Write>(&self, f: &mut fmt::Formatter<W>) -> fmt::Result {
         match self {
@@ -102,7 +102,7 @@ impl fmt::Display for ConfiguredFault {
     }
 }
 
-/// What standard error tells of it.
+/// The text for standard error.
 impl fmt::Display for UsersFault {
     fn fmt<W: fmt::Write>(&self, f: &mut fmt::Formatter<W>) -> fmt::Result {
         match self {

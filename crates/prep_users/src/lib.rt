@@ -1,5 +1,5 @@
-//! The users of a TURN server, as lines of a credentials text: those that coturn's configuration names, or those whose requests are signed
-//! by a password made of a secret.
+//! The users of a TURN server, as lines of a credentials text: those that coturn's configuration
+//! names, or those whose requests are signed with a password derived from a secret.
 #![tactic(auto)]
 
 mod account;

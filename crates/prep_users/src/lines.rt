@@ -10,14 +10,15 @@ use std::alloc::{AllocError, Global};
 /// The most bytes of a field of a line.
 const MAX_FIELD: usize = 508;
 
-/// Whether a credentials text may have these bytes as a user or a realm: 1 to 508 characters, printable ASCII all of them.
+/// Whether these bytes may be a user or a realm in a credentials text: 1 to 508 characters of
+/// printable ASCII.
 pub fn is_field(bytes: &[u8]) -> bool
     ensures { result ≡ is_field bytes.now }
 {
     !bytes.is_empty() && is_password(bytes)
 }
 
-/// Whether it may have them as a password, which may be empty.
+/// Whether they may be a password, which may be empty.
 pub fn is_password(bytes: &[u8]) -> bool
     ensures { result ≡ is_password bytes.now }
 {
@@ -44,7 +45,7 @@ fn push_line(text: &mut Vec<u8>, account: &Account) -> Result<(), AllocError>
     Ok(())
 }
 
-/// The lines of users, in their order.
+/// The lines of users, in order.
 pub fn text_of(alloc: Global, accounts: &[Account]) -> Result<Vec<u8>, AllocError>
     ensures { IfOk result (λ text. text.items ≡ flat_map line_of accounts.now) }
 {

@@ -1,4 +1,4 @@
-//! Passwords that are made of names.
+//! Passwords derived from names.
 
 ghost use Rattle.std.specs.Prelude.{◌≡◌, string_bytes, IfOk};
 ghost use Rattle.prep_users.specs.Claims.{password_by};
@@ -8,7 +8,7 @@ use audit_keys::hmac_sha1;
 use base64::engine::general_purpose::STANDARD;
 use std::alloc::{AllocError, Global};
 
-/// The password that a secret makes of a user's name: the base64 of the HMAC-SHA1 of the name.
+/// The password of a user's name by a secret: the base64 of the HMAC-SHA1 of the name.
 pub fn password_of(alloc: Global, secret: &Secret, user: &[u8]) -> Result<String, AllocError>
     ensures { IfOk result (λ password. string_bytes password ≡ password_by secret.now.bytes user.now) }
 {

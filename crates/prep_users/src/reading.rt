@@ -1,4 +1,4 @@
-//! What a configuration says of users.
+//! The users of a configuration.
 
 ghost use Rattle.std.specs.Prelude.{◌≡◌, ◌++◌, ◌⊎◌, ℕ, [], IfErr, IfOk, OnOk, List, Option, None, Some, map, option_map};
 ghost use Rattle.prep_coturn.specs.declared.rows.Row.{Row};
@@ -16,19 +16,20 @@ use audit_model::Listed;
 use prep_coturn::{Row, rows_of};
 use std::alloc::{AllocError, Global};
 
-/// Which users are wanted.
+/// The users that are wanted.
 #[derive(Debug, Drop)]
 pub enum Wanted {
     /// Those that the configuration names.
     Named(Vec<Account>),
-    /// Those of the realm whose requests are signed by the password that one of the secrets makes of the name.
+    /// Those of the realm whose requests are signed with the password that is derived from the name
+    /// and one of the secrets.
     Signed {
         secrets: Vec<Secret>,
         realm: Listed<u8>,
     },
 }
 
-/// Adds the secret that a line says, where it says one.
+/// Adds the secret of a line, if it has one.
 fn push_secret(alloc: Global, secrets: &mut Vec<Secret>, row: &Row<'_>) -> Result<(), AllocError>
     ensures { OnOk result (secrets.new.items ≡ secrets.old.items ++ secrets_at row.now) }
 {
@@ -39,7 +40,7 @@ fn push_secret(alloc: Global, secrets: &mut Vec<Secret>, row: &Row<'_>) -> Resul
     Ok(())
 }
 
-/// The secrets that a configuration says.
+/// The secrets of a configuration.
 fn secrets_in(alloc: Global, rows: &[Row<'_>]) -> Result<Vec<Secret>, AllocError>
     ensures { IfOk result (λ secrets. secrets.items ≡ secrets_of rows.now) }
 {
@@ -50,7 +51,7 @@ fn secrets_in(alloc: Global, rows: &[Row<'_>]) -> Result<Vec<Secret>, AllocError
     Ok(secrets)
 }
 
-/// Refuses what leaves no users to be judged by.
+/// Refuses settings without users to judge by.
 fn check_users(rows: &[Row<'_>]) -> Result<(), UsersFault>
     ensures judged { OnOk result (AreJudged rows.now) }
     ensures refused { IfErr result (λ fault. (said : Option (List ℕ)) → IsRefused rows.now said fault) }
@@ -63,7 +64,7 @@ fn check_users(rows: &[Row<'_>]) -> Result<(), UsersFault>
     Ok(())
 }
 
-/// The realm that is said, or else the configuration's.
+/// The realm of the option, or else of the configuration.
 fn realm_in<'a>(rows: &[Row<'a>], said: Option<&'a [u8]>) -> Result<&'a [u8], UsersFault>
     ensures found { IfOk result (λ realm. realm_for (option_map (λ said. said.now) said.entry) rows.now ≡ Some realm.now) }
     ensures refused { IfErr result (λ fault. (fault ≡ NoRealm) × (realm_for (option_map (λ said. said.now) said.entry) rows.now ≡ None)) }
@@ -77,7 +78,7 @@ fn realm_in<'a>(rows: &[Row<'a>], said: Option<&'a [u8]>) -> Result<&'a [u8], Us
     }
 }
 
-/// Refuses lines that name users elsewhere.
+/// Refuses lines with users in a database.
 fn check_databases(rows: &[Row<'_>]) -> Result<(), UsersFault>
     ensures here { OnOk result (AreUsersHere rows.now) }
     ensures refused { IfErr result (λ fault. (realm : List ℕ) → secrets_of rows.now ≡ [] → RefusesIn rows.now realm fault) }
@@ -91,7 +92,7 @@ fn check_databases(rows: &[Row<'_>]) -> Result<(), UsersFault>
     Ok(())
 }
 
-/// The users that the lines of a configuration want: those that they name, or those of their secrets.
+/// The users of a configuration's lines: those that they name, or those of their secrets.
 fn wanted_in(alloc: Global, rows: &[Row<'_>], realm: &[u8]) -> Result<Wanted, UsersFault>
     ensures wanted { IfOk result (IsOf rows.now realm.now) }
     ensures refused { IfErr result (RefusesIn rows.now realm.now) }
@@ -109,7 +110,7 @@ fn wanted_in(alloc: Global, rows: &[Row<'_>], realm: &[u8]) -> Result<Wanted, Us
     Ok(Wanted::Named(accounts))
 }
 
-/// The users that a configuration wants, in the realm that is said or else in the configuration's.
+/// The users of a configuration, in the realm of the option or else of the configuration.
 pub fn wanted_of(alloc: Global, text: &[u8], realm: Option<&[u8]>) -> Result<Wanted, UsersFault>
     ensures wanted { IfOk result (λ wanted. (rows : List Row) × (map now_of rows ≡ settings_of text.now) × IsWanted rows (option_map (λ said. said.now) realm.entry) wanted) }
     ensures refused { IfErr result (λ fault. (fault ≡ Configured Memory) ⊎ ((rows : List Row) × (map now_of rows ≡ settings_of text.now) × IsRefused rows (option_map (λ said. said.now) realm.entry) fault)) }

@@ -1,4 +1,4 @@
-//! Users that requests prove.
+//! Users whose requests are signed.
 
 ghost use Rattle.std.specs.Prelude.{◌≡◌, ◌++◌, ◌∷◌, [], ℕ, List, OnOk, IfOk, IfSome};
 
@@ -9,11 +9,12 @@ use crate::standings::Standings;
 use audit_model::Listed;
 use std::alloc::{AllocError, Global};
 
-/// The users whose requests are signed by passwords that secrets make of their names, each once.
+/// The users whose requests are signed with passwords derived from their names and the secrets,
+/// each once.
 #[derive(Drop)]
 pub struct Roll {
     secrets: Listed<Secret>,
-    /// The realm of the users; none where all are wanted.
+    /// The realm of the users; `None` if the users of all realms are wanted.
     realm: Option<Listed<u8>>,
     accounts: Listed<Account>,
     standings: Standings,
@@ -37,20 +38,20 @@ impl Roll {
         }
     }
 
-    /// The users, in the order in which they were proved.
+    /// The users, in the order of their first signed requests.
     pub fn accounts(&self) -> &[Account]
         ensures { result.now ≡ self.now.accounts }
     {
         self.accounts.as_slice()
     }
 
-    /// A line for each user that is left out. It is for people.
+    /// A line for each user that is excluded. It is for people.
     pub fn notes(&self) -> Result<String, AllocError> {
         self.standings.notes()
     }
 
-    /// Takes the next payload. A user whom it is the first to prove is added. The cost is that of two HMACs for each secret, and n log n in
-    /// the names.
+    /// Reads the next payload, and adds a user whose first signed request it is. The cost is two
+    /// HMACs for each secret, and n log n in the names.
     pub fn take(&mut self, payload: &[u8]) -> Result<(), AllocError>
         ensures secrets { self.new.secrets ≡ self.old.secrets }
         ensures proved { (payloads : List (List ℕ)) → AreProved self.old.secrets self.old.accounts payloads →

@@ -11,7 +11,8 @@ use prep_blocks::{Block, BlockSplitter};
 use prep_frames::{frame_of, seen_of};
 use std::alloc::{AllocError, Global};
 
-/// Reads one capture that comes in pieces, cut anywhere. It keeps the one block that is not yet whole. After a fault it is thrown away.
+/// Reads one capture that comes in pieces, cut anywhere. It keeps the one block that is not yet
+/// complete. After a fault it can't be used any more.
 #[derive(Debug, Drop)]
 pub struct Scan {
     splitter: BlockSplitter,
@@ -33,7 +34,8 @@ impl Scan {
         }
     }
 
-    /// Takes the next piece of the capture, and gives the roll the payloads of the blocks that are whole now.
+    /// Feeds the next piece of the capture, and passes the payloads of the blocks that are complete
+    /// now to the roll.
     pub fn feed(&mut self, roll: &mut Roll, piece: &[u8]) -> Result<(), CaptureFault>
         ensures secrets { roll.new.secrets ≡ roll.old.secrets }
         ensures proved { (text : List ℕ) (blocks : List Block) (earlier : List (List ℕ)) →
@@ -60,7 +62,7 @@ impl Scan {
     }
 }
 
-/// Gives the roll the payload of a block, where it has a UDP datagram.
+/// Passes the payload of a block to the roll, if it has a UDP datagram.
 fn take_block(roll: &mut Roll, block: &Block) -> Result<(), AllocError>
     ensures secrets { roll.new.secrets ≡ roll.old.secrets }
     ensures proved { (payloads : List (List ℕ)) → AreProved roll.old.secrets roll.old.accounts payloads →

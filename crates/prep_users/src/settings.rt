@@ -1,11 +1,11 @@
-//! The settings that say where users are.
+//! The settings about where users are.
 
 ghost use Rattle.std.specs.Prelude.{◌≡◌, All, Any, IfNone, IfSome, None, option_map};
 ghost use Rattle.prep_users.specs.Wanting.{database_name, database_of, last_with, no_users_name, switched_on, IsOfDatabase};
 
 use prep_coturn::Row;
 
-/// A setting with which there are no users to be judged by.
+/// A setting with which there are no users to judge by.
 #[derive(Clone, Copy, Debug, PartialEq, Eq)]
 pub enum NoUsers {
     NoAuth,
@@ -13,7 +13,7 @@ pub enum NoUsers {
 }
 
 impl NoUsers {
-    /// How a configuration writes it.
+    /// Its name in a configuration.
     pub fn name(self) -> &'static str
         ensures { result.now ≡ no_users_name self }
     {
@@ -51,7 +51,7 @@ const DATABASES: [Database; 5] = [
 ];
 
 impl Database {
-    /// How a configuration writes it.
+    /// Its name in a configuration.
     pub fn name(self) -> &'static str
         ensures { result.now ≡ database_name self }
     {
@@ -64,7 +64,7 @@ impl Database {
         }
     }
 
-    /// The setting of a name.
+    /// The setting with a name.
     pub fn of(name: &[u8]) -> Option<Database>
         ensures { result ≡ database_of name.now }
     {
@@ -77,7 +77,7 @@ impl Database {
     }
 }
 
-/// The first line that has users in a database.
+/// The first line with users in a database.
 pub fn first_database(rows: &[Row<'_>]) -> Option<(u64, Database)>
     ensures some { IfSome result (λ found. Any (IsOfDatabase found.0 found.1) rows.now) }
     ensures none { IfNone result (All (λ row. database_of row.name.now ≡ None) rows.now) }
@@ -90,7 +90,7 @@ pub fn first_database(rows: &[Row<'_>]) -> Option<(u64, Database)>
     None
 }
 
-/// The line on which a switch was said last, where that switches it on.
+/// The line on which a switch is set last, if that switches it on.
 pub fn switched_on(rows: &[Row<'_>], name: &[u8]) -> Option<u64>
     ensures { result ≡ switched_on name.now rows.now }
 {

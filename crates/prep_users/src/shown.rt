@@ -2,7 +2,8 @@
 
 use std::fmt;
 
-/// Bytes that come from elsewhere, as characters; those that aren't printable, quotes and backslashes as `\x` and two digits.
+/// External bytes, as characters; those that aren't printable, quotes and backslashes as `\x` and
+/// two digits.
 #[derive(Clone, Copy, Debug)]
 pub struct Shown<'a>(pub &'a [u8]);
 

@@ -1,14 +1,14 @@
-//! What is known of the users that requests name.
+//! The state of the users that requests name.
 
 use crate::shown::Shown;
 use std::alloc::{AllocError, Global};
 use std::collections::BTreeMap;
 use std::fmt::Write;
 
-/// What is known of a user.
+/// The state of a user.
 #[derive(Clone, Copy, Debug, PartialEq, Eq)]
 enum Standing {
-    /// None of so many requests is signed.
+    /// None of this number of requests is signed.
     Unsigned { requests: u64 },
     /// A request is signed.
     Signed,
@@ -16,7 +16,7 @@ enum Standing {
     NotPrintable,
 }
 
-/// What is known of all users that requests name. It is for what is told to people.
+/// The state of all users that requests name. It is for notes to people.
 #[derive(Drop)]
 pub struct Standings {
     /// By realm, and then by user.
@@ -25,7 +25,7 @@ pub struct Standings {
 }
 
 impl Standings {
-    /// Of no user. It takes no memory.
+    /// No users. It takes no memory.
     pub fn new(alloc: Global) -> Self {
         Standings {
             realms: BTreeMap::new(alloc),
@@ -33,7 +33,7 @@ impl Standings {
         }
     }
 
-    /// Whether a request of this user was signed. Where none was, it counts one more.
+    /// Whether a request of this user was signed. If none was, it counts one more.
     pub fn is_settled(&mut self, user: &[u8], realm: &[u8]) -> Result<bool, AllocError> {
         let known = match self.realms.get(realm) {
             Some(users) => users.get(user).copied(),
@@ -53,7 +53,7 @@ impl Standings {
         }
     }
 
-    /// Notes that a request of this user is signed.
+    /// Records that a request of this user is signed.
     pub fn settle(&mut self, user: &[u8], realm: &[u8], can_stand: bool) -> Result<(), AllocError> {
         let standing = if can_stand {
             Standing::Signed
@@ -76,7 +76,7 @@ impl Standings {
         Ok(())
     }
 
-    /// A line for each user that is left out.
+    /// A line for each user that is excluded.
     pub fn notes(&self) -> Result<String, AllocError> {
         let mut notes = String::new(self.alloc);
         for (realm, users) in &self.realms {
@@ -88,7 +88,7 @@ impl Standings {
     }
 }
 
-/// Adds what is told of a user.
+/// Adds the note about a user.
 fn note(
     notes: &mut String,
     user: &[u8],

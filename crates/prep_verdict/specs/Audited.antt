@@ -1,4 +1,4 @@
--- What the audit of captures that were cut says of the captures that they were cut out of.
+-- The meaning of an audit of captures that were cut for the original captures.
 use Rattle.std.specs.Prelude.{◌≡◌, ◌<◌, ℕ, List, [], length, slice_index_or, Ok}
 use Rattle.audit_files.specs.Judged.{AreUsers}
 use Rattle.audit_model.specs.declared.certificate.Certificate.{Certificate}
@@ -21,8 +21,9 @@ capture_at captures file = slice_index_or captures file no_capture
 abbrev pub AreWhole : List Capture → Type 0
 AreWhole captures = (file : ℕ) → file < length captures → IsWhole (capture_at captures file).text (capture_at captures file).blocks
 
--- By the policy and the users of two texts, one run of the server explains every datagram of the service in the captures, but those of packets
--- that a line leaves out: each interface has the sightings of the packets that stay, and the headline holds of these.
+-- By the policy and the users of two texts, one run of the server explains every datagram of the
+-- service in the captures, except those of packets that a line excludes: each interface has the
+-- sightings of the packets that stay, and the headline holds of these.
 pub record ExplainsTheRest (plan : Plan) (captures : List Capture) (policy users : List ℕ) (certificate : Certificate) : Type 0 where
   pub taken : Taken
   pub key_for : KeyFor

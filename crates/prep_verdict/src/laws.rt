@@ -1,4 +1,5 @@
-//! What holds of captures out of which lines of a list left packets, by the definitions alone. No program calls these.
+//! Laws about captures from which lines of a list excluded packets, by the definitions alone. No
+//! program calls these.
 
 ghost use Rattle.std.specs.Prelude.{◌≡◌, ℕ, List, Option, length, map};
 ghost use Rattle.audit_files.specs.Judged.{IsAudited};
@@ -20,22 +21,25 @@ pub fn captures_have_these_packets()
     ensures { (text : List ℕ) (blocks : List Block) → IsWhole text blocks → IsCapture text (packets_in blocks) }
 {}
 
-/// Where what is written of a capture is a capture, its packets are those of the capture that no line leaves out.
+/// If the output for a capture is a capture, its packets are those of the capture that no line
+/// excludes.
 pub fn what_is_written_has_the_rest()
     ensures { (plan : Plan) (capture : Capture) (packets : List Packet) → IsWhole capture.text capture.blocks →
         IsCapture (written plan capture) packets → packets ≡ packets_in (stays plan capture) }
 {}
 
-/// Where captures were cut by a plan, and the audit of what was written says `conforming`, which is status 0, one run of the RFC 8656
-/// server explains every datagram of the service in these captures, but those of packets that a line of the list leaves out.
+/// If captures were cut by a plan, and the audit of the output reports `conforming`, which is
+/// status 0, one run of the RFC 8656 server explains every datagram of the service in these
+/// captures, except those of packets that a line of the list excludes.
 pub fn the_rest_is_explained()
     ensures { (plan : Plan) (captures : List Capture) (policy users : List ℕ) (certificate : Certificate) (before after : Option (List ℕ)) →
         AreWhole captures → IsAudited policy users (map (written plan) captures) certificate before after 0 →
         ExplainsTheRest plan captures policy users certificate }
 {}
 
-/// If the audit of the files that a call of `cut` wrote says `conforming`, which is status 0, by the policy of that call, one run of the RFC 8656
-/// server explains every datagram of the service in the captures that were requested, except those of packets that a line of the call's list
+/// If the audit of the files that a call of `cut` wrote reports `conforming`, which is status 0, by
+/// the policy of that call, one run of the RFC 8656 server explains every datagram of the service
+/// in the captures that were requested, except those of packets that a line of the call's list
 /// excludes.
 pub fn the_call_is_explained()
     ensures { (request : CutRequest) (policy users : List ℕ) (texts : List (List ℕ)) (files made : Option (List FileMade)) (unprinted printed unsaid said : Option (List ℕ)) (status : ℕ) (certificate : Certificate) (before after : Option (List ℕ)) →

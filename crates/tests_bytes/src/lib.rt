@@ -1,4 +1,4 @@
-//! Tests of the crates that read bytes: captures, frames, STUN messages, credentials and keys.
+//! Tests of the crates that parse bytes: captures, frames, STUN messages, credentials and keys.
 #![tactic(auto)]
 
 #[cfg(test)]

@@ -1,4 +1,4 @@
-//! Bytes of the standards and of stored runs, and what they say.
+//! Bytes of the standards and of stored runs, and the values that they are parsed to.
 
 mod capture_faults;
 mod captures;

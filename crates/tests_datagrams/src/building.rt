@@ -7,7 +7,7 @@ use audit_model::{Addr, Side};
 use audit_samples::{BuildFault, Capture, Class, UdpDatagram, method};
 use std::alloc::{AllocError, Global};
 
-/// The name of a datagram, and when it was seen, in nanoseconds.
+/// The name of a datagram, and its stamp in nanoseconds.
 #[derive(Clone, Copy)]
 struct Seen {
     interface: u32,
@@ -15,22 +15,22 @@ struct Seen {
     moment: u64,
 }
 
-/// What was seen of a session so far.
+/// The datagrams of a session so far.
 #[derive(Drop)]
 pub struct Built {
     alloc: Global,
     clients: Capture,
     client_count: u32,
-    /// What is seen between the server and peers, where that has a capture of its own.
+    /// The datagrams between the server and peers, if they have a capture of their own.
     peers: Option<Capture>,
     peer_count: u32,
-    /// The number of the transaction that was asked for last.
+    /// The number of the last request's transaction.
     asked: u8,
     pub certificate: String,
 }
 
 impl Built {
-    /// Nothing yet. The certificate begins with its front and the client's lane.
+    /// No datagrams. The certificate begins with its front and the client's lane.
     pub fn new(alloc: Global, has_two_captures: bool, front: &str) -> Result<Built, AllocError> {
         let peers = if has_two_captures {
             Some(Capture::new(alloc)?)
@@ -48,7 +48,8 @@ impl Built {
         })
     }
 
-    /// What the next message of the client is known by: 1 for the first datagram, 2 for the second, and so on.
+    /// The transaction number of the client's next message: 1 for the first datagram, 2 for the
+    /// second, and so on.
     fn next_number(&self) -> u8 {
         (self.client_count % 255 + 1) as u8
     }
@@ -164,7 +165,7 @@ impl Built {
         }
     }
 
-    /// Places an arrival and a departure when they were seen, and the act that joins them.
+    /// Places an arrival and a departure at their stamps, and the act that joins them.
     fn place(
         &mut self,
         arrival: Seen,
@@ -206,12 +207,13 @@ impl Built {
         Ok(())
     }
 
-    /// The capture of the clients' datagrams, which has all of them where the peer's have none of their own.
+    /// The capture of the clients' datagrams, which also has the peer's datagrams unless these have
+    /// their own.
     pub fn first(&self) -> &[u8] {
         self.clients.bytes()
     }
 
-    /// The capture of the peer's datagrams, where that is another.
+    /// The capture of the peer's datagrams, if it is another one.
     pub fn second(&self) -> Option<&[u8]> {
         self.peers.as_ref().map(|peers| peers.bytes())
     }
@@ -228,7 +230,8 @@ impl Built {
     }
 }
 
-/// Adds the HMAC-SHA1 of the capture under the key `capture`, as `openssl dgst -sha1 -hmac capture` prints it.
+/// Adds the HMAC-SHA1 of the capture under the key `capture`, as `openssl dgst -sha1 -hmac capture`
+/// prints it.
 fn push_digest(out: &mut String, capture: &[u8]) -> Result<(), AllocError> {
     for byte in hmac_sha1(b"capture", &[capture]) {
         write!(out, "{byte:02x}")?;

@@ -1,4 +1,4 @@
-//! The datagrams of a session as data, and the steps that they are taken in.
+//! The datagrams of a session as data, and the steps in which they occur.
 
 use crate::messages::Payload;
 use audit_model::Addr;
@@ -28,7 +28,7 @@ pub const PEER: Addr = Addr {
     port: 7000,
 };
 
-/// A datagram, seen at so many microseconds.
+/// A datagram, with its stamp in microseconds.
 #[derive(Clone, Copy)]
 pub enum Datagram<'a> {
     FromClient(u64, Payload<'a>),
@@ -46,11 +46,12 @@ pub enum Datagram<'a> {
 pub enum Step<'a> {
     /// An arrival and a departure placed at their stamps, and the act that joins them halfway.
     Exchange(Datagram<'a>, Datagram<'a>),
-    /// The same with the act at a moment, in nanoseconds, and of a tie.
+    /// The same with the act at this moment, in nanoseconds, and with this tie.
     ExchangeAt(Datagram<'a>, Datagram<'a>, u64, u32),
     /// A datagram that lines place.
     Seen(Datagram<'a>),
-    /// So many datagrams of the peer that lines place, one in each microsecond from a stamp on.
+    /// This number of the peer's datagrams that lines place, one in each microsecond from a stamp
+    /// on.
     PeerRepeats(u64, u64, &'a [u8]),
     /// Lines of the certificate.
     Lines(&'a str),

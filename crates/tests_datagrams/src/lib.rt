@@ -1,4 +1,5 @@
-//! The datagrams of sessions as data, and captures and certificates that are built of them, for the crates of tests above.
+//! The datagrams of sessions as data, and captures and certificates that are built from them, for
+//! the tests of other crates.
 #![tactic(auto)]
 
 mod building;

@@ -14,27 +14,27 @@ pub const THE_REALM: &[u8] = b"realm";
 
 const THE_NONCE: &[u8] = b"n1";
 
-/// What a message has behind its header, one after the other.
+/// A part of a message after its header.
 #[derive(Clone, Copy)]
 pub enum Part<'a> {
-    /// An attribute of a kind and its value.
+    /// An attribute of a type, with its value.
     Value(u16, &'a [u8]),
-    /// An attribute of a kind that says an address.
+    /// An attribute of a type, with an address.
     Address(u16, Addr),
     /// LIFETIME, in seconds.
     Seconds(u32),
-    /// REALM and NONCE, which tell the client how to ask again.
+    /// REALM and NONCE, with which the client signs the next request.
     Challenge,
     /// USERNAME, REALM and NONCE of a user.
     User(&'a [u8]),
-    /// MESSAGE-INTEGRITY under the key of a user with this password.
+    /// MESSAGE-INTEGRITY with the key of a user with this password.
     Signed(&'a [u8], &'a [u8]),
 }
 
-/// Of `user`.
+/// The attributes of `user`.
 pub const BY_USER: Part<'static> = Part::User(USER);
 
-/// Under the key of `user`.
+/// MESSAGE-INTEGRITY with the key of `user`.
 pub const SIGNED: Part<'static> = Part::Signed(USER, PASSWORD);
 
 fn with(message: MessageBuilder, part: &Part<'_>) -> Result<MessageBuilder, BuildFault> {
@@ -48,22 +48,23 @@ fn with(message: MessageBuilder, part: &Part<'_>) -> Result<MessageBuilder, Buil
     }
 }
 
-/// What a datagram says.
+/// The contents of a datagram.
 #[derive(Clone, Copy)]
 pub enum Payload<'a> {
-    /// A message of a class and a method. A response is of the transaction that was asked for last, and any other of one of its own.
+    /// A message of a class and a method. A response has the transaction of the last request, and
+    /// any other message one of its own.
     Message(Class, u16, &'a [Part<'a>]),
-    /// A request of the transaction of a number, which was asked for before.
+    /// A request with the number of an earlier transaction.
     Again(u8, u16, &'a [Part<'a>]),
     /// A Send indication to a peer.
     Send(Addr, &'a [u8]),
     /// A Data indication from a peer.
     Data(Addr, &'a [u8]),
-    /// ChannelData of a channel, and bytes behind it.
+    /// ChannelData of a channel, with bytes after it.
     Channel(u16, &'a [u8], &'a [u8]),
 }
 
-/// The bytes of a message of the transaction of a number.
+/// The bytes of a message, with the number of its transaction.
 pub fn message_bytes(
     alloc: Global,
     class: Class,
@@ -93,7 +94,7 @@ pub fn indication_bytes(
     message_bytes(alloc, Class::Indication, method, number, parts)
 }
 
-/// ChannelData with bytes behind it.
+/// ChannelData with bytes after it.
 pub fn channel_bytes(
     alloc: Global,
     number: u16,

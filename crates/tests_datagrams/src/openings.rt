@@ -1,10 +1,11 @@
-//! How sessions begin: the client is challenged, allocates, and asks for a permission or a channel.
+//! The start of sessions: the client is challenged, allocates, and requests a permission or a
+//! channel.
 
 use crate::datagrams::{CLIENT, Datagram, PEER, RELAYED, Step};
 use crate::messages::{BY_USER, Part, Payload, SIGNED};
 use audit_samples::{Class, attribute, method};
 
-/// REQUESTED-TRANSPORT of UDP.
+/// REQUESTED-TRANSPORT for UDP.
 pub const UDP: Part<'static> = Part::Value(attribute::REQUESTED_TRANSPORT, &[17, 0, 0, 0]);
 
 pub const OF_PEER: Part<'static> = Part::Address(attribute::XOR_PEER_ADDRESS, PEER);
@@ -13,7 +14,7 @@ pub const GIVES_RELAYED: Part<'static> = Part::Address(attribute::XOR_RELAYED_AD
 
 pub const SEEN_AS_CLIENT: Part<'static> = Part::Address(attribute::XOR_MAPPED_ADDRESS, CLIENT);
 
-/// An Allocate without credentials, refused.
+/// An Allocate without credentials, and the error response.
 pub const CHALLENGED: Step<'static> = Step::ExchangeAt(
     Datagram::FromClient(
         1_000_000,
@@ -41,7 +42,7 @@ pub const ALLOCATE: Payload<'static> = Payload::Message(
     &[UDP, BY_USER, SIGNED],
 );
 
-/// An allocation of the relayed address for so many seconds.
+/// An allocation of the relayed address, with this lifetime in seconds.
 macro_rules! allocated {
     ($seconds:literal) => {
         Step::Exchange(
@@ -76,7 +77,7 @@ pub const PERMIT: Payload<'static> = Payload::Message(
     &[OF_PEER, BY_USER, SIGNED],
 );
 
-/// Its success, and that of a request for more peers.
+/// Its success response, and that to a request for more peers.
 pub const PERMIT_SUCCESS: Payload<'static> = Payload::Message(
     Class::Success,
     method::CREATE_PERMISSION,
@@ -88,7 +89,7 @@ pub const PERMITTED: Step<'static> = Step::Exchange(
     Datagram::ToClient(1_021_000, PERMIT_SUCCESS),
 );
 
-/// A request for the channel of a number for the peer.
+/// A request for a channel with this number for the peer.
 macro_rules! bind {
     ($number:literal) => {
         Payload::Message(

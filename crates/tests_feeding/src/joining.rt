@@ -31,7 +31,7 @@ fn capture(alloc: Global, payload: &[u8], stamp: u64) -> Result<Capture, BuildFa
     Ok(capture)
 }
 
-/// An intake of one file, and one of two whose second alone is fed.
+/// An intake of one file, and one of two files of which only the second one is fed.
 fn apart(alloc: Global, first: &[u8], second: &[u8]) -> Result<(Intake, Intake), Fail>
     ensures { IfOk result (λ both. both.1.policy ≡ both.0.policy) }
 {

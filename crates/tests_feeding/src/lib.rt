@@ -1,4 +1,4 @@
-//! Tests of many datagrams by one feed, and of intakes whose files are joined.
+//! Tests of many datagrams in one feed, and of intakes whose files are joined.
 #![tactic(auto)]
 
 #[cfg(test)]

@@ -1,4 +1,5 @@
-//! What `feed` takes in of many datagrams, and that `feed_parallel` takes in the same. Below 4 MiB neither starts a thread.
+//! Checks the sightings that `feed` reads from many datagrams, and that `feed_parallel` reads the
+//! same. Below 4 MiB neither starts a thread.
 
 use audit_model::{Addr, Side, SightId, Sighting, read_policy};
 use audit_samples::{BuildFault, Capture, UdpDatagram};
@@ -20,15 +21,15 @@ const CLIENT: Addr = Addr {
     port: 40000,
 };
 
-/// How long each packet block is, and where the flags of its IPv4 header stand.
+/// The length of each packet block, and the offset of the flags of its IPv4 header.
 const BLOCK: usize = 84;
 
 const FLAGS: usize = 28 + 14 + 6;
 
-/// Where the packet blocks begin.
+/// The offset of the packet blocks.
 const PACKETS: usize = 48;
 
-/// An intake of one file, to which these bytes were fed by one thread, and what the feed said.
+/// An intake of one file, to which one thread fed these bytes, and the result of the feed.
 fn fed(alloc: Global, bytes: &[u8]) -> Result<(Intake, Result<(), IntakeFault>), Fail> {
     let policy = read_policy(alloc, POLICY)?;
     let mut intake = Intake::new(alloc, policy);
@@ -50,7 +51,8 @@ fn fed_parallel<R: Threads + Sync>(
     Ok((intake, said))
 }
 
-/// A datagram of the client and one to it in turn, so many pairs; each has the number of its pair as payload and as stamp.
+/// This number of pairs of a datagram of the client and one to it; each has the number of its pair
+/// as payload and as stamp.
 fn capture(alloc: Global, pairs: u64) -> Result<Capture, BuildFault> {
     let mut capture = Capture::new(alloc)?;
     for pair in 0..pairs {
@@ -75,7 +77,8 @@ fn capture(alloc: Global, pairs: u64) -> Result<Capture, BuildFault> {
     Ok(capture)
 }
 
-/// The capture's bytes, where the packet behind so many others is the first fragment of a longer datagram.
+/// The capture's bytes, with the packet after `before` others changed to the first fragment of a
+/// longer datagram.
 fn with_fragment(alloc: Global, capture: &Capture, before: usize) -> Result<Vec<u8>, AllocError> {
     let mut bytes = Vec::from_slice(alloc, capture.bytes())?;
     let place = before.saturating_mul(BLOCK).saturating_add(PACKETS + FLAGS);
@@ -85,7 +88,7 @@ fn with_fragment(alloc: Global, capture: &Capture, before: usize) -> Result<Vec<
     Ok(bytes)
 }
 
-/// What a sighting is, but for its payload.
+/// The facts of a sighting, except its payload.
 fn facts(sighting: &Sighting) -> ((SightId, Side), (Addr, Addr), (u64, u64, u64)) {
     (
         (sighting.id, sighting.side),
@@ -94,7 +97,7 @@ fn facts(sighting: &Sighting) -> ((SightId, Side), (Addr, Addr), (u64, u64, u64)
     )
 }
 
-/// That both have so many sightings, the same ones, each with the number of its pair.
+/// Checks that both have this number of sightings, the same ones, each with the number of its pair.
 fn assert_same(rt: &impl Abort, one: &Intake, many: &Intake, sightings: u32) -> Result<(), Fail> {
     for index in 0..sightings {
         let id = SightId { iface: 0, index };

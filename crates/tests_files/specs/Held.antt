@@ -1,8 +1,8 @@
--- What files in memory hold.
+-- The bytes of files in memory.
 use Rattle.std.specs.Prelude.{ℕ, List, Option, Some, None, cond, codes}
 use Rattle.std.specs.Str.{bytes_eq}
 
--- the bytes of the file of that name: three names have one
+-- the bytes of the file with that name, for three names
 abbrev pub held_among : List ℕ → List ℕ → List ℕ → List ℕ → Option (List ℕ)
 held_among policy certificate capture name =
     cond (bytes_eq name (codes "policy")) (Some policy)

@@ -1,4 +1,4 @@
-//! Files in memory, which say what they hold, and what is told of them.
+//! Files in memory with a contract about their bytes, and tests of the program with them.
 #![tactic(auto)]
 
 mod memory;

@@ -16,7 +16,7 @@ pub struct Files<'a> {
 }
 
 impl<'a> Files<'a> {
-    /// The bytes of the file of that name.
+    /// The bytes of the file with that name.
     pub fn bytes_of(&self, name: &str) -> Option<&'a [u8]>
         ensures { option_map (λ bytes. bytes.now) result ≡ held_among self.now.policy.now self.now.certificate.now self.now.capture.now name.now }
     {
@@ -59,7 +59,7 @@ impl Source for Files<'_> {
     }
 }
 
-/// A stream that keeps what it takes.
+/// A stream that keeps the bytes that it gets.
 #[derive(Drop)]
 pub struct Kept {
     pub bytes: Vec<u8>,

@@ -1,4 +1,4 @@
-//! What is told of files in memory: the report and its status, or why there is none.
+//! The output for files in memory: the report and its status, or why there is none.
 
 use crate::memory::{Files, Kept};
 use audit_files::{Stop, Workers, check_files};
@@ -11,13 +11,13 @@ const POLICY: &[u8] = b"turnaudit-policy 1\nlisten 192.0.2.1:3478\nrelay 192.0.2
 
 const EMPTY: &[u8] = b"turnaudit-certificate 1\nend\n";
 
-/// A section header, and nothing behind it.
+/// A section header, and nothing after it.
 const NOTHING: &[u8] = &[
     0x0a, 0x0d, 0x0d, 0x0a, 0x1c, 0, 0, 0, 0x4d, 0x3c, 0x2b, 0x1a, 1, 0, 0, 0, 0xff, 0xff, 0xff,
     0xff, 0xff, 0xff, 0xff, 0xff, 0x1c, 0, 0, 0,
 ];
 
-/// What is told of these files: the status and the report.
+/// The status and the report for these files.
 fn told(
     rt: &(impl Threads + Wait + Sync),
     alloc: Global,

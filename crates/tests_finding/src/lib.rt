@@ -1,4 +1,5 @@
-//! Tests of the finder's passes: a small capture for each constraint and each plan, which no order explains that was found without it.
+//! Tests of the finder's passes: a small capture for each constraint and each plan. Without it, no
+//! order is found that explains the capture.
 #![tactic(auto)]
 
 #[cfg(test)]

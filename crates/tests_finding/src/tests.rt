@@ -1,4 +1,5 @@
-//! Captures of some ten datagrams, each of which needs one constraint, one plan or another part of the passes.
+//! Captures of about ten datagrams, each of which needs one constraint, one plan or another part of
+//! the passes.
 
 mod building;
 mod choices;

@@ -1,4 +1,4 @@
-//! Streams in memory, and what a run of the program writes to them.
+//! Streams in memory, and the output of a run of the program.
 
 ghost use Rattle.std.specs.Prelude.{[], IfOk, None, Some, map, true};
 ghost use Rattle.audit_finder.specs.Found.{IsFound};
@@ -14,10 +14,10 @@ use std::alloc::{AllocError, Global};
 use std::sync::Wait;
 use std::thread::Threads;
 
-/// Room for whatever the program writes.
+/// Enough room for all output of the program.
 pub const PLENTY: usize = 1_000_000;
 
-/// A stream that keeps what it takes, and fails once it has no room.
+/// A stream that keeps the bytes that it gets, and fails once it has no room.
 #[derive(Drop)]
 struct Stream {
     bytes: Vec<u8>,
@@ -46,7 +46,7 @@ impl Sink for Stream {
     }
 }
 
-/// What a run answers.
+/// The output of a run.
 #[derive(Drop)]
 pub struct Answer {
     pub status: u8,
@@ -54,7 +54,7 @@ pub struct Answer {
     pub err: Vec<u8>,
 }
 
-/// Runs the program on the words, with room for so many bytes on standard output.
+/// Runs the program on the arguments, with room for this number of bytes on standard output.
 pub fn ask(
     rt: &(impl Threads + Wait + Sync),
     alloc: Global,
@@ -62,7 +62,8 @@ pub fn ask(
     files: &mut Files<'_>,
     room: usize,
 ) -> Result<Answer, AllocError>
-    // What the program promises of files that hold these bytes, and of captures that gave them, it promises of each test.
+    // The program's contract for files with these bytes, and for captures that returned them, holds
+    // for each test.
     ensures { IfOk result (λ answer. IsRun
         (map (λ word. word.now) words.now)
         (held_among files.old.policy.now files.old.credentials.now files.old.certificate.now files.old.capture.now files.old.second.now)
@@ -91,7 +92,7 @@ pub fn ask(
     })
 }
 
-/// What a run answers, as text. What is None of it is not compared.
+/// The expected output of a run, as text. A stream that is `None` is not compared.
 #[derive(Clone, Copy, Debug, PartialEq, Eq)]
 pub struct Told<'a> {
     pub status: u8,
@@ -100,7 +101,7 @@ pub struct Told<'a> {
 }
 
 impl Answer {
-    /// What was answered, of each stream where the other one tells of it.
+    /// The output, with each stream that `expected` has.
     pub fn told_like(&self, expected: &Told<'_>) -> Told<'_> {
         Told {
             status: self.status,
@@ -110,7 +111,7 @@ impl Answer {
     }
 }
 
-/// What a stream was given.
+/// The text of a stream.
 pub fn text_of(bytes: &[u8]) -> &str {
     str::from_utf8(bytes).unwrap_or("no text")
 }

@@ -1,4 +1,4 @@
-//! A capture of a Binding request and its success, field by field.
+//! A capture of a Binding request and its success response, field by field.
 
 use std::alloc::{AllocError, Global};
 
@@ -21,16 +21,16 @@ const SERVER_PORT: [u8; 2] = [0x0d, 0x96];
 
 const TRANSACTION: [u8; 12] = [0, 1, 2, 3, 4, 5, 6, 7, 8, 9, 10, 11];
 
-/// What the tests vary.
+/// The fields that tests vary.
 #[derive(Drop)]
 pub struct Parts<'a> {
-    /// What stands between the first frame's source address and its type.
+    /// The bytes between the first frame's source address and its type.
     pub first_tag: &'a [u8],
     pub first_block: u8,
     pub first_frame: u8,
     /// The first frame's flags and fragment offset.
     pub first_flags: [u8; 2],
-    /// The port of the success, xor 0x2112.
+    /// The port in the success response, xor 0x2112.
     pub mapped_port: [u8; 2],
 }
 

@@ -1,4 +1,4 @@
-//! Files in memory, which claim what they hold and what they gave.
+//! Files in memory, with contracts about the bytes that they hold and that they returned.
 
 ghost use Rattle.std.specs.Prelude.{◌≡◌, ◌≤◌, ◌++◌, IfOk, length, option_map, take};
 ghost use Rattle.tests_host.specs.Held.{held_among};
@@ -16,26 +16,27 @@ pub struct Files<'a> {
     pub capture: &'a [u8],
     /// Another capture.
     pub second: &'a [u8],
-    /// How many bytes of a file are given at first.
+    /// How many bytes of a file the first read returns.
     pub first: usize,
-    /// How many are given at once after that.
+    /// How many bytes each later read returns.
     pub step: usize,
     /// The file whose second piece can't be read.
     pub fails: Option<&'a str>,
-    /// How many bytes of each capture each of the first turns gives while they grow; later ones give all.
+    /// How many bytes of each growing capture each of the first turns returns; later turns return
+    /// all.
     pub turns: &'a [usize],
-    /// How many turns there were of each of the two captures.
+    /// The number of turns of each of the two captures.
     asked: usize,
     asked_second: usize,
-    /// What the turns gave of each.
+    /// The bytes that the turns returned of each.
     gave: Vec<u8>,
     gave_second: Vec<u8>,
-    /// How many pauses there were.
+    /// The number of pauses.
     pub pauses: u32,
 }
 
 impl<'a> Files<'a> {
-    /// Without credentials and a second capture. Each file is read at once, and can be.
+    /// No credentials and no second capture. One read returns the whole file, and doesn't fail.
     pub fn new(
         alloc: Global,
         policy: &'a str,
@@ -60,7 +61,7 @@ impl<'a> Files<'a> {
         }
     }
 
-    /// The bytes of the file of that name.
+    /// The bytes of the file with that name.
     fn bytes_of(&self, name: &str) -> Option<&'a [u8]>
         ensures { option_map (λ bytes. bytes.now) result
             ≡ held_among self.now.policy.now self.now.credentials.now self.now.certificate.now self.now.capture.now self.now.second.now name.now }
@@ -83,13 +84,13 @@ impl<'a> Files<'a> {
         None
     }
 
-    /// How many bytes the turn of that number gives at the most, where so many are asked for.
+    /// The most bytes that the turn with this number returns, for this room.
     fn most_of(&self, turn: usize, room: usize) -> usize {
         self.turns.get(turn).copied().unwrap_or(room)
     }
 }
 
-/// Gives the next bytes of a capture, of which some were given.
+/// Returns the next bytes of a capture, after those that it returned before.
 fn give(file: &[u8], gave: &mut Vec<u8>, most: usize, into: &mut [u8]) -> Result<usize, ReadFailed>
     ensures within { IfOk result (λ n. n ≤ length into.old) }
     ensures bytes { IfOk result (λ n. gave.new.items ≡ gave.old.items ++ take n into.new) }
@@ -151,7 +152,7 @@ impl Growing for Files<'_> {
 
     ghost given = { λ files capture. gave_of files.gave.items files.gave_second.items capture };
 
-    // The tests ask what was given; how often, they see by what is judged.
+    // The tests check which bytes were returned; how often, they see by the verdict.
     ghost reads = { λ _ _. None };
 
     fn start(&mut self) {

@@ -1,4 +1,5 @@
-//! A host in memory for the crates of tests above: files and streams, and the program run over them. Nothing else calls this.
+//! A host in memory for the tests of other crates: files and streams, and the program run with
+//! them. Only tests use it.
 #![tactic(auto)]
 
 mod answers;

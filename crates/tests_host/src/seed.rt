@@ -16,7 +16,8 @@ impl RandomSource for Fives {
     }
 }
 
-/// A seed that is the same in each run, so that a test that fails does so again. The source doesn't fail.
+/// A seed that is the same in each run, so that a test that fails does so again. The source doesn't
+/// fail.
 pub(crate) fn fixed_seed() -> Result<RandomState, AllocError> {
     RandomState::new(&Fives).map_err(|_| AllocError)
 }

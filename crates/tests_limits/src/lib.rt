@@ -1,4 +1,5 @@
-//! Inputs as large as the limits allow, and one more: none is told as want of memory.
+//! Tests of inputs as large as the limits, and larger by one: no limit is reported as lack of
+//! memory.
 #![tactic(auto)]
 
 #[cfg(test)]

@@ -1,4 +1,5 @@
-//! Inputs as large as the limits allow, and one more. No contract tells a limit from want of memory, so that these do.
+//! Inputs as large as the limits, and larger by one. No contract distinguishes a limit from lack of
+//! memory; these tests do.
 
 mod captures;
 mod long_lines;

@@ -1,4 +1,5 @@
-//! An audit in turns, over a capture of a Binding request and its success: the calls of each test and what each of them has to answer.
+//! An audit in turns, over a capture of a Binding request and its success: the calls of each test
+//! and what each of them has to answer.
 
 use audit_keys::Credentials;
 use audit_live::{Live, LiveEnd, LiveFault, Progress};
@@ -182,7 +183,8 @@ const fn progress(horizon: u64, placed: u32, lanes: u32, owed: u32) -> Result<Pr
     })
 }
 
-/// Turns in which the success leaves: at the last horizon, past the new one, in time, and with the lane once more.
+/// Turns in which the success leaves: at the last horizon, past the new one, in time, and with the
+/// lane once more.
 const TOO_EARLY: Turn<'static> = Turn {
     lanes: &[],
     events: &[(

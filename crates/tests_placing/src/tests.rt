@@ -1,4 +1,4 @@
-//! Placement in portions, over captures of a client and another.
+//! Placement in portions, for captures of two clients.
 
 ghost use Rattle.std.specs.Prelude.{OnOk};
 ghost use Rattle.audit_sightings.specs.Intake.{taken};
@@ -29,7 +29,8 @@ const OTHER: Addr = Addr {
     port: 40000,
 };
 
-/// The client's datagram, the server's answer, and a datagram of another client, within the skew of each other.
+/// The client's datagram, the server's response, and a datagram of another client, within the skew
+/// of each other.
 fn capture(alloc: Global) -> Result<Capture, BuildFault> {
     let mut capture = Capture::new(alloc)?;
     for (stamp, side, from, to) in [
@@ -52,7 +53,7 @@ fn capture(alloc: Global) -> Result<Capture, BuildFault> {
     Ok(capture)
 }
 
-/// An intake with one file, of which so many bytes are fed.
+/// An intake with one file, to which these bytes are fed.
 fn intake(alloc: Global, bytes: &[u8]) -> Result<Intake, Fail> {
     let policy = read_policy(alloc, b"turnaudit-policy 1\nlisten 192.0.2.1:3478\n")?;
     let mut intake = Intake::new(alloc, policy);
@@ -69,7 +70,7 @@ fn key(moment: u64) -> Key {
     Key { moment, tie: 0 }
 }
 
-/// What a certificate gains.
+/// The additions of a portion to a certificate.
 #[derive(Clone, Copy)]
 struct Gained<'a> {
     lanes: &'a [(Addr, Addr)],
@@ -77,7 +78,8 @@ struct Gained<'a> {
     drops: &'a [CertDrop],
 }
 
-/// What is told once that is added: whether a rule is broken, how many sightings are placed, and the first that isn't.
+/// The state after the additions: whether a rule is violated, how many sightings are placed, and
+/// the first one that isn't.
 #[derive(Clone, Copy, Debug, PartialEq, Eq)]
 struct Told {
     answer: Result<(), Breach>,
@@ -108,7 +110,7 @@ fn added(
     Ok(placing.add(intake, portion)?)
 }
 
-/// Adds what a certificate gains, and tells what comes of it.
+/// Adds a portion to a certificate, and returns the state.
 fn told_of(
     alloc: Global,
     placing: &mut Placing,
@@ -127,7 +129,7 @@ fn told_of(
     })
 }
 
-/// That what a certificate gains, portion by portion, is told as it says.
+/// Checks the state after each portion.
 fn play(rt: &(impl Abort + AllocGlobal), portions: &[(Gained<'_>, Told)]) -> Result<(), Fail> {
     let alloc = rt.alloc();
     let intake = intake(alloc, capture(alloc)?.bytes())?;
@@ -260,7 +262,7 @@ fn a_neighbour_that_comes_later_shows_the_order(rt: HostRuntime) -> Result<(), F
     play(&rt, &[(of_other, one), (of_client, two)])
 }
 
-/// Whether a portion with these lanes and one event, of that lane, fits a certificate that has nothing.
+/// Whether a portion with these lanes and one event, of that lane, fits an empty certificate.
 fn fits(alloc: Global, lanes: &[(Addr, Addr)], lane: u32) -> Result<bool, Fail> {
     let gained = Gained {
         lanes,

@@ -41,7 +41,8 @@ const PASSING: &[u8] =
 const BROKEN: &[u8] =
     b"turnaudit-certificate 1\nlane 198.51.100.7:40000 192.0.2.1:3478\nin 0.1 3000000000 0\nact 0.1 0.2 3000000000 1\nout 0.2 3000500000 0\nlane 198.51.100.8:40000 192.0.2.1:3478\nin 0.0 2000000000 0\nact 0.0 0.3 2000000000 1\nout 0.3 3000500000 1\nend\n";
 
-/// A worker waits before its lane until the other lane has begun too, for 100,000 turns of 100 microseconds at the most.
+/// A worker waits before its lane until the other lane has begun too, for 100,000 turns of 100
+/// microseconds at the most.
 #[derive(Drop)]
 struct Meeting<'r, R> {
     rt: &'r R,
@@ -146,7 +147,8 @@ fn is_by_two(closed: &Closed<'_>) -> bool {
         && closed.claimants.get(second.input().number() as usize) == Some(other)
 }
 
-/// The verdict of two workers that meet, whether one missed the other, and whether each entered a lane.
+/// The verdict of two workers that meet, whether one missed the other, and whether each entered a
+/// lane.
 fn met<R: Clock + Threads + Wait + Sync>(
     rt: &R,
     alloc: Global,

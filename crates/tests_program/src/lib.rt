@@ -1,4 +1,4 @@
-//! Tests of the whole program: words in, status and both streams out, over files in memory.
+//! Tests of the whole program: arguments in, status and both streams out, with files in memory.
 #![tactic(auto)]
 
 #[cfg(test)]

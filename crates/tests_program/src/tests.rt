@@ -1,4 +1,4 @@
-//! Words in, status and both streams out, over files in memory.
+//! Arguments in, status and both streams out, with files in memory.
 
 mod cutting;
 mod feeding;

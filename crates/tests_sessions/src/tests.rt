@@ -1,4 +1,4 @@
-//! The sessions of a client, each with the certificate that places it, and what the program answers.
+//! The sessions of a client, each with its certificate and the expected output of the program.
 
 mod channels;
 mod credentials;

@@ -14,11 +14,11 @@ use std::rt::Files;
 use std::time::Clock;
 use std::{fs, io};
 
-/// The files of the machine, read one at a time from front to back.
+/// The files of the machine, read one at a time from start to end.
 #[derive(Drop)]
 pub struct HostFiles<'r, R: Files<File = File> + Clock> {
     rt: &'r R,
-    /// The line on a terminal that says how far a file is read.
+    /// The line on a terminal with the progress of reading a file.
     progress: &'r Progress<'r, R>,
     opened: Option<File>,
 }
@@ -36,7 +36,7 @@ impl<'r, R: Files<File = File> + Clock> HostFiles<'r, R> {
     }
 }
 
-/// The bytes that a file has, 0 where the system doesn't say.
+/// The size of a file in bytes, 0 if the system doesn't report it.
 fn size_of(file: &File) -> u64 {
     match file.metadata() {
         Ok(metadata) => metadata.len(),
@@ -106,23 +106,22 @@ impl<R: Files<File = File> + Clock + Sync> Explaining for HostFiles<'_, R> {
     }
 }
 
-/// Opens what can't be written to. Where a standard stream is closed, this takes its number, the
-/// lowest that is free, so that no file that is opened later does, and what goes to that stream
-/// isn't written.
+/// Opens a stream that can't be written to. If a standard stream is closed, this gets its number,
+/// the lowest free one, so that no later file gets it, and output to that stream isn't written.
 pub fn hold_stream<R: Files<File = File>>(rt: &R) -> Option<File> {
     fs::open(rt, "/dev/null").ok()
 }
 
-/// A stream of the machine. It claims nothing of what reaches it.
+/// A stream of the machine. It has no contract about its output.
 #[derive(Drop)]
 pub struct HostStream<'r, R: Files<File = File> + Clock, W: Write> {
     stream: W,
-    /// The line on a terminal, which goes before the stream is written to.
+    /// The line on a terminal, which is removed before the stream is written to.
     progress: &'r Progress<'r, R>,
 }
 
 impl<'r, R: Files<File = File> + Clock, W: Write> HostStream<'r, R, W> {
-    /// The stream, of which nothing was written.
+    /// The stream, before any output.
     pub fn new(stream: W, progress: &'r Progress<'r, R>) -> Self
         ensures { result.stream ≡ stream }
     {
@@ -149,14 +148,14 @@ impl<R: Files<File = File> + Clock, W: Write> Sink for HostStream<'_, R, W> {
     }
 }
 
-/// A new file of the machine. It claims nothing of what reaches it.
+/// A new file of the machine. It has no contract about its output.
 #[derive(Drop)]
 pub struct HostPage<'r, R: Files<File = File>> {
     files: NewFiles<'r, R>,
 }
 
 impl<'r, R: Files<File = File>> HostPage<'r, R> {
-    /// No file is made.
+    /// No file.
     pub fn new(rt: &'r R, alloc: Global) -> Self {
         HostPage {
             files: NewFiles::new(rt, alloc),

@@ -1,4 +1,4 @@
-//! turnexplain tells what a verdict of turnaudit means.
+//! turnexplain explains a verdict of turnaudit.
 #![tactic(auto)]
 
 mod host;
@@ -13,7 +13,7 @@ use std::process::ExitCode;
 use std::rt::Env;
 use std::{env, io};
 
-/// The words that the program was started with, its name among them.
+/// The arguments of the program, including its name.
 fn words_of<R: Env + AllocGlobal>(rt: &R) -> io::Result<Vec<String>> {
     let mut words = Vec::new(rt.alloc());
     for word in env::args(rt)? {
@@ -22,13 +22,13 @@ fn words_of<R: Env + AllocGlobal>(rt: &R) -> io::Result<Vec<String>> {
     Ok(words)
 }
 
-/// Says that the system gives no random bytes, and gives the exit status.
+/// Reports that the system returns no random bytes, and returns the exit status.
 fn refuse_seed<W: Sink>(err: &mut W) -> u8 {
     let _ = put_all(err, b"turnexplain: the system gives no random bytes\n");
     4
 }
 
-/// Says that the words could not be read, and gives the exit status.
+/// Reports that the arguments could not be read, and returns the exit status.
 fn refuse_words<W: Sink>(err: &mut W, error: &io::Error) -> u8 {
     if error.kind() == io::ErrorKind::OutOfMemory {
         let _ = put_all(err, b"turnexplain: out of memory\n");

@@ -8,7 +8,7 @@ use std::io::ErrorKind;
 use std::rt::Files;
 use std::{fs, io};
 
-/// What the system says where there is a file of that name.
+/// The system's error if a file with that name exists.
 const EEXIST: i32 = 17;
 
 /// The folders of the machine, and the last one that couldn't be made or renamed.
@@ -29,7 +29,7 @@ impl<'r, R: Files<File = File>> HostFolders<'r, R> {
         }
     }
 
-    /// Notes why a folder can't be made or renamed. Without memory for that, it is not noted.
+    /// Records why a folder can't be made or renamed. Without memory for that, it isn't recorded.
     fn fail(&mut self, name: &str, error: io::Error) -> MakeFault {
         let fault = match error.kind() {
             ErrorKind::AlreadyExists | ErrorKind::DirectoryNotEmpty => MakeFault::Exists,

@@ -13,12 +13,12 @@ use std::rt::Files;
 use std::time::Clock;
 use std::{fs, io};
 
-/// The files of the machine, each read from front to back, one at a time.
+/// The files of the machine, each read from start to end, one at a time.
 #[derive(Drop)]
 pub struct HostFiles<'r, R: Files<File = File> + Clock> {
     rt: &'r R,
     alloc: Global,
-    /// The line on a terminal that says how far a file is read.
+    /// The line on a terminal with the progress of reading a file.
     progress: &'r Progress<'r, R>,
     opened: Option<File>,
     failure: Option<Failure>,
@@ -38,7 +38,7 @@ impl<'r, R: Files<File = File> + Clock> HostFiles<'r, R> {
         }
     }
 
-    /// Opens a file, in the place of the one that is open.
+    /// Opens a file, in place of the one that is open.
     fn open(&mut self, name: &str) -> Result<(), ReadFailed> {
         match fs::open(self.rt, name) {
             Ok(file) => {
@@ -50,14 +50,14 @@ impl<'r, R: Files<File = File> + Clock> HostFiles<'r, R> {
         }
     }
 
-    /// Notes why a file can't be read. Without memory for that, it is not noted.
+    /// Records why a file can't be read. Without memory for that, it isn't recorded.
     fn fail(&mut self, name: &str, error: io::Error) -> ReadFailed {
         self.failure = Failure::new(self.alloc, name, error).ok();
         ReadFailed
     }
 }
 
-/// The bytes that a file has, 0 where the system doesn't say.
+/// The size of a file in bytes, 0 if the system doesn't report it.
 fn size_of(file: &File) -> u64 {
     match file.metadata() {
         Ok(metadata) => metadata.len(),
@@ -102,7 +102,7 @@ pub struct HostMaker<'r, R: Files<File = File>> {
 }
 
 impl<'r, R: Files<File = File>> HostMaker<'r, R> {
-    /// No file is made.
+    /// No files.
     pub fn new(rt: &'r R, alloc: Global) -> Self {
         HostMaker {
             files: NewFiles::new(rt, alloc),
@@ -110,7 +110,7 @@ impl<'r, R: Files<File = File>> HostMaker<'r, R> {
     }
 }
 
-/// Why a file isn't made, for the program.
+/// Why a file isn't made, as an error of the program.
 fn fault_of(fault: NewFault) -> MakeFault {
     match fault {
         NewFault::Exists => MakeFault::Exists,
@@ -166,22 +166,22 @@ impl<R: Files<File = File>> Maker for HostMaker<'_, R> {
     }
 }
 
-/// Opens what can't be written to. Where a standard stream is closed, this takes its number, the lowest that is free, so that no file that is
-/// opened later does, and what goes to that stream isn't written.
+/// Opens a stream that can't be written to. If a standard stream is closed, this gets its number,
+/// the lowest free one, so that no later file gets it, and output to that stream isn't written.
 pub fn hold_stream<R: Files<File = File>>(rt: &R) -> Option<File> {
     fs::open(rt, "/dev/null").ok()
 }
 
-/// A stream of the machine. It claims nothing of what reaches it.
+/// A stream of the machine. It has no contract about its output.
 #[derive(Drop)]
 pub struct HostStream<'r, R: Files<File = File> + Clock, W: Write> {
     stream: W,
-    /// The line on a terminal, which goes before the stream is written to.
+    /// The line on a terminal, which is removed before the stream is written to.
     progress: &'r Progress<'r, R>,
 }
 
 impl<'r, R: Files<File = File> + Clock, W: Write> HostStream<'r, R, W> {
-    /// The stream, of which nothing was written.
+    /// The stream, before any output.
     pub fn new(stream: W, progress: &'r Progress<'r, R>) -> Self
         ensures { result.stream ≡ stream }
     {

@@ -13,7 +13,7 @@ use std::process::ExitCode;
 use std::rt::Env;
 use std::{env, io};
 
-/// The words that the program was started with, its name among them.
+/// The arguments of the program, including its name.
 fn words_of<R: Env + AllocGlobal>(rt: &R) -> io::Result<Vec<String>> {
     let mut words = Vec::new(rt.alloc());
     for word in env::args(rt)? {
@@ -22,7 +22,7 @@ fn words_of<R: Env + AllocGlobal>(rt: &R) -> io::Result<Vec<String>> {
     Ok(words)
 }
 
-/// Says that the words could not be read, and gives the exit status.
+/// Reports that the arguments could not be read, and returns the exit status.
 fn refuse_words<W: Sink>(err: &mut W, error: &io::Error) -> u8 {
     if error.kind() == io::ErrorKind::OutOfMemory {
         let _ = put_all(err, b"turnprep: out of memory\n");

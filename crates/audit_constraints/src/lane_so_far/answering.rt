@@ -7,7 +7,8 @@ use audit_seen::SeenNumber;
 use std::alloc::AllocError;
 
 impl LaneSoFar<'_> {
-    /// Asks that an older arrival, which nothing else answers, is answered by the match of the next one, so that this one is free.
+    /// Adds constraints by which an older unanswered arrival is answered by the match of the next
+    /// arrival, so that the next arrival is free for this departure.
     pub(crate) fn ask_older(
         &self,
         departure: SeenNumber,
@@ -54,7 +55,8 @@ impl LaneSoFar<'_> {
         Ok(found)
     }
 
-    /// Whether an arrival may stand so late that a departure is within the hold of it, wherever what the departure answers now has it stand.
+    /// Whether an arrival may be placed so late that the departure is within the hold after it,
+    /// whatever arrival the departure answers now.
     fn may_answer(&self, departure: SeenNumber, arrival: SeenNumber) -> bool {
         let (Some(leaves), Some(arrives)) = (self.input.seen(departure), self.input.seen(arrival))
         else {
@@ -65,7 +67,8 @@ impl LaneSoFar<'_> {
             >= leaves.first_moment().saturating_add(shift)
     }
 
-    /// Asks that the last arrivals of a pool that came too long before a departure stand later, if they may.
+    /// Adds constraints by which the last arrivals of a pool, too early for a departure, are placed
+    /// later, if their windows permit.
     pub(crate) fn ask_late(
         &self,
         departure: SeenNumber,

@@ -7,7 +7,8 @@ use audit_seen::{Gives, SeenNumber};
 use std::alloc::AllocError;
 
 impl LaneSoFar<'_> {
-    /// The answers that end allocations and leave before a departure, no longer than the hold, the last one first.
+    /// The responses that delete allocations and leave before a departure, within the hold, the
+    /// last one first.
     pub(crate) fn ends_before(&self, departure: SeenNumber) -> Result<Vec<SeenNumber>, AllocError> {
         let moment = self.input.at(departure);
         let mut found = Vec::new(self.input.alloc());
@@ -20,7 +21,8 @@ impl LaneSoFar<'_> {
         Ok(found)
     }
 
-    /// Asks that what a departure may answer stands before the answers that ended allocations before it.
+    /// Adds constraints by which the arrivals that a departure may answer are placed before the
+    /// responses that deleted allocations before it.
     pub(crate) fn ask_before_ends(
         &self,
         departure: SeenNumber,
@@ -34,7 +36,8 @@ impl LaneSoFar<'_> {
         Ok(())
     }
 
-    /// Asks that channels which were bound before a departure were bound in allocations that were ended before their answers left.
+    /// Adds constraints by which channels that were bound before a departure belong to allocations
+    /// that were deleted before the ChannelBind responses left.
     pub(crate) fn ask_earlier(
         &self,
         departure: SeenNumber,

@@ -1,4 +1,4 @@
-//! Constraints for acts at their requests, so that leases end as early as they may.
+//! Constraints for acts at the moments of their requests, so that leases end as early as possible.
 
 use super::{EACH, LaneSoFar};
 use audit_model::Rule;
@@ -8,8 +8,8 @@ use audit_seen::{Gives, SeenNumber};
 use std::alloc::AllocError;
 
 impl LaneSoFar<'_> {
-    /// Asks that an address which another client had before is given before the departure, or at its request, where the answer leaves behind
-    /// the departure.
+    /// Adds constraints by which an address that another client had before is granted before the
+    /// departure, or at its request, if the response leaves after the departure.
     pub(crate) fn ask_soon(
         &self,
         departure: SeenNumber,
@@ -30,7 +30,7 @@ impl LaneSoFar<'_> {
         Ok(())
     }
 
-    /// Asks that a lease is given anew at its request, before the one that was there is over.
+    /// Adds a constraint by which a lease is renewed at its request, before the old lease expires.
     pub(crate) fn ask_own_early(
         &self,
         departure: SeenNumber,
@@ -45,7 +45,8 @@ impl LaneSoFar<'_> {
         Ok(())
     }
 
-    /// Asks that what the lane holds was given at its request, the latest leases first, so that it may be over.
+    /// Adds constraints by which the lane's leases were granted at their requests, the latest
+    /// leases first, so that they may have expired.
     pub(crate) fn ask_at_request(
         &self,
         departure: SeenNumber,
@@ -74,7 +75,8 @@ impl LaneSoFar<'_> {
         Ok(())
     }
 
-    /// Whether the lease of an answer isn't over before a departure where it is given as it leaves, and is where it is given at its request.
+    /// Whether the lease of a response expires before a departure if it is granted at its request,
+    /// but not if it is granted as the response leaves.
     fn may_be_over(&self, answer: SeenNumber, departure: SeenNumber) -> bool {
         let (Some(latest), Some(request)) = (
             self.input.latest_before(answer, departure),
@@ -86,7 +88,7 @@ impl LaneSoFar<'_> {
     }
 }
 
-/// Whether an answer gives an allocation for a time, or else something within one.
+/// Whether a response grants an allocation for a time, or else a lease within an allocation.
 fn is_lease(gives: Gives, is_of_allocation: bool) -> bool {
     match gives {
         Gives::Allocated { .. } | Gives::Refreshed { .. } => is_of_allocation,
@@ -95,7 +97,7 @@ fn is_lease(gives: Gives, is_of_allocation: bool) -> bool {
     }
 }
 
-/// Whether a rule asks for an allocation.
+/// Whether a rule requires an allocation.
 pub(crate) fn is_of_lease(refused: Refused) -> bool {
     matches!(
         refused,
@@ -103,7 +105,7 @@ pub(crate) fn is_of_lease(refused: Refused) -> bool {
     )
 }
 
-/// Whether a rule breaks over something that is in the table, or in another lane's.
+/// Whether a rule is violated by something that is in the table, or in another lane's table.
 pub(crate) fn is_of_what_is_there(refused: Refused) -> bool {
     matches!(
         refused,

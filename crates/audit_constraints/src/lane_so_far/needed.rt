@@ -1,4 +1,4 @@
-//! What a lane would need to act on a departure, and doesn't have.
+//! The constraints that a lane needs to act on a departure.
 
 use super::leases::{is_of_lease, is_of_what_is_there};
 use super::within::is_of_what_was_granted;
@@ -10,8 +10,8 @@ use audit_seen::{Gives, SeenNumber};
 use std::alloc::AllocError;
 
 impl LaneSoFar<'_> {
-    /// What the lane would need to act on a departure, the likeliest first: arrivals before it, its own or those of answers that may help;
-    /// or that it is another lane's.
+    /// The constraints under which the lane may act on a departure, the likeliest first: arrivals
+    /// placed before it, its own or those of responses that may help; or that it is another lane's.
     pub fn constraints(
         &self,
         departure: SeenNumber,
@@ -53,7 +53,7 @@ impl LaneSoFar<'_> {
         Ok(constraints)
     }
 
-    /// Asks for arrivals that the departure may answer.
+    /// Adds constraints for arrivals that the departure may answer.
     fn ask_own(
         &self,
         departure: SeenNumber,
@@ -67,7 +67,7 @@ impl LaneSoFar<'_> {
         self.ask_older(departure, &pools, constraints)
     }
 
-    /// Asks for the requests of answers that may help.
+    /// Adds constraints for the requests of responses that may help.
     fn ask_changes(
         &self,
         departure: SeenNumber,
@@ -117,7 +117,8 @@ impl LaneSoFar<'_> {
         Ok(())
     }
 
-    /// Asks for the first arrivals of a pool that stand behind a departure, and might stand before it.
+    /// Adds constraints for the first arrivals of a pool that are placed after a departure and
+    /// might be placed before it.
     pub(crate) fn ask_behind(
         &self,
         departure: SeenNumber,
@@ -143,7 +144,7 @@ impl LaneSoFar<'_> {
         Ok(())
     }
 
-    /// Whether a departure leaves from a relayed address that several lanes had.
+    /// Whether a departure leaves from a relayed address that another lane had.
     fn has_other_holders(&self, departure: SeenNumber) -> Result<bool, AllocError> {
         let input = self.input;
         let Some(Gives::Relayed { relayed, .. }) = input.gives(departure) else {
@@ -156,7 +157,7 @@ impl LaneSoFar<'_> {
     }
 }
 
-/// Whether a rule asks for something in the table.
+/// Whether a rule requires an entry of the table.
 fn is_of_table(refused: Refused) -> bool {
     matches!(
         refused,

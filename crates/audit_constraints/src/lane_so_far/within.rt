@@ -1,4 +1,4 @@
-//! Constraints about the allocation in which permissions and channels were given.
+//! Constraints about the allocation in which permissions and channels were granted.
 
 use super::{EACH, LaneSoFar};
 use audit_model::{Addr, Rule};
@@ -8,7 +8,8 @@ use audit_seen::{Gives, SeenNumber};
 use std::alloc::AllocError;
 
 impl LaneSoFar<'_> {
-    /// Asks that permissions and channels which a departure may need were given in the allocation that is there, rather than in the one before.
+    /// Adds constraints by which permissions and channels that a departure may need were granted in
+    /// the present allocation, not in the previous one.
     pub(crate) fn ask_within(
         &self,
         departure: SeenNumber,
@@ -36,7 +37,8 @@ impl LaneSoFar<'_> {
         Ok(())
     }
 
-    /// The answer to the request that ended a table, where that made another allocation, and its place among the changes.
+    /// The response to the request that ended a table, if it made another allocation, and its place
+    /// among the changes.
     fn maker_by(&self, previous: &Previous) -> Option<(usize, SeenNumber)> {
         for (place, (_, answer)) in self.changes.iter().enumerate().rev() {
             let is_maker = matches!(self.input.gives(*answer), Some(Gives::Allocated { .. }));
@@ -48,7 +50,8 @@ impl LaneSoFar<'_> {
         None
     }
 
-    /// Whether an answer that was given before a table was ended may help a departure, and leaves behind the request that ended the table.
+    /// Whether a response sent before a table ended may help a departure, and leaves after the
+    /// request that ended the table.
     fn may_be_within(
         &self,
         answer: SeenNumber,
@@ -64,7 +67,8 @@ impl LaneSoFar<'_> {
             && self.grants(answer, acted.arrival(), peer)
     }
 
-    /// Whether an answer to a request gives a permission or a channel for a peer; a channel, where the peer isn't known.
+    /// Whether a response to a request grants a permission or a channel for a peer. If the peer
+    /// isn't known, whether it grants a channel.
     fn grants(&self, answer: SeenNumber, request: SeenNumber, peer: Option<Addr>) -> bool {
         let gives = self.input.gives(answer);
         let is_channel = matches!(gives, Some(Gives::Bound));
@@ -79,7 +83,7 @@ impl LaneSoFar<'_> {
     }
 }
 
-/// Whether a rule asks for a permission or a channel of the allocation that is there.
+/// Whether a rule requires a permission or a channel of the present allocation.
 pub(crate) fn is_of_what_was_granted(refused: Refused) -> bool {
     matches!(
         refused,

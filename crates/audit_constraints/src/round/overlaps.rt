@@ -9,20 +9,20 @@ use audit_model::Addr;
 use audit_seen::{Gives, LaneNumber, SeenNumber, Slot};
 use std::alloc::AllocError;
 
-/// Nanoseconds of a second.
+/// The nanoseconds of a second.
 const SECOND: u64 = 1_000_000_000;
 
-/// An allocation, as the acts of a lane tell of it.
+/// An allocation, by the acts of its lane.
 #[derive(Clone, Copy, Debug)]
 struct Held {
     relayed: Addr,
-    /// Its first act, and the moment of that.
+    /// Its first act, and the moment of that act.
     born: Slot,
     since: u64,
     lane: LaneNumber,
-    /// The answer that tells of it.
+    /// The response that granted it.
     maker: SeenNumber,
-    /// The answer that gave its last lease, and the last moment of that.
+    /// The response that granted its last lease, and the last moment of that lease.
     answer: SeenNumber,
     last: u64,
     /// The act that ended it.
@@ -30,7 +30,7 @@ struct Held {
 }
 
 impl Held {
-    /// Whether it still has its address when another one begins.
+    /// Whether it still has its address when another allocation begins.
     fn overlaps(&self, next: &Held) -> bool {
         let is_ended = self.ended.is_some_and(|ended| ended < next.born);
         self.relayed == next.relayed
@@ -40,7 +40,7 @@ impl Held {
     }
 }
 
-/// Two lanes that hold an address at a time.
+/// Two lanes that have the same relayed address at the same time.
 #[derive(Clone, Copy, Debug)]
 pub struct Overlap {
     lane: LaneNumber,
@@ -51,21 +51,21 @@ pub struct Overlap {
 }
 
 impl Overlap {
-    /// The lane that holds it when the other one begins to.
+    /// The lane that has the address when the other allocation begins.
     pub fn lane(&self) -> LaneNumber
         ensures { result ≡ self.now.lane }
     {
         self.lane
     }
 
-    /// The answer that gave its last lease.
+    /// The response that granted the last lease of its allocation.
     pub fn answer(&self) -> SeenNumber
         ensures { result ≡ self.now.answer }
     {
         self.answer
     }
 
-    /// The answer that tells of its allocation.
+    /// The response that granted its allocation.
     pub fn maker(&self) -> SeenNumber
         ensures { result ≡ self.now.maker }
     {
@@ -79,7 +79,7 @@ impl Overlap {
         self.next_lane
     }
 
-    /// The answer that tells of the other lane's allocation.
+    /// The response that granted the other lane's allocation.
     pub fn next(&self) -> SeenNumber
         ensures { result ≡ self.now.next }
     {
@@ -87,25 +87,25 @@ impl Overlap {
     }
 }
 
-/// What the acts tell of allocations.
+/// The allocations by the acts.
 #[derive(Drop)]
 struct Holding {
-    /// How long a lease is held behind its end, in nanoseconds.
+    /// How long the server may keep a lease after its end, in nanoseconds.
     grace: u64,
-    /// By lane, the allocation that it has.
+    /// By lane, its present allocation.
     now: Vec<Option<Held>>,
-    /// Those that are over.
+    /// The allocations that have ended.
     over: Vec<Held>,
 }
 
 impl Holding {
-    /// The last moment of a lease of so many seconds.
+    /// The last moment of a lease of this number of seconds.
     fn last(&self, moment: u64, seconds: u32) -> u64 {
         let lease = u64::from(seconds).saturating_mul(SECOND);
         moment.saturating_add(lease).saturating_add(self.grace)
     }
 
-    /// Notes what an act does at a moment.
+    /// Records the effect of an act at a moment.
     fn note(&mut self, act: &Act, gives: Gives, moment: u64) -> Result<(), AllocError> {
         let (slot, lane, answer) = (act.slot(), act.lane(), act.departure());
         match gives {
@@ -132,7 +132,7 @@ impl Holding {
         }
     }
 
-    /// Notes an allocation, unless it is the one that its lane has.
+    /// Records an allocation, unless it is the present one of its lane.
     fn begin(&mut self, next: Held) -> Result<(), AllocError> {
         let Some(place) = self.now.get_mut(next.lane.index()) else {
             return Ok(());
@@ -147,7 +147,7 @@ impl Holding {
         Ok(())
     }
 
-    /// Notes that the allocation of a lane is ended.
+    /// Records that the allocation of a lane ended.
     fn end(&mut self, lane: LaneNumber, slot: Slot) -> Result<(), AllocError> {
         if let Some(held) = self
             .now
@@ -160,7 +160,7 @@ impl Holding {
         Ok(())
     }
 
-    /// All of them, by address, the first one first.
+    /// All allocations, by address, the first one first.
     fn all(self) -> Result<Vec<Held>, AllocError> {
         let Holding { now, mut over, .. } = self;
         for held in now.iter().flatten() {
@@ -172,7 +172,7 @@ impl Holding {
 }
 
 impl Round {
-    /// The lanes that hold an address when another one begins to. It takes n log n.
+    /// The lanes that have an address when another allocation of it begins. It takes n log n.
     pub fn overlaps(&self, reading: &Reading<'_>) -> Result<Vec<Overlap>, AllocError> {
         let alloc = reading.alloc();
         let mut holding = Holding {

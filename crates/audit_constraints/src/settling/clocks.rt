@@ -1,4 +1,4 @@
-//! How far interfaces' clocks are behind, by what their departures have to answer.
+//! How far the clocks of interfaces are slow, by what their departures have to answer.
 
 use super::Settling;
 use crate::round::Round;
@@ -9,8 +9,9 @@ use std::alloc::AllocError;
 const COPIES: usize = 16;
 
 impl Settling<'_> {
-    /// What the constraints that helped, and the pairs that can't be others, tell of the clocks: where one departure of an interface has to
-    /// stand so much behind the start of its window, all of its sightings do. Tells whether that is new.
+    /// Computes clock shifts from the constraints that helped and from the pairs that are unique.
+    /// If one departure of an interface must be at some distance after the start of its window, all
+    /// sightings of the interface are. Returns whether any shift is new.
     pub fn tell_clocks(&mut self, round: &Round) -> Result<bool, AllocError> {
         let mut is_new = false;
         let sights = self.reading.sights();
@@ -43,7 +44,7 @@ impl Settling<'_> {
         Ok(is_new)
     }
 
-    /// Whether no other arrival of its pool may be meant.
+    /// Whether no other arrival of its pool may be the one that is answered.
     fn is_alone(&self, arrival: SeenNumber) -> bool {
         let sights = self.reading.sights();
         let Some(arrives) = sights.get(arrival) else {

@@ -5,7 +5,7 @@ use audit_search_state::{Constraint, Constraints};
 use std::alloc::{AllocError, Global};
 use std::hash::{DefaultHasher, Hash, Hasher};
 
-/// A constraint that got its lane further, the others that were open then, and how far the lane had come.
+/// A constraint that got its lane further, the others that were open then, and the lane's level.
 #[derive(Drop)]
 struct Kept {
     constraint: Constraint,
@@ -16,17 +16,17 @@ struct Kept {
 /// The constraints of one lane.
 #[derive(Drop)]
 pub struct LaneConstraints {
-    /// Those that are open, the next one last; none are told yet where there is no list.
+    /// The constraints that are open, the next one last; `None` until they are computed.
     open: Option<Vec<Constraint>>,
-    /// The least moment of the departure at which the lane failed when these were told.
+    /// The least moment of the departure at which the lane failed when these were computed.
     level: u64,
-    /// The one that the round tries.
+    /// The constraint that the round tries.
     current: Option<Constraint>,
     kept: Vec<Kept>,
 }
 
 impl LaneConstraints {
-    /// None is told.
+    /// No constraints.
     pub fn none(alloc: Global) -> LaneConstraints {
         LaneConstraints {
             open: None,
@@ -36,17 +36,17 @@ impl LaneConstraints {
         }
     }
 
-    /// Has the round try one.
+    /// Sets the constraint that the round tries.
     pub fn set_current(&mut self, constraint: Constraint) {
         self.current = Some(constraint);
     }
 
-    /// The one that the round tried.
+    /// Takes the constraint that the round tried.
     pub fn take_current(&mut self) -> Option<Constraint> {
         self.current.take()
     }
 
-    /// Keeps one that got the lane further.
+    /// Keeps a constraint that got the lane further.
     pub fn keep(&mut self, alloc: Global, constraint: Constraint) -> Result<(), AllocError> {
         self.kept.push(Kept {
             constraint,
@@ -56,7 +56,7 @@ impl LaneConstraints {
         Ok(())
     }
 
-    /// Opens those that the lane would need where it failed, unless there are open ones.
+    /// Opens the constraints that the failed lane needs, unless there are open ones.
     pub fn open(&mut self, alloc: Global, failed: &LaneFault) -> Result<(), AllocError> {
         if self.open.is_none() {
             let mut open = Vec::from_slice(alloc, failed.constraints())?;
@@ -67,13 +67,13 @@ impl LaneConstraints {
         Ok(())
     }
 
-    /// Whether a constraint got the lane no further, and won't with another one.
+    /// Whether a constraint got the lane no further, and can't together with another one.
     pub fn is_stuck(&self, constraint: Constraint, failed: &LaneFault) -> bool {
         failed.fault().low() <= self.level && !self.is_half(constraint, failed.constraints())
     }
 
-    /// Whether a constraint that didn't get its lane further may with another one of its kind that is told now: a departure that got an older arrival
-    /// left its own to another departure.
+    /// Whether a constraint that didn't get its lane further may do so together with a new one of
+    /// its kind: a departure that got an older arrival left its own arrival to another departure.
     fn is_half(&self, constraint: Constraint, told: &[Constraint]) -> bool {
         let is_new = |other: &Constraint| {
             let is_open = self.open.as_ref().is_some_and(|open| open.contains(other));
@@ -83,7 +83,8 @@ impl LaneConstraints {
         constraint.is_of_answers() && told.iter().any(is_new)
     }
 
-    /// The next constraint that is open. Where none is, the last one that was kept is taken back, and the ones that were open then go on.
+    /// The next open constraint. If none is open, withdraws the last one that was kept, and
+    /// continues with those that were open then.
     pub fn next(&mut self, round: &mut Constraints) -> Option<Constraint> {
         for _ in 0..=self.kept.len() {
             if let Some(constraint) = self.open.as_mut().and_then(|open| open.pop()) {

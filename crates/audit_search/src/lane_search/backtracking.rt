@@ -1,4 +1,4 @@
-//! Backtracking to a choice, or to the farthest departure that no way leads past.
+//! Backtracking to a choice, or to the farthest departure that no way passes.
 
 use super::{Choice, Farthest, LaneSearch, STEPS};
 use audit_constraints::LaneSoFar;
@@ -10,17 +10,17 @@ use audit_seen::{Gives, SeenNumber};
 use std::alloc::AllocError;
 use std::collections::BTreeMap;
 
-/// How many times the hold a choice is kept.
+/// How long a choice is kept, in multiples of the hold.
 const REACH: u64 = 64;
 
-/// About how many steps and entries of tables are kept for backtracking.
+/// The approximate number of steps and table entries that are kept for backtracking.
 const TRAIL: u64 = 65_536;
 
-/// How many constraints a lane has at the most.
+/// The most constraints of a lane.
 const CONSTRAINTS: usize = 64;
 
 impl LaneSearch<'_> {
-    /// Forgets the choices that were made long ago, and those behind which too much is noted.
+    /// Forgets the choices that were made long ago, and those followed by too many recorded steps.
     pub fn forget_old_choices(&mut self, departure: SeenNumber, budget: u64) {
         if self.lane.steps() >= budget {
             self.stack.clear();
@@ -45,7 +45,7 @@ impl LaneSearch<'_> {
         }
     }
 
-    /// Notes what the lane would need to act on a departure.
+    /// Records the constraints that may help the lane to act on a departure.
     pub fn ask(&mut self, departure: SeenNumber, refused: Refused) -> Result<(), AllocError> {
         let is_new = self.asked.iter().all(|asked| asked.0 != departure);
         if is_new && self.asked.len() < AHEAD {
@@ -55,7 +55,8 @@ impl LaneSearch<'_> {
         Ok(())
     }
 
-    /// What the lane would need: for the departure where it came farthest, and then for the others.
+    /// The constraints of the lane: for the departure where it came farthest, and then for the
+    /// others.
     pub fn constraints(&self) -> Result<Vec<Constraint>, AllocError> {
         let mut constraints: Vec<Constraint> = Vec::new(self.lane.input().alloc());
         let Some(fault) = self.fault else {
@@ -106,7 +107,7 @@ impl LaneSearch<'_> {
         }
     }
 
-    /// Notes that it came farthest here, and how.
+    /// Records that this is the farthest departure, and the ways to it.
     fn note_farthest(&mut self) -> Result<(), AllocError> {
         let mut chosen = BTreeMap::new(self.lane.input().alloc());
         for (place, number) in &self.chosen {
@@ -120,7 +121,8 @@ impl LaneSearch<'_> {
         Ok(())
     }
 
-    /// Takes out the newest choice that may mend what was refused: where that is for the allocation, one that makes or ends an allocation.
+    /// Removes the newest choice that may avoid the refusal: if that is about the allocation, one
+    /// that makes or ends an allocation.
     fn newest_choice(&mut self, refused: Refused) -> Option<Choice> {
         let is_of_allocation = is_of_allocation(refused);
         for _ in 0..self.stack.len() {
@@ -132,7 +134,7 @@ impl LaneSearch<'_> {
         None
     }
 
-    /// Forgets which ways were taken from a place on.
+    /// Forgets which ways were taken from an index on.
     fn forget_behind(&mut self, place: usize) {
         self.chosen.retain(|other, _| *other < place);
     }
@@ -163,7 +165,7 @@ impl LaneSearch<'_> {
         self.is_replaying = true;
     }
 
-    /// Notes the departure on which the lane couldn't act, and acts on it all the same.
+    /// Records the departure on which the lane couldn't act, and acts on it nevertheless.
     pub fn blame(&mut self, departure: SeenNumber) -> Result<(), AllocError> {
         let refused = self.lane.act_likely(departure)?;
         self.ask(departure, refused)?;
@@ -174,7 +176,7 @@ impl LaneSearch<'_> {
     }
 }
 
-/// What a lane would need to act on a departure.
+/// The constraints that may help a lane to act on a departure.
 fn needed(
     lane: &Lane<'_>,
     departure: SeenNumber,
@@ -184,7 +186,7 @@ fn needed(
     so_far.constraints(departure, refused)
 }
 
-/// Whether a rule asks for an allocation, for none, or for another one.
+/// Whether a rule requires an allocation, no allocation, or another one.
 fn is_of_allocation(refused: Refused) -> bool {
     matches!(
         refused,

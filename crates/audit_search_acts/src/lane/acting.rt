@@ -1,4 +1,4 @@
-//! Acts of a lane, now or in a table that was ended.
+//! Acts of a lane, in the present table or in a table that ended.
 
 use super::{Attempt, Lane};
 use audit_model::Rule;
@@ -7,7 +7,7 @@ use audit_search_state::{Acted, End, Previous, Refused, Turn};
 use audit_seen::{Gives, Seen, SeenNumber, Slot};
 use std::alloc::AllocError;
 
-/// What an act does to the table.
+/// The effect of an act on the table.
 #[derive(Clone, Copy, Debug, PartialEq, Eq)]
 pub(crate) enum Does {
     Nothing,
@@ -28,7 +28,8 @@ impl Lane<'_> {
         }
     }
 
-    /// Acts on a departure at a slot, in the table as it is, or before that where that is asked for; tells why it can't.
+    /// Acts on a departure at a slot, in the present table, or earlier if a constraint requires
+    /// that; returns why it can't.
     pub fn act_now(
         &mut self,
         departure: SeenNumber,
@@ -65,8 +66,8 @@ impl Lane<'_> {
         }
     }
 
-    /// A copy of a table that is to be kept as it was before an act, which counts as steps. Where there were too many of them, what was before
-    /// an allocation's end is lost.
+    /// A copy of a table as it was before an act, which counts as steps. If there were too many
+    /// steps, the table before an allocation's end isn't kept.
     pub(crate) fn kept(
         &mut self,
         table: &LaneTable,
@@ -86,7 +87,7 @@ impl Lane<'_> {
         Ok(Some(table.copied(self.input.alloc())?))
     }
 
-    /// Notes an act that was accepted now.
+    /// Records an accepted act in the present table.
     pub(crate) fn accept(
         &mut self,
         departure: SeenNumber,
@@ -118,7 +119,7 @@ impl Lane<'_> {
         self.state.act(departure, acted)
     }
 
-    /// About how many entries a request adds to the table.
+    /// The approximate number of entries that a request adds to the table.
     fn weight_of(&self, arrival: SeenNumber) -> u64 {
         match self.input.sighting(arrival) {
             Some(sighting) => (sighting.payload.as_slice().len() / 12) as u64,

@@ -6,8 +6,8 @@ use audit_seen::{Gives, SeenNumber, Slot};
 use std::alloc::AllocError;
 
 impl Lane<'_> {
-    /// Whether a departure that changes the table may have been given before the last table was ended, or behind another answer that
-    /// makes or ends an allocation.
+    /// Whether a departure that changes the table may have been sent before the last table ended,
+    /// or after another response that makes or ends an allocation.
     pub fn is_ambiguous(&mut self, departure: SeenNumber) -> Result<bool, AllocError> {
         let Some(gives) = self.input.gives(departure) else {
             return Ok(false);
@@ -36,7 +36,8 @@ impl Lane<'_> {
         Ok(false)
     }
 
-    /// Whether such a departure is rather to a request before that which ended the last table.
+    /// Whether such a departure more likely answers a request before the one that ended the last
+    /// table.
     pub fn is_rather_earlier(&mut self, departure: SeenNumber) -> Result<bool, AllocError> {
         match self.input.gives(departure) {
             Some(gives) => self.is_earlier(departure, gives),

@@ -1,4 +1,4 @@
-//! Acts of a lane in tables that were ended.
+//! Acts of a lane in tables that ended.
 
 use super::acting::Does;
 use super::{Attempt, Lane};
@@ -8,7 +8,7 @@ use audit_search_state::{Acted, End, Refused, Turn, relayed_of};
 use audit_seen::{Gives, Seen, SeenNumber, Slot};
 use std::alloc::AllocError;
 
-/// Why an answer can't be given before a table was ended, whatever it answers.
+/// Why a response can't be sent before a table ended, whichever request it answers.
 fn refused_before_end(gives: Option<Gives>, does: Does, is_usable: bool) -> Option<Refused> {
     match gives {
         Some(Gives::Deleted) if is_usable => Some(Refused::Rule(Rule::NoAllocation)),
@@ -20,7 +20,7 @@ fn refused_before_end(gives: Option<Gives>, does: Does, is_usable: bool) -> Opti
 }
 
 impl Lane<'_> {
-    /// Acts on a departure right before a table was ended; tells why it can't.
+    /// Acts on a departure right before a table ended; returns why it can't.
     pub(crate) fn act_before_end(
         &mut self,
         departure: SeenNumber,
@@ -54,7 +54,8 @@ impl Lane<'_> {
         Ok(None)
     }
 
-    /// Acts on a departure in a table that was ended; gives the arrival, and what is kept of the table before it.
+    /// Acts on a departure in a table that ended; returns the arrival, and the copy of the table
+    /// before the act.
     fn attempt_before_end(
         &mut self,
         table: &mut LaneTable,
@@ -78,8 +79,8 @@ impl Lane<'_> {
         }
     }
 
-    /// Acts on a departure that changes nothing at its arrival, or right behind the last change since, in a table that was ended after that;
-    /// tells why it can't.
+    /// Acts on a departure that changes nothing at its arrival, or right after the last change
+    /// since then, in a table that ended after that; returns why it can't.
     pub(crate) fn act_at_arrival_before_end(
         &mut self,
         departure: SeenNumber,
@@ -107,7 +108,7 @@ impl Lane<'_> {
         Ok(Some(Refused::NoArrival))
     }
 
-    /// Acts on a departure that changes nothing in a table that was ended; tells whether it could.
+    /// Acts on a departure that changes nothing in a table that ended; returns whether it could.
     fn judge_before_end(
         &mut self,
         departure: SeenNumber,

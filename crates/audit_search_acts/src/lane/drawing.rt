@@ -1,4 +1,4 @@
-//! Acts that are pending, drawn forward so that a departure is accepted.
+//! Pending acts that are moved before a departure so that the rules accept it.
 
 use super::Lane;
 use audit_model::Rule;
@@ -6,27 +6,27 @@ use audit_search_state::Refused;
 use audit_seen::{SeenNumber, Slot};
 use std::alloc::AllocError;
 
-/// How many acts are drawn forward for one departure.
+/// How many acts are moved before one departure.
 pub(crate) const DEPTH: usize = 4;
 
-/// How many sequences of acts are gone on with.
+/// How many sequences of acts are continued.
 const BREADTH: usize = 32;
 
-/// Answers that are given in this order, before a departure.
+/// Responses that are sent in this order, before a departure.
 pub type Draw = Vec<SeenNumber>;
 
-/// What came of giving the answers of a draw and the departure.
+/// The result of sending the responses of a draw and then the departure.
 #[derive(Clone, Copy, Debug)]
 enum Drawn {
-    /// One of the answers can't be given so, which one and why.
+    /// This response can't be sent there, and why.
     Stuck(SeenNumber, Refused),
-    /// They can, and the departure can't.
+    /// They can be sent, and the departure can't.
     Refused(Refused),
     Accepted,
 }
 
 impl Lane<'_> {
-    /// The draws after which a departure is accepted, of one length: the shortest there are, behind those of some length.
+    /// The shortest draws after which a departure is accepted, all of one length.
     pub(crate) fn draws(
         &mut self,
         departure: SeenNumber,
@@ -47,7 +47,7 @@ impl Lane<'_> {
         Ok(found)
     }
 
-    /// Those that go on by one act from some draws; what is accepted goes to `found`.
+    /// Continues some draws by one act; accepted draws go to `found`.
     fn longer(
         &mut self,
         departure: SeenNumber,
@@ -71,7 +71,7 @@ impl Lane<'_> {
         Ok(next)
     }
 
-    /// A draw with one act more, in each way that may help.
+    /// A draw with one more act, in each way that may help.
     fn extended(
         &mut self,
         departure: SeenNumber,
@@ -94,7 +94,7 @@ impl Lane<'_> {
                     }
                 }
             }
-            // Only an answer that waits for another one is worth that one.
+            // Another answer is drawn only before one that waits for it.
             Drawn::Stuck(answer, refused) if is_waiting(refused) => {
                 for before in self.pending(departure, refused)? {
                     if !draw.contains(&before) {
@@ -107,7 +107,7 @@ impl Lane<'_> {
         Ok(found)
     }
 
-    /// A draw with one answer before another one of it.
+    /// A draw with one response inserted before another one of it.
     fn with_before(
         &self,
         draw: &Draw,
@@ -124,7 +124,7 @@ impl Lane<'_> {
         Ok(longer)
     }
 
-    /// Gives the answers of a draw and the departure, and takes all of that back.
+    /// Sends the responses of a draw and the departure, and undoes all of that.
     fn try_draw(&mut self, departure: SeenNumber, draw: &Draw) -> Result<Drawn, AllocError> {
         let mark = self.state.mark();
         let drawn = self.give_all(departure, draw)?;

@@ -1,4 +1,4 @@
-//! Acts of a lane before its departures leave: at their arrivals, or before a table was ended.
+//! Acts of a lane before its departures leave: at their arrivals, or before a table ended.
 
 use super::Lane;
 use super::acting::Does;
@@ -9,8 +9,8 @@ use audit_seen::{Gives, Seen, SeenNumber, Slot};
 use std::alloc::AllocError;
 
 impl Lane<'_> {
-    /// Acts on an answer that makes or keeps an allocation, or binds a channel, at its request, or right behind the last act; tells whether
-    /// it did.
+    /// Acts on a response that makes or keeps an allocation, or binds a channel, at its request, or
+    /// right after the last act; returns whether it did.
     pub(crate) fn act_early(
         &mut self,
         departure: SeenNumber,
@@ -57,7 +57,8 @@ impl Lane<'_> {
         }
     }
 
-    /// Acts at their requests on the answers that leave behind a departure, and of which that is asked.
+    /// Acts, at their requests, on the responses that leave after a departure and that constraints
+    /// require so early.
     pub fn act_on_asked(&mut self, departure: SeenNumber) -> Result<(), AllocError> {
         let input = self.input;
         if !input.constraints().has_early() {
@@ -74,7 +75,8 @@ impl Lane<'_> {
         Ok(())
     }
 
-    /// Judges an act in the lane's table, and changes that; gives what is kept of the table before it, or the rule that it breaks.
+    /// Judges an act in the lane's table, and changes the table by it; returns the copy of the
+    /// table before it, or the rule that the act violates.
     fn judge_here(
         &mut self,
         departure: SeenNumber,
@@ -94,7 +96,8 @@ impl Lane<'_> {
         }
     }
 
-    /// Acts on a departure at its arrival, or right behind the last act, when a lease wasn't over; tells why it can't.
+    /// Acts on a departure at its arrival, or right after the last act, when a lease hadn't
+    /// expired; returns why it can't.
     pub(crate) fn act_at_arrival(
         &mut self,
         departure: SeenNumber,
@@ -117,8 +120,8 @@ impl Lane<'_> {
         Ok(Some(Refused::NoArrival))
     }
 
-    /// Acts on a departure right behind an arrival; or, where the table changed since, right behind that change, and behind the last act if it
-    /// changes the table itself. Tells whether it did.
+    /// Acts on a departure right after an arrival; or, if the table changed since then, right after
+    /// that change, and after the last act if it changes the table itself. Returns whether it did.
     fn act_at(
         &mut self,
         departure: SeenNumber,

@@ -1,4 +1,4 @@
-//! Departures on which a lane can't act: by which arrival they are given all the same.
+//! Departures on which a lane can't act by the rules, and the arrivals that are used for them.
 
 use super::Lane;
 use audit_model::Rule;
@@ -9,7 +9,8 @@ use std::alloc::AllocError;
 /// How many arrivals of a pool are looked at.
 const LOOKED_AT: usize = 16;
 
-/// An arrival that a departure may answer: one that is unused rather than not, and one within the hold, and the last one of these.
+/// An arrival that a departure may answer. An unused one is preferred, then one within the hold,
+/// then the last one.
 #[derive(Clone, Copy, Debug, PartialEq, Eq, PartialOrd, Ord)]
 struct Likely {
     is_unused: bool,
@@ -19,13 +20,15 @@ struct Likely {
 }
 
 impl Lane<'_> {
-    /// The pools that a departure may answer, by the allocation that is there, those that the lane had, or any.
+    /// The pools that a departure may answer: those of the present allocation, those of the lane's
+    /// other allocations, or any.
     fn any_pools(&self, departure: SeenNumber) -> Result<Vec<PoolRef>, AllocError> {
         let now = relayed_of(self.state.table());
         self.input.any_pools(self.number, departure, now)
     }
 
-    /// Acts on a departure by the arrival that it most likely answers, although it may not; tells why it may not.
+    /// Acts on a departure by the arrival that it most likely answers, against the rules; returns
+    /// which rule refuses it.
     pub fn act_likely(&mut self, departure: SeenNumber) -> Result<Refused, AllocError> {
         let mut best: Option<Likely> = None;
         for pool in self.any_pools(departure)? {
@@ -52,7 +55,8 @@ impl Lane<'_> {
         Ok(refused.unwrap_or(Refused::NoArrival))
     }
 
-    /// The arrival of a pool that a departure most likely answers: an unused one, within the hold, the last one.
+    /// The arrival of a pool that a departure most likely answers: an unused one, within the hold,
+    /// the last one.
     fn likely(&self, departure: SeenNumber, pool: PoolRef) -> Option<Likely> {
         let all = self.input.views().arrivals(self.number, pool);
         let rank = self.input.rank(departure);
@@ -71,7 +75,7 @@ impl Lane<'_> {
         best
     }
 
-    /// The last data of the client, for what leaves from a relayed address.
+    /// The last data of the client, for a departure from a relayed address.
     fn last_sent(&self, departure: SeenNumber) -> Option<SeenNumber> {
         if !matches!(self.input.gives(departure), Some(Gives::Relayed { .. })) {
             return None;
@@ -104,8 +108,8 @@ impl Lane<'_> {
         self.state.act(departure, acted)
     }
 
-    /// Whether no order helps a departure that is refused: a response that nobody asked for, or one that doesn't answer its only request for what
-    /// the two say, whatever the server has.
+    /// Whether no order helps a departure that is refused: a response without a request, or one
+    /// that doesn't answer its only request by the content of the two, whatever the server has.
     pub fn is_hopeless(&self, departure: SeenNumber, refused: Refused) -> bool {
         let Some(pool) = self.input.response_ref(departure) else {
             return false;
@@ -117,7 +121,8 @@ impl Lane<'_> {
         }
     }
 
-    /// Acts on a departure behind the lane's fault: by the rules where they allow it, else by any arrival.
+    /// Acts on a departure after the lane's fault: by the rules if they allow it, else by any
+    /// arrival.
     pub fn act_anyhow(&mut self, departure: SeenNumber) -> Result<(), AllocError> {
         let slot = Slot::before(self.input.rank(departure));
         let moment = self.input.at(departure);
@@ -133,7 +138,7 @@ impl Lane<'_> {
     }
 }
 
-/// Whether a rule asks for nothing that the server has or had, in each answer that asks for it.
+/// Whether a rule is about content alone, not about what the server has or had, in all responses.
 fn is_of_content(refused: Refused) -> bool {
     matches!(
         refused,

@@ -6,7 +6,7 @@ use audit_seen::{SeenNumber, Slot};
 use std::alloc::AllocError;
 
 impl Lane<'_> {
-    /// Acts by a plan; tells whether it could.
+    /// Acts by a plan; returns whether it could.
     pub fn follow(&mut self, departure: SeenNumber, plan: &Plan) -> Result<bool, AllocError> {
         match plan {
             Plan::Now => self.follow_draw(departure, &[]),

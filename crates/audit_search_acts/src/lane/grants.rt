@@ -1,4 +1,4 @@
-//! Plans in which answers that are pending grant what a departure needs, earlier than it leaves.
+//! Plans in which pending responses grant what a departure needs, before they leave.
 
 use super::Lane;
 use super::drawing::Draw;
@@ -9,7 +9,8 @@ use audit_seen::{Gives, SeenNumber};
 use std::alloc::AllocError;
 
 impl Lane<'_> {
-    /// Adds that answers which are pending are given at their requests, and the departure at its arrival behind them, before a lease was over.
+    /// Adds the plan that pending responses are sent at their requests, and the departure at its
+    /// arrival after them, before a lease expired.
     pub(crate) fn add_at_arrivals(
         &mut self,
         departure: SeenNumber,
@@ -31,7 +32,7 @@ impl Lane<'_> {
         Ok(())
     }
 
-    /// Acts by such a plan; tells whether it could.
+    /// Acts by such a plan; returns whether it could.
     pub(crate) fn follow_at_arrivals(
         &mut self,
         departure: SeenNumber,
@@ -45,7 +46,8 @@ impl Lane<'_> {
         Ok(self.act_at_arrival(departure)?.is_none())
     }
 
-    /// Adds that answers which are pending are given before a table was ended, and the departure behind them.
+    /// Adds the plan that pending responses are sent before a table ended, and the departure after
+    /// them.
     pub(crate) fn add_grants_before_end(
         &mut self,
         departure: SeenNumber,
@@ -72,7 +74,7 @@ impl Lane<'_> {
         Ok(())
     }
 
-    /// Acts by such a plan; tells whether it could.
+    /// Acts by such a plan; returns whether it could.
     pub(crate) fn follow_before_end(
         &mut self,
         departure: SeenNumber,
@@ -88,7 +90,7 @@ impl Lane<'_> {
     }
 }
 
-/// Whether a rule asks for a permission or a channel.
+/// Whether a rule requires a permission or a channel.
 pub(crate) fn is_of_grants(refused: Refused) -> bool {
     matches!(refused, Refused::Rule(Rule::NoPermission | Rule::NoChannel))
 }

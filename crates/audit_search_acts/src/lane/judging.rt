@@ -8,7 +8,7 @@ use audit_seen::{SeenNumber, Slot};
 use std::alloc::AllocError;
 
 impl Lane<'_> {
-    /// Judges an act, and changes the table by it; gives the rule that it breaks.
+    /// Judges an act, and changes the table by it; returns the rule that it violates.
     pub(crate) fn judge(
         &mut self,
         table: &mut LaneTable,
@@ -34,7 +34,7 @@ impl Lane<'_> {
         };
         let alloc = self.input.alloc();
         let policy = self.input.policy();
-        // Only responses are judged by users, and data isn't to be read for them.
+        // Only responses are judged by users; the user isn't looked up for data.
         let is_response = self
             .input
             .seen(departure)

@@ -1,4 +1,4 @@
-//! Allocations that have to be over by a deadline.
+//! Allocations that must end by a deadline.
 
 use super::Lane;
 use audit_search_input::{AHEAD, Deadline};
@@ -7,7 +7,7 @@ use audit_seen::Gives;
 use std::alloc::AllocError;
 
 impl Lane<'_> {
-    /// Ends an allocation by its deadline, if the answer that tells of its end is pending.
+    /// Ends an allocation by its deadline, if the response that deletes it is pending.
     pub fn meet(&mut self, deadline: Deadline) -> Result<(), AllocError> {
         let (slot, moment, maker) = (deadline.slot(), deadline.moment(), deadline.maker());
         if !self.state.is_acted(maker) && self.state.table().running().is_none() {

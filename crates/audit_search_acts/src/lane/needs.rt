@@ -1,4 +1,4 @@
-//! Which answers that are pending may help where a rule refuses an act.
+//! Pending responses that may help if a rule refuses an act.
 
 use super::Lane;
 use audit_search_input::{helps, names, peer_of};
@@ -7,7 +7,8 @@ use audit_seen::{Gives, SeenNumber, Slot};
 use std::alloc::AllocError;
 
 impl Lane<'_> {
-    /// The answers behind a departure that change the table, aren't given yet, and leave within the hold of it.
+    /// The responses after a departure that change the table, aren't sent yet, and leave within the
+    /// hold of it.
     pub(crate) fn pending_behind(
         &self,
         departure: SeenNumber,
@@ -16,7 +17,7 @@ impl Lane<'_> {
             .pending_behind(self.changes.as_slice(), &self.state, departure)
     }
 
-    /// Those of them that may help where an act for the departure was refused.
+    /// The pending responses that may help an act for the departure that was refused.
     pub(crate) fn pending(
         &mut self,
         departure: SeenNumber,

@@ -1,4 +1,4 @@
-//! In which ways a departure may be acted on.
+//! The ways to act on a departure.
 
 use super::Lane;
 use super::drawing::Draw;
@@ -8,7 +8,7 @@ use audit_search_state::{Constraint, Refused};
 use audit_seen::{Gives, SeenNumber, Slot};
 use std::alloc::AllocError;
 
-/// How many tables that were ended are looked at.
+/// How many tables that ended are looked at.
 pub const PREVIOUS: usize = 16;
 
 /// One way to act on a departure.
@@ -18,20 +18,20 @@ pub enum Plan {
     Now,
     /// At its arrival.
     AtArrival,
-    /// At its arrival, behind others that are pending, at theirs.
+    /// At its arrival, after pending responses at their requests.
     BehindAtArrivals(Draw),
-    /// Right before a table was ended.
+    /// Right before a table ended.
     BeforeEnd(usize),
-    /// At its arrival, in a table that was ended since.
+    /// At its arrival, in a table that ended later.
     AtArrivalBeforeEnd(usize),
-    /// Right before a table was ended, behind others that are pending.
+    /// Right before a table ended, after pending responses.
     BehindBeforeEnd(Draw, usize),
-    /// Right before it leaves, behind others that are pending.
+    /// Right before it leaves, after pending responses.
     Behind(Draw),
 }
 
 impl Lane<'_> {
-    /// Why a departure can't be acted on now, if it can't.
+    /// Why a departure can't be acted on now, or `None`.
     pub fn refused_now(&mut self, departure: SeenNumber) -> Result<Option<Refused>, AllocError> {
         let mark = self.state.mark();
         let slot = Slot::before(self.input.rank(departure));
@@ -40,7 +40,7 @@ impl Lane<'_> {
         Ok(refused)
     }
 
-    /// The ways in which a departure may be acted on, the best first.
+    /// The ways to act on a departure, the best first.
     pub fn plans(&mut self, departure: SeenNumber, limit: u64) -> Result<Vec<Plan>, AllocError> {
         let mut plans = Vec::new(self.input.alloc());
         let gives = self.input.gives(departure).unwrap_or(Gives::Other);
@@ -76,7 +76,7 @@ impl Lane<'_> {
         Ok(plans)
     }
 
-    /// Adds the tables that were ended and in which the departure may be acted on, the last one first.
+    /// Adds the tables that ended in which the departure may be acted on, the last one first.
     fn add_previous(
         &mut self,
         departure: SeenNumber,
@@ -110,7 +110,7 @@ impl Lane<'_> {
         Ok(())
     }
 
-    /// The last tables that were ended no longer than the hold ago, the last one first.
+    /// The tables that ended no longer than the hold ago, at most `PREVIOUS`, the last one first.
     fn recent(&self) -> Result<Vec<usize>, AllocError> {
         let mut found = Vec::new(self.input.alloc());
         let count = self.state.ended();
@@ -139,7 +139,8 @@ impl Lane<'_> {
         Ok(())
     }
 
-    /// Whether an answer that makes or ends an allocation is rather to a request before that which ended the last table.
+    /// Whether a response that makes or ends an allocation more likely answers a request before the
+    /// one that ended the last table.
     pub(crate) fn is_earlier(
         &mut self,
         departure: SeenNumber,
@@ -167,7 +168,7 @@ impl Lane<'_> {
             return Ok(false);
         };
         let (end, by) = (last.end().slot(), last.end().arrival());
-        // An allocation that is asked to have been made early is to be over early, too.
+        // If a constraint makes an allocation early, its end is early, too.
         let is_asked = match input.matched_to(by) {
             Some(answer) => input.constraints().is_early_itself(answer),
             None => false,
@@ -179,7 +180,7 @@ impl Lane<'_> {
         Ok(Slot::behind(rank) < end && rank < input.rank(by))
     }
 
-    /// Whether the requests of answers that are pending stand before that of an answer that is refused.
+    /// Whether the requests of pending responses come before the request of a refused response.
     fn draws_first(
         &mut self,
         departure: SeenNumber,
@@ -208,7 +209,7 @@ impl Lane<'_> {
     }
 }
 
-/// Whether a lease was over.
+/// Whether the refusal is an expired lease.
 fn is_over(refused: Refused) -> bool {
     matches!(
         refused,

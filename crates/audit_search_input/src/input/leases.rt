@@ -1,19 +1,20 @@
-//! By when answers may be given whose leases are over before a departure.
+//! The last moments of responses whose leases must expire before a departure.
 
 use super::SearchInput;
 use audit_seen::{Gives, SeenNumber, Slot};
 
-/// Nanoseconds of a second.
+/// The nanoseconds of a second.
 const SECOND: u64 = 1_000_000_000;
 
-/// How long a permission lasts, in seconds (RFC 8656, section 9).
+/// The lifetime of a permission, in seconds (RFC 8656, section 9).
 const PERMISSION: u64 = 300;
 
-/// How long a channel lasts, in seconds (RFC 8656, section 12).
+/// The lifetime of a channel binding, in seconds (RFC 8656, section 12).
 const CHANNEL: u64 = 600;
 
 impl SearchInput<'_> {
-    /// The last moment at which an answer may be given whose lease is over before a departure.
+    /// The last moment at which a response may be sent so that its lease expires before a
+    /// departure.
     pub fn latest_before(&self, answer: SeenNumber, departure: SeenNumber) -> Option<u64> {
         let lease = lease_of(self.gives(answer)?)?;
         let grace = self.policy().grace;
@@ -21,7 +22,8 @@ impl SearchInput<'_> {
         until.checked_sub(grace)?.checked_sub(1)
     }
 
-    /// The latest slot, and its moment, at which an answer is given whose lease is over before a departure.
+    /// The latest slot, and its moment, at which a response may be sent so that its lease expires
+    /// before a departure.
     pub fn slot_before(&self, answer: SeenNumber, departure: SeenNumber) -> Option<(Slot, u64)> {
         let latest = self.latest_before(answer, departure)?;
         let order = self.in_order();
@@ -31,7 +33,8 @@ impl SearchInput<'_> {
     }
 }
 
-/// How long the lease is that an answer gives, in nanoseconds (RFC 8656, sections 7.2, 9 and 12).
+/// The length of the lease that a response grants, in nanoseconds (RFC 8656, sections 7.2, 9 and
+/// 12).
 fn lease_of(gives: Gives) -> Option<u64> {
     let seconds = match gives {
         Gives::Allocated { seconds, .. } | Gives::Refreshed { seconds } => u64::from(seconds),

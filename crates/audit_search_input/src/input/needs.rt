@@ -1,4 +1,4 @@
-//! Which answers may help where a rule refuses an act.
+//! Which responses may help if a rule refuses an act.
 
 use super::SearchInput;
 use audit_content::names_peer;
@@ -7,10 +7,10 @@ use audit_search_state::{Refused, State};
 use audit_seen::{Gives, SeenNumber};
 use std::alloc::AllocError;
 
-/// How many answers are looked at that are pending.
+/// How many pending responses are looked at.
 pub const AHEAD: usize = 16;
 
-/// Whether an answer that changes the table may help where an act was refused.
+/// Whether a response that changes the table may help if an act was refused.
 pub fn helps(refused: Refused, gives: Gives) -> bool {
     let is_made = matches!(gives, Gives::Allocated { .. });
     let is_ended = matches!(gives, Gives::Deleted);
@@ -34,7 +34,7 @@ pub fn helps(refused: Refused, gives: Gives) -> bool {
     }
 }
 
-/// The peer that data goes to or comes from, where the departure tells.
+/// The peer to which data goes or from which it comes, if the departure names one.
 pub fn peer_of(gives: Option<Gives>) -> Option<Addr> {
     match gives {
         Some(Gives::Data { peer, .. } | Gives::Relayed { peer, .. }) => Some(peer),
@@ -42,13 +42,14 @@ pub fn peer_of(gives: Option<Gives>) -> Option<Addr> {
     }
 }
 
-/// Whether a request names a peer of that IP.
+/// Whether a request names a peer with this IP address.
 pub fn names(payload: &[u8], ip: u32) -> bool {
     names_peer(payload, ip)
 }
 
 impl SearchInput<'_> {
-    /// Those of a lane's answers that change its table which stand behind a departure, aren't given yet, and leave within the hold of it.
+    /// The responses of a lane after a departure that change its table, aren't sent yet, and leave
+    /// within the hold of it.
     pub fn pending_behind(
         &self,
         changes: &[(u32, SeenNumber)],

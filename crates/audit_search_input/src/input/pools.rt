@@ -1,4 +1,4 @@
-//! The pools that departures of a lane may answer, whatever it has.
+//! The pools that departures of a lane may answer, whatever allocation it has.
 
 use super::SearchInput;
 use audit_model::Addr;
@@ -12,7 +12,8 @@ impl SearchInput<'_> {
         Some(PoolRef::own(self.seen(departure)?.response_pool()?))
     }
 
-    /// The pools that a departure of a lane may answer, by the address that the lane has now, those that it had, or any.
+    /// The pools that a departure of a lane may answer: those of the lane's present address, those
+    /// of its other addresses, or any.
     pub fn any_pools(
         &self,
         lane: LaneNumber,

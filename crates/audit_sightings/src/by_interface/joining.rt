@@ -1,4 +1,4 @@
-//! The sightings of some files, and those of others behind them.
+//! Joins the sightings of some files with those of later files.
 
 ghost use Rattle.std.specs.Prelude.{◌≡◌, ◌<◌, ◌≤◌, ◌*◌, ℕ, None, IfOk, MatchOption, length, slice_index_or};
 ghost use Rattle.std.specs.Bool.{OnTrue};
@@ -16,8 +16,9 @@ impl ByInterface {
     ghost use Rattle.audit_sightings.specs.ByInterface.{count_of};
     ghost use Rattle.audit_sightings.specs.Joins.{Joins};
 
-    /// The sightings of the files below this number, and behind them another's of this file and those after it. What either has of the
-    /// other's files is left out. It takes no time for each sighting.
+    /// The sightings of the files below this number, and after them another intake's of this file
+    /// and those after it. All other sightings of either are dropped. It takes no time for each
+    /// sighting.
     pub fn joined(self, other: ByInterface, file: u32) -> Result<ByInterface, IntakeFaultKind>
         requires { file ≤ 16 }
         ensures ok { IfOk result (Joins (64 * file) self other) }
@@ -61,7 +62,7 @@ fn join(
     Ok(joined)
 }
 
-/// How many sightings there are, or None where they are too many.
+/// The number of sightings, or None if they are too many.
 fn count(interfaces: &[Listed<Sighting>]) -> Option<u32>
     ensures { MatchOption result (MAX_SIGHTINGS < count_of interfaces.now) (λ count. (count ≡ count_of interfaces.now) × (count ≤ MAX_SIGHTINGS)) }
 {
@@ -76,7 +77,7 @@ fn count(interfaces: &[Listed<Sighting>]) -> Option<u32>
     Some(count)
 }
 
-/// Of the files below this number the one's moments, and from it on the other's.
+/// The first's moments for the files below this number, and the other's from it on.
 fn newest_of_both(
     one: &[Option<u64>; MAX_FILES],
     other: &[Option<u64>; MAX_FILES],

@@ -1,4 +1,4 @@
-//! The files of two intakes together.
+//! Joins the files of two intakes.
 
 ghost use Rattle.std.specs.Prelude.{◌≡◌, ◌++◌, IfOk, drop, max, vec_len};
 
@@ -8,7 +8,7 @@ use audit_model::{Listed, Policy};
 use audit_pcapng::BlockReader;
 use std::alloc::{AllocError, Global};
 
-/// The policy once more.
+/// Copies the policy.
 fn copy_of(alloc: Global, policy: &Policy) -> Result<Policy, AllocError>
     ensures { IfOk result (λ copy. copy ≡ policy.now) }
 {
@@ -35,11 +35,12 @@ impl Intake {
         Ok(Intake::new(self.alloc, copy_of(self.alloc, &self.policy)?))
     }
 
-    /// The files of this intake, and behind them those of another by the same policy whose numbers come next. Of the other's files that
-    /// this one has, too, nothing is taken. It takes no time for each sighting.
+    /// Joins the files of this intake with those of another, by the same policy, whose numbers come
+    /// next. Files of the other with a number that this one has are ignored. It takes no time for
+    /// each sighting.
     ///
-    /// It fails by V6 after a fault of a feed here, by V4 where there are over 16,777,216 sightings together, and by V5. Where a feed of
-    /// the other failed, every later call fails because of it.
+    /// It fails by V6 after a fault of a feed here, by V4 if there are over 16,777,216 sightings
+    /// together, and by V5. If a feed of the other failed, every later call fails because of it.
     pub fn joined(self, other: Intake) -> Result<Intake, IntakeFault>
         requires { other.policy ≡ self.policy }
         ensures ok { (files others : List Fed) → StandsFor self files → StandsFor other (replicate (length files) not_fed ++ others)
@@ -80,7 +81,7 @@ impl Intake {
     }
 }
 
-/// The readers of the files, and behind them another's of the files whose numbers come next.
+/// The readers of the files, and after them another's of the files whose numbers come next.
 fn readers(
     files: Vec<BlockReader>,
     others: Vec<BlockReader>,

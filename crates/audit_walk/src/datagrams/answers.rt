@@ -1,4 +1,4 @@
-//! The successes and errors that leave.
+//! The success and error responses that leave.
 
 use crate::causes::Cause;
 use crate::content::Content;
@@ -8,7 +8,7 @@ use audit_model::{Addr, SightId};
 use audit_seen::LaneNumber;
 use std::alloc::{AllocError, Global};
 
-/// How many answers to the same client are looked at before one, and behind it.
+/// How many responses to the same client are looked at before and after a response.
 const NEIGHBOURS: u32 = 8;
 
 /// The lane and the transaction id of a response.
@@ -27,7 +27,7 @@ impl Transaction {
         self.lane
     }
 
-    /// What the requests ask for that such a response answers.
+    /// The cause of the requests that such a response answers.
     pub fn cause(&self) -> Cause {
         let Transaction { lane, id } = *self;
         Cause::Request { lane, id }
@@ -38,7 +38,7 @@ impl Transaction {
     }
 }
 
-/// A success or an error.
+/// A success or error response.
 #[derive(Clone, Copy, Debug)]
 pub struct Answer {
     sight: SightId,
@@ -46,16 +46,16 @@ pub struct Answer {
     /// The request that it answers, once that is known.
     request: Option<ArrivalNumber>,
     lane: LaneNumber,
-    /// The answers to the same client before and behind it.
+    /// The responses to the same client before and after it.
     before: Option<AnswerNumber>,
     behind: Option<AnswerNumber>,
-    /// Of a new allocation, the least moment at which the answer leaves that says that it is deleted.
+    /// For a new allocation, the earliest moment at which the response leaves that deletes it.
     deleted_from: Option<u64>,
     is_acted: bool,
 }
 
 impl Answer {
-    /// An answer to a client, behind another one if there is one before it.
+    /// A response to a client, after another one if there is one.
     pub fn new(
         sight: SightId,
         content: Content,
@@ -74,7 +74,7 @@ impl Answer {
         }
     }
 
-    /// The same, to a request if that is known.
+    /// Sets the request, if that is known.
     pub fn to(self, request: Option<ArrivalNumber>) -> Answer {
         let mut answer = self;
         answer.request = request;
@@ -106,7 +106,7 @@ impl Answer {
         self.lane
     }
 
-    /// Whether it was given.
+    /// Whether the server's act of it was placed.
     pub fn is_acted(&self) -> bool {
         self.is_acted
     }
@@ -120,7 +120,7 @@ impl Answer {
     }
 }
 
-/// All of them, by number, and those that no request has yet by their transaction.
+/// All responses by number, and those without a request by their transaction.
 #[derive(Drop)]
 pub struct Answers {
     list: Vec<Answer>,
@@ -135,7 +135,8 @@ impl Answers {
         }
     }
 
-    /// Adds the answer to a request, or one to a request of that transaction that isn't known yet, and gives its number. It leaves until then.
+    /// Adds a response that can leave until `until`, and returns its number. If no request is known
+    /// for it, it is queued by its transaction.
     pub fn add(
         &mut self,
         answer: Answer,
@@ -163,12 +164,13 @@ impl Answers {
         self.list.get(number.index())
     }
 
-    /// Whether one of the last answers to the same client before it wasn't given yet.
+    /// Whether one of the last responses to the same client before this one wasn't acted on yet.
     pub fn is_behind_another(&self, number: AnswerNumber) -> bool {
         self.is_behind(number, false)
     }
 
-    /// Whether one of the last answers to the same client before it wasn't given yet, and makes or deletes an allocation.
+    /// Whether one of the last responses to the same client before this one wasn't acted on yet,
+    /// and makes or deletes an allocation.
     pub fn is_behind_change(&self, number: AnswerNumber) -> bool {
         self.is_behind(number, true)
     }
@@ -190,7 +192,8 @@ impl Answers {
         false
     }
 
-    /// Whether one of the next answers to the same client behind it says that there is no allocation, with no deletion between.
+    /// Whether one of the next responses to the same client says that there is no allocation, with
+    /// no deletion before that one.
     pub fn is_before_refusal(&self, number: AnswerNumber) -> bool {
         let mut behind = self.behind(number);
         for _ in 0..NEIGHBOURS {
@@ -214,26 +217,26 @@ impl Answers {
         self.get(number)?.behind
     }
 
-    /// What an answer says.
+    /// The content of a response.
     pub fn content(&self, number: AnswerNumber) -> Option<Content> {
         Some(self.get(number)?.content)
     }
 
-    /// Notes which request an answer is to.
+    /// Sets the request of a response.
     pub fn note_request(&mut self, number: AnswerNumber, request: ArrivalNumber) {
         if let Some(answer) = self.get_mut(number) {
             answer.request = Some(request);
         }
     }
 
-    /// Notes from when the answer leaves that says that the allocation is deleted that this one makes.
+    /// Notes the earliest moment at which the response leaves that deletes this one's allocation.
     pub fn note_deletion(&mut self, number: AnswerNumber, from: u64) {
         if let Some(answer) = self.get_mut(number) {
             answer.deleted_from = Some(from);
         }
     }
 
-    /// Notes that an answer is given, and tells which that is.
+    /// Marks a response as acted on, and returns it.
     pub fn act(&mut self, number: AnswerNumber) -> Option<Answer> {
         let answer = self.get_mut(number)?;
         answer.is_acted = true;
@@ -244,23 +247,24 @@ impl Answers {
         self.list.get_mut(number.index())
     }
 
-    /// The first of the transaction that no request has.
+    /// The first response of the transaction without a request.
     pub fn first(&self, transaction: &Transaction) -> Option<AnswerNumber> {
         let queue = self.queues.queue_of(transaction.digest())?;
         Some(AnswerNumber::new(self.queues.first(queue)?))
     }
 
-    /// Looks now and then for those that have left before a moment, so that the others are found sooner.
+    /// Removes from time to time the queues whose responses have left before a moment, so that the
+    /// others are found sooner.
     pub fn tidy(&mut self, moment: u64) -> Result<(), AllocError> {
         self.queues.tidy(moment)
     }
 
-    /// Forgets which were given before the last call.
+    /// Forgets the responses that were taken out before the last call.
     pub fn renew(&mut self) {
         self.queues.renew();
     }
 
-    /// Takes the first of the transaction out.
+    /// Takes the first response of the transaction out of its queue.
     pub fn skip(&mut self, transaction: &Transaction) {
         if let Some(queue) = self.queues.queue_of(transaction.digest()) {
             self.queues.skip(queue);

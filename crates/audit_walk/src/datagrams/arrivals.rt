@@ -11,14 +11,14 @@ use std::alloc::{AllocError, Global};
 #[derive(Clone, Copy, Debug)]
 pub struct Arrival {
     sight: SightId,
-    /// Where it is placed, once it is.
+    /// Its key, once it is placed.
     key: Option<Key>,
-    /// The client's lane; none of a peer's datagram.
+    /// The client's lane; none for a peer's datagram.
     lane: Option<LaneNumber>,
-    /// The answer to it, of a request for which one is captured.
+    /// For a request, the captured response to it.
     answer: Option<AnswerNumber>,
     is_acted: bool,
-    /// Its event stands in a lane, or it is dropped.
+    /// Its event is in a lane, or it is dropped.
     is_given: bool,
 }
 
@@ -27,17 +27,17 @@ impl Arrival {
         self.sight
     }
 
-    /// Where it is placed, once it is.
+    /// Its key, once it is placed.
     pub fn key(&self) -> Option<Key> {
         self.key
     }
 
-    /// The client's lane; none of a peer's datagram.
+    /// The client's lane; none for a peer's datagram.
     pub fn lane(&self) -> Option<LaneNumber> {
         self.lane
     }
 
-    /// The answer to it, of a request for which one is captured.
+    /// For a request, the captured response to it.
     pub fn answer(&self) -> Option<AnswerNumber> {
         self.answer
     }
@@ -50,7 +50,7 @@ impl Arrival {
         self.key
     }
 
-    /// Whether nothing more answers it.
+    /// Whether nothing more can be sent for it.
     fn is_done(&self, earliest: u64) -> bool {
         match self.key {
             Some(key) => self.is_acted || key.moment < earliest,
@@ -59,7 +59,7 @@ impl Arrival {
     }
 }
 
-/// All that arrive, by number and by what they ask for.
+/// All arrivals, by number and by cause.
 #[derive(Drop)]
 pub struct Arrivals {
     list: Vec<Arrival>,
@@ -74,7 +74,7 @@ impl Arrivals {
         }
     }
 
-    /// Adds an arrival that asks for something of that digest, and gives its number.
+    /// Adds an arrival whose cause has this digest, and returns its number.
     pub fn add(
         &mut self,
         sight: SightId,
@@ -100,7 +100,7 @@ impl Arrivals {
         self.list.get_mut(number.index())
     }
 
-    /// Gives an arrival its key. Something may be given by it until then.
+    /// Sets the key of an arrival. The server may act on it until `until`.
     pub fn place(&mut self, number: ArrivalNumber, key: Key, until: u64) {
         self.queues.wait_until(number.value(), until);
         if let Some(arrival) = self.get_mut(number) {
@@ -108,14 +108,14 @@ impl Arrivals {
         }
     }
 
-    /// Notes the answer to a request.
+    /// Notes the response to a request.
     pub fn note_answer(&mut self, number: ArrivalNumber, answer: AnswerNumber) {
         if let Some(arrival) = self.get_mut(number) {
             arrival.answer = Some(answer);
         }
     }
 
-    /// Notes that an arrival is acted on, by which nothing more is given then, and tells which that is.
+    /// Marks an arrival as acted on, so that nothing more is sent for it, and returns its sighting.
     pub fn act(&mut self, number: ArrivalNumber) -> Option<SightId> {
         self.queues.wait_until(number.value(), 0);
         let arrival = self.get_mut(number)?;
@@ -123,7 +123,8 @@ impl Arrivals {
         Some(arrival.sight)
     }
 
-    /// Notes that the event of an arrival that has a key is given, and tells that key unless it was given before.
+    /// Marks the event of an arrival that has a key as emitted. Returns the key, unless the event
+    /// was emitted before.
     pub fn give(&mut self, number: ArrivalNumber) -> Option<Key> {
         let arrival = self.get_mut(number)?;
         let key = arrival.key?;
@@ -134,7 +135,8 @@ impl Arrivals {
         Some(key)
     }
 
-    /// Takes out those that ask for this and were acted on or came too long ago, as far as they come first, and gives the first of the others.
+    /// Takes out the first arrivals of a cause while they were acted on or came before `earliest`,
+    /// and returns the first of the others.
     pub fn skip_to_first(&mut self, cause: &Cause, earliest: u64) -> Option<ArrivalNumber> {
         let queue = self.queues.queue_of(cause.digest())?;
         for _ in 0..self.list.len() {
@@ -147,7 +149,7 @@ impl Arrivals {
         None
     }
 
-    /// The last that asked for this and was acted on, unless it came too long ago.
+    /// The last arrival of a cause that was acted on, unless it came too long ago.
     pub fn previous(
         &mut self,
         cause: &Cause,
@@ -161,7 +163,7 @@ impl Arrivals {
         )
     }
 
-    /// Whether an arrival has a key at a moment or behind it.
+    /// Whether an arrival has a key at a moment or after it.
     fn came_since(&self, number: ArrivalNumber, earliest: u64) -> bool {
         match self.get(number).and_then(|arrival| arrival.key) {
             Some(key) => key.moment >= earliest,
@@ -169,23 +171,24 @@ impl Arrivals {
         }
     }
 
-    /// The last that asks for this, of all that were added.
+    /// The last arrival of a cause, of all that were added.
     pub fn last(&self, cause: &Cause) -> Option<ArrivalNumber> {
         let queue = self.queues.queue_of(cause.digest())?;
         Some(ArrivalNumber::new(self.queues.last(queue)?))
     }
 
-    /// Looks now and then for those by which nothing more is given at a moment, so that the others are found sooner.
+    /// Removes from time to time the queues of which no arrival can be acted on after a moment, so
+    /// that the others are found sooner.
     pub fn tidy(&mut self, moment: u64) -> Result<(), AllocError> {
         self.queues.tidy(moment)
     }
 
-    /// Forgets which were acted on before the last call.
+    /// Forgets the arrivals that were acted on before the last call.
     pub fn renew(&mut self) {
         self.queues.renew();
     }
 
-    /// The next that asks for the same.
+    /// The next arrival of the same cause.
     pub fn next(&self, number: ArrivalNumber) -> Option<ArrivalNumber> {
         Some(ArrivalNumber::new(self.queues.behind(number.value())?))
     }

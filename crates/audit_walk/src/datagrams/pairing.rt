@@ -1,4 +1,4 @@
-//! Which answer a request has, and which request an answer is to.
+//! Pairs requests with responses.
 
 use super::Datagrams;
 use super::answers::Transaction;
@@ -8,7 +8,7 @@ use crate::numbers::{AnswerNumber, ArrivalNumber};
 use audit_model::Sighting;
 use std::alloc::AllocError;
 
-/// How many are tried for one.
+/// How many candidates are tried.
 pub const CANDIDATES: u32 = 64;
 
 impl Datagrams {
@@ -17,13 +17,13 @@ impl Datagrams {
         judge.sighting(self.arrivals.get(number)?.sight())
     }
 
-    /// The sighting of an answer.
+    /// The sighting of a response.
     pub fn leaves<'a>(&self, judge: &Judge<'a>, number: AnswerNumber) -> Option<&'a Sighting> {
         judge.sighting(self.answers.get(number)?.sight())
     }
 
-    /// The last request of a transaction that came before an answer by the same interface, no longer ago than `hold`, if it has
-    /// no other answer.
+    /// The last request of a transaction that came before a response on the same interface, at most
+    /// `hold` earlier, if it has no other response.
     pub fn request_before(
         &self,
         judge: &Judge<'_>,
@@ -42,8 +42,8 @@ impl Datagrams {
         Some(number)
     }
 
-    /// Finds the answer to a request that none was noted with: the first of its transaction that no request has yet, and that leaves
-    /// in time.
+    /// Finds the response to a request that has none yet: the first of its transaction that has no
+    /// request and leaves in time.
     pub fn reserve(
         &mut self,
         judge: &Judge<'_>,
@@ -62,8 +62,8 @@ impl Datagrams {
         Some(answer)
     }
 
-    /// Takes out the answers of a transaction that no request has and that can't leave from a moment on, as far as they come first, and gives the
-    /// first of the others.
+    /// Takes out the first responses of a transaction while they have no request and can't leave
+    /// from a moment on, and returns the first of the others.
     fn skip_to_answer(
         &mut self,
         judge: &Judge<'_>,
@@ -80,8 +80,8 @@ impl Datagrams {
         None
     }
 
-    /// The request of a transaction that an answer that leaves now is most likely to: the first that wasn't acted on yet, or else the last
-    /// that was.
+    /// The most likely request of a response that leaves now: the first of its transaction that
+    /// wasn't acted on yet, or else the last that was.
     pub fn likely_request(
         &mut self,
         transaction: &Transaction,
@@ -95,7 +95,7 @@ impl Datagrams {
         self.arrivals.previous(&cause, earliest)
     }
 
-    /// Whether an arrival has no key yet, and can have one before the departure that is placed now.
+    /// Whether an arrival has no key yet, and can get one before the current departure.
     pub fn may_come(&self, judge: &Judge<'_>, clock: &Clock, number: ArrivalNumber) -> bool {
         match self.arrivals.get(number) {
             Some(arrival) if arrival.key().is_none() => match judge.sighting(arrival.sight()) {
@@ -108,8 +108,8 @@ impl Datagrams {
         }
     }
 
-    /// Whether an answer may leave at a moment: it was given, to a request that came no longer ago than `hold` where it was given before it
-    /// leaves.
+    /// Whether a response may leave at a moment: it was acted on, and its request, if that is
+    /// known, came at most `hold` before the moment.
     pub fn may_leave(&self, judge: &Judge<'_>, moment: u64, answer: AnswerNumber) -> bool {
         let Some(answer) = self.answers.get(answer) else {
             return false;
@@ -121,7 +121,7 @@ impl Datagrams {
         answer.is_acted() && came.is_some_and(|came| moment <= judge.latest_answer(came.moment))
     }
 
-    /// Whether an arrival has come by a moment, no longer ago than `hold`, and wasn't acted on yet.
+    /// Whether an arrival came at most `hold` before a moment, and wasn't acted on yet.
     pub fn may_act_at(&self, judge: &Judge<'_>, moment: u64, number: ArrivalNumber) -> bool {
         match self.waiting_since(number) {
             Some(came) => moment <= judge.latest_answer(came.moment),

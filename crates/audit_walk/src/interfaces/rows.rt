@@ -1,4 +1,4 @@
-//! How far each interface has got.
+//! How far each interface was placed.
 
 use crate::numbers::{AnswerNumber, ArrivalNumber};
 use audit_model::SightId;
@@ -6,18 +6,18 @@ use audit_seen::LaneNumber;
 use std::alloc::{AllocError, Global};
 use std::collections::VecDeque;
 
-/// What a sighting is to the finder.
+/// The role of a sighting in the search.
 #[derive(Clone, Copy, Debug, PartialEq, Eq)]
 pub enum Role {
     /// A datagram that arrives.
     Arrival(ArrivalNumber),
-    /// A success or an error.
+    /// A success or error response.
     Answer(AnswerNumber),
-    /// Data that leaves.
+    /// Relayed data that leaves.
     Data(Data),
 }
 
-/// Data that leaves.
+/// Relayed data that leaves.
 #[derive(Clone, Copy, Debug, PartialEq, Eq)]
 pub struct Data {
     lane: Option<LaneNumber>,
@@ -25,12 +25,12 @@ pub struct Data {
 }
 
 impl Data {
-    /// Data of that digest that leaves to a client of that lane, or to a peer.
+    /// Data with this digest that leaves to the client of a lane, or to a peer.
     pub fn new(lane: Option<LaneNumber>, digest: u64) -> Data {
         Data { lane, digest }
     }
 
-    /// The lane of the client that is given it, if it leaves to one.
+    /// The lane of the client that receives it, if it leaves to one.
     pub fn lane(&self) -> Option<LaneNumber> {
         self.lane
     }
@@ -45,26 +45,27 @@ impl Data {
 pub enum Wait {
     /// An arrival.
     Arrival(ArrivalNumber),
-    /// Whatever comes next on another interface.
+    /// The next sighting of any interface.
     Next,
 }
 
-/// How often a departure is woken by whatever comes next.
+/// How often the next sighting of any interface wakes a waiting departure.
 pub const WAITS: u32 = 64;
 
-/// How much may be tried for one departure: so many acts, of which each counts once more for every `UNIT` bytes of its datagrams.
+/// How many tries one departure has. An act is one try, plus one for every `UNIT` bytes of its
+/// datagrams.
 const TRIES: u32 = 64;
 
-/// How much of that may be spent before the departure's last moment.
+/// How many of the tries may be used before the departure's last moment.
 const EARLY_TRIES: u32 = 32;
 
-/// Bytes of an act's datagrams that count as one act more, since a judge reads them.
+/// The number of bytes that count as one more try, since the judge reads them.
 const UNIT: usize = 1024;
 
 /// One interface.
 #[derive(Drop)]
 pub struct Row {
-    /// What each of its sightings is that was noted and has no key yet.
+    /// The roles of its sightings that were noted and have no key yet.
     roles: VecDeque<Role>,
     /// How many of its sightings were noted.
     noted: u32,
@@ -72,9 +73,9 @@ pub struct Row {
     placed: u32,
     /// How often the next one has waited.
     waits: u32,
-    /// How much was tried for the next one.
+    /// How many tries were used for the next one.
     tried: u32,
-    /// The moment at which it stands among the heads.
+    /// The moment at which it is queued.
     queued: Option<u64>,
     /// What the next one waits for.
     wait: Option<Wait>,
@@ -93,17 +94,17 @@ impl Row {
         }
     }
 
-    /// Whether it stands among the heads.
+    /// Whether it is queued.
     pub fn is_queued(&self) -> bool {
         self.queued.is_some()
     }
 
-    /// Whether it stands among the heads at that moment.
+    /// Whether it is queued at that moment.
     pub fn is_queued_at(&self, moment: u64) -> bool {
         self.queued == Some(moment)
     }
 
-    /// Notes that it stands among the heads at that moment.
+    /// Notes that it is queued at that moment.
     pub fn queue_at(&mut self, moment: u64) {
         self.queued = Some(moment);
     }
@@ -118,7 +119,8 @@ impl Row {
         self.wait == Some(wait)
     }
 
-    /// Lets the next sighting wait, and tells whether it is woken by whatever comes next: if it waits for that, and hasn't waited often.
+    /// Lets the next sighting wait. Returns whether the next sighting of any interface wakes it: it
+    /// waits for that, and hasn't waited often.
     pub fn wait_for(&mut self, wait: Wait) -> bool {
         self.wait = Some(wait);
         self.waits = self.waits.saturating_add(1);
@@ -136,7 +138,7 @@ impl Row {
         self.noted
     }
 
-    /// Notes what the next sighting is.
+    /// Notes the role of the next sighting.
     pub fn note(&mut self, role: Role) -> Result<(), AllocError> {
         self.roles.push_back(role)?;
         self.noted = self.noted.saturating_add(1);
@@ -155,7 +157,7 @@ impl Row {
         self.roles.is_empty()
     }
 
-    /// Goes on behind the next sighting.
+    /// Goes on after the next sighting.
     pub fn advance(&mut self) {
         let _placed = self.roles.pop_front();
         self.placed = self.placed.saturating_add(1);
@@ -163,7 +165,8 @@ impl Row {
         self.tried = 0;
     }
 
-    /// Counts an act that is tried for the next one, whose datagrams have so many bytes, and tells whether it may be tried.
+    /// Counts an act that is tried for the next sighting, whose datagrams have `bytes` bytes.
+    /// Returns whether it may be tried.
     pub fn count_try(&mut self, is_last_moment: bool, bytes: usize) -> bool {
         let limit = if is_last_moment { TRIES } else { EARLY_TRIES };
         if self.tried >= limit {

@@ -1,4 +1,4 @@
-//! Interfaces that are queued by their next sightings, and those whose next departures wait.
+//! Queues interfaces by their next sightings, and lets departures wait.
 
 use super::Interfaces;
 use super::rows::Wait;
@@ -8,12 +8,13 @@ use crate::numbers::ArrivalNumber;
 use std::alloc::AllocError;
 
 impl Interfaces {
-    /// Takes out the interface that is queued at the least moment, with that moment, unless it is past the horizon.
+    /// Takes out the interface that is queued at the least moment, with that moment, unless it is
+    /// past the horizon.
     pub fn pop(&mut self, horizon: u64) -> Option<(u64, u32)> {
         self.heads.pop(horizon)
     }
 
-    /// Queues an interface by the least moment of its next sighting; now, where that waited.
+    /// Queues an interface by the first moment of its next sighting, or now if that has waited.
     pub fn queue_next(
         &mut self,
         judge: &Judge<'_>,
@@ -35,7 +36,7 @@ impl Interfaces {
         self.queue(clock, iface, judge.first_moment(sighting))
     }
 
-    /// Queues an interface that isn't queued, by the least moment of its next sighting.
+    /// Queues an interface that isn't queued, by the first moment of its next sighting.
     pub fn queue_unqueued(
         &mut self,
         judge: &Judge<'_>,
@@ -48,7 +49,7 @@ impl Interfaces {
         }
     }
 
-    /// Queues an interface at a moment, or now where that is over.
+    /// Queues an interface at a moment, or now if that has passed.
     fn queue(&mut self, clock: &Clock, iface: u32, moment: u64) -> Result<(), AllocError> {
         let moment = moment.max(clock.moment());
         if let Some(row) = self.rows.get_mut(iface as usize) {
@@ -57,7 +58,7 @@ impl Interfaces {
         self.heads.push(moment, iface)
     }
 
-    /// Whether an interface stands among the heads at that moment, and not at another one since.
+    /// Whether an interface is queued at that moment, and wasn't queued at another one later.
     pub fn is_queued_at(&self, iface: u32, moment: u64) -> bool {
         match self.rows.get(iface as usize) {
             Some(row) => row.is_queued_at(moment),
@@ -65,8 +66,9 @@ impl Interfaces {
         }
     }
 
-    /// Lets the next departure of an interface wait, till its latest moment at the most. Where another one waits for that
-    /// arrival, or it has waited often, it is not woken by it.
+    /// Lets the next departure of an interface wait, at most until its latest moment. If another
+    /// departure waits for the same arrival, this one waits for the next sighting of any interface,
+    /// which wakes it only in its first `WAITS` waits.
     pub fn wait(&mut self, clock: &Clock, iface: u32, wait: Wait) -> Result<(), AllocError> {
         let mut wait = wait;
         if let Wait::Arrival(number) = wait {
@@ -92,7 +94,7 @@ impl Interfaces {
         }
     }
 
-    /// Queues the interfaces whose next departures wait for whatever comes next.
+    /// Queues the interfaces whose next departures wait for the next sighting of any interface.
     pub fn wake_expecting(&mut self, clock: &Clock) -> Result<(), AllocError> {
         if self.expecting.is_empty() {
             return Ok(());

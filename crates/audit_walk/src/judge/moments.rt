@@ -1,26 +1,28 @@
-//! The moments between which datagrams may be placed, and answered.
+//! The moments at which datagrams may be placed and responses sent.
 
 use super::Judge;
 use audit_model::{Key, SightId, Sighting};
 
-/// How many sightings behind a departure bound its latest moment.
+/// How many sightings after a departure bound its latest moment.
 const LOOKED_AHEAD: usize = 4;
 
-/// For how long ahead of a moment sightings are read, beside their windows, in nanoseconds: most requests are answered sooner.
+/// How far ahead of a moment sightings are read, in addition to their windows, in nanoseconds.
+/// Servers respond to most requests sooner.
 const LONGEST: u64 = 20_000_000;
 
 impl Judge<'_> {
-    /// The first moment at which a datagram may stand.
+    /// The first moment at which a datagram may be placed.
     pub(crate) fn first_moment(&self, sighting: &Sighting) -> u64 {
         self.windows.first(sighting)
     }
 
-    /// The last moment at which a datagram may stand.
+    /// The last moment at which a datagram may be placed.
     pub(crate) fn last_moment(&self, sighting: &Sighting) -> u64 {
         self.windows.last(sighting)
     }
 
-    /// The latest moment of a departure: that of its window, or of the window of one that is close behind it on its interface.
+    /// The latest moment of a departure: the end of its window, or of the window of one of the next
+    /// sightings of its interface.
     pub(crate) fn latest_moment(&self, leaves: &Sighting) -> u64 {
         let SightId { iface, index } = leaves.id;
         let row = self.intake.interface(iface);
@@ -32,26 +34,27 @@ impl Judge<'_> {
         moment
     }
 
-    /// The earliest moment of an arrival that may be answered at a moment.
+    /// The earliest arrival to which a response may leave at a moment.
     pub(crate) fn earliest_arrival(&self, moment: u64) -> u64 {
         moment.saturating_sub(self.policy().hold)
     }
 
-    /// The last moment at which a datagram that arrives at a moment may be answered.
+    /// The last moment at which a response may leave to a datagram that arrived at a moment.
     pub(crate) fn latest_answer(&self, moment: u64) -> u64 {
         moment.saturating_add(self.policy().hold)
     }
 
-    /// For how long ahead of a moment sightings are read.
+    /// How far ahead of a moment sightings are read, in nanoseconds.
     pub(crate) fn look_ahead(&self) -> u64 {
         let policy = self.policy();
         let windows = self.windows.widest(policy);
         policy.hold.min(LONGEST).saturating_add(windows)
     }
 
-    /// Up to which moment sightings are placed where events are given up to a horizon: twice as far behind it as is read ahead. All that stands
-    /// `hold` behind it is captured by then but for what the windows hide, and half of that is left to captures whose datagrams aren't in the
-    /// order of their moments.
+    /// The moment up to which sightings are placed if events are emitted up to a horizon: later by
+    /// twice the look-ahead, but at most by half of `hold` less the look-ahead. All datagrams up to
+    /// `hold` after the horizon are captured by then, except those that the windows hide. The other
+    /// half is for captures that aren't in the order of their moments.
     pub(crate) fn placed_until(&self, horizon: u64) -> u64 {
         let ahead = self.look_ahead();
         let known = self.policy().hold.saturating_sub(ahead);

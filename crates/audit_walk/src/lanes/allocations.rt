@@ -1,4 +1,4 @@
-//! Allocations that aren't made yet, and relayed addresses that one client has after another.
+//! Allocations that aren't made yet, and relayed addresses that several clients have in turn.
 
 use crate::datagrams::{Answer, Datagrams};
 use crate::judge::Judge;
@@ -10,16 +10,16 @@ use std::collections::BTreeSet;
 /// How many of them are looked at for one.
 const LOOKED_AT: usize = 8;
 
-/// An answer that makes an allocation and wasn't given yet.
+/// A response that makes an allocation, and wasn't acted on yet.
 #[derive(Clone, Copy, PartialEq, Eq, PartialOrd, Ord)]
 struct Expected {
     relayed: Addr,
-    /// The least moment at which it leaves.
+    /// The first moment at which it leaves.
     moment: u64,
     answer: AnswerNumber,
 }
 
-/// Those that are expected, by the relayed address and the least moment at which they leave.
+/// Responses that are expected, by the relayed address and the first moment at which they leave.
 #[derive(Drop)]
 pub struct Allocations {
     answers: BTreeSet<Expected>,
@@ -54,8 +54,8 @@ impl Allocations {
         });
     }
 
-    /// Whether another client has to have had an allocation's relayed address before, since it can have given it up before this
-    /// one is made, and this one isn't given up before the other one's is made.
+    /// Whether another client must have had the relayed address before: its allocation can end
+    /// before this one is made, and this one can't end before that one is made.
     pub fn has_to_follow(
         &self,
         judge: &Judge<'_>,
@@ -90,7 +90,7 @@ impl Allocations {
     }
 }
 
-/// Whether an allocation can have been given up before another one is made.
+/// Whether an allocation can have ended before another one is made.
 fn may_precede(judge: &Judge<'_>, answer: &Answer, other: &Answer) -> bool {
     match judge.sighting(other.sight()) {
         Some(leaves) => answer.is_deleted_before(judge.latest_moment(leaves)),

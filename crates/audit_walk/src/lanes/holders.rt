@@ -1,8 +1,8 @@
-//! The lanes that one after another had a relayed address.
+//! The lanes that had a relayed address, one after another.
 
 use audit_seen::LaneNumber;
 
-/// The lanes whose allocations had a relayed address: the last one, and another one before that.
+/// The last lane that had a relayed address, and another lane that had it before.
 #[derive(Clone, Copy)]
 pub struct Holders {
     last: LaneNumber,
@@ -18,7 +18,7 @@ impl Holders {
         }
     }
 
-    /// The same, and then a lane that has it now.
+    /// The holders after a lane gets the address.
     pub fn followed_by(&self, lane: LaneNumber) -> Holders {
         let previous = if self.last == lane {
             self.previous
@@ -35,7 +35,7 @@ impl Holders {
         self.last
     }
 
-    /// The last one but for that.
+    /// The holder before the last one.
     pub fn previous(&self) -> Option<LaneNumber> {
         self.previous
     }

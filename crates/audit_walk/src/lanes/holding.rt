@@ -1,4 +1,4 @@
-//! The allocation of a client, as it stands, and as it stood before it was deleted.
+//! The allocation of a client: the current state, and the state before a deletion.
 
 use crate::causes::Cause;
 use crate::clock::after;
@@ -13,10 +13,10 @@ use std::collections::BTreeMap;
 /// How many acts may be placed right before a deletion.
 pub const ACTS_BEFORE: u32 = 1024;
 
-/// An allocation, or none, as it stands.
+/// The current allocation of a client, or none.
 #[derive(Drop)]
 pub struct Holding {
-    /// What the server has for the client.
+    /// The server's state for the client.
     table: LaneTable,
     /// The relayed address.
     relayed: Option<Addr>,
@@ -35,17 +35,18 @@ impl Holding {
         }
     }
 
-    /// The allocation that is there now.
+    /// The current allocation.
     pub fn running(&self) -> Option<Tenancy> {
         self.table.running()
     }
 
-    /// A copy of what the server has for the client.
+    /// A copy of the server's state for the client.
     pub fn copied_table(&self, alloc: Global) -> Result<LaneTable, AllocError> {
         self.table.copied(alloc)
     }
 
-    /// Answers a request, and tells whether the server may. Where it may not, nothing changes.
+    /// Applies a response to a request, and returns whether the rules allow it. If not, nothing
+    /// changes.
     pub fn answers<'a>(
         &mut self,
         judge: &Judge<'a>,
@@ -57,7 +58,7 @@ impl Holding {
         judge.answers(lane, &mut self.table, arrives, leaves, key)
     }
 
-    /// Relays data, and tells whether the server may.
+    /// Returns whether the rules let the server relay data.
     pub fn relays(
         &mut self,
         judge: &Judge<'_>,
@@ -86,7 +87,7 @@ impl Holding {
         Ok(())
     }
 
-    /// What asks for data of that digest that a client with this allocation is given.
+    /// The cause of data with this digest that a client with this allocation receives.
     pub fn cause_of(&self, given: &Given<'_>, digest: u64) -> Option<Cause> {
         let peer = match *given {
             Given::Data { peer, .. } => peer,
@@ -101,7 +102,7 @@ impl Holding {
     }
 }
 
-/// An allocation that was deleted, as it stood right before that.
+/// An allocation that was deleted, in its state right before that.
 #[derive(Drop)]
 pub struct Deleted {
     holding: Holding,
@@ -112,7 +113,7 @@ pub struct Deleted {
 }
 
 impl Deleted {
-    /// Acts may be placed right before the deletion, from that key on.
+    /// An allocation before whose deletion acts may be placed, from key `next` on.
     pub fn new(holding: Holding, next: Key) -> Deleted {
         Deleted {
             holding,
@@ -121,12 +122,12 @@ impl Deleted {
         }
     }
 
-    /// The allocation, as it stood.
+    /// The allocation before the deletion.
     pub fn holding(&self) -> &Holding {
         &self.holding
     }
 
-    /// The key of the next act right before the deletion, behind another key.
+    /// The key of the next act right before the deletion, if it is after another key.
     fn key_behind(&self, key: Key) -> Option<Key> {
         if self.left == 0 || self.next <= key {
             None
@@ -135,13 +136,14 @@ impl Deleted {
         }
     }
 
-    /// Goes on behind that key.
+    /// Goes on after that key.
     fn take_key(&mut self) {
         self.next = after(self.next);
         self.left = self.left.saturating_sub(1);
     }
 
-    /// Relays data right before the deletion, behind a key, if the server may, and tells at which key.
+    /// Relays data right before the deletion, if the rules allow it at a key after `key`. Returns
+    /// the key of the act.
     pub fn relay(
         &mut self,
         judge: &Judge<'_>,

@@ -1,4 +1,4 @@
-//! What the walk keeps of one client at one listen address.
+//! The state of one lane: a client at a listen address.
 
 use super::holding::{Deleted, Holding};
 use super::last::Last;
@@ -17,13 +17,13 @@ use std::alloc::{AllocError, Global};
 /// How many deleted allocations of a lane are kept.
 const DELETED_KEPT: usize = 4;
 
-/// One lane, as it stands.
+/// The state of one lane.
 #[derive(Drop)]
 pub struct FoundLane {
     number: LaneNumber,
     client: Addr,
     listen: Addr,
-    /// The allocation that is there now.
+    /// The current allocation.
     current: Holding,
     /// The last ones that were deleted, in order.
     deleted: Vec<Deleted>,
@@ -31,9 +31,9 @@ pub struct FoundLane {
     sends: bool,
     /// The last of each kind of its datagrams.
     last: Last,
-    /// The answers that are kept back.
+    /// The responses that are delayed.
     pending: Pending,
-    /// Until when it holds the addresses of allocations that ran out and were replaced.
+    /// Until when it holds the addresses of allocations that expired and were replaced.
     outlived: u64,
 }
 
@@ -52,7 +52,8 @@ impl FoundLane {
         }
     }
 
-    /// Answers a request now, and tells whether the server may. Where it may not, nothing changes.
+    /// Applies a response to a request now, and returns whether the rules allow it. If not, nothing
+    /// changes.
     pub fn answer<'a>(
         &mut self,
         judge: &Judge<'a>,
@@ -71,7 +72,8 @@ impl FoundLane {
         Ok(true)
     }
 
-    /// Notes until when it holds the address of an allocation that was there before an act, if that act made another one.
+    /// Notes until when it holds the address of the allocation that was there before an act, if
+    /// that act made another one.
     fn note_replaced(&mut self, held: Option<Tenancy>) {
         if let (Some(held), Some(tenancy)) = (held, self.current.running()) {
             if held.born != tenancy.born {
@@ -80,7 +82,7 @@ impl FoundLane {
         }
     }
 
-    /// Relays data now, and tells whether the server may.
+    /// Returns whether the rules let the server relay data now.
     pub fn relays(
         &mut self,
         judge: &Judge<'_>,
@@ -92,7 +94,8 @@ impl FoundLane {
             .relays(judge, self.number, arrives, leaves, key)
     }
 
-    /// Relays data right before one of the deletions, behind a key, if the server may, and tells at which key.
+    /// Relays data right before one of the deletions, if the rules allow it at a key after
+    /// `behind`. Returns the key of the act.
     pub fn relay_before_deletion(
         &mut self,
         judge: &Judge<'_>,
@@ -110,8 +113,8 @@ impl FoundLane {
         Ok(None)
     }
 
-    /// Deletes the allocation, keeps what it was, and gives a copy of its table. Acts may still be placed right before the deletion, from that
-    /// key on.
+    /// Deletes the allocation, keeps its state, and returns a copy of its table. Acts may still be
+    /// placed right before the deletion, from key `next` on.
     pub fn delete(&mut self, alloc: Global, next: Key) -> Result<LaneTable, AllocError> {
         let table = self.current.copied_table(alloc)?;
         let empty = Holding::new(alloc, self.number, self.client, self.listen);
@@ -123,7 +126,7 @@ impl FoundLane {
         Ok(table)
     }
 
-    /// Notes what an answer changes that is given, and keeps it back no more.
+    /// Notes the changes by a response that was acted on, which is no longer delayed.
     pub fn note_given(
         &mut self,
         number: AnswerNumber,
@@ -147,23 +150,23 @@ impl FoundLane {
         Ok(())
     }
 
-    /// Keeps an answer back, until it leaves.
+    /// Delays a response until it leaves.
     pub fn keep_back(&mut self, number: AnswerNumber, answer: &Answer) -> Result<(), AllocError> {
         self.pending
             .insert(answer.sight(), number, answer.content())
     }
 
-    /// Whether an answer is kept back that leaves before this one.
+    /// Whether a delayed response leaves before this one.
     pub fn has_pending_before(&self, answer: SightId) -> bool {
         self.pending.has_before(answer)
     }
 
-    /// The first answer that is kept back and changes what allocation there is, other than this one.
+    /// The first delayed response, except this one, that makes or deletes an allocation.
     pub fn pending_change(&self, datagrams: &Datagrams, but: AnswerNumber) -> Option<AnswerNumber> {
         self.pending.first_change(datagrams, but)
     }
 
-    /// The answer that is kept back and says that the allocation is deleted.
+    /// The delayed response that says that the allocation is deleted.
     pub fn pending_deletion(&self) -> Option<AnswerNumber> {
         self.pending.deletion()
     }
@@ -192,7 +195,8 @@ impl FoundLane {
         self.current.number_of(peer)
     }
 
-    /// The channel of a peer in the last of the deleted allocations that had one, unless it is this one.
+    /// The channel of a peer in the last of the deleted allocations that had one, unless it is this
+    /// one.
     pub fn number_before(&self, peer: Addr, current: Option<u16>) -> Option<u16> {
         for deleted in self.deleted.iter().rev() {
             let number = deleted.holding().number_of(peer);
@@ -203,12 +207,13 @@ impl FoundLane {
         None
     }
 
-    /// What asks for data of that digest that the client is given.
+    /// The cause of data with this digest that the client receives.
     pub fn cause_of(&self, given: &Given<'_>, digest: u64) -> Option<Cause> {
         self.current.cause_of(given, digest)
     }
 
-    /// What asks for data that the client is given, by the last of its deleted allocations that had such a peer, unless it is this.
+    /// The cause of data that the client receives, by the last of its deleted allocations that had
+    /// such a peer, unless it is this one.
     pub fn cause_before(
         &self,
         given: &Given<'_>,
@@ -237,7 +242,8 @@ impl FoundLane {
         }
     }
 
-    /// Whether it may hold that relayed address at the moment, by this allocation or by one that was replaced.
+    /// Whether it may hold that relayed address at the moment, by the current allocation or by one
+    /// that was replaced.
     pub fn may_hold(&self, relayed: Addr, moment: u64) -> bool {
         self.holds(relayed, moment) || self.outlived >= moment
     }

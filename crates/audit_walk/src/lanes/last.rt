@@ -3,14 +3,14 @@
 use crate::content::Content;
 use crate::numbers::{AnswerNumber, ArrivalNumber};
 
-/// The last arrivals that were placed, and the last answers that were noted.
+/// The last arrivals that were placed, and the last responses that were noted.
 #[derive(Clone, Copy, Debug)]
 pub struct Last {
     request: Option<ArrivalNumber>,
     sent: Option<ArrivalNumber>,
     received: Option<ArrivalNumber>,
     answer: Option<AnswerNumber>,
-    /// The last answer that makes an allocation, if none deletes it.
+    /// The last response that makes an allocation, if none deletes it.
     allocation: Option<AnswerNumber>,
 }
 
@@ -53,12 +53,13 @@ impl Last {
         self.received = Some(number);
     }
 
-    /// The last answer to the client.
+    /// The last response to the client.
     pub fn answer(&self) -> Option<AnswerNumber> {
         self.answer
     }
 
-    /// Notes the next answer to the client, and gives the one that makes the allocation that this one deletes, if it deletes one.
+    /// Notes the next response to the client. If it deletes an allocation, returns the response
+    /// that makes that allocation.
     pub fn note_answer(&mut self, number: AnswerNumber, content: Content) -> Option<AnswerNumber> {
         self.answer = Some(number);
         match content {

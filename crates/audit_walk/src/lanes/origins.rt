@@ -1,4 +1,4 @@
-//! What may have asked for data that leaves.
+//! The possible causes of data that leaves.
 
 use super::Lanes;
 use crate::causes::Cause;
@@ -8,7 +8,7 @@ use audit_content::given_to_client;
 use audit_model::Sighting;
 use audit_seen::LaneNumber;
 
-/// What may have asked for a departure, and its lane.
+/// A possible cause of a departure, and its lane.
 #[derive(Clone, Copy)]
 pub struct Origin {
     lane: LaneNumber,
@@ -25,8 +25,8 @@ impl Origin {
     }
 }
 
-/// All that may have asked for a departure: of the lane that has the relayed address now, and of the one that had it before, each as it is and
-/// as it was before its last deletion.
+/// All possible causes of a departure: in the lane that has the relayed address now, and in the one
+/// that had it before, each in its current state and in that before its last deletion.
 #[derive(Clone, Copy)]
 pub struct Origins {
     lane: LaneNumber,
@@ -34,19 +34,19 @@ pub struct Origins {
 }
 
 impl Origins {
-    /// The lane that it is most likely of.
+    /// The most likely lane.
     pub fn lane(&self) -> LaneNumber {
         self.lane
     }
 
-    /// What may have asked for it, the most likely first.
+    /// The possible causes, the most likely first.
     pub fn as_slice(&self) -> &[Option<Origin>] {
         self.list.as_slice()
     }
 }
 
 impl Lanes {
-    /// What may have asked for data that leaves; none where nobody has or had its relayed address.
+    /// The possible causes of data that leaves; none if nobody has or had its relayed address.
     pub fn asked_by(&self, judge: &Judge<'_>, leaves: &Sighting, data: &Data) -> Option<Origins> {
         let digest = data.digest();
         if judge.policy().listens(leaves.from) {
@@ -71,7 +71,7 @@ impl Lanes {
         })
     }
 
-    /// What of one client may have asked for data that leaves to a peer.
+    /// The possible causes, in one lane, of data that leaves to a peer.
     pub fn asked_by_one(&self, lane: LaneNumber, leaves: &Sighting, digest: u64) -> Origins {
         let [send, channel, deleted] = self.asked_by_client(lane, leaves, digest);
         Origins {
@@ -80,7 +80,7 @@ impl Lanes {
         }
     }
 
-    /// What of a client asks for data that leaves to a peer.
+    /// The causes, in one lane, of data that leaves to a peer.
     fn asked_by_client(
         &self,
         lane: LaneNumber,
@@ -112,7 +112,7 @@ impl Lanes {
         ]
     }
 
-    /// What asks for data that a client is given.
+    /// The causes of data that a client receives.
     fn asked_by_peer(&self, lane: LaneNumber, leaves: &Sighting, digest: u64) -> Origins {
         let mut list = [None; 6];
         if let Some(client) = self.get(lane) {

@@ -1,4 +1,4 @@
-//! The answers to a client that are kept back.
+//! The delayed responses to a client.
 
 use crate::content::Content;
 use crate::datagrams::Datagrams;
@@ -7,14 +7,14 @@ use audit_model::SightId;
 use std::alloc::{AllocError, Global};
 use std::collections::BTreeMap;
 
-/// How many answers that are kept back are looked at for one that changes what allocation there is.
+/// How many delayed responses are looked at for one that makes or deletes an allocation.
 const LOOKED_AT: usize = 8;
 
-/// The answers that were not given when their requests arrived, and haven't left yet.
+/// The responses that weren't acted on when their requests arrived, and haven't left yet.
 #[derive(Drop)]
 pub struct Pending {
     answers: BTreeMap<SightId, AnswerNumber>,
-    /// The answer that says that the allocation is deleted, while that is not done yet.
+    /// The response that says that the allocation is deleted, while that is not done yet.
     deletion: Option<AnswerNumber>,
 }
 
@@ -26,7 +26,7 @@ impl Pending {
         }
     }
 
-    /// Adds an answer.
+    /// Adds a response.
     pub fn insert(
         &mut self,
         sight: SightId,
@@ -40,7 +40,7 @@ impl Pending {
         Ok(())
     }
 
-    /// Takes an answer out that is given, if it is one of them.
+    /// Takes out a response that was acted on, if it is one of them.
     pub fn remove(&mut self, sight: SightId, answer: AnswerNumber) {
         self.answers.remove(&sight);
         if self.deletion == Some(answer) {
@@ -48,12 +48,12 @@ impl Pending {
         }
     }
 
-    /// The answer that says that the allocation is deleted, while that is not done yet.
+    /// The response that says that the allocation is deleted, while that is not done yet.
     pub fn deletion(&self) -> Option<AnswerNumber> {
         self.deletion
     }
 
-    /// Whether an answer leaves before this one that isn't given yet.
+    /// Whether a response that wasn't acted on yet leaves before this one.
     pub fn has_before(&self, answer: SightId) -> bool {
         match self.answers.first_key_value() {
             Some((first, _)) => *first < answer,
@@ -61,7 +61,7 @@ impl Pending {
         }
     }
 
-    /// The first answer that changes what allocation there is, other than this one.
+    /// The first response, except this one, that makes or deletes an allocation.
     pub fn first_change(&self, datagrams: &Datagrams, but: AnswerNumber) -> Option<AnswerNumber> {
         for (_, answer) in self.answers.iter().take(LOOKED_AT) {
             if *answer != but {

@@ -1,4 +1,4 @@
-//! Acts, as they are written.
+//! Writes acts.
 
 use super::Search;
 use crate::content::Content;
@@ -10,8 +10,8 @@ use audit_seen::LaneNumber;
 use std::alloc::AllocError;
 
 impl Search {
-    /// Acts on a request now, if the server may, and tells whether it did. A deletion is done in any case: what was deleted is kept,
-    /// for the data that was relayed before.
+    /// Acts on a request now, if the rules allow it, and returns whether it did. A deletion is done
+    /// in any case: the deleted allocation is kept for data that was relayed before.
     pub(super) fn act_on(
         &mut self,
         judge: &Judge<'_>,
@@ -47,8 +47,8 @@ impl Search {
         Ok(true)
     }
 
-    /// Gives the first answer of a lane that is kept back, changes what allocation there is, and is another than this one, if
-    /// the server may; tells whether it did.
+    /// Acts on the first delayed response of a lane, except this one, that makes or deletes an
+    /// allocation, if the rules allow it. Returns whether it did.
     pub(super) fn give_pending(
         &mut self,
         judge: &Judge<'_>,
@@ -65,7 +65,7 @@ impl Search {
         }
     }
 
-    /// Deletes the allocation of a lane whose Refresh says so, if its success hasn't left yet.
+    /// Deletes the allocation of a lane, if the success response to the Refresh hasn't left yet.
     pub(super) fn end_now(
         &mut self,
         judge: &Judge<'_>,
@@ -81,7 +81,8 @@ impl Search {
         Ok(())
     }
 
-    /// Gives an answer now to its request, if that is known and the server may; tells whether it did.
+    /// Acts on a response now, if its request is known and the rules allow it. Returns whether it
+    /// did.
     fn give(
         &mut self,
         judge: &Judge<'_>,
@@ -94,7 +95,7 @@ impl Search {
         }
     }
 
-    /// Writes the act of a request and its answer, and notes what the answer says.
+    /// Writes the act of a request and its response, and notes the response's content.
     pub(super) fn commit_answer(
         &mut self,
         judge: &Judge<'_>,
@@ -124,7 +125,8 @@ impl Search {
         }
     }
 
-    /// Writes the act of an arrival and a departure, behind the arrival's own event if that isn't there yet.
+    /// Writes the act of an arrival and a departure, after the arrival's own event if that isn't
+    /// written yet.
     pub(super) fn write_act(
         &mut self,
         judge: &Judge<'_>,

@@ -1,7 +1,8 @@
-//! Arrivals, as they are placed.
+//! Places arrivals.
 //!
-//! A request is acted on at its arrival, so that what it grants is there for the data behind it. A Refresh that deletes the allocation
-//! is acted on when its success leaves, and so is what may not be done any earlier, or is answered behind such a request.
+//! A request is acted on when it arrives, so that its lease is there for the data after it. Some
+//! are acted on when their responses leave: a Refresh that deletes the allocation, a request whose
+//! response the rules don't allow earlier, and those whose responses leave after such a one.
 
 use super::Search;
 use crate::content::Content;
@@ -14,7 +15,7 @@ use audit_seen::LaneNumber;
 use std::alloc::AllocError;
 
 impl Search {
-    /// Gives an arrival its key, and acts on it where that is best done at once.
+    /// Sets the key of an arrival, and acts on it if that is best done at once.
     pub(super) fn place_arrival(
         &mut self,
         judge: &Judge<'_>,
@@ -61,7 +62,7 @@ impl Search {
         Ok(())
     }
 
-    /// Answers a request, if its answer is captured and may be given at once.
+    /// Acts on a request, if its response is captured and may be sent at once.
     fn ask(
         &mut self,
         judge: &Judge<'_>,
@@ -93,9 +94,10 @@ impl Search {
         }
     }
 
-    /// Whether an answer is best given as it leaves: the walk is late; or it leaves behind another that is kept back; or it deletes an
-    /// allocation; or it makes one, and another client has or is to have its address, or another answer near it speaks against it. That
-    /// there is no allocation is best said at once.
+    /// Whether a response is best acted on when it leaves: the walk is late; a response before it
+    /// is delayed; it deletes an allocation; or it makes one, and another client has the address or
+    /// must have it before, or a response near it contradicts that. A response that there is no
+    /// allocation is never delayed.
     fn is_kept_back(
         &self,
         judge: &Judge<'_>,

@@ -1,4 +1,4 @@
-//! Arrivals that nothing answered.
+//! Decides arrivals for which nothing was sent.
 
 use super::Search;
 use crate::judge::Judge;
@@ -7,8 +7,9 @@ use audit_model::Event;
 use std::alloc::AllocError;
 
 impl Search {
-    /// Gives the arrivals up to the horizon that nothing answered their events. At the end of all captures they are dropped; before it, a
-    /// client's stand in its lane, since they may still be answered.
+    /// Emits the events of arrivals up to the horizon for which nothing was sent. At the end of all
+    /// captures such arrivals are dropped. Before it, those of clients are events of their lanes,
+    /// since the server may still act on them.
     pub(super) fn decide(&mut self, judge: &Judge<'_>, horizon: u64) -> Result<(), AllocError> {
         for _ in 0..self.datagrams.undecided() {
             let Some(number) = self.datagrams.take_undecided(horizon) else {

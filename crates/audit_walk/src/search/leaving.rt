@@ -1,4 +1,4 @@
-//! Departures, as they are placed.
+//! Places departures.
 
 use super::Search;
 use crate::content::answer_of;
@@ -11,11 +11,11 @@ use audit_model::{Addr, Event, Sighting};
 use audit_seen::LaneNumber;
 use std::alloc::AllocError;
 
-/// How many answers that are kept back are given so that another one may be.
+/// How many delayed responses are acted on so that another one may be.
 const GIVEN_BEFORE: usize = 8;
 
 impl Search {
-    /// Places a success or an error, behind the act that gives it; or tells what it waits for.
+    /// Places a success or error response after its act, or returns what it waits for.
     pub(super) fn place_answer(
         &mut self,
         judge: &Judge<'_>,
@@ -66,7 +66,8 @@ impl Search {
         Ok(None)
     }
 
-    /// The request that an answer is most likely to: one of its transaction, or else the client's last one.
+    /// The most likely request of a response: one of its transaction, or else the client's last
+    /// one.
     fn request_for(
         &mut self,
         judge: &Judge<'_>,
@@ -91,7 +92,7 @@ impl Search {
         )
     }
 
-    /// The earliest moment of an arrival that may be answered now.
+    /// The earliest arrival to which a response may leave now.
     pub(super) fn earliest(&self, judge: &Judge<'_>) -> u64 {
         judge.earliest_arrival(self.clock.moment())
     }
@@ -101,8 +102,8 @@ impl Search {
         self.lanes.other_holder(lane, relayed, self.clock.moment())
     }
 
-    /// Whether an answer makes an allocation whose address another client holds and hasn't asked to give up yet, or has to have
-    /// had before.
+    /// Whether a response makes an allocation whose address another client holds and hasn't
+    /// requested to delete yet, or must have before.
     fn is_held_elsewhere(&self, judge: &Judge<'_>, answer: &Answer) -> bool {
         let Some(relayed) = answer.relayed() else {
             return false;
@@ -117,15 +118,15 @@ impl Search {
         is_held || self.has_to_follow(judge, answer)
     }
 
-    /// Whether another client has to have had an allocation's relayed address before.
+    /// Whether another client must have had the relayed address of a response before.
     pub(super) fn has_to_follow(&self, judge: &Judge<'_>, answer: &Answer) -> bool {
         let earliest = self.earliest(judge);
         self.lanes
             .has_to_follow(judge, &self.datagrams, answer, earliest)
     }
 
-    /// Acts on a request now that its answer leaves. Where the server may not do that before it has given others that are kept
-    /// back, those come first.
+    /// Acts on a request now that its response leaves. If the rules allow that only after other
+    /// delayed responses, those are acted on first.
     fn answer_late(
         &mut self,
         judge: &Judge<'_>,

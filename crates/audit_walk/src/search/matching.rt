@@ -1,4 +1,4 @@
-//! Data that leaves, and the data that arrived for it.
+//! Matches data that leaves with the data that arrived for it.
 
 use super::Search;
 use crate::causes::Cause;
@@ -12,19 +12,19 @@ use audit_model::{Key, Sighting};
 use audit_seen::LaneNumber;
 use std::alloc::AllocError;
 
-/// Which arrival a departure is given by.
+/// The arrival for which a departure is sent.
 #[derive(Clone, Copy, Debug)]
 enum Choice {
-    /// The server may give it in this lane by this one, at this key.
+    /// The rules allow it in this lane, for this arrival, at this key.
     Acts(LaneNumber, ArrivalNumber, Key),
-    /// It may be one that has no key yet, and has this least moment.
+    /// It may be an arrival that has no key yet, and has this first moment.
     Waits(ArrivalNumber, u64),
-    /// None of those that ask for it.
+    /// None of the arrivals of its causes.
     None,
 }
 
 impl Choice {
-    /// This one, or the other one where that can be had sooner.
+    /// The better of two choices: one that acts, or else the one with the lesser first moment.
     fn or(self, other: Choice) -> Choice {
         match (self, other) {
             (Choice::Acts(..), _) | (_, Choice::None) => self,
@@ -37,10 +37,11 @@ impl Choice {
 }
 
 impl Search {
-    /// Places data, behind the act that gives it; or tells what it waits for.
+    /// Places data after its act, or returns what it waits for.
     ///
-    /// It is acted on as it leaves, so that a permission that was asked for before the data left is there; or else before the
-    /// allocation was deleted, or at its arrival, before the permission ended.
+    /// The act is placed when the data leaves, so that a permission that was requested before is
+    /// there. Otherwise it is placed before the allocation was deleted, or at the arrival, before
+    /// the permission ended.
     pub(super) fn place_data(
         &mut self,
         judge: &Judge<'_>,
@@ -76,7 +77,8 @@ impl Search {
         self.leave(judge, lane, leaves)
     }
 
-    /// What may have asked for data from an address that nobody has or had: the last client that sent data, or else the first one.
+    /// The possible causes of data from an address that nobody has or had: those of the last client
+    /// that sent data, or else of the first client.
     fn asked_by_last(&self, judge: &Judge<'_>, leaves: &Sighting, digest: u64) -> Option<Origins> {
         if judge.policy().listens(leaves.from) {
             return None;
@@ -104,7 +106,7 @@ impl Search {
         Ok(choice)
     }
 
-    /// The first arrival that asks for it and by which the server may give it, of so many that are tried.
+    /// The first arrival of a cause for which the rules allow the departure, of up to `CANDIDATES`.
     fn choose_of(
         &mut self,
         judge: &Judge<'_>,
@@ -135,7 +137,7 @@ impl Search {
         Ok(Choice::None)
     }
 
-    /// Counts an act that is tried for a departure, and tells whether it may be tried.
+    /// Counts an act that is tried for a departure, and returns whether it may be tried.
     fn count_try(&mut self, arrives: &Sighting, leaves: &Sighting) -> bool {
         let is_last_moment = !self.clock.has_time();
         let bytes = arrives
@@ -147,7 +149,7 @@ impl Search {
             .count_try(leaves.id.iface, is_last_moment, bytes)
     }
 
-    /// The key at which the server may give the departure by that arrival.
+    /// The key at which the rules allow the departure for that arrival.
     fn key_by(
         &mut self,
         judge: &Judge<'_>,
@@ -179,15 +181,15 @@ impl Search {
             && is_open(given_to, came)
             && client.relays(judge, arrives, leaves, early)?
         {
-            // The permission may have been given since.
+            // The permission may have been granted only after the arrival.
             self.found.mark_suspect();
             return Ok(Some(early));
         }
         Ok(None)
     }
 
-    /// The arrival that a departure most likely answers although the server may not, and its lane: one that asks for it, or asked
-    /// for it before, or else the last data that came to the lane.
+    /// The most likely arrival of a departure that the rules don't allow, and its lane: one of its
+    /// causes, or else the last data that came to the lane.
     fn likely(
         &mut self,
         judge: &Judge<'_>,
@@ -211,7 +213,7 @@ impl Search {
         Ok(self.last_of(judge, asked, leaves, earliest))
     }
 
-    /// The last data that came to a lane the way in which a departure would have to have come, no earlier than that.
+    /// The last data that came to a lane in the departure's direction, no earlier than `earliest`.
     fn last_of(
         &self,
         judge: &Judge<'_>,

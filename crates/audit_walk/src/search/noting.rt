@@ -1,4 +1,4 @@
-//! Sightings that are new.
+//! Notes new sightings.
 
 use super::Search;
 use crate::content::Content;
@@ -12,7 +12,7 @@ use audit_seen::LaneNumber;
 use std::alloc::AllocError;
 
 impl Search {
-    /// Notes the next sighting of an interface, and what it is alone.
+    /// Notes the next sighting of an interface, and its kind.
     pub(super) fn note(
         &mut self,
         judge: &Judge<'_>,
@@ -47,7 +47,8 @@ impl Search {
         }
     }
 
-    /// Notes an answer, with the last request of its transaction that came before it by its interface, if that has no other.
+    /// Notes a response, with the last request of its transaction that came before it on its
+    /// interface, if that has no other response.
     fn note_answer(
         &mut self,
         judge: &Judge<'_>,

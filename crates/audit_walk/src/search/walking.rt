@@ -1,4 +1,4 @@
-//! The walk, stretch by stretch.
+//! Runs the walk, stretch by stretch.
 
 use super::Search;
 use crate::ahead::{Ahead, Stretch};
@@ -9,7 +9,7 @@ use audit_model::SightId;
 use std::alloc::AllocError;
 
 impl Search {
-    /// Places the sightings that are new, and those that were left, up to the horizon.
+    /// Places the new sightings, and earlier ones that weren't placed, up to the horizon.
     pub(super) fn walk(
         &mut self,
         judge: &Judge<'_>,
@@ -19,7 +19,7 @@ impl Search {
         self.begin(judge)?;
         ahead.begin(judge)?;
         let (_, sightings) = judge.intake().counts();
-        // Each stretch has one at the least.
+        // Each stretch has at least one sighting.
         for _ in 0..sightings {
             let Some(stretch) = ahead.next(judge)? else {
                 break;
@@ -29,7 +29,7 @@ impl Search {
         self.go_on(judge, horizon)
     }
 
-    /// Takes in the clients, and queues each interface that has a sighting without a key.
+    /// Adds the clients, and queues each interface that has a sighting without a key.
     pub fn begin(&mut self, judge: &Judge<'_>) -> Result<(), AllocError> {
         self.lanes.add_all(judge.clients())?;
         for iface in 0..judge.intake().interfaces() {
@@ -39,13 +39,14 @@ impl Search {
         Ok(())
     }
 
-    /// Finds the events of the next sightings, once it was begun. The keys of a lane don't always rise from one call to the next.
+    /// Returns the events of the next sightings, after `begin`. The keys of a lane don't always
+    /// increase from one call to the next.
     pub fn place(&mut self, judge: &Judge<'_>, stretch: Stretch) -> Result<Portion, AllocError> {
         self.go_through(judge, stretch, u64::MAX)?;
         Ok(self.found.take_portion())
     }
 
-    /// Finds the last events, once all sightings are noted.
+    /// Returns the last events, once all sightings are noted.
     pub fn finish(&mut self, judge: &Judge<'_>) -> Result<Portion, AllocError> {
         self.go_on(judge, u64::MAX)?;
         self.decide(judge, u64::MAX)?;
@@ -55,7 +56,8 @@ impl Search {
         Ok(self.found.take_portion())
     }
 
-    /// Notes the sightings of a stretch, and places what comes long enough before those behind it, up to the horizon.
+    /// Notes the sightings of a stretch, and places those up to the horizon that come early enough
+    /// before the sightings after the stretch.
     fn go_through(
         &mut self,
         judge: &Judge<'_>,
@@ -76,7 +78,7 @@ impl Search {
         self.datagrams.tidy(moment, judge.earliest_arrival(moment))
     }
 
-    /// Notes what the next sightings of an interface are.
+    /// Notes the kinds of the next sightings of an interface.
     fn note_row(
         &mut self,
         judge: &Judge<'_>,

@@ -1,4 +1,4 @@
-//! The commands, as clap has them. Their help is that of the pages.
+//! The commands, as clap definitions. Their help texts are the pages.
 
 ghost use Rattle.std.specs.Prelude.{◌≡◌, ◌≤◌, false, IfOk};
 ghost use Rattle.clap.specs.Words.{app_of, rule_of};
@@ -58,7 +58,7 @@ fn reassemble_command<'a>(alloc: Global) -> Result<Command<'a>, AllocError>
         .arg(captures(alloc))
 }
 
-/// The option of `translate` with addresses that stand for others.
+/// The option of `translate` that pairs public and private addresses.
 fn external<'a>(alloc: Global) -> Arg<'a>
     ensures rule { rule_of result ≡ words.external }
     ensures local { result.global ≡ false }
@@ -174,14 +174,14 @@ fn program<'a>(alloc: Global) -> Command<'a>
         .subcommand_required(true)
 }
 
-/// The program with the command that does all that captures need.
+/// The program with the command that does all steps.
 fn preparing<'a>(alloc: Global) -> Result<Command<'a>, AllocError>
     ensures { IfOk result (λ command. app_of command ≡ words.preparing) }
 {
     program(alloc).subcommand(ready_command(alloc)?)
 }
 
-/// And with the commands that write a policy and credentials.
+/// The program with also the commands that write a policy and credentials.
 fn writing<'a>(alloc: Global) -> Result<Command<'a>, AllocError>
     ensures { IfOk result (λ command. app_of command ≡ words.writing) }
 {

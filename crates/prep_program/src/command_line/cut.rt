@@ -38,7 +38,7 @@ fn is_ordered(since: Option<u64>, until: Option<u64>) -> bool
     }
 }
 
-/// What the arguments state, or what is wrong with them.
+/// The operator's options, or the usage error.
 pub fn stated_by(matches: &ArgMatches<'_>) -> Result<Stated, &'static str>
     ensures ok { IfOk result (IsStated (rows_of (found_of matches.now))) }
     ensures err { IfErr result (λ text. (any : AnyStated) → IsStated (rows_of (found_of matches.now)) any → ⊥) }
@@ -69,7 +69,7 @@ pub fn stated_by(matches: &ArgMatches<'_>) -> Result<Stated, &'static str>
     })
 }
 
-/// The request that the arguments of the command `cut` are.
+/// The request of the arguments of `cut`.
 pub fn cut_request<'a>(
     alloc: Global,
     matches: &ArgMatches<'a>,

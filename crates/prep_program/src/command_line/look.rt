@@ -16,7 +16,7 @@ const NOT_A_NUMBER: &str = "turnprep: --lifetime is a number\n";
 
 const TOO_MANY: &str = "turnprep: look takes 16 captures at the most\n";
 
-/// The request that the arguments of the command `look` are.
+/// The request of the arguments of `look`.
 pub fn look_request<'a>(
     alloc: Global,
     matches: &ArgMatches<'a>,

@@ -1,5 +1,5 @@
-//! The options that commands have, as clap has them. Each is made where it is added: one that waits
-//! in a variable would be let go on each way out of the function, and each of these is proved.
+//! The options of commands, as clap definitions. Each is created at its use: one in a variable
+//! would be dropped on each way out of the function, and each drop has to be proved.
 
 ghost use Rattle.std.specs.Prelude.{◌≡◌, ◌≤◌, false};
 ghost use Rattle.clap.specs.Words.{rule_of};
@@ -20,7 +20,7 @@ pub fn value<'a>(alloc: Global, name: &'a str, shown: &'a str) -> Arg<'a>
         .action(ArgAction::Set)
 }
 
-/// An option with the name of a file, which isn't empty.
+/// An option with the name of a file, which may not be empty.
 pub fn file<'a>(alloc: Global, name: &'a str) -> Arg<'a>
     ensures rule { rule_of result ≡ words.file name.entry.now }
     ensures local { result.global ≡ false }
@@ -28,7 +28,7 @@ pub fn file<'a>(alloc: Global, name: &'a str) -> Arg<'a>
     value(alloc, name, "FILE").value_parser(ValueParser::NonEmptyString)
 }
 
-/// One that has to be there.
+/// The same, required.
 pub fn required_file<'a>(alloc: Global, name: &'a str) -> Arg<'a>
     ensures rule { rule_of result ≡ words.required_file name.entry.now }
     ensures local { result.global ≡ false }
@@ -36,7 +36,7 @@ pub fn required_file<'a>(alloc: Global, name: &'a str) -> Arg<'a>
     file(alloc, name).required(true)
 }
 
-/// An option that may be there several times.
+/// An option that may occur several times.
 pub fn repeated<'a>(alloc: Global, name: &'a str, shown: &'a str) -> Arg<'a>
     ensures rule { rule_of result ≡ words.repeated name.entry.now }
     ensures local { result.global ≡ false }
@@ -55,8 +55,8 @@ pub fn flag<'a>(alloc: Global, name: &'a str) -> Arg<'a>
     Arg::new(alloc, name).long(name).action(ArgAction::SetTrue)
 }
 
-/// The option `-o`: the file that is made, or the folder in which files are made. An empty name
-/// would make files in the root folder.
+/// The option `-o`: the file or the folder for the output. An empty folder name would make files in
+/// the root folder.
 pub fn output<'a>(alloc: Global, shown: &'a str) -> Arg<'a>
     ensures rule { rule_of result ≡ words.output }
     ensures local { result.global ≡ false }

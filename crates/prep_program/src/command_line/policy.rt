@@ -13,7 +13,7 @@ use std::alloc::{AllocError, Global};
 
 const NOT_AN_ADDRESS: &str = "turnprep: --listening-ip and --relay-ip are IPv4 addresses\n";
 
-/// The addresses that words are, or nothing where one of them is none.
+/// The addresses of the arguments, or `None` if one isn't an address.
 fn addresses_in(alloc: Global, words: &[&str]) -> Result<Option<Vec<u32>>, AllocError>
     ensures { IfOk result (λ found. option_map (λ addresses. addresses.items) found ≡ all_read ip_of (map (λ word. word.now) words.now)) }
 {
@@ -27,7 +27,7 @@ fn addresses_in(alloc: Global, words: &[&str]) -> Result<Option<Vec<u32>>, Alloc
     Ok(Some(addresses))
 }
 
-/// The addresses that an option is given, or nothing where one of them is none.
+/// The addresses of an option, or `None` if one isn't an address.
 fn addresses_of(
     alloc: Global,
     matches: &ArgMatches<'_>,
@@ -39,7 +39,7 @@ fn addresses_of(
     addresses_in(alloc, words.as_slice())
 }
 
-/// The request that the arguments of the command `policy` are.
+/// The request of the arguments of `policy`.
 pub fn policy_request<'a>(
     alloc: Global,
     matches: &ArgMatches<'a>,

@@ -14,7 +14,7 @@ use std::alloc::{AllocError, Global};
 
 const ONE_SOURCE: &str = "turnprep: ready takes --turnserver-conf or --policy, one of both\n";
 
-/// Where the policy comes from, if it is one of both.
+/// The source of the policy, if exactly one of the two is named.
 fn source_of<'a>(matches: &ArgMatches<'a>) -> Option<PolicySource<'a>>
     ensures some { IfSome result (HasPolicySource (rows_of (found_of matches.now))) }
     ensures none { IfNone result ((any : AnySource) → HasPolicySource (rows_of (found_of matches.now)) any → ⊥) }
@@ -29,7 +29,7 @@ fn source_of<'a>(matches: &ArgMatches<'a>) -> Option<PolicySource<'a>>
     }
 }
 
-/// The request that the arguments are.
+/// The request of the arguments.
 pub fn ready_request<'a>(
     alloc: Global,
     matches: &ArgMatches<'a>,

@@ -12,7 +12,7 @@ use std::alloc::{AllocError, Global};
 
 const TOO_MANY: &str = "turnprep: reassemble takes 16 captures at the most\n";
 
-/// The request that the arguments are.
+/// The request of the arguments.
 pub fn reassemble_request<'a>(
     alloc: Global,
     matches: &ArgMatches<'a>,

@@ -17,10 +17,10 @@ const NOT_A_PAIR: &str = "turnprep: --external-ip is PUBLIC/PRIVATE, two IPv4 ad
 const TOO_MANY: &str =
     "turnprep: translate takes 16 captures and 64 words of --external-ip at the most\n";
 
-/// A policy has so many relay ranges at the most.
+/// The most relay ranges that a policy has.
 const MAX_TRANSLATIONS: usize = 64;
 
-/// The translations that words are, or nothing where one of them is none.
+/// The translations of the arguments, or `None` if one isn't a translation.
 fn translations_in(alloc: Global, words: &[&str]) -> Result<Option<Vec<Translation>>, AllocError>
     ensures { IfOk result (λ found. option_map (λ translations. translations.items) found ≡ all_read pair_of (map (λ word. word.now) words.now)) }
 {
@@ -34,7 +34,7 @@ fn translations_in(alloc: Global, words: &[&str]) -> Result<Option<Vec<Translati
     Ok(Some(translations))
 }
 
-/// The request that the arguments are.
+/// The request of the arguments.
 pub fn translate_request<'a>(
     alloc: Global,
     matches: &ArgMatches<'a>,

@@ -15,7 +15,7 @@ const NO_SOURCE: &str = "turnprep: users takes --turnserver-conf or --secret\n";
 
 const TWO_SOURCES: &str = "turnprep: users takes --turnserver-conf or --secret, and not both\n";
 
-/// Where the users come from, if it is one of both.
+/// The source of the users, if exactly one of the two is named.
 fn source_of<'a>(matches: &ArgMatches<'a>) -> Option<UsersSource<'a>>
     ensures some { IfSome result (HasSource (rows_of (found_of matches.now))) }
     ensures none { IfNone result ((any : AnySource) → HasSource (rows_of (found_of matches.now)) any → ⊥) }
@@ -30,7 +30,7 @@ fn source_of<'a>(matches: &ArgMatches<'a>) -> Option<UsersSource<'a>>
     }
 }
 
-/// What is wrong if it isn't one of both.
+/// The usage error if not exactly one is named.
 fn wrong_source(matches: &ArgMatches<'_>) -> &'static str {
     match value_of(matches, "secret") {
         Some(_) => TWO_SOURCES,
@@ -38,7 +38,7 @@ fn wrong_source(matches: &ArgMatches<'_>) -> &'static str {
     }
 }
 
-/// The request that the arguments are.
+/// The request of the arguments.
 pub fn users_request<'a>(
     alloc: Global,
     matches: &ArgMatches<'a>,

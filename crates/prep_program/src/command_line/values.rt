@@ -1,4 +1,4 @@
-//! The values that the arguments of a command give its options.
+//! The values of a command's options.
 
 ghost use Rattle.std.specs.Prelude.{◌≡◌, IfNone, IfOk, IfSome, List, length, map, option_map};
 ghost use Rattle.clap.specs.Words.{Text, all_of, first_of, found_of, rows_of};
@@ -8,7 +8,7 @@ use audit_text::number;
 use clap::ArgMatches;
 use std::alloc::{AllocError, Global};
 
-/// So many captures may be audited together.
+/// The most captures of one audit.
 const MAX_CAPTURES: usize = 16;
 
 /// The value of an option.
@@ -18,14 +18,14 @@ pub fn value_of<'a>(matches: &ArgMatches<'a>, name: &str) -> Option<&'a str>
     matches.get_str(name)
 }
 
-/// The values of an option that may be there several times, and captures.
+/// The values of an option that may occur several times, or of the captures.
 pub fn all_values<'m, 'a>(matches: &'m ArgMatches<'a>, name: &str) -> Option<&'m [&'a str]>
     ensures { option_map (λ values. map (λ value. value.now) values.now) result ≡ all_of name.now (rows_of (found_of matches.now)) }
 {
     matches.get_strs(name)
 }
 
-/// The values of an option, none where it isn't there.
+/// The values of an option; none if it is absent.
 pub fn values<'a>(
     alloc: Global,
     matches: &ArgMatches<'a>,
@@ -40,14 +40,14 @@ pub fn values<'a>(
     }
 }
 
-/// Whether an option without a value is there.
+/// Whether an option without a value is present.
 pub fn flag_of(matches: &ArgMatches<'_>, name: &str) -> bool
     ensures { HasFlag name.now (rows_of (found_of matches.now)) result }
 {
     matches.get_flag(name)
 }
 
-/// The number of an option, if it is there; nothing where its value is no number of digits up to
+/// The number of an option, if it is present; `None` if its value isn't a decimal number up to
 /// `most`.
 pub fn number_of(matches: &ArgMatches<'_>, name: &str, most: u64) -> Option<Option<u64>>
     ensures { result ≡ number_named most name.now (rows_of (found_of matches.now)) }
@@ -61,7 +61,7 @@ pub fn number_of(matches: &ArgMatches<'_>, name: &str, most: u64) -> Option<Opti
     }
 }
 
-/// The captures, where they are at most as many as may be audited together.
+/// The captures, if they are at most as many as one audit takes.
 pub fn captures_of<'a>(
     alloc: Global,
     matches: &ArgMatches<'a>,

@@ -1,4 +1,4 @@
-//! The command that audits what `ready` made.
+//! The command that audits the folder of `ready`.
 
 use crate::folder::path_in;
 use prep_steps::push_words;

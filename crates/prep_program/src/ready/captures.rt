@@ -11,7 +11,7 @@ use crate::source::Source;
 use crate::stop::Stop;
 use std::alloc::Global;
 
-/// So many captures may be audited together.
+/// The most captures of one audit.
 const MAX_CAPTURES: usize = 16;
 
 /// Joins the files of each ring to one capture.
@@ -37,7 +37,7 @@ pub fn join_step<S: Source, M: Maker, F: Folders>(
     Ok(captures)
 }
 
-/// Refuses captures of which two have one name: they are written to one folder.
+/// Refuses captures if two have the same name: they are written to one folder.
 fn check_names(alloc: Global, captures: &[Staged]) -> Result<(), Stop> {
     let files = files_of(alloc, captures)?;
     check_parts(&files)
@@ -52,7 +52,7 @@ fn staged_of(alloc: Global, rings: &[Ring<'_>], work: &Work) -> Result<Vec<Stage
     Ok(all)
 }
 
-/// Where a ring is joined to. A single file stays where it is.
+/// The output file of a ring. A single file stays where it is.
 fn ring_file(alloc: Global, ring: &Ring<'_>, work: &Work) -> Result<Staged, Stop> {
     let name = ring.first();
     if ring.is_single() {

@@ -5,7 +5,7 @@ use crate::source::{PIECE, Source};
 use crate::stop::Stop;
 use std::alloc::Global;
 
-/// Copies a file of at most so many bytes.
+/// Copies a file of at most `most` bytes.
 pub fn copy<S: Source, M: Maker>(
     alloc: Global,
     from: &str,
@@ -21,7 +21,7 @@ pub fn copy<S: Source, M: Maker>(
     Ok(())
 }
 
-/// Copies the bytes of a file, a piece after the other.
+/// Copies the bytes of a file, piece by piece.
 fn copy_pieces<S: Source, M: Maker>(
     from: &str,
     most: u64,

@@ -26,7 +26,7 @@ pub struct Decided {
     pub is_cut: bool,
 }
 
-/// Decides by what `look` finds in the captures, and by what is stated.
+/// Decides by the captures as `look` reads them, and by the operator's options.
 pub fn decide_step<S: Source>(
     alloc: Global,
     stated: Stated,
@@ -44,7 +44,7 @@ pub fn decide_step<S: Source>(
     })
 }
 
-/// Says what is to be known of the captures.
+/// Prints the notes about the captures.
 fn say_notes(notes: &[u8], work: &mut Work) -> Result<(), Stop> {
     for line in notes.split(|byte| *byte == b'\n') {
         if !line.is_empty() {
@@ -54,9 +54,9 @@ fn say_notes(notes: &[u8], work: &mut Work) -> Result<(), Stop> {
     Ok(())
 }
 
-/// What the captures leave open, with the option that decides it. Which time of a restarted server
-/// is meant has to be stated. What left after an interface's end is excluded only if that is
-/// stated, since it may be the server's breach.
+/// Reports what the captures leave open, with the option that decides it. If the server was
+/// restarted, the operator must state which time is meant. Departures after an interface's end are
+/// excluded only by the operator's option: they may be violations by the server.
 fn say_open(alloc: Global, stated: Stated, needs: &Needs, work: &mut Work) -> Result<(), Stop> {
     if stated.since.is_some() || stated.until.is_some() {
         return Ok(());
@@ -73,7 +73,7 @@ fn say_open(alloc: Global, stated: Stated, needs: &Needs, work: &mut Work) -> Re
     Ok(())
 }
 
-/// What the captures need by the policy.
+/// What the captures need, by the policy.
 fn needs<S: Source>(
     alloc: Global,
     stated: Stated,
@@ -88,7 +88,7 @@ fn needs<S: Source>(
     needs_by(alloc, stated, &policy, &files, source)
 }
 
-/// What files need by a policy.
+/// What files need, by a policy.
 fn needs_by<S: Source>(
     alloc: Global,
     stated: Stated,
@@ -107,8 +107,8 @@ fn needs_by<S: Source>(
     Ok(needs_of(alloc, &survey, policy, &sheet, stated.released_ms)?)
 }
 
-/// Leaves the captures in the folder: without what is excluded, with the list of that, or as they
-/// are. None is left if no datagram of the service is kept.
+/// Puts the captures into the folder: without the excluded packets and with their list, or
+/// unchanged. Nothing remains if no datagram of the service is kept.
 pub fn exclude_step<R: Threads + AllocGlobal, S: Source, M: Maker, F: Folders, E: Sink>(
     rt: &R,
     decided: Decided,
@@ -128,7 +128,7 @@ pub fn exclude_step<R: Threads + AllocGlobal, S: Source, M: Maker, F: Folders, E
     }
 }
 
-/// Moves or copies captures of which nothing is excluded.
+/// Moves or copies captures from which nothing is excluded.
 fn keep<S: Source, M: Maker, F: Folders>(
     alloc: Global,
     captures: Vec<Staged>,
@@ -144,7 +144,7 @@ fn keep<S: Source, M: Maker, F: Folders>(
     Ok(kept)
 }
 
-/// Writes the captures without what is excluded, and the list.
+/// Writes the captures without the excluded packets, and the list.
 fn exclude<R: Threads + AllocGlobal, S: Source, M: Maker, E: Sink>(
     rt: &R,
     stated: Stated,
@@ -167,7 +167,7 @@ fn exclude<R: Threads + AllocGlobal, S: Source, M: Maker, E: Sink>(
     Ok(Some(ended))
 }
 
-/// The command that excludes by hand.
+/// Records the command that excludes them manually.
 fn by_hand(
     alloc: Global,
     stated: Stated,
@@ -184,7 +184,7 @@ fn by_hand(
     work.end_line()
 }
 
-/// The exit status of `cut`, which writes to the folder in which `ready` works.
+/// Runs `cut` into the temporary folder, and returns its exit status.
 fn cut_by<R: Threads + AllocGlobal, S: Source, M: Maker, E: Sink>(
     rt: &R,
     stated: Stated,
@@ -212,7 +212,7 @@ fn cut_by<R: Threads + AllocGlobal, S: Source, M: Maker, E: Sink>(
     Ok(status)
 }
 
-/// The exit status of `cut` to the folder.
+/// Runs `cut` into the folder, and returns its exit status.
 fn cut_to<'x, R: Threads + AllocGlobal, S: Source, M: Maker, E: Sink>(
     rt: &R,
     stated: Stated,
@@ -234,7 +234,7 @@ fn cut_to<'x, R: Threads + AllocGlobal, S: Source, M: Maker, E: Sink>(
     run_cut(rt, &request, source, maker, list, err)
 }
 
-/// What is stated, as options of `cut`.
+/// Adds the operator's options as options of `cut`.
 fn options(alloc: Global, stated: Stated, work: &mut Work) -> Result<(), Stop> {
     number(alloc, "--since", stated.since, work)?;
     number(alloc, "--until", stated.until, work)?;

@@ -1,4 +1,4 @@
-//! The policy of `ready`: a file, or what coturn's configuration and the captures come to.
+//! The policy of `ready`: a file, or made from coturn's configuration and the captures.
 
 use super::PolicySource;
 use super::work::{Staged, Work, files_of};
@@ -14,22 +14,22 @@ use prep_translate::Translation;
 use std::alloc::{AllocError, Global};
 use std::fmt::Write;
 
-/// What the policy of an audit says of its captures.
+/// The facts of the policy that the later steps need.
 #[derive(Drop)]
 pub struct Chosen {
-    /// Which addresses of the captures are translated.
+    /// The address translations of the captures.
     pub translations: Vec<Translation>,
-    /// The captures have fragments of its service.
+    /// Whether the captures have fragments of its service.
     pub has_fragments: bool,
 }
 
-/// What is added to a configuration.
+/// The options that are added to a configuration.
 #[derive(Drop)]
 struct Added {
     listening: Vec<u32>,
     relaying: Vec<u32>,
     is_translated: bool,
-    /// The addresses that are announced as others.
+    /// The addresses that are announced as other ones.
     renamed: Vec<Renamed>,
 }
 
@@ -53,7 +53,7 @@ pub fn policy_step<S: Source, M: Maker, E: Sink>(
     }
 }
 
-/// What the captures hold.
+/// Reads what the captures contain.
 fn survey_of<S: Source>(
     alloc: Global,
     captures: &[Staged],
@@ -63,8 +63,8 @@ fn survey_of<S: Source>(
     survey_captures(alloc, source, &files)
 }
 
-/// A policy that is a file. An address that its clients were granted, and that isn't in the
-/// captures, is translated.
+/// Uses a policy from a file. An address that clients were granted and that isn't in the captures
+/// is translated.
 fn given<S: Source, M: Maker>(
     alloc: Global,
     name: &str,
@@ -101,7 +101,7 @@ fn announced(
     Ok(translations)
 }
 
-/// The policy that a configuration and the captures come to.
+/// Makes the policy from a configuration and the captures.
 fn configured<M: Maker, E: Sink>(
     alloc: Global,
     name: &str,
@@ -119,7 +119,7 @@ fn configured<M: Maker, E: Sink>(
 }
 
 impl Added {
-    /// Nothing is added.
+    /// Nothing added.
     fn none(alloc: Global) -> Self {
         Added {
             listening: Vec::new(alloc),
@@ -131,7 +131,7 @@ impl Added {
 }
 
 impl Chosen {
-    /// A policy, with whether the captures have fragments of its service.
+    /// A policy, and whether the captures have fragments of its service.
     fn new(
         alloc: Global,
         policy: Policy,
@@ -165,8 +165,8 @@ fn write_policy<M: Maker>(text: &[u8], work: &Work, maker: &mut M) -> Result<(),
     Ok(())
 }
 
-/// Writes the policy that a configuration comes to, with the addresses that it lacks and the
-/// captures have, and what it leaves open to `err`.
+/// Writes the policy of a configuration, with the addresses that the configuration lacks and the
+/// captures have; unclear points go to `err`.
 fn prepared_by<M: Maker, E: Sink>(
     alloc: Global,
     text: &[u8],
@@ -182,7 +182,7 @@ fn prepared_by<M: Maker, E: Sink>(
     Ok(read_policy(alloc, prepared.policy.as_bytes())?)
 }
 
-/// What a configuration comes to, with what it lacks: three kinds of things at the most.
+/// Prepares a configuration, with the options that it lacks: at most three kinds.
 fn prepare_with(
     alloc: Global,
     text: &[u8],
@@ -198,7 +198,7 @@ fn prepare_with(
     Ok(prepare_once(alloc, text, added)?)
 }
 
-/// What a configuration comes to with what was added.
+/// Prepares a configuration with the added options.
 fn prepare_once(alloc: Global, text: &[u8], added: &Added) -> Result<Prepared, ConfFault> {
     let asked = Asked {
         listening: &added.listening,
@@ -208,7 +208,7 @@ fn prepare_once(alloc: Global, text: &[u8], added: &Added) -> Result<Prepared, C
     prepare(alloc, text, &asked)
 }
 
-/// Adds what a configuration lacks, or ends with its fault.
+/// Adds an option that a configuration lacks, or returns its fault.
 fn add(alloc: Global, survey: &Survey, fault: ConfFault, added: &mut Added) -> Result<(), Stop> {
     match fault {
         ConfFault::NoListening => {
@@ -229,7 +229,7 @@ fn add(alloc: Global, survey: &Survey, fault: ConfFault, added: &mut Added) -> R
     Ok(())
 }
 
-/// The addresses that are announced as others and from which responses left in the captures.
+/// The addresses that are announced as other ones and from which responses left in the captures.
 fn translated(alloc: Global, survey: &Survey, added: &Added) -> Result<Vec<Translation>, Stop> {
     let answering = survey.answering(alloc)?;
     let mut translations = Vec::new(alloc);
@@ -244,7 +244,7 @@ fn translated(alloc: Global, survey: &Survey, added: &Added) -> Result<Vec<Trans
     Ok(translations)
 }
 
-/// The command that writes the policy by hand.
+/// Records the command that writes the policy manually.
 fn by_hand(alloc: Global, name: &str, added: &Added, work: &mut Work) -> Result<(), Stop> {
     work.begin_to("policy", "turnprep policy --turnserver-conf")?;
     work.operand(name)?;

@@ -4,7 +4,7 @@ use crate::ring_name::RingName;
 use std::alloc::{AllocError, Global};
 use std::collections::BTreeMap;
 
-/// Captures of which one is made: the files of a ring, or a single one.
+/// The captures that are joined to one: the files of a ring, or a single one.
 #[derive(Drop)]
 pub struct Ring<'a> {
     /// The file that was named first.
@@ -20,7 +20,7 @@ struct Member<'a> {
 }
 
 impl<'a> Ring<'a> {
-    /// With one file.
+    /// A ring with one file.
     fn new(alloc: Global, number: u32, name: &'a str) -> Result<Self, AllocError> {
         let mut members = Vec::new(alloc);
         members.push(Member { number, name })?;
@@ -35,12 +35,12 @@ impl<'a> Ring<'a> {
         self.first
     }
 
-    /// It is one file.
+    /// Whether it is one file.
     pub fn is_single(&self) -> bool {
         self.members.len() == 1
     }
 
-    /// Its files in the order of their numbers.
+    /// Its files in the order of the numbers.
     pub fn names(&self, alloc: Global) -> Result<Vec<&'a str>, AllocError> {
         let mut names = Vec::new(alloc);
         for member in &self.members {
@@ -50,7 +50,7 @@ impl<'a> Ring<'a> {
     }
 }
 
-/// The captures by their rings, each ring where its first file is. The cost is the number of
+/// Groups the captures by rings, in the order of each ring's first file. The cost is the number of
 /// captures times its logarithm.
 pub fn rings_of<'a>(alloc: Global, names: &[&'a str]) -> Result<Vec<Ring<'a>>, AllocError> {
     let mut rings: Vec<Ring<'a>> = Vec::new(alloc);
@@ -77,8 +77,7 @@ pub fn rings_of<'a>(alloc: Global, names: &[&'a str]) -> Result<Vec<Ring<'a>>, A
     Ok(rings)
 }
 
-/// The name of the capture that a ring is joined to: the part of its files' names that is before
-/// their numbers.
+/// The name of a ring's joined capture: the part of the files' names before the numbers.
 pub fn joined_name(alloc: Global, part: &str) -> Result<String, AllocError> {
     let stem = match RingName::of(part.as_bytes()) {
         Some(ring) => part.get(..ring.stem.len()).unwrap_or(part),

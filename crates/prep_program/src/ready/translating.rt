@@ -1,4 +1,4 @@
-//! The step of `ready` that writes public addresses in the place of private ones.
+//! The step of `ready` that replaces private addresses by public ones.
 
 use super::policy::Chosen;
 use super::work::{Staged, Work, files_of};
@@ -41,8 +41,7 @@ pub fn translate_step<S: Source, M: Maker, F: Folders, E: Sink>(
     Ok(work.staged_in("outer", &captures)?)
 }
 
-/// Translates each capture, and returns the line that says how many datagrams were translated, and
-/// by which pairs.
+/// Translates each capture, and returns the line with the number of datagrams and the pairs.
 fn translate_all<S: Source, M: Maker, E: Sink>(
     alloc: Global,
     translations: &[Translation],
@@ -91,7 +90,7 @@ fn translate_to<'x, S: Source, M: Maker, E: Sink>(
     Ok(())
 }
 
-/// How many datagrams were translated, and by which pairs.
+/// The line with the number of translated datagrams, and the pairs.
 fn line_of(
     alloc: Global,
     translations: &[Translation],
@@ -106,7 +105,7 @@ fn line_of(
     Ok(line)
 }
 
-/// The command that translates by hand.
+/// Records the command that translates manually.
 fn by_hand(
     alloc: Global,
     translations: &[Translation],

@@ -1,4 +1,4 @@
-//! The credentials of `ready`: a file, or the users that coturn's configuration names.
+//! The credentials of `ready`: a file, or the users of coturn's configuration.
 
 use super::copying::copy;
 use super::work::{Staged, Work, files_of};
@@ -11,7 +11,7 @@ use crate::users::{UsersRequest, UsersSource, run_users};
 use audit_model::Sink;
 use std::alloc::Global;
 
-/// So many bytes of credentials are copied.
+/// The most bytes of credentials that are copied.
 const MOST_CREDS: u64 = 16_777_216;
 
 /// Writes the credentials, if there are any.
@@ -36,7 +36,7 @@ pub fn users_step<S: Source, M: Maker, E: Sink>(
     }
 }
 
-/// Copies the credentials that are a file.
+/// Copies a file of credentials.
 fn given<S: Source, M: Maker>(
     alloc: Global,
     name: &str,
@@ -51,8 +51,8 @@ fn given<S: Source, M: Maker>(
     work.end_line()
 }
 
-/// The users that a configuration names, and those whose requests in the captures are signed by its
-/// secret.
+/// Writes the users of a configuration, and those whose requests in the captures are signed with
+/// its secret.
 fn configured<S: Source, M: Maker, E: Sink>(
     alloc: Global,
     name: &str,
@@ -80,7 +80,7 @@ fn configured<S: Source, M: Maker, E: Sink>(
     Ok(true)
 }
 
-/// The text of the credentials.
+/// Returns the text of the credentials.
 fn users_of<'x, S: Source, E: Sink>(
     alloc: Global,
     name: &'x str,

@@ -10,7 +10,7 @@ use crate::source::Source;
 use crate::stop::Stop;
 use std::alloc::Global;
 
-/// How much was reassembled so far.
+/// The numbers of reassembled datagrams and fragments.
 #[derive(Clone, Copy)]
 struct Reassembled {
     datagrams: u64,

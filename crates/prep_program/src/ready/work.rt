@@ -1,5 +1,5 @@
-//! What `ready` has done so far: the folder in which it works, the commands that repeat it by hand,
-//! and what is printed.
+//! The progress of `ready`: the temporary folder, the commands that repeat the steps manually, and
+//! the printed report.
 
 use super::auditing::audit_line;
 use super::copying::copy;
@@ -11,19 +11,19 @@ use crate::stop::Stop;
 use prep_steps::{push_word, push_words};
 use std::alloc::{AllocError, Global};
 
-/// A capture on its way.
+/// A capture between two steps.
 #[derive(Drop)]
 pub struct Staged {
-    /// The file that has it.
+    /// The file that has its bytes.
     pub file: String,
-    /// The file that has it where the steps are repeated by hand.
+    /// The file that has its bytes if the steps are repeated manually.
     pub by_hand: String,
-    /// `ready` made it.
+    /// Whether `ready` made it.
     is_made: bool,
 }
 
 impl Staged {
-    /// A capture that was given.
+    /// A capture of the arguments.
     pub fn original(alloc: Global, name: &str) -> Result<Self, AllocError> {
         Ok(Staged {
             file: String::from_str(alloc, name)?,
@@ -33,7 +33,7 @@ impl Staged {
     }
 }
 
-/// A file's name as an argument that no program takes for an option.
+/// A file's name as an argument that no program parses as an option.
 fn operand_of(alloc: Global, name: &str) -> Result<String, AllocError> {
     let here = if name.starts_with('-') { "./" } else { "" };
     format!(in alloc; "{here}{name}")
@@ -51,23 +51,22 @@ pub fn files_of<'s>(alloc: Global, captures: &'s [Staged]) -> Result<Vec<&'s str
 /// The folders in which steps write captures.
 const FOLDERS: [&str; 3] = ["joined", "whole", "outer"];
 
-/// What was done so far.
+/// The progress so far.
 #[derive(Drop)]
 pub struct Work {
     alloc: Global,
     /// The folder that is made.
     folder: String,
-    /// The folder in which it works.
+    /// The temporary folder.
     part: String,
-    /// The folder of those who repeat it by hand.
+    /// The folder for repeating the steps manually.
     hand: String,
     steps: Vec<u8>,
     report: Vec<u8>,
 }
 
 impl Work {
-    /// Nothing was done for a folder. A `/` at the end of its name says no more than that it is
-    /// one.
+    /// Nothing was done. A `/` at the end of the folder's name is ignored.
     pub fn new(alloc: Global, name: &str) -> Result<Self, AllocError> {
         let folder = match name.trim_end_matches('/') {
             "" => name,
@@ -91,27 +90,27 @@ impl Work {
         self.folder.as_str()
     }
 
-    /// The folder in which it works.
+    /// The temporary folder.
     pub fn part(&self) -> &str {
         self.part.as_str()
     }
 
-    /// What is printed.
+    /// The printed report.
     pub fn report(&self) -> &[u8] {
         self.report.as_slice()
     }
 
-    /// The commands by hand.
+    /// The commands for repeating the steps manually.
     pub fn steps(&self) -> &[u8] {
         self.steps.as_slice()
     }
 
-    /// A file in the folder in which it works.
+    /// A file in the temporary folder.
     pub fn file(&self, name: &str) -> Result<String, AllocError> {
         path_in(self.alloc, self.part.as_str(), name)
     }
 
-    /// The same file where the steps are repeated by hand.
+    /// The same file if the steps are repeated manually.
     pub fn by_hand(&self, name: &str) -> Result<String, AllocError> {
         path_in(self.alloc, self.hand.as_str(), name)
     }
@@ -122,7 +121,7 @@ impl Work {
         self.folder_by_hand(name)
     }
 
-    /// A folder that is made by hand alone.
+    /// Records that a folder is made if the steps are repeated manually.
     pub fn folder_by_hand(&mut self, name: &str) -> Result<(), Stop> {
         self.begin("mkdir")?;
         self.word_by_hand(name)?;
@@ -139,7 +138,7 @@ impl Work {
         })
     }
 
-    /// Captures of the names of these in the folder of a step.
+    /// Captures with the same names in the folder of a step.
     pub fn staged_in(&self, folder: &str, captures: &[Staged]) -> Result<Vec<Staged>, Stop> {
         let mut all = Vec::new(self.alloc);
         for one in captures {
@@ -148,7 +147,7 @@ impl Work {
         Ok(all)
     }
 
-    /// Captures of the names of these that were written to the folder in which it works.
+    /// Captures with the same names that were written to the temporary folder.
     pub fn ended_in(&self, captures: &[Staged]) -> Result<Vec<Staged>, Stop> {
         let mut all = Vec::new(self.alloc);
         for one in captures {
@@ -157,8 +156,8 @@ impl Work {
         Ok(all)
     }
 
-    /// A capture that was written to the folder in which it works, and by hand to a folder `ready`
-    /// in its own.
+    /// A capture that was written to the temporary folder, and manually to a folder `ready` in its
+    /// own folder.
     fn ended(&self, name: &str) -> Result<Staged, AllocError> {
         let inside = path_in(self.alloc, "ready", name)?;
         Ok(Staged {
@@ -168,13 +167,13 @@ impl Work {
         })
     }
 
-    /// Begins a command that is repeated by hand.
+    /// Begins a recorded command.
     pub fn begin(&mut self, command: &str) -> Result<(), Stop> {
         self.steps.extend_from_slice(command.as_bytes())?;
         Ok(())
     }
 
-    /// Begins one whose output goes to a file.
+    /// Begins a recorded command whose output goes to a file.
     pub fn begin_to(&mut self, file: &str, command: &str) -> Result<(), Stop> {
         let file = self.by_hand(file)?;
         self.steps.extend_from_slice(b"> ")?;
@@ -183,31 +182,31 @@ impl Work {
         self.begin(command)
     }
 
-    /// An argument of the command.
+    /// Adds an argument to the command.
     pub fn word(&mut self, word: &str) -> Result<(), Stop> {
         push_words(&mut self.steps, &[word])?;
         Ok(())
     }
 
-    /// A file that was given as an argument of the command.
+    /// Adds an input file as an argument of the command.
     pub fn operand(&mut self, name: &str) -> Result<(), Stop> {
         let operand = operand_of(self.alloc, name)?;
         self.word(operand.as_str())
     }
 
-    /// Arguments of the command.
+    /// Adds arguments to the command.
     pub fn words(&mut self, words: &[&str]) -> Result<(), Stop> {
         push_words(&mut self.steps, words)?;
         Ok(())
     }
 
-    /// A file where the steps are repeated by hand as an argument of the command.
+    /// Adds a file of the manual steps as an argument of the command.
     pub fn word_by_hand(&mut self, name: &str) -> Result<(), Stop> {
         let file = self.by_hand(name)?;
         self.word(file.as_str())
     }
 
-    /// The files of captures as arguments.
+    /// Adds the files of captures as arguments.
     pub fn captures(&mut self, captures: &[Staged]) -> Result<(), Stop> {
         for one in captures {
             self.word(one.by_hand.as_str())?;
@@ -221,20 +220,20 @@ impl Work {
         Ok(())
     }
 
-    /// Says how many files were joined to how many captures.
+    /// Prints how many files were joined to how many captures.
     pub fn say_joined(&mut self, files: usize, captures: usize) -> Result<(), Stop> {
         let line = format!(in self.alloc; "joined {files} files to {captures} captures")?;
         self.say(line.as_bytes())
     }
 
-    /// Adds a line to what is printed.
+    /// Adds a line to the report.
     pub fn say(&mut self, line: &[u8]) -> Result<(), Stop> {
         self.report.extend_from_slice(line)?;
         self.report.push(b'\n')?;
         Ok(())
     }
 
-    /// Moves a capture to the folder in which it works, or copies one that was given.
+    /// Moves a capture to the temporary folder, or copies an original one.
     pub fn keep<S: Source, M: Maker, F: Folders>(
         &mut self,
         alloc: Global,
@@ -261,7 +260,7 @@ impl Work {
         })
     }
 
-    /// Removes the folders of steps, which are not needed any more.
+    /// Removes the folders of the steps, which are no longer needed.
     pub fn remove_folders<F: Folders>(&self, folders: &mut F) {
         for name in FOLDERS {
             if let Ok(folder) = self.file(name) {
@@ -270,7 +269,7 @@ impl Work {
         }
     }
 
-    /// The command that audits the folder, by hand and in what is printed.
+    /// Adds the command that audits the folder to the manual steps and to the report.
     pub fn end(&mut self, captures: &[Staged], has_users: bool) -> Result<(), Stop> {
         let own = self.own_files(captures)?;
         let line = audit_line(self.alloc, self.folder.as_str(), &own, has_users)?;
@@ -292,7 +291,7 @@ impl Work {
     }
 }
 
-/// The commands with which repeating by hand begins.
+/// The first of the manual commands.
 fn first_steps(alloc: Global, hand: &str) -> Result<Vec<u8>, AllocError> {
     let mut steps = Vec::from_slice(alloc, b"# What turnprep ready did, by hand.\nmkdir")?;
     push_words(&mut steps, &[hand])?;
@@ -300,7 +299,7 @@ fn first_steps(alloc: Global, hand: &str) -> Result<Vec<u8>, AllocError> {
     Ok(steps)
 }
 
-/// The files of captures where the steps are repeated by hand.
+/// The files of captures if the steps are repeated manually.
 fn by_hand_of(alloc: Global, captures: &[Staged]) -> Result<Vec<String>, AllocError> {
     let mut files = Vec::new(alloc);
     for one in captures {

@@ -12,32 +12,32 @@ use std::sync::ledger::Blank;
 use std::sync::{Arc, Wait};
 use std::test::Fail;
 
-/// What a seat does.
+/// The action of a seat.
 #[derive(Clone, Copy)]
 pub enum Deed {
     Claim,
-    /// Enters what a lane of the book shows.
+    /// Enters the finding of a lane of the book.
     Enter(u32),
-    /// Enters what a lane of another client shows.
+    /// Enters the finding of a lane of another client.
     EnterStranger(u32),
     Look,
 }
 
-/// What comes of it.
+/// The result of an action.
 #[derive(Clone, Copy, Debug, PartialEq, Eq)]
 pub enum Told {
     Claimed(u32),
     AllClaimed,
     Entered(Receipt),
-    /// A finding is given back, and why.
+    /// A finding is returned, and why.
     Refused(EnterFault),
-    /// Another finding is given back than was to be entered.
+    /// Another finding is returned than was to be entered.
     Mixed,
     Seen(View),
     Astray,
 }
 
-/// A finding of a job's lane is entered, or given back.
+/// Enters a finding of a job's lane, or gets it back.
 fn told_of_entry<'a, E: Audit, R: Wait>(
     rt: &R,
     alloc: Global,
@@ -108,10 +108,10 @@ pub fn open_two_seats<'a, E: Audit>(
     })
 }
 
-/// What each of the two seats does, the first where it says so, and what comes of it.
+/// The action of one of the two seats, the first one if true, and its result.
 pub type Step = (bool, Deed, Told);
 
-/// That each step goes as it says.
+/// Checks that each step has its result.
 pub fn play<'a, E: Audit, R: Wait + Abort>(
     rt: &R,
     alloc: Global,
@@ -130,7 +130,7 @@ pub fn play<'a, E: Audit, R: Wait + Abort>(
     Ok(())
 }
 
-/// That each step in a new book of the job goes as it says.
+/// Checks that each step in a new book of the job has its result.
 fn play_anew<'a, E: Audit, R: Wait + Abort>(
     rt: &R,
     alloc: Global,
@@ -147,7 +147,7 @@ fn play_anew<'a, E: Audit, R: Wait + Abort>(
     play(rt, alloc, &mut opened, jobs, steps)
 }
 
-/// A book in which these lanes are broken, and what is done in it.
+/// A book in which these lanes are broken, and the steps in it.
 #[derive(Clone, Copy)]
 struct Row<'a> {
     broken: &'a [u32],

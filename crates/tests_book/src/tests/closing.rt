@@ -1,4 +1,4 @@
-//! A book is closed once each of its seats is given back.
+//! A book is closed when each of its seats is returned.
 
 ghost use Rattle.std.specs.Prelude.{◌≡◌};
 
@@ -22,7 +22,7 @@ static STEPS: [Step; 3] = [
     (false, Deed::Enter(1), Told::Entered(SECOND_RECEIPT)),
 ];
 
-/// The closed book. Before, it isn't closed with seat 0 alone.
+/// The closed book. Seat 0 alone doesn't close it.
 fn closed<'a, E: Audit>(alloc: Global, opened: Opened<'a, E>) -> Result<Closed<'a>, Fail> {
     let Opened {
         book,

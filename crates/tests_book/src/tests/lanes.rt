@@ -1,4 +1,4 @@
-//! Jobs of lanes of one event, and what they show.
+//! Jobs of lanes with one event, and their findings.
 
 ghost use Rattle.std.specs.Prelude.{◌≡◌, ◌↔◌, IfOk, IsTrue};
 ghost use Rattle.audit_sightings.specs.Intake.{IsThere, NamesWhatIsThere, taken};
@@ -85,7 +85,8 @@ fn names_what_is_there(intake: &Intake, event: Event) -> bool
     }
 }
 
-/// A lane of one event. A broken one has a departure that no act gave, and another an arrival.
+/// A lane with one event. A broken one has a departure that no act sent, and another one an
+/// arrival.
 fn lane<'a>(
     alloc: Global,
     number: u32,
@@ -118,7 +119,7 @@ fn lane<'a>(
     Ok(lane_input(alloc, number, &lane, intake, &users)?)
 }
 
-/// A job of so many lanes of clients at this port, of which these are broken.
+/// A job with this number of lanes of clients at this port, of which these are broken.
 pub fn job<'a>(
     alloc: Global,
     lanes: u32,
@@ -139,7 +140,7 @@ pub fn job<'a>(
     Ok(Arc::new(alloc, job)?)
 }
 
-/// What a lane of the job shows. It fails where there is no such lane, too.
+/// The finding of a lane of the job. It fails also if there is no such lane.
 pub fn finding<'a>(alloc: Global, job: &Job<'a>, lane: u32) -> Result<Finding<'a>, AllocError> {
     if lane >= job.len() {
         return Err(AllocError);
@@ -152,7 +153,7 @@ pub fn is_of_lane(finding: &Finding<'_>, job: &Job<'_>, lane: u32) -> bool {
     lane < job.len() && finding.input().equals(job.input(lane))
 }
 
-/// The breach of lane 0 where that is broken.
+/// The breach of lane 0 if that is broken.
 pub const BREACH_OF_0: Breach = Breach {
     at: At {
         key: KEY,

@@ -1,5 +1,6 @@
-//! What is left of a book where memory is refused. Memory is plenty in a run of the tests: under `rt try --test --fail-alloc N` the Nth
-//! allocation is refused, and then this test must pass, or fail by an error where the lanes got no memory, and by no assertion.
+//! The state of a book after memory was refused. An ordinary run of the tests has enough memory:
+//! under `rt try --test --fail-alloc N` the Nth allocation is refused, and then this test must
+//! pass, or fail by an error if the lanes got no memory, and by no assertion.
 
 ghost use Rattle.std.specs.Prelude.{◌≡◌};
 
@@ -13,10 +14,11 @@ use std::sync::ledger::Blank;
 use std::sync::{Arc, Wait};
 use std::test::Fail;
 
-/// So many that each list of the history grows more than once.
+/// Enough lanes that each list of the history grows more than once.
 const LANES: u32 = 9;
 
-/// Enters a finding of that lane, and again where there was no memory: that gave the finding back and left the book and the seat as they were.
+/// Enters a finding of that lane, and again after lack of memory, which returned the finding and
+/// left the book and the seat unchanged.
 fn entered_again<'a, E: Audit, R: Wait + Abort>(
     rt: &R,
     book: &Book<'a, E>,
@@ -42,7 +44,7 @@ fn entered_again<'a, E: Audit, R: Wait + Abort>(
     }
 }
 
-/// Whether there was memory to open a book; then each finding is entered at its place.
+/// Returns whether there was memory to open a book; then each finding is entered at its index.
 fn fill<'a, E: Audit, R: Wait + Abort>(
     rt: &R,
     alloc: Global,
@@ -74,7 +76,7 @@ fn fill<'a, E: Audit, R: Wait + Abort>(
     Ok(true)
 }
 
-/// What each lane of the job shows.
+/// The finding of each lane of the job.
 fn findings<'a>(alloc: Global, job: &Job<'a>) -> Result<Vec<Finding<'a>>, AllocError> {
     let mut findings = Vec::with_capacity(alloc, LANES as usize)?;
     for lane in 0..LANES {

@@ -1,4 +1,4 @@
-//! What is printed of each refusal of a book.
+//! The text of each refusal of a book.
 
 use audit_book::{Astray, BookFault, CloseFault, EnterFault};
 use std::test::Fail;

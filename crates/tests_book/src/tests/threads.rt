@@ -19,7 +19,7 @@ const LANES: u32 = 40;
 
 const BROKEN: [u32; 3] = [3, 17, 38];
 
-/// What the threads share.
+/// The data that the threads share.
 #[derive(Drop)]
 struct Work<'r, 'w, 'a, E: Audit, R> {
     rt: &'r R,
@@ -36,7 +36,7 @@ struct Worked<E: Audit> {
 }
 
 impl<'r, 'w, 'a, E: Audit, R: Wait> Work<'r, 'w, 'a, E, R> {
-    /// Claims, enters and looks until no lane is left, or a call is refused.
+    /// Claims, enters and looks until no lane remains, or a call is refused.
     fn run(&self, mut seat: Seat<E>) -> Worked<E> {
         let mut mine = 0;
         for _ in 0..LANES {
@@ -48,7 +48,7 @@ impl<'r, 'w, 'a, E: Audit, R: Wait> Work<'r, 'w, 'a, E, R> {
         Worked { seat, mine }
     }
 
-    /// Enters the next lane. It tells how many entries of its own the seat sees then.
+    /// Enters the next lane. Returns how many of its own entries the seat sees then.
     fn enter_next(&self, seat: &mut Seat<E>) -> Option<u32> {
         let lane = self.book.claim(self.rt, seat)?;
         let finding = finding(self.alloc, self.job, lane).ok()?;
@@ -58,12 +58,12 @@ impl<'r, 'w, 'a, E: Audit, R: Wait> Work<'r, 'w, 'a, E, R> {
     }
 }
 
-/// What four threads leave.
+/// The result of four threads.
 #[derive(Drop)]
 struct Filled<'a> {
     closed: Closed<'a>,
     receipts: Vec<Receipt>,
-    /// Of each seat how many entries of its own it saw last, and how many receipts it has.
+    /// For each seat, how many of its own entries it saw last, and how many receipts it has.
     counts: Vec<(u32, usize)>,
 }
 
@@ -105,7 +105,8 @@ fn fill<'r, 'a, E: Audit + Send + Sync, R: Threads + Wait + Sync>(
     })
 }
 
-/// That each lane was entered once, and that each seat saw as many entries of its own as it has receipts.
+/// Checks that each lane was entered once, and that each seat saw as many of its own entries as it
+/// has receipts.
 fn assert_each_once(rt: &impl Abort, filled: &Filled<'_>) {
     let mut times = [0u32; LANES as usize];
     for entry in filled.closed.entries.as_slice() {
@@ -122,7 +123,7 @@ fn assert_each_once(rt: &impl Abort, filled: &Filled<'_>) {
     }
 }
 
-/// The breach of what stands at the receipt's place, or none, where that is of its lane.
+/// The breach of the entry at the receipt's index, or `Some(None)`, if the entry is of its lane.
 fn entry_of(filled: &Filled<'_>, job: &Job<'_>, receipt: &Receipt) -> Option<Option<Breach>> {
     let entry = filled.closed.at(receipt)?;
     if !is_of_lane(entry, job, receipt.lane) {
@@ -134,7 +135,7 @@ fn entry_of(filled: &Filled<'_>, job: &Job<'_>, receipt: &Receipt) -> Option<Opt
     }
 }
 
-/// That each receipt has its finding at its place.
+/// Checks that each receipt has its finding at its index.
 fn assert_receipts(rt: &impl Abort, filled: &Filled<'_>, job: &Job<'_>) {
     assert_eq!(rt; filled.receipts.len(), 40);
     for receipt in filled.receipts.as_slice() {

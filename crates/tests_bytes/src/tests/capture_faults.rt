@@ -1,4 +1,4 @@
-//! Captures that are refused, and what a clock reads.
+//! Captures that are refused, and the stamps by an interface's clock.
 
 use super::captures::{INTERFACE, PACKET, SECTION};
 use audit_pcapng::{BlockReader, CaptureFault};
@@ -13,7 +13,7 @@ struct Clock<'a> {
     end: &'a [u8],
 }
 
-/// What the clock of an interface reads in the packet's stamp, its high and low word.
+/// The nanoseconds of the packet's stamp, its high and low word, by the clock of an interface.
 fn read_by(alloc: Global, clock: &Clock<'_>, stamp: &[u8]) -> Result<u64, CaptureFault> {
     let mut reader = BlockReader::new(alloc);
     let mut out = Vec::new(alloc);
@@ -155,7 +155,7 @@ static FAULTS: [(&[&[u8]], &str); 24] = [
     ),
     (&[SECTION, PACKET], "C6"),
     (&[SECTION, INTERFACE, SECTION, PACKET], "C6"),
-    // The data pass the end: found before the interface is looked for.
+    // The data pass the end: this is found before the interface is looked up.
     (
         &[
             SECTION,
@@ -191,7 +191,7 @@ static FAULTS: [(&[&[u8]], &str); 24] = [
         ],
         "C3",
     ),
-    // isb_osdrop 1; and of an interface that is not there.
+    // isb_osdrop 1; and of an interface that doesn't exist.
     (
         &[
             SECTION,

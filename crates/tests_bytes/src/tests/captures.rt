@@ -1,14 +1,14 @@
-//! Captures whole and in pieces, and the packets that a reader gives of them.
+//! Captures, whole and in pieces, and the packets that a reader returns.
 
 use audit_pcapng::{BlockReader, CaptureFault};
 use std::alloc::Global;
 use std::process::Abort;
 use std::test::Fail;
 
-/// Where in a file, when, how much: a packet but for its bytes.
+/// A packet without its bytes: interface in the file, stamp, captured and original length.
 type Seen = (u32, u64, u32, u32);
 
-/// What a reader that is fed these pieces gives: its packets, and the code of its fault.
+/// The packets of a reader that is fed these pieces, and the code of its fault.
 fn reading(alloc: Global, pieces: &[&[u8]]) -> Result<(Vec<Seen>, &'static str), Fail> {
     let mut reader = BlockReader::new(alloc);
     let mut out = Vec::new(alloc);
@@ -66,7 +66,7 @@ const RESPONSE_HEAD: &[u8] = b"\0\0\0\0\0\0\0\0\xdc\x05\0\0\x4a\0\0\0\x4a\0\0\0\
 
 const DROP_OPTION: &[u8] = b"\x04\0\x08\0\x01\0\0\0\0\0\0\0\0\0\0\0";
 
-/// A capture in its parts, the packets that a reader gives of it, and the code of its fault.
+/// A capture in its parts, the packets that a reader returns, and the code of its fault.
 #[derive(Clone, Copy)]
 struct Row<'a> {
     parts: &'a [&'a [u8]],
@@ -74,7 +74,7 @@ struct Row<'a> {
     end: &'a str,
 }
 
-/// That a reader which is fed these pieces gives these packets, and then this fault.
+/// Checks that a reader which is fed these pieces returns these packets, and then this fault.
 fn assert_read(
     rt: &(impl Abort + AllocGlobal),
     pieces: &[&[u8]],
@@ -100,7 +100,7 @@ static BINDING: Row<'static> = Row {
     end: "whole",
 };
 
-/// The response with an option that says that a packet was lost.
+/// The response with an option that reports a lost packet.
 const DROPPED: Row<'static> = Row {
     parts: &[
         SECTION,
@@ -206,7 +206,7 @@ static ROWS: [Row<'static>; 7] = [
         seen: &[(0, 4_294_967_298, 2, 5), (1, 1_000_000, 2, 5)],
         end: "whole",
     },
-    // A custom block is passed over.
+    // A custom block is skipped.
     Row {
         parts: &[
             SECTION,

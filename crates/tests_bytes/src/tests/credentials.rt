@@ -110,7 +110,7 @@ fn many_lines(rt: HostRuntime) -> Result<(), Fail> {
         text.extend_from_slice(&realm)?;
         text.extend_from_slice(b"\tpass\n")?;
     }
-    // The same line again: that it is one too many is told before that it is a double.
+    // The same line again: the limit is reported before the duplicate.
     text.extend_from_slice(b"    \t    \tpass\n")?;
     let read = Credentials::read(rt.alloc(), text.as_slice());
     let limit = CredFault {

@@ -1,4 +1,4 @@
-//! Frames, and the datagrams that they hold.
+//! Frames, and the datagrams in them.
 
 use audit_model::{Addr, Listed};
 use audit_packets::{Seen, datagram};
@@ -39,7 +39,7 @@ const DATAGRAM: Seen<'static> = Seen::Udp {
 
 const IPS: (u32, u32) = (0xC633_6407, 0xC000_0201);
 
-/// A packet of these bytes, with so many more on the link.
+/// A packet of these bytes, with `missing` more bytes on the link.
 fn packet(alloc: Global, parts: &[&[u8]], missing: u32) -> Result<Packet, AllocError> {
     let mut bytes = Vec::new(alloc);
     for part in parts {
@@ -55,13 +55,14 @@ fn packet(alloc: Global, parts: &[&[u8]], missing: u32) -> Result<Packet, AllocE
     })
 }
 
-/// Whether a packet of these bytes, with so many more on the link, holds this.
+/// Whether a packet of these bytes, with `missing` more bytes on the link, contains this.
 fn holds(alloc: Global, parts: &[&[u8]], missing: u32, want: Seen<'_>) -> Result<bool, AllocError> {
     let packet = packet(alloc, parts, missing)?;
     Ok(datagram(&packet) == want)
 }
 
-/// Whether the datagram is seen behind these tags and options, and before this padding of the link.
+/// Whether the datagram is parsed after these tags and options, and before this padding of the
+/// link.
 fn is_seen(
     alloc: Global,
     tags: &[u8],
@@ -87,7 +88,7 @@ const WITH_OPTIONS: [u8; 20] = [
     0x46, 0, 0, 0x34, 0, 0, 0, 0, 0x40, 17, 0, 0, 198, 51, 100, 7, 192, 0, 2, 1,
 ];
 
-/// Tags, a header, its options and padding, and whether the datagram is seen.
+/// Tags, a header, its options and padding, and whether the datagram is parsed.
 static WHOLE: [(&[u8], &[u8], &[u8], &[u8], bool); 7] = [
     (&[], &HEADER, &[], &[], true),
     (&[0x81, 0x00, 0, 5], &HEADER, &[], &[], true),
@@ -166,7 +167,7 @@ fn frames_that_end_early(rt: HostRuntime) -> Result<(), Fail> {
         );
         assert!(rt; holds(rt.alloc(), &front, 0, Seen::Other)?, "{len} bytes");
     }
-    // cut behind the payload
+    // truncated after the payload
     assert!(rt; holds(rt.alloc(), &parts, 1, DATAGRAM)?);
     Ok(())
 }

@@ -1,4 +1,4 @@
-//! Messages and ChannelData of stored runs, and what their bytes say.
+//! Messages and ChannelData of stored runs, and the values that they are parsed to.
 
 use audit_model::Addr;
 use audit_stun::numbers::attribute::*;
@@ -13,7 +13,7 @@ static REQUEST: [u8; 20] = [
     0, 1, 2, 3, 4, 5, 6, 7, 8, 9, 10, 11, // transaction id
 ];
 
-/// Its success, with the mapped address 198.51.100.7:40000.
+/// Its success response, with the mapped address 198.51.100.7:40000.
 static SUCCESS: [u8; 32] = [
     0x01, 0x01, 0x00, 0x0C, // Binding success, twelve bytes of attributes
     0x21, 0x12, 0xA4, 0x42, // magic cookie
@@ -85,8 +85,8 @@ fn payloads_that_are_no_message(rt: HostRuntime) {
     }
 }
 
-/// A Send indication with two peers and, behind MESSAGE-INTEGRITY, what counts there and what does
-/// not.
+/// A Send indication with two peers and attributes after MESSAGE-INTEGRITY, of which some count and
+/// some don't.
 static AFTER_INTEGRITY: [u8; 92] = [
     0x00, 0x16, 0x00, 0x48, // Send indication
     0x21, 0x12, 0xA4, 0x42, // magic cookie
@@ -127,7 +127,7 @@ fn what_counts(rt: HostRuntime) -> Result<(), Fail> {
     Ok(())
 }
 
-/// A request with PASSWORD-ALGORITHM whose MESSAGE-INTEGRITY-SHA256 stands in front.
+/// A request with PASSWORD-ALGORITHM before its MESSAGE-INTEGRITY-SHA256.
 static AFTER_SHA256: [u8; 60] = [
     0x00, 0x03, 0x00, 0x28, // Allocate request
     0x21, 0x12, 0xA4, 0x42, // magic cookie

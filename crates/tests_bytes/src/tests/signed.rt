@@ -1,4 +1,4 @@
-//! Requests, and the keys that they are signed under.
+//! Requests, and the keys with which they are signed.
 
 use super::keys::{KEY, digest256};
 use super::vectors::LONG_TERM_REQUEST;
@@ -32,8 +32,8 @@ const ASKS_SHA256: [u8; 56] = [
     0x00, 0x1d, 0x00, 0x04, 0x00, 0x02, 0x00, 0x00, // PASSWORD-ALGORITHM
 ];
 
-/// What its MESSAGE-INTEGRITY-SHA256 of 32 bytes says, and the one that is cut to 16, whose length
-/// makes it another.
+/// The value of its MESSAGE-INTEGRITY-SHA256 with 32 bytes, and of the one truncated to 16 bytes,
+/// which differs because the length is covered.
 const WHOLE: (u128, u128) = (
     0xa880_96f0_a601_cf29_d8e0_6812_50d7_a1c2,
     0x35c2_9d66_ad8c_14ce_ce9a_380d_0461_0a61,
@@ -84,7 +84,7 @@ fn sha256_requests(rt: HostRuntime) -> Result<(), Fail> {
     Ok(())
 }
 
-/// Of the algorithms 1 is MD5, 2 is SHA-256, and another is nobody's.
+/// Algorithm 1 is MD5, 2 is SHA-256, and no other one is known.
 #[test]
 fn algorithms(rt: HostRuntime) -> Result<(), Fail> {
     let keys = Keys {

@@ -1,4 +1,4 @@
-//! Captures that are built of datagrams, and what the auditor says of them by what the passes find.
+//! Builds captures from datagrams, and returns the verdict on them by the passes' certificate.
 
 use super::datagrams::{Client, Datagram, Relayed, Request, Seen, Success};
 use audit_finder::find;
@@ -62,7 +62,7 @@ fn endpoint(relayed: Relayed) -> Addr {
     }
 }
 
-/// A datagram between two endpoints, and what it carries.
+/// A datagram between two endpoints, with its payload.
 #[derive(Drop)]
 struct Packet {
     side: Side,
@@ -71,7 +71,7 @@ struct Packet {
     payload: Vec<u8>,
 }
 
-/// What a client sends.
+/// A datagram of a client.
 fn from_client(client: Client, payload: Vec<u8>) -> Packet {
     Packet {
         side: Side::Arrives,
@@ -81,7 +81,7 @@ fn from_client(client: Client, payload: Vec<u8>) -> Packet {
     }
 }
 
-/// What the server sends a client.
+/// A datagram of the server to a client.
 fn to_client(client: Client, payload: Vec<u8>) -> Packet {
     Packet {
         side: Side::Leaves,
@@ -227,7 +227,7 @@ fn seed() -> Result<RandomState, AllocError> {
     RandomState::new(&Fives).map_err(|_| AllocError)
 }
 
-/// The verdict on these captures by what the passes find, where a server takes so many milliseconds at the most and leases have no grace.
+/// The verdict on these captures by the passes' certificate, with this `hold-ms` and a grace of 0.
 pub(super) fn verdict(alloc: Global, hold: u32, captures: &[&[Seen<'_>]]) -> Result<Verdict, Fail> {
     let policy = format!(in alloc;
         "turnaudit-policy 1\nlisten 192.0.2.1:3478\nrelay 192.0.2.1:49152-65535\nhold-ms {hold}\ngrace-ms 0\n"
@@ -243,7 +243,7 @@ pub(super) fn verdict(alloc: Global, hold: u32, captures: &[&[Seen<'_>]]) -> Res
     Ok(check(alloc, &intake, &users, &certificate)?)
 }
 
-/// The verdict that captures with so many datagrams and clients conform.
+/// The verdict that captures with this number of datagrams and clients conform.
 pub(super) fn conforming(datagrams: u32, lanes: u32) -> Verdict {
     Verdict::Conforming { datagrams, lanes }
 }

@@ -1,4 +1,5 @@
-//! A capture for each part of a choice between plans: without it, the passes find no order that explains the capture.
+//! A capture for each part of a choice between plans: without it, the passes find no order that
+//! explains the capture.
 
 use super::building::{conforming, verdict};
 use super::datagrams::Datagram::{Asks, Comes, Gives, Hands, HandsByChannel, Refuses};
@@ -8,8 +9,8 @@ use super::datagrams::{CLIENT, PEER, RELAYED};
 use audit_samples::method::ALLOCATE;
 use std::test::Fail;
 
-/// More than one plan is listed, and the search goes back to the second one. By the first one the deletion is of the allocation, and the
-/// error tells that this is still there.
+/// More than one plan is listed, and the search goes back to the second one. By the first one the
+/// deletion ends the allocation, but the error response shows that it still exists.
 #[test]
 fn a_deletion_may_be_acted_on_before_an_allocation_whose_success_leaves_first(
     rt: HostRuntime,
@@ -26,7 +27,8 @@ fn a_deletion_may_be_acted_on_before_an_allocation_whose_success_leaves_first(
     Ok(())
 }
 
-/// What was asked for first is rather acted on first. Data a second later, when the choice is forgotten, needs the allocation.
+/// An earlier request is preferably acted on first. Data a second later, when the choice is
+/// forgotten, needs the allocation.
 #[test]
 fn a_deletion_is_rather_acted_on_before_an_allocation_asked_for_later(
     rt: HostRuntime,
@@ -45,7 +47,7 @@ fn a_deletion_is_rather_acted_on_before_an_allocation_asked_for_later(
     Ok(())
 }
 
-/// The channel is bound behind the second allocation, which waits for the deletion of the first one.
+/// The channel is bound after the second allocation, which waits for the deletion of the first one.
 #[test]
 fn an_answer_that_is_given_first_waits_for_another_one(rt: HostRuntime) -> Result<(), Fail> {
     let seen = [

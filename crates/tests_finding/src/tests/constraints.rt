@@ -8,7 +8,8 @@ use super::datagrams::{CLIENT, OTHER_CLIENT, OTHER_PEER, OTHER_RELAYED, PEER, RE
 use audit_samples::method::{ALLOCATE, CHANNEL_BIND, CREATE_PERMISSION, REFRESH};
 use std::test::Fail;
 
-/// `Answers`. The first of two equal data may answer either arrival. What came first is too old for the second.
+/// `Answers`. The first of two equal departures may answer either arrival. The first arrival is too
+/// old for the second departure.
 #[test]
 fn data_answers_an_older_arrival_so_that_the_next_data_has_the_later_one(
     rt: HostRuntime,
@@ -32,8 +33,8 @@ fn data_answers_an_older_arrival_so_that_the_next_data_has_the_later_one(
     Ok(())
 }
 
-/// `Before`. By its stamp the data came once the deletion's success had left. The error tells that the deletion is of the allocation
-/// through which the data went.
+/// `Before`. By its stamp the data came after the deletion's success response had left. The error
+/// response shows that the deletion ended the allocation through which the data went.
 #[test]
 fn data_arrives_before_the_success_of_a_deletion_leaves(rt: HostRuntime) -> Result<(), Fail> {
     let of_clients = [
@@ -55,7 +56,8 @@ fn data_arrives_before_the_success_of_a_deletion_leaves(rt: HostRuntime) -> Resu
     Ok(())
 }
 
-/// `AtRequest`. The errors tell that the allocation was there, and that the deletion ended it, whose success leaves before the allocation's.
+/// `AtRequest`. The error responses show that the allocation existed, and that the deletion ended
+/// it, whose success response leaves before the allocation's.
 #[test]
 fn an_answer_is_acted_on_at_its_request_so_that_a_deletion_ends_its_lease(
     rt: HostRuntime,
@@ -74,7 +76,8 @@ fn an_answer_is_acted_on_at_its_request_so_that_a_deletion_ends_its_lease(
     Ok(())
 }
 
-/// `AtRequest`. The other client's lease is over before the first client is given the address again.
+/// `AtRequest`. The other client's lease expires before the first client is granted the address
+/// again.
 #[test]
 fn a_lease_begins_at_its_request_so_that_its_address_is_given_to_another_client(
     rt: HostRuntime,
@@ -98,7 +101,8 @@ fn a_lease_begins_at_its_request_so_that_its_address_is_given_to_another_client(
     Ok(())
 }
 
-/// `AtRequest`. The error tells that the lease is over before the success of the first permission leaves.
+/// `AtRequest`. The error response shows that the lease expires before the success response of the
+/// first permission leaves.
 #[test]
 fn a_permission_is_given_at_its_request_before_the_lease_is_over(
     rt: HostRuntime,
@@ -117,8 +121,9 @@ fn a_permission_is_given_at_its_request_before_the_lease_is_over(
     Ok(())
 }
 
-/// `OverBefore`. As its success leaves, the lease begins too late to be over before the next one. At its request, it begins before the
-/// permission is asked for, and the error tells that it began behind that.
+/// `OverBefore`. If the lease begins as its success response leaves, it expires too late for the
+/// next one. If it begins at its request, it begins before the permission is requested, but the
+/// error response shows that it began after that.
 #[test]
 fn a_lease_begins_as_late_as_it_may_so_that_it_is_over_before_a_departure(
     rt: HostRuntime,
@@ -135,7 +140,8 @@ fn a_lease_begins_as_late_as_it_may_so_that_it_is_over_before_a_departure(
     Ok(())
 }
 
-/// `Precedes`. The first client gave its allocation up before its success left, and the other client has the address between the two.
+/// `Precedes`. The first client deleted its allocation before its success response left, and the
+/// other client has the address between the two.
 #[test]
 fn an_allocation_is_over_before_that_of_another_client_whose_success_leaves_first(
     rt: HostRuntime,
@@ -152,7 +158,8 @@ fn an_allocation_is_over_before_that_of_another_client_whose_success_leaves_firs
     Ok(())
 }
 
-/// `Earlier`. The channel was bound in the allocation that was deleted. In the one that is there, it is bound to another peer a second later.
+/// `Earlier`. The channel was bound in the allocation that was deleted. In the present one, it is
+/// bound to another peer a second later.
 #[test]
 fn a_channel_is_bound_in_the_allocation_that_was_ended_before_its_success_left(
     rt: HostRuntime,
@@ -173,8 +180,9 @@ fn a_channel_is_bound_in_the_allocation_that_was_ended_before_its_success_left(
     Ok(())
 }
 
-/// `HandedOver`. The error tells the other client that it has an allocation already. The success of that leaves later, and so do those of
-/// the first client, which had the address before.
+/// `HandedOver`. The error response shows that the other client has an allocation already. The
+/// success response for it leaves later, and so do those to the first client, which had the address
+/// before.
 #[test]
 fn an_address_is_handed_over_before_a_departure_that_leaves_before_its_success(
     rt: HostRuntime,
@@ -197,7 +205,8 @@ fn an_address_is_handed_over_before_a_departure_that_leaves_before_its_success(
     Ok(())
 }
 
-/// `Within`. The permission lets data through while the first lease may still last, and what is sent later needs it in the second allocation.
+/// `Within`. The permission lets data through while the first lease may not have expired, and data
+/// that is sent later needs it in the second allocation.
 #[test]
 fn a_permission_is_given_within_the_allocation_that_is_there_for_later_data(
     rt: HostRuntime,
@@ -218,7 +227,7 @@ fn a_permission_is_given_within_the_allocation_that_is_there_for_later_data(
     Ok(())
 }
 
-/// `NotHere`. The data leaves once another client has the address, and that one sent none.
+/// `NotHere`. The data leaves after another client got the address, which sent none.
 #[test]
 fn data_from_an_address_is_of_the_client_that_had_it_before(rt: HostRuntime) -> Result<(), Fail> {
     let seen = [
@@ -237,7 +246,8 @@ fn data_from_an_address_is_of_the_client_that_had_it_before(rt: HostRuntime) -> 
     Ok(())
 }
 
-/// `NotHere`. Equal data came for two clients that had the address one after the other. Searched alone, both act on one of the two.
+/// `NotHere`. Equal data arrived for two clients that had the address one after the other. Searched
+/// alone, both act on one of the two.
 #[test]
 fn an_arrival_is_acted_on_by_one_of_two_clients(rt: HostRuntime) -> Result<(), Fail> {
     let of_clients = [

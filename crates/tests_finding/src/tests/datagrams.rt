@@ -28,47 +28,48 @@ pub(super) const OTHER_PEER: Addr = Addr {
     port: 7000,
 };
 
-/// What a client asks for.
+/// A client's request.
 #[derive(Clone, Copy)]
 pub(super) enum Request {
     Allocate,
-    /// So many seconds more, or none.
+    /// This number of seconds; 0 deletes.
     Refresh(u32),
     Permit(Addr),
     Bind(u16, Addr),
 }
 
-/// What a success tells.
+/// The content of a success response.
 #[derive(Clone, Copy)]
 pub(super) enum Success {
-    /// A relayed address, for so many seconds.
+    /// A relayed address, for this number of seconds.
     Allocated(Relayed, u32),
-    /// So many seconds more, or none.
+    /// This number of seconds; 0 after a deletion.
     Refreshed(u32),
     Permitted,
     Bound,
 }
 
-/// A datagram that the server gets or sends. Requests and their answers have the number of a transaction.
+/// A datagram that the server gets or sends. Requests and their responses have the number of a
+/// transaction.
 #[derive(Clone, Copy)]
 pub(super) enum Datagram<'a> {
     /// A request of a client.
     Asks(Client, u8, Request),
-    /// A success to a client.
+    /// A success response to a client.
     Gives(Client, u8, Success),
-    /// An error to a client, by its method: there is no allocation, or there is one.
+    /// An error response 437 to a client, by its method: there is no allocation, or there is one.
     Refuses(Client, u8, u16),
-    /// A Send indication of a client, to a peer.
+    /// A Send indication of a client, for a peer.
     Sends(Client, Addr, &'a [u8]),
     /// Data from a relayed address, to a peer.
     Relays(Relayed, Addr, &'a [u8]),
     /// Data of a peer, to a relayed address.
     Comes(Addr, Relayed, &'a [u8]),
-    /// A Data indication to a client, of a peer.
+    /// A Data indication to a client, from a peer.
     Hands(Client, Addr, &'a [u8]),
     /// ChannelData to a client.
     HandsByChannel(Client, u16, &'a [u8]),
 }
 
-/// A datagram, and when it was seen, in microseconds.
+/// A datagram, and its stamp in microseconds.
 pub(super) type Seen<'a> = (u64, Datagram<'a>);

@@ -1,5 +1,5 @@
-//! A capture for each plan, and for what is done as an address goes to another client: without it, the passes find no order that explains
-//! the capture.
+//! A capture for each plan, and for the handover of an address to another client: without it, the
+//! passes find no order that explains the capture.
 
 use super::building::{conforming, verdict};
 use super::datagrams::Datagram::{Asks, Comes, Gives, Hands, Refuses};
@@ -9,7 +9,7 @@ use super::datagrams::{CLIENT, OTHER_CLIENT, OTHER_RELAYED, PEER, RELAYED};
 use audit_samples::method::ALLOCATE;
 use std::test::Fail;
 
-/// `AtArrival`. The lease is over as the data leaves, and wasn't as it came.
+/// `AtArrival`. The lease has expired when the data leaves, but hadn't when it came.
 #[test]
 fn data_is_acted_on_at_its_arrival_before_a_lease_is_over(rt: HostRuntime) -> Result<(), Fail> {
     let seen = [
@@ -24,7 +24,8 @@ fn data_is_acted_on_at_its_arrival_before_a_lease_is_over(rt: HostRuntime) -> Re
     Ok(())
 }
 
-/// `BehindAtArrivals`. The lease is over as the data leaves, and the permission's success leaves later.
+/// `BehindAtArrivals`. The lease has expired when the data leaves, and the permission's success
+/// response leaves later.
 #[test]
 fn data_is_acted_on_at_its_arrival_behind_a_permission_at_its_request(
     rt: HostRuntime,
@@ -41,7 +42,7 @@ fn data_is_acted_on_at_its_arrival_behind_a_permission_at_its_request(
     Ok(())
 }
 
-/// `BeforeEnd`. The data came before the deletion, and leaves behind its success.
+/// `BeforeEnd`. The data came before the deletion, and leaves after its success response.
 #[test]
 fn data_is_acted_on_before_its_allocation_was_deleted(rt: HostRuntime) -> Result<(), Fail> {
     let seen = [
@@ -58,7 +59,8 @@ fn data_is_acted_on_before_its_allocation_was_deleted(rt: HostRuntime) -> Result
     Ok(())
 }
 
-/// `AtArrivalBeforeEnd`. The lease is over as another allocation is made, and wasn't as the data came.
+/// `AtArrivalBeforeEnd`. The lease has expired when another allocation is made, but hadn't when the
+/// data came.
 #[test]
 fn data_is_acted_on_at_its_arrival_in_an_allocation_that_another_one_ended(
     rt: HostRuntime,
@@ -77,7 +79,8 @@ fn data_is_acted_on_at_its_arrival_in_an_allocation_that_another_one_ended(
     Ok(())
 }
 
-/// `BehindBeforeEnd`. The data leaves behind the deletion's success, and before that of its permission.
+/// `BehindBeforeEnd`. The data leaves after the deletion's success response, and before that of its
+/// permission.
 #[test]
 fn data_is_acted_on_behind_a_permission_before_the_allocation_was_deleted(
     rt: HostRuntime,
@@ -96,7 +99,7 @@ fn data_is_acted_on_behind_a_permission_before_the_allocation_was_deleted(
     Ok(())
 }
 
-/// `Behind`. The data leaves before the success of its permission.
+/// `Behind`. The data leaves before the success response of its permission.
 #[test]
 fn data_is_acted_on_behind_a_permission_whose_success_leaves_later(
     rt: HostRuntime,
@@ -113,7 +116,7 @@ fn data_is_acted_on_behind_a_permission_whose_success_leaves_later(
     Ok(())
 }
 
-/// `Behind`. The data leaves before the successes of its allocation and of its permission.
+/// `Behind`. The data leaves before the success responses of its allocation and of its permission.
 #[test]
 fn data_is_acted_on_behind_two_answers_that_leave_later(rt: HostRuntime) -> Result<(), Fail> {
     let seen = [
@@ -128,7 +131,7 @@ fn data_is_acted_on_behind_two_answers_that_leave_later(rt: HostRuntime) -> Resu
     Ok(())
 }
 
-/// A deadline. The deletion's success leaves behind that of the other client.
+/// A deadline. The deletion's success response leaves after that of the other client.
 #[test]
 fn an_allocation_is_deleted_before_another_client_is_given_its_address(
     rt: HostRuntime,
@@ -145,7 +148,8 @@ fn an_allocation_is_deleted_before_another_client_is_given_its_address(
     Ok(())
 }
 
-/// The least slot of an allocation. An error tells that the other client has one, which it may not have before the first client's is over.
+/// The least slot of an allocation. An error response shows that the other client has one, which it
+/// may not have before the first client's ends.
 #[test]
 fn an_address_is_given_to_another_client_no_earlier_than_it_was_given_up(
     rt: HostRuntime,

@@ -1,4 +1,5 @@
-//! A capture for each way to tell the moments anew: without it, the passes find no order that explains the capture.
+//! A capture for each way to compute the moments again: without it, the passes find no order that
+//! explains the capture.
 
 use super::building::{conforming, verdict};
 use super::datagrams::Datagram::{Asks, Comes, Gives, Hands};
@@ -7,7 +8,8 @@ use super::datagrams::Success::{Allocated, Bound, Permitted, Refreshed};
 use super::datagrams::{CLIENT, PEER, RELAYED};
 use std::test::Fail;
 
-/// The clocks told anew. By its stamp the data left before it came, so the clients' clock is behind, and the lease began later than it says.
+/// The clocks, computed again. By its stamp the data left before it came, so the clients' clock is
+/// slow, and the lease began later than its stamp.
 #[test]
 fn a_lease_begins_later_where_the_clock_of_its_interface_is_behind(
     rt: HostRuntime,
@@ -27,8 +29,8 @@ fn a_lease_begins_later_where_the_clock_of_its_interface_is_behind(
     Ok(())
 }
 
-/// Acts at their requests. The first lease is over before the peer's other channel is bound, which is in the second allocation. That is
-/// deleted before the third one is made.
+/// Acts at their requests. The first lease expires before the peer's other channel is bound, which
+/// is in the second allocation. That one is deleted before the third one is made.
 #[test]
 fn all_allocations_are_made_at_their_requests(rt: HostRuntime) -> Result<(), Fail> {
     let seen = [

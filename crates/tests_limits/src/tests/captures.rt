@@ -1,4 +1,4 @@
-//! As many files, sightings and bytes of a packet as a capture may have.
+//! The most files, sightings and bytes of a packet that captures may have.
 
 use audit_model::{Addr, Policy, Side, read_policy};
 use audit_samples::{BuildFault, Capture, UdpDatagram};
@@ -20,7 +20,7 @@ fn policy(alloc: Global) -> Result<Policy, Fail> {
     Ok(read_policy(alloc, b"turnaudit-policy 1\nlisten 192.0.2.1:3478\n")?)
 }
 
-/// So many datagrams of the client, a microsecond apart.
+/// This number of the client's datagrams, one in each microsecond.
 fn capture(alloc: Global, datagrams: u64, payload: &[u8]) -> Result<Capture, BuildFault> {
     let mut capture = Capture::new(alloc)?;
     let datagram = UdpDatagram {
@@ -64,7 +64,7 @@ fn sightings_of_one_interface_200000(rt: HostRuntime) -> Result<(), Fail> {
     Ok(())
 }
 
-/// The largest datagram, of which the last nine bytes were not captured.
+/// The largest datagram, truncated by nine bytes.
 fn cut_capture(alloc: Global) -> Result<Vec<u8>, Fail> {
     let payload = vec![in alloc; 7u8; 65_507]?;
     let whole = capture(alloc, 1, &payload)?;
@@ -78,7 +78,7 @@ fn cut_capture(alloc: Global) -> Result<Vec<u8>, Fail> {
     Ok(cut)
 }
 
-/// What a capture that comes in two pieces is refused for.
+/// Why a capture in two pieces is refused.
 fn refused_in_two(alloc: Global, front: &[u8], rest: &[u8]) -> Result<Option<IntakeFault>, Fail> {
     let mut intake = Intake::new(alloc, policy(alloc)?);
     let file = intake.add_file()?;

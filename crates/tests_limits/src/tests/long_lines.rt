@@ -1,4 +1,4 @@
-//! Lines that are as long as a line may be, and longer by a byte, cut in each way.
+//! Lines as long as a line may be, and longer by one byte, cut at many places.
 
 use audit_cert::{CertFault, CertFaultKind, CertificateReader};
 use audit_keys::{CredFault, CredFaultKind, CredentialsReader};
@@ -7,7 +7,7 @@ use audit_text::LONGEST_LINE;
 use std::alloc::{AllocError, Global};
 use std::test::Fail;
 
-/// A text, a line that is filled up to so many bytes, and its LF.
+/// A text, a line that is filled up to this length, and its LF.
 fn text_of(alloc: Global, front: &str, line: &str, length: usize) -> Result<String, AllocError> {
     let mut text = String::from_str(alloc, front)?;
     text.push_str(line)?;
@@ -51,7 +51,8 @@ fn certificate_fault(alloc: Global, first: &[u8], second: &[u8]) -> Option<CertF
     }
 }
 
-/// Where a text is cut: around the first byte of its long line, around its end, and in steps between them.
+/// Whether a text is cut here: around the first byte of its long line, around its end, and in steps
+/// between them.
 fn is_cut(at: usize, line: usize, length: usize) -> bool {
     let is_by_line = at.saturating_sub(line) < 6 && line.saturating_sub(at) < 6;
     is_by_line || length.saturating_sub(at) < 6 || at % 16_381 == 0

@@ -6,10 +6,10 @@ use audit_model::{PolicyFault, PolicyFaultKind, read_policy};
 use std::alloc::{AllocError, Global};
 use std::test::Fail;
 
-/// How many bytes of a text are given at once.
+/// How many bytes of a text are fed at once.
 const PIECE: usize = 65_536;
 
-/// A policy with all settings, so many listen lines, and 64 relay lines.
+/// A policy with all settings, this number of listen lines, and 64 relay lines.
 fn policy_text(alloc: Global, listens: u32) -> Result<String, AllocError> {
     let mut text = String::from_str(
         alloc,
@@ -42,7 +42,7 @@ fn policy_of_128_endpoints(rt: HostRuntime) -> Result<(), Fail> {
     Ok(())
 }
 
-/// A policy with so many skews of interfaces.
+/// A policy with this number of interface skews.
 fn skews_text(alloc: Global, skews: u32) -> Result<String, AllocError> {
     let mut text = String::from_str(alloc, "turnaudit-policy 2\nlisten 192.0.2.1:3478\n")?;
     for number in 0..skews {
@@ -70,7 +70,7 @@ fn policy_of_1024_skews(rt: HostRuntime) -> Result<(), Fail> {
     Ok(())
 }
 
-/// A certificate with so many skews, and nothing else.
+/// A certificate with this number of skews, and nothing else.
 fn cut_text(alloc: Global, skews: u32) -> Result<String, AllocError> {
     let mut text = String::from_str(alloc, "turnaudit-certificate 2\n")?;
     for number in 0..skews {
@@ -128,7 +128,7 @@ fn certificate_of_four_megabytes(rt: HostRuntime) -> Result<(), Fail> {
     Ok(())
 }
 
-/// So many users of one realm.
+/// This number of users of one realm.
 fn credentials_text(alloc: Global, users: u32) -> Result<String, AllocError> {
     let mut text = String::new(alloc);
     for number in 0..users {

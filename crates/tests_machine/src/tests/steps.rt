@@ -15,8 +15,8 @@ fn sight(index: u32) -> SightId {
     SightId { iface: 0, index }
 }
 
-/// Skips the first two sightings, makes moves, and forgets what no later move depends on, which is nothing. Whether all of it succeeds, and a departure
-/// is refused then that no act sent.
+/// Skips the first two sightings, makes moves, and forgets what no later move depends on, which is
+/// nothing. Whether all of it succeeds, and a departure is refused then that no act sent.
 fn is_judged(
     alloc: Global,
     intake: &Intake,

@@ -1,4 +1,4 @@
-//! Files that come in pieces, and streams that take a part of an answer.
+//! Files that come in pieces, and streams that accept a part of the output.
 
 use super::rows::{CHECKED, REPORT, Row, Sample, play_over};
 use std::alloc::{AllocError, Global};
@@ -8,7 +8,8 @@ use std::test::Fail;
 use std::thread::Threads;
 use tests_host::{Told, ask, text_of};
 
-/// Cut in two at each place, and byte by byte: how many bytes are given at first, and at once after that.
+/// Ways to read a file: in two pieces, split at each place, and byte by byte. Each is the size of
+/// the first piece, and of the later ones.
 fn cuttings(alloc: Global, length: usize) -> Result<Vec<(usize, usize)>, AllocError> {
     let mut cuttings = Vec::new(alloc);
     cuttings.push((1, 1))?;
@@ -18,7 +19,7 @@ fn cuttings(alloc: Global, length: usize) -> Result<Vec<(usize, usize)>, AllocEr
     Ok(cuttings)
 }
 
-/// That the row of a capture of so many bytes is answered as it says, however its files are cut.
+/// Checks the row of a capture of this length, however its files are read.
 fn play_cut(
     rt: &(impl Abort + AllocGlobal + Threads + Wait + Sync),
     row: &Row<'_>,

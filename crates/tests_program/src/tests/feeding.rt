@@ -1,4 +1,4 @@
-//! Many datagrams by one feed.
+//! Many datagrams in one feed.
 
 use audit_model::read_policy;
 use audit_sightings::{Intake, IntakeFault, IntakeFaultKind, Side, SightId};
@@ -6,12 +6,13 @@ use std::alloc::{AllocError, Global};
 use std::test::Fail;
 use tests_host::{POLICY, Parts, binding_capture, binding_parts};
 
-/// Where the Binding capture's packets begin, and where the second of them does.
+/// The offset of the Binding capture's packets, and that of the second one.
 const PACKETS: usize = 48;
 
 const SUCCESS: usize = 144;
 
-/// The Binding capture with its two packets 2,500 times. The requests from pair `changed` on are those of `parts`.
+/// The Binding capture with its two packets 2,500 times. The requests from pair `changed` on are
+/// those of `parts`.
 fn repeated(alloc: Global, parts: &Parts<'_>, changed: u32) -> Result<Vec<u8>, AllocError> {
     let plain = binding_capture(alloc, &binding_parts())?;
     let other = binding_capture(alloc, parts)?;

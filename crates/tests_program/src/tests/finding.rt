@@ -1,4 +1,4 @@
-//! Certificates of the Binding capture that are found.
+//! Certificates that the finder makes for the Binding capture.
 
 use super::rows::{CHECKED, Row, Sample, play};
 use std::test::Fail;

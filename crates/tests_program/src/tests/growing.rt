@@ -197,7 +197,7 @@ macro_rules! with {
     };
 }
 
-/// Of the last three the capture is given within the first turn.
+/// In the last three, the first turn returns the whole capture.
 static NUMBERS: [Row<'static>; 9] = [
     with!("--idle", "0", Sample::Section, NO_REQUEST),
     with!("--turns", "0", Sample::Section, NO_REQUEST),

@@ -1,10 +1,11 @@
-//! Certificates that place a Binding request at 1,000 microseconds and its success at 1,500, and what each lane shows for itself.
+//! Certificates that place a Binding request at 1,000 microseconds and its success response at
+//! 1,500, and the finding of each lane.
 
 use super::rows::{CHECKED, REPORT, Row, play};
 use std::test::Fail;
 use tests_host::{POLICY, Told};
 
-/// One millisecond of hold, and half of one of skew.
+/// One millisecond of hold, and half a millisecond of skew.
 const SHORT_HOLD: &str =
     "turnaudit-policy 1\nlisten 192.0.2.1:3478\nrelay 192.0.2.1:49152-65535\nskew-us 500\nhold-ms 1\n";
 

@@ -42,7 +42,7 @@ fn captures_are_judged(rt: HostRuntime) -> Result<(), Fail> {
     play(&rt, &JUDGED)
 }
 
-/// Of each file ten bytes can be read, and then one of them fails.
+/// Ten bytes of each file can be read, and then reading one of them fails.
 const UNREADABLE: Row<'static> = Row {
     name: "a_file_that_cannot_be_read_is_said",
     capture: Sample::Section,

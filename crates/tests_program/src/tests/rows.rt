@@ -1,4 +1,4 @@
-//! A row of a table: words and files, and what the program answers to them.
+//! A row of a table: arguments and files, and the expected output of the program.
 
 use std::alloc::{AllocError, Global};
 use std::process::Abort;
@@ -12,13 +12,13 @@ use tests_host::{
 /// The capture of a row.
 #[derive(Clone, Copy)]
 pub enum Sample {
-    /// A Binding request and its success, 252 bytes.
+    /// A Binding request and its success response, 252 bytes.
     Binding,
     /// The same, its first frame tagged.
     Tagged,
-    /// The same, the success telling of another port.
+    /// The same, with another port in the success response.
     OtherPort,
-    /// The same, its first datagram a fragment.
+    /// The same, with a fragment as first datagram.
     Fragment,
     /// The same without its last byte.
     Torn,
@@ -53,7 +53,7 @@ impl Sample {
     }
 }
 
-/// Words over files, and what they are answered.
+/// Arguments, files, and the expected output.
 #[derive(Clone, Copy)]
 pub struct Row<'a> {
     pub name: &'a str,
@@ -63,11 +63,11 @@ pub struct Row<'a> {
     pub capture: Sample,
     /// Another capture.
     pub second: &'a [u8],
-    /// How many bytes of a file are given at first, and at once after that.
+    /// How many bytes of a file the first read and the later reads return.
     pub pieces: (usize, usize),
     /// The file whose second piece can't be read.
     pub fails: Option<&'a str>,
-    /// How many bytes each of the first turns gives while captures grow.
+    /// How many bytes each of the first turns returns while captures grow.
     pub turns: &'a [usize],
     pub told: Told<'a>,
 }
@@ -83,7 +83,7 @@ pub const CONFORMING: Told<'static> = Told {
     err: Some(""),
 };
 
-/// What is told of the success with another port.
+/// The report about the success response with another port.
 pub const OTHER_ADDRESS: Told<'static> = Told {
     status: 1,
     out: Some(
@@ -92,7 +92,7 @@ pub const OTHER_ADDRESS: Told<'static> = Told {
     err: Some(""),
 };
 
-/// What words that are no request are answered. Of standard error nothing is said.
+/// The output for a usage error. Standard error is not compared.
 pub const NO_REQUEST: Told<'static> = Told {
     status: 5,
     out: Some(""),
@@ -133,7 +133,7 @@ impl<'a> Row<'a> {
     }
 }
 
-/// What the row is answered over the bytes of its capture.
+/// The output for the row, with these bytes of its capture.
 pub fn answer_over<'a>(
     rt: &(impl AllocGlobal + Threads + Wait + Sync),
     row: &Row<'a>,
@@ -148,7 +148,7 @@ pub fn answer_over<'a>(
     )
 }
 
-/// That the row is answered as it says over the bytes of its capture.
+/// Checks the output for the row, with these bytes of its capture.
 pub fn play_over<'a>(
     rt: &(impl Abort + AllocGlobal + Threads + Wait + Sync),
     row: &Row<'a>,
@@ -164,7 +164,7 @@ pub fn play_over<'a>(
     Ok(())
 }
 
-/// That each row is answered as it says.
+/// Checks the output for each row.
 pub fn play(
     rt: &(impl Abort + AllocGlobal + Threads + Wait + Sync),
     rows: &[Row<'_>],

@@ -1,4 +1,4 @@
-//! Words that ask for no audit: none, wrong ones, help and the release.
+//! Arguments that request no audit: none, usage errors, help and the release.
 
 use super::rows::{CHECKED, NO_REQUEST, Row, Sample, answer_over, play};
 use std::test::Fail;
@@ -81,7 +81,7 @@ fn no_words_tell_the_commands(rt: HostRuntime) -> Result<(), Fail> {
     Ok(())
 }
 
-/// A number of workers that there can't be.
+/// An invalid number of workers.
 macro_rules! workers {
     ($command:literal, $count:literal) => {
         Row {

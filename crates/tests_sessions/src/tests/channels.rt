@@ -10,7 +10,7 @@ use tests_host::Told;
 
 const HI: Payload<'static> = Payload::Channel(0x4000, b"hi", b"");
 
-/// ChannelData of the client that is acted on at a moment, 601 seconds after the channel was bound.
+/// The client's ChannelData, with an act at this moment, 601 seconds after the channel was bound.
 macro_rules! carried_at {
     ($moment:literal) => {
         Row {
@@ -30,7 +30,8 @@ macro_rules! carried_at {
     };
 }
 
-/// A ChannelBind of another number for the peer that is acted on at a moment, 600 seconds after the first.
+/// A ChannelBind of another number for the peer, with an act at this moment, 600 seconds after the
+/// first.
 macro_rules! bound_anew_at {
     ($moment:literal) => {
         Row {
@@ -50,7 +51,7 @@ macro_rules! bound_anew_at {
     };
 }
 
-/// What the peer sends, given to the client as ChannelData with more bytes behind it.
+/// The peer's data, sent to the client as ChannelData with more bytes after it.
 macro_rules! followed_by {
     ($more:literal) => {
         &[

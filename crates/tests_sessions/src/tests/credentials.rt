@@ -1,4 +1,4 @@
-//! Allocate and Refresh, and who asks for them.
+//! Allocate and Refresh, and their users.
 
 use super::rows::{Row, SESSION, broken, conforming, play, refused};
 use audit_model::Addr;
@@ -10,14 +10,14 @@ use tests_datagrams::{
 };
 use tests_host::Told;
 
-/// The Allocate and its success.
+/// The Allocate and its success response.
 const JUST_ALLOCATED: Row = Row {
     steps: &[ALLOCATED],
     digests: Some("af35fbc5e27f9112f594e94b42eeae2dc0f4cbdf"),
     ..SESSION
 };
 
-/// An Allocate with EVEN-PORT, answered by a port.
+/// An Allocate with EVEN-PORT, and a response that grants a port.
 macro_rules! even_port_asked {
     ($port:literal) => {
         &[Step::Exchange(
@@ -39,7 +39,7 @@ macro_rules! even_port_asked {
     };
 }
 
-/// An Allocate success with a port.
+/// An Allocate success response with a port.
 macro_rules! allocated_at {
     ($port:literal) => {
         Payload::Message(
@@ -61,7 +61,7 @@ macro_rules! allocated_at {
     };
 }
 
-/// The Allocate once more, its success now with a port.
+/// The Allocate again, with a success response that now grants this port.
 macro_rules! repeated {
     ($port:literal) => {
         &[
@@ -168,7 +168,7 @@ fn allocations_are_judged(rt: HostRuntime) -> Result<(), Fail> {
     play(&rt, &ALLOCATIONS)
 }
 
-/// A Refresh success for so many seconds.
+/// A Refresh success response with this LIFETIME in seconds.
 macro_rules! refreshed {
     ($seconds:literal) => {
         Payload::Message(
@@ -179,7 +179,7 @@ macro_rules! refreshed {
     };
 }
 
-/// A Refresh without LIFETIME that is acted on at a moment, 600 seconds after the allocation.
+/// A Refresh without LIFETIME, with an act at this moment, 600 seconds after the allocation.
 macro_rules! refreshed_at {
     ($moment:literal) => {
         Row {
@@ -201,14 +201,14 @@ macro_rules! refreshed_at {
     };
 }
 
-/// A Refresh for no time.
+/// A Refresh with LIFETIME 0.
 const GIVE_UP: Payload<'static> = Payload::Message(
     Class::Request,
     method::REFRESH,
     &[Part::Seconds(0), BY_USER, SIGNED],
 );
 
-/// The allocation is given up, and then once more, which is answered by a success for so many seconds.
+/// The allocation is deleted twice; the second success response has this LIFETIME in seconds.
 macro_rules! given_up_twice {
     ($seconds:literal) => {
         &[

@@ -16,7 +16,8 @@ macro_rules! code {
     };
 }
 
-/// An Allocate of a transport without credentials, and what stands in the error that refuses it.
+/// An Allocate with this transport and without credentials, and the contents of the error response
+/// to it.
 macro_rules! refused {
     ($transport:literal, $parts:expr) => {
         &[Step::ExchangeAt(
@@ -41,7 +42,7 @@ macro_rules! refused {
     };
 }
 
-/// What is told of that Allocate.
+/// The report about that Allocate.
 macro_rules! allocate_broken {
     ($rule:literal) => {
         broken!(
@@ -136,14 +137,14 @@ macro_rules! refused_to {
     };
 }
 
-/// A Refresh for no time.
+/// A Refresh with LIFETIME 0.
 const GIVE_UP: Payload<'static> = Payload::Message(
     Class::Request,
     method::REFRESH,
     &[Part::Seconds(0), BY_USER, SIGNED],
 );
 
-/// A Refresh success for so many seconds.
+/// A Refresh success response with this LIFETIME in seconds.
 macro_rules! refreshed {
     ($seconds:literal) => {
         Payload::Message(
@@ -154,7 +155,8 @@ macro_rules! refreshed {
     };
 }
 
-/// After a challenge, an allocation that is given up, and then once more, which is answered so.
+/// After a challenge, an allocation that is deleted twice, with this response to the second
+/// Refresh.
 macro_rules! given_up {
     ($answer:expr) => {
         &[

@@ -1,4 +1,4 @@
-//! Certificates of sessions that are found, and what they show.
+//! Certificates that the finder makes for sessions, and their verdicts.
 
 use super::relays::{
     CARRIED, GIVEN_TWICE, OTHER_DATA, OVERTAKEN, PAST_THE_CHANNELS, SENT, WITHIN_THE_GRACE,
@@ -30,12 +30,13 @@ static FIND: [&str; 6] = [
     "creds",
 ];
 
-/// Whether the answer is what is to be told.
+/// Whether the output is the expected one.
 fn tells(answer: &Answer, told: Told<'_>) -> bool {
     answer.told_like(&told) == told
 }
 
-/// The statuses of `audit`, of `find` and of `check` by the certificate that is found, where each tells what it has to.
+/// The statuses of `audit`, of `find` and of `check` by the certificate that `find` writes, if each
+/// has the expected output.
 fn statuses(
     rt: &(impl Threads + Wait + Sync),
     alloc: Global,
@@ -51,7 +52,8 @@ fn statuses(
     Ok(None)
 }
 
-/// That `audit` answers each row as it says, and `check` by the certificate that `find` writes does too.
+/// Checks that `audit` has each row's expected output, and `check` by the certificate that `find`
+/// writes, too.
 fn play_found(
     rt: &(impl Abort + AllocGlobal + Threads + Wait + Sync),
     rows: &[Row],
@@ -69,7 +71,7 @@ fn play_found(
     Ok(())
 }
 
-/// What `find` answers, but for the certificate.
+/// The output of `find`, except the certificate.
 const WRITTEN: Told<'static> = Told {
     status: 0,
     out: None,
@@ -116,7 +118,7 @@ fn certificates_are_found(rt: HostRuntime) -> Result<(), Fail> {
     play_found(&rt, &FOUND)
 }
 
-/// A session, and how what `audit` tells of it begins and ends.
+/// A session, and the start and the end of the report of `audit`.
 #[derive(Clone, Copy)]
 struct Shown {
     row: Row,
@@ -134,7 +136,7 @@ macro_rules! shown {
     };
 }
 
-/// What the peer sends once its permission is over, given to the client.
+/// The peer's data after its permission expired, sent to the client.
 const PAST_THE_PERMISSION: Row = Row {
     has_two_captures: true,
     steps: &[

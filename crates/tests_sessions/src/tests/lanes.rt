@@ -1,4 +1,4 @@
-//! What two lanes show together.
+//! Sessions of two lanes.
 
 use super::rows::{Row, SESSION, broken, conforming, play};
 use audit_model::Addr;
@@ -10,7 +10,8 @@ use tests_datagrams::{
 };
 use tests_host::Told;
 
-/// A client with an allocation, and another client that is given a relayed address ten milliseconds later.
+/// A client with an allocation, and another client that is granted a relayed address ten
+/// milliseconds later.
 macro_rules! two_allocations {
     ($relayed:expr) => {
         &[

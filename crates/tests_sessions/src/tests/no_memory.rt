@@ -1,5 +1,6 @@
-//! What is left of a lane's table where memory is refused. Memory is plenty in a run of the tests: under `rt try --test --fail-alloc N` the Nth
-//! allocation is refused, and then this test must fail by an error and by no assertion.
+//! The state of a lane's table after memory was refused. An ordinary run of the tests has enough
+//! memory: under `rt try --test --fail-alloc N` the Nth allocation is refused, and then this test
+//! must fail by an error and by no assertion.
 
 use super::rows::{Row, SESSION};
 use audit_keys::{Keys, long_term_key, long_term_key_sha256};
@@ -63,7 +64,7 @@ static SENT_TO_EACH: Row = Row {
     ..SESSION
 };
 
-/// The act that answers the datagram of this number by the one after it.
+/// Judges the act that answers the datagram with this number by the next one.
 fn answered(
     alloc: Global,
     intake: &Intake,

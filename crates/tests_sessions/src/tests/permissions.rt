@@ -41,7 +41,7 @@ const OTHER_PEER: Addr = Addr {
     ..PEER
 };
 
-/// A Send that is acted on at a moment, 301 seconds after the permission.
+/// A Send with an act at this moment, 301 seconds after the permission.
 macro_rules! relayed_at {
     ($moment:literal) => {
         Row {
@@ -61,7 +61,7 @@ macro_rules! relayed_at {
     };
 }
 
-/// What the peer sends, given to the client by one Data indication.
+/// The peer's data, sent to the client by one Data indication.
 const GIVEN: Step<'static> = Step::ExchangeAt(
     Datagram::FromPeer(1_030_000, b"hello"),
     Datagram::ToClient(1_030_500, Payload::Data(PEER, b"hello")),

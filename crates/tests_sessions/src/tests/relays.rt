@@ -1,4 +1,5 @@
-//! Sessions that begin with a challenge. What the server sends to peers and gets of them stands in a capture of its own, with a clock of its own.
+//! Sessions that begin with a challenge. Datagrams between the server and peers are in a capture of
+//! their own, with its own clock.
 
 use super::rows::{Row, SESSION, broken, conforming, play};
 use std::test::Fail;
@@ -56,7 +57,7 @@ pub const NO_DATA: Row = Row {
     ..TWO_CAPTURES
 };
 
-/// A Send that is acted on at a moment, 301 seconds after the permission.
+/// A Send with an act at this moment, 301 seconds after the permission.
 macro_rules! relayed_at {
     ($moment:literal) => {
         Row {
@@ -81,7 +82,8 @@ macro_rules! relayed_at {
 
 pub const WITHIN_THE_GRACE: Row = relayed_at!(302_020_500_000);
 
-/// A CreatePermission whose success leaves after a datagram of the peer was given to the client, placed by lines.
+/// A CreatePermission whose success response leaves after a datagram of the peer was sent to the
+/// client, placed by these lines.
 macro_rules! overtaken {
     ($lines:literal) => {
         Row {
@@ -102,12 +104,12 @@ macro_rules! overtaken {
     };
 }
 
-/// The request is acted on before the peer's datagram.
+/// The act on the request is before the peer's datagram.
 pub const OVERTAKEN: Row = overtaken!(
     "in 0.4 1020000000 0\nact 0.4 0.6 1020100000 0\nin 64.0 1020200000 0\nact 64.0 0.5 1020300000 0\nout 0.5 1020400000 0\nout 0.6 1021000000 0\n"
 );
 
-/// The request is acted on after the peer's datagram.
+/// The act on the request is after the peer's datagram.
 pub const ACTED_ON_LATE: Row = overtaken!(
     "in 0.4 1020000000 0\nin 64.0 1020200000 0\nact 64.0 0.5 1020300000 0\nact 0.4 0.6 1020350000 0\nout 0.5 1020400000 0\nout 0.6 1021000000 0\n"
 );
@@ -140,7 +142,7 @@ pub const CARRIED: Row = Row {
     ..TWO_CAPTURES
 };
 
-/// A datagram of the peer, given to the client by two Data indications.
+/// A datagram of the peer, sent to the client by two Data indications.
 pub const GIVEN_TWICE: Row = Row {
     steps: &[
         CHALLENGED,

@@ -1,4 +1,4 @@
-//! A row of a table: a session, and what `check` answers to it.
+//! A row of a table: a session, and the expected output of `check`.
 
 use audit_samples::BuildFault;
 use std::alloc::{AllocError, Global};
@@ -9,15 +9,15 @@ use std::thread::Threads;
 use tests_datagrams::{Built, Step};
 use tests_host::{Answer, Files, PLENTY, POLICY, Told, ask};
 
-/// A session, and what it is answered.
+/// A session, and the expected output.
 #[derive(Clone, Copy)]
 pub struct Row {
     pub name: &'static str,
     pub policy: &'static str,
     pub credentials: &'static str,
-    /// The certificate's heading, and its skews where it has some.
+    /// The certificate's heading, and its skews if it has some.
     pub front: &'static str,
-    /// Whether the peer's datagrams stand in a capture of their own.
+    /// Whether the peer's datagrams are in a capture of their own.
     pub has_two_captures: bool,
     pub steps: &'static [Step<'static>],
     /// The digests of the captures.
@@ -25,7 +25,7 @@ pub struct Row {
     pub told: Told<'static>,
 }
 
-/// What a session with so many datagrams is answered that conforms.
+/// The expected output for a session with this number of datagrams that conforms.
 macro_rules! conforming {
     ($datagrams:literal) => {
         conforming!($datagrams, 1)
@@ -45,7 +45,7 @@ macro_rules! conforming {
     };
 }
 
-/// What a session with a breach of a rule is answered: at which event it is, and of which datagram.
+/// The expected output for a session with a breach of this rule, at this event, of this datagram.
 macro_rules! broken {
     ($rule:literal, $event:literal, $datagram:literal) => {
         Told {
@@ -64,7 +64,7 @@ macro_rules! broken {
     };
 }
 
-/// What a session is answered whose files are refused.
+/// The expected output for a session whose files are refused.
 macro_rules! refused {
     ($line:literal) => {
         Told {
@@ -110,7 +110,7 @@ impl Row {
         files
     }
 
-    /// What the program answers to words and the names of the captures.
+    /// The program's output for these arguments and the names of the captures.
     pub fn answer(
         &self,
         rt: &(impl Threads + Wait + Sync),
@@ -145,7 +145,7 @@ pub static CHECK: [&str; 8] = [
     "cert",
 ];
 
-/// That the captures of each row have its digests, and that `check` answers as it says.
+/// Checks that the captures of each row have its digests, and that `check` has the expected output.
 pub fn play(
     rt: &(impl Abort + AllocGlobal + Threads + Wait + Sync),
     rows: &[Row],

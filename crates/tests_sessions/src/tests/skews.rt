@@ -1,4 +1,5 @@
-//! Skews of interfaces: a relayed datagram in a capture of its own, by a clock that is 400 microseconds early.
+//! Skews of interfaces: a relayed datagram in a capture of its own, by a clock that is 400
+//! microseconds early.
 
 use super::relays::SENT;
 use super::rows::{Row, broken, conforming, play};
