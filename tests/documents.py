@@ -16,7 +16,8 @@ Of each document:
 
 docs/README.md has one line with a link to each other file of docs/ and its folders. With --measures it prints the numbers of each document.
 Words that the RFCs and the field don't use in this sense (`told`, `asked`, `behind` and the like; docs/TERMS.md has the terms) are counted over
-all documents, outside of code, and may not become more than they are.
+all documents, outside of code, and over the comments of all sources and definitions, and may not become more than they are. A comment's line has
+at most 100 characters, too.
 It imports no other file of this repository. The status is 1 where something fails.
 """
 
@@ -30,6 +31,7 @@ TOP = pathlib.Path(__file__).resolve().parent.parent
 LONGEST_LINE, README_LINES, MEDIAN, NINE_OF_TEN = 100, 100, 25, 35
 # Lower it when a page is rewritten, and never raise it.
 MOST_OF_DIALECT = 14
+MOST_IN_COMMENTS = 7
 # Words before a point that doesn't end a sentence: always, and where a small letter or a number follows.
 NEVER_LAST = {"e.g", "i.e", "cf", "vs", "approx", "resp"}
 SELDOM_LAST = {"etc", "no", "sec", "fig", "al", "incl"}
@@ -229,6 +231,32 @@ def dialect_in(file):
     return len(DIALECT.findall(masked("\n".join(lines))))
 
 
+def comments_of(file):
+    """The numbered lines of a source or a definition that are comments."""
+    mark = "//" if file.suffix == ".rt" else "--"
+    for number, line in enumerate(file.read_text(encoding="utf-8").split("\n"), 1):
+        if line.lstrip().startswith(mark):
+            yield number, line
+
+
+def check_comments():
+    """Prints what is wrong with the comments of sources and definitions, and returns whether nothing is."""
+    dialect, is_right = 0, True
+    for folder in ("src", "specs"):
+        for file in sorted((TOP / "crates").glob(f"*/{folder}/**/*")):
+            if file.suffix not in (".rt", ".antt"):
+                continue
+            for number, line in comments_of(file):
+                dialect += len(DIALECT.findall(masked(line)))
+                if len(line) > LONGEST_LINE:
+                    print(f"{file.relative_to(TOP)}:{number}: a comment of {len(line)} characters")
+                    is_right = False
+    if dialect > MOST_IN_COMMENTS:
+        print(f"words of the dialect in comments: {dialect}, at most {MOST_IN_COMMENTS}")
+        is_right = False
+    return is_right
+
+
 def main(words):
     has_measures = "--measures" in words
     named = [pathlib.Path(word).resolve() for word in words if word != "--measures"]
@@ -248,6 +276,10 @@ def main(words):
             failed += 1
         else:
             passed += 1
+        if check_comments():
+            passed += 1
+        else:
+            failed += 1
     print(f"documents: {passed} passed, {failed} failed")
     return 1 if failed else 0
 
