@@ -10,7 +10,7 @@ use crate::acts::Act;
 use crate::table::Allocation;
 use audit_model::Rule;
 
-/// The client's allocation, if there is one and it is usable (RFC 8656, section 3.2).
+/// The client's allocation, if there is one and it is usable (RFC 8656, section 6).
 pub fn usable_allocation<'t>(act: &Act<'t, '_>) -> Result<&'t Allocation, Rule>
     ensures { MatchResult result
         (λ found. (act.now.table.now.allocation ≡ Some found.now) × UsableNow (situation act.now) found.now.lease.until)
