@@ -2,6 +2,7 @@
 -- so.
 use Rattle.std.specs.Prelude.{Bool, List, Option, None, Some, if◌then◌else◌, ◌≡◌}
 use Rattle.std.specs.declared.cmp.Ordering.{Ordering}
+use Rattle.std.specs.Option.{option_and_then}
 use Rattle.std.specs.Ordering.{is_eq}
 use Rattle.std.specs.List.{list_any}
 use Rattle.std.specs.Map.{lookup}
@@ -26,6 +27,10 @@ module _ {K V : Type 0} (order : K → K → Ordering) where
   -- the new table has no value at this key, and at each other key that of the old one
   abbrev pub Removes : List (K × V) → List (K × V) → K → Type 0
   Removes old new key = (q : K) → value_at new q ≡ (if is_same order key q then None else value_at old q)
+
+  -- the new table has the values of the old one that pass the test
+  abbrev pub Keeps : List (K × V) → List (K × V) → (V → Bool) → Type 0
+  Keeps old new keep = (q : K) → value_at new q ≡ option_and_then (λ value. if keep value then Some value else None) (value_at old q)
 
   -- some key has a value with the property
   abbrev pub Somewhere : List (K × V) → (K → V → Type 0) → Type 0

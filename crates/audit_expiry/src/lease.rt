@@ -2,7 +2,7 @@
 
 ghost use Rattle.std.specs.Prelude.{◌≡◌, ◌↔◌, IsTrue};
 ghost use Rattle.audit_model.specs.Window.{later};
-ghost use Rattle.audit_expiry.specs.Lease.{IsUsable, IsGone, is_usable, is_gone};
+ghost use Rattle.audit_expiry.specs.Lease.{IsUsable, IsGone, is_usable, is_gone, lasts};
 
 /// The end of an allocation, a permission or a channel binding.
 ///
@@ -40,5 +40,12 @@ impl Lease {
         ensures value { result ≡ is_gone self.until moment }
     {
         moment > self.until
+    }
+
+    /// Whether it isn't past the grace at the moment: a server has to keep it, or may still use it.
+    pub fn lasts(self, moment: u64, grace: u64) -> bool
+        ensures { result ≡ lasts self.until moment grace }
+    {
+        !self.gone(moment) || self.usable(moment, grace)
     }
 }

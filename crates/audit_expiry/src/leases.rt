@@ -1,9 +1,9 @@
 //! A table of leases by key.
 
-ghost use Rattle.std.specs.Prelude.{◌≡◌, List, [], true, false, IsTrue, IsSome, IfOk, OnOk, OnErr, None};
+ghost use Rattle.std.specs.Prelude.{◌≡◌, Bool, List, [], true, false, IsTrue, IsSome, IfOk, OnOk, OnErr, None};
 ghost use Rattle.std.specs.List.{AllZip};
 ghost use Rattle.std.specs.declared.cmp.Ordering.TheVariants.{Equal};
-ghost use Rattle.audit_expiry.specs.Leases.{value_at, Puts, PutsAll, Removes, Somewhere, Everywhere};
+ghost use Rattle.audit_expiry.specs.Leases.{value_at, Puts, PutsAll, Removes, Keeps, Somewhere, Everywhere};
 ghost use Rattle.audit_expiry.specs.Growth.{Adds, Grew, HasEach, KeepsOthers};
 
 use crate::lease::Lease;
@@ -88,6 +88,17 @@ impl<K: Ord + Copy, V: Copy> Leases<K, V> {
         ensures { Removes K.cmp self.old self.new key }
     {
         self.values.remove(&key);
+    }
+
+    /// Keeps the values that pass the test, and removes the others. It takes time in proportion to
+    /// the number of keys.
+    pub fn retain<F: Fn(V) -> bool>(&mut self, test: F)
+    where
+        F: Drop,
+        requires { F.IsAlwaysCallable test }
+        ensures { (keep : V → Bool) → ((value : V) (answer : Bool) → F.post test value answer → answer ≡ keep value) → Keeps K.cmp self.old self.new keep }
+    {
+        self.values.retain(|_, value| test(*value));
     }
 }
 
