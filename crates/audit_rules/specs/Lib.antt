@@ -19,3 +19,4 @@ pub mod Keys
 pub mod Judged
 pub mod Tenancies
 pub mod Changes
+pub mod Purging

@@ -19,6 +19,7 @@ mod judging;
 pub mod laws;
 mod path;
 mod permission;
+mod purging;
 mod refresh;
 mod responses;
 mod send;

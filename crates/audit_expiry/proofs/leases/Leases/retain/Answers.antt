@@ -1,4 +1,4 @@
-use Rattle.std.proofs.Common.{◌≡◌, ◌∙◌, Bool, List, Option, Some, None, refl, sym, ap, if◌then◌else◌, rules}
+use Rattle.std.proofs.Common.{◌≡◌, ◌∙◌, Bool, Option, Some, None, refl, sym, ap, if◌then◌else◌, rules}
 use Rattle.std.specs.Option.{option_and_then}
 use Rattle.std.specs.Cmp.{eq_by_cmp_equiv}
 use Rattle.std.proofs.lemmas.Map.Entries.{lookup-filter-values, option_filter}
@@ -16,7 +16,7 @@ returns g c = λ keep says q.
     let e = filter_same_pairs _ (λ p. keep p.1) _ (λ k v b w f' t. (says v b (search rules), search rules, search rules)) _ _ c.retain.ensures.filtered in
     let es = c.self.inside.values.entries in
     rw (← c.self.view_is) (
-      ap (λ kept. value_at g.K.Ord.cmp kept q) e
-      ∙ lookup-filter-values (eq_by_cmp_equiv g.met.K.Ord.total) keep q es (IsDistinct-from_sorted g.K.Ord.cmp _ c.retain.ensures.was_ordered)
-      ∙ as_filter keep (value_at g.K.Ord.cmp es q)
+    ap (λ kept. value_at g.K.Ord.cmp kept q) e
+    ∙ lookup-filter-values (eq_by_cmp_equiv g.met.K.Ord.total) keep q es (IsDistinct-from_sorted g.K.Ord.cmp _ c.retain.ensures.was_ordered)
+    ∙ as_filter keep (value_at g.K.Ord.cmp es q)
     )
