@@ -10,6 +10,7 @@ use Rattle.audit_model.specs.declared.sighting.Side.{Side}
 use Rattle.audit_model.specs.declared.sighting.Side.TheVariants.{Arrives, Leaves}
 use Rattle.prep_blocks.specs.declared.block.Block.{Block}
 use Rattle.prep_blocks.specs.declared.block.PacketHead.{PacketHead}
+use Rattle.prep_frames.specs.Frames.{frame_in}
 use Rattle.prep_cut.specs.declared.allocations.Allocations.{Allocations}
 use Rattle.prep_cut.specs.declared.datagram.Datagram.{Datagram}
 use Rattle.prep_cut.specs.declared.lease.Act.{Act}
@@ -22,7 +23,7 @@ use Rattle.prep_cut.specs.declared.stated.Stated.{Stated}
 use Rattle.prep_cut.specs.Allocating.{AreNoted, is_shown}
 use Rattle.audit_packets.specs.Reading as frame
 use Rattle.audit_packets.specs.Reading.{Datagram as Held, datagram_of}
-use Rattle.prep_cut.specs.Datagrams.{by_ends, datagram_of_block, frame_of, is_endpoint, of_packet, of_seen}
+use Rattle.prep_cut.specs.Datagrams.{by_ends, datagram_of_block, is_endpoint, of_packet, of_seen}
 use Rattle.prep_cut.specs.Edges.{edge_of}
 use Rattle.prep_cut.specs.Guard.{far_end, is_apart, is_due, is_free, is_heard, is_in_time, is_leaving, is_named, is_stated, may_leave_datagram, own_end}
 use Rattle.prep_cut.specs.Held.{HasGrant}
@@ -203,7 +204,7 @@ seen_stamp policy stamp (frame.Fragment from to) datagram is = absurd cc
 seen_stamp policy stamp (frame.Cut ips) datagram is = absurd cc
 
 stamped : (policy : Policy) (block : Block) (head : PacketHead) (datagram : Datagram) → of_packet policy block (Some head) ≡ Some datagram → datagram.stamp ≡ head.stamp
-stamped policy block head datagram is = seen_stamp policy head.stamp (datagram_of (frame_of block head) (nat_lt head.captured head.original)) datagram is
+stamped policy block head datagram is = seen_stamp policy head.stamp (datagram_of (frame_in block head) (nat_lt head.captured head.original)) datagram is
 
 early_head : (plan : Plan) (block : Block) (packet : Option PacketHead) (datagram : Datagram) → of_packet plan.policy block packet ≡ Some datagram → datagram_of_block plan.policy block ≡ Some datagram
     → may_leave_head plan (Some reasons.Edge) block packet ≡ true → IsEarly plan datagram

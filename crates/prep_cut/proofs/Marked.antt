@@ -11,7 +11,7 @@ use Rattle.prep_cut.specs.declared.plan.Plan.{Plan}
 use Rattle.prep_cut.specs.declared.plan.Proposal.{Proposal}
 use Rattle.prep_cut.specs.declared.marker.Marker.{Marker}
 use Rattle.prep_cut.specs.declared.tally.Tally.{Tally}
-use Rattle.prep_cut.specs.declared.tally.Tallies.{Tallies}
+use Rattle.prep_cut.specs.declared.tallies.Tallies.{Tallies}
 use Rattle.prep_cut.specs.declared.tally.Totals.{Totals}
 use Rattle.prep_cut.specs.Datagrams.{datagram_of_block}
 use Rattle.prep_cut.specs.Marks.{Marked, marked, marked_by, behind, proposals_behind, proposed_for, proposed_line, line_of, is_written, written_of, is_of_line}

@@ -17,7 +17,7 @@ use Rattle.prep_cut.specs.declared.plan.Plan.{Plan}
 use Rattle.prep_cut.specs.declared.plan.Proposal.{Proposal}
 use Rattle.prep_cut.specs.Marks.{Marked, marked_of, line_of, proposed_line, proposed_cause}
 use Rattle.prep_cut.specs.Needing.{reach_of}
-use Rattle.prep_cut.specs.declared.tally.Tallies.{Tallies}
+use Rattle.prep_cut.specs.declared.tallies.Tallies.{Tallies}
 use Rattle.prep_causes.specs.Groups.{carried_with}
 use Rattle.prep_cut.specs.Marking.{AreTallies, carried_of}
 use Rattle.prep_cut.specs.Unread.{AreCarried}

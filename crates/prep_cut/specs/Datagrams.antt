@@ -1,5 +1,5 @@
 -- The datagram of the service in a packet's block, by the definition of a frame's content.
-use Rattle.std.specs.Prelude.{ℕ, Bool, true, false, not, ◌&&◌, ◌||◌, ◌==◌, if◌then◌else◌, List, [], ◌∷◌, length, take, drop, Option, Some, None, nat_lt, nat_le}
+use Rattle.std.specs.Prelude.{ℕ, Bool, true, false, not, ◌&&◌, ◌||◌, ◌==◌, if◌then◌else◌, List, [], ◌∷◌, length, Option, Some, None, nat_lt, nat_le}
 use Rattle.audit_model.specs.declared.address.Addr.{Addr}
 use Rattle.audit_model.specs.declared.policy.Policy.{Policy}
 use Rattle.audit_model.specs.declared.sighting.Side.TheVariants.{Arrives, Leaves}
@@ -8,6 +8,7 @@ use Rattle.audit_packets.specs.Reading.{Datagram as Held, datagram_of}
 use Rattle.audit_model.specs.Policy.{listens, relays}
 use Rattle.prep_blocks.specs.declared.block.Block.{Block}
 use Rattle.prep_blocks.specs.declared.block.PacketHead.{PacketHead}
+use Rattle.prep_frames.specs.Frames.{frame_in}
 use Rattle.prep_cut.specs.declared.datagram.Datagram.{Datagram}
 use Rattle.prep_cut.specs.declared.transaction.Transaction.{Transaction}
 use Rattle.prep_cut.specs.Identifying.{id_of, transaction_of}
@@ -15,10 +16,6 @@ use Rattle.prep_cut.specs.Identifying.{id_of, transaction_of}
 -- an end of the service
 abbrev pub is_endpoint : Policy → Addr → Bool
 is_endpoint policy addr = listens policy addr || relays policy addr
-
--- a packet's bytes follow 28 bytes of its block
-abbrev pub frame_of : Block → PacketHead → List ℕ
-frame_of block head = take head.captured (drop 28 block.bytes)
 
 -- the first byte is 20 to 63
 abbrev pub is_secured : List ℕ → Bool
@@ -36,8 +33,8 @@ abbrev pub granted_by : Policy → Bool → Addr → Addr → List ℕ → Optio
 granted_by policy arrives from to payload = transaction_of (listens policy from && not arrives) to from (id_of 259 payload)
 
 -- an Allocate request (type 3) that arrives at a listen address from a client
-abbrev pub asked_by : Policy → Addr → Addr → List ℕ → Option Transaction
-asked_by policy from to payload = transaction_of (listens policy to) from to (id_of 3 payload)
+abbrev pub requested_by : Policy → Addr → Addr → List ℕ → Option Transaction
+requested_by policy from to payload = transaction_of (listens policy to) from to (id_of 3 payload)
 
 -- by whether a datagram is from an end of the service, and whether it is to one
 abbrev pub by_ends : Policy → Bool → Bool → ℕ → Addr → Addr → List ℕ → Option Datagram
@@ -61,7 +58,7 @@ by_ends policy false true stamp from to payload = Some (record {
   is_dtls = is_secured payload;
   is_data = carries payload;
   size = length payload;
-  allocate = asked_by policy from to payload;
+  allocate = requested_by policy from to payload;
 })
 by_ends policy false false stamp from to payload = None
 
@@ -76,7 +73,7 @@ of_seen policy stamp (frame.Cut ips) = None
 
 abbrev pub of_packet : Policy → Block → Option PacketHead → Option Datagram
 of_packet policy block None = None
-of_packet policy block (Some head) = of_seen policy head.stamp (datagram_of (frame_of block head) (nat_lt head.captured head.original))
+of_packet policy block (Some head) = of_seen policy head.stamp (datagram_of (frame_in block head) (nat_lt head.captured head.original))
 
 abbrev pub payload_of : Held → List ℕ
 payload_of (frame.Udp from to payload) = payload
@@ -86,7 +83,7 @@ payload_of (frame.Cut ips) = []
 
 abbrev pub payload_in : Block → Option PacketHead → List ℕ
 payload_in block None = []
-payload_in block (Some head) = payload_of (datagram_of (frame_of block head) (nat_lt head.captured head.original))
+payload_in block (Some head) = payload_of (datagram_of (frame_in block head) (nat_lt head.captured head.original))
 
 -- the payload of the UDP datagram in the block's packet
 abbrev pub payload_of_block : Block → List ℕ

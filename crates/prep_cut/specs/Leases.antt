@@ -20,7 +20,7 @@ use Rattle.prep_blocks.specs.declared.block.PacketHead.{PacketHead}
 use Rattle.prep_cut.specs.declared.lease.Act.TheVariants as acts
 use Rattle.prep_cut.specs.declared.lease.Event.{Event}
 use Rattle.prep_cut.specs.declared.lease.Said.{Said}
-use Rattle.prep_cut.specs.Datagrams.{frame_of}
+use Rattle.prep_frames.specs.Frames.{frame_in}
 
 -- the seconds of a LIFETIME
 abbrev pub seconds_of : Option (List ℕ) → Option ℕ
@@ -68,7 +68,7 @@ pub record IsEvent (policy : Policy) (moment : ℕ) (held : Held) (event : Event
 
 abbrev pub IsEventOf : Policy → Block → Option PacketHead → Event → Type 0
 IsEventOf policy block None event = ⊥
-IsEventOf policy block (Some head) event = IsEvent policy head.stamp (datagram_of (frame_of block head) (nat_lt head.captured head.original)) event
+IsEventOf policy block (Some head) event = IsEvent policy head.stamp (datagram_of (frame_in block head) (nat_lt head.captured head.original)) event
 
 -- the block's packet is such a datagram
 abbrev pub IsEventIn : Policy → Event → Block → Type 0

@@ -12,7 +12,7 @@ use Rattle.prep_cut.specs.declared.marker.Marker.{Marker}
 use Rattle.prep_cut.specs.declared.plan.Plan.{Plan}
 use Rattle.prep_cut.specs.declared.plan.Proposal.{Proposal}
 use Rattle.prep_cut.specs.declared.tally.Tally.{Tally}
-use Rattle.prep_cut.specs.declared.tally.Tallies.{Tallies}
+use Rattle.prep_cut.specs.declared.tallies.Tallies.{Tallies}
 use Rattle.prep_cut.specs.declared.tally.Totals.{Totals}
 use Rattle.prep_cut.specs.Datagrams.{datagram_of_block}
 use Rattle.prep_cut.specs.Marks.{Marked, marked, proposals_behind, is_written, is_of_line}

@@ -18,7 +18,7 @@ use Rattle.prep_blocks.specs.declared.block.Block.{Block}
 use Rattle.prep_blocks.specs.declared.block.PacketHead.{PacketHead}
 use Rattle.prep_cut.specs.declared.allocations.Allocations.{Allocations}
 use Rattle.prep_cut.specs.declared.release.Release.{Release}
-use Rattle.prep_cut.specs.Datagrams.{frame_of}
+use Rattle.prep_frames.specs.Frames.{frame_in}
 
 -- the payload is a Refresh success response with LIFETIME 0
 pub record EndsAllocation (payload : List ℕ) : Type 0 where
@@ -37,7 +37,7 @@ pub record IsRelease (policy : Policy) (moment : ℕ) (held : Held) (release : R
 
 abbrev pub IsReleaseOf : Policy → Block → Option PacketHead → Release → Type 0
 IsReleaseOf policy block None release = ⊥
-IsReleaseOf policy block (Some head) release = IsRelease policy head.stamp (datagram_of (frame_of block head) (nat_lt head.captured head.original)) release
+IsReleaseOf policy block (Some head) release = IsRelease policy head.stamp (datagram_of (frame_in block head) (nat_lt head.captured head.original)) release
 
 -- the block's packet is such a datagram
 abbrev pub IsReleaseIn : Policy → Release → Block → Type 0

@@ -3,14 +3,11 @@ use Rattle.std.specs.Prelude.{◌≡◌, nat_lt, ◌||◌, ℕ, ◌+◌, min, ma
 use Rattle.audit_model.specs.declared.sighting.Side.{Side}
 use Rattle.audit_model.specs.declared.sighting.Side.TheVariants.{Arrives, Leaves}
 use Rattle.prep_blocks.specs.declared.block.PacketHead.{PacketHead}
+use Rattle.prep_causes.specs.Groups.{capped}
 use Rattle.prep_cut.specs.declared.datagram.Datagram.{Datagram}
 use Rattle.prep_cut.specs.declared.tally.Count.{Count}
 use Rattle.prep_cut.specs.declared.tally.Tally.{Tally}
 use Rattle.prep_cut.specs.declared.tally.Totals.{Totals}
-
--- saturated at 64 bits
-abbrev pub capped : ℕ → ℕ
-capped n = min n 18446744073709551615
 
 abbrev pub no_count : Count
 no_count = record { datagrams = 0; bytes = 0 }

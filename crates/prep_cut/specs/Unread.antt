@@ -12,12 +12,13 @@ use Rattle.prep_causes.specs.declared.unread.Group.{Group}
 use Rattle.prep_causes.specs.declared.unread.Unread.{Unread}
 use Rattle.prep_causes.specs.declared.unread.Unread.TheVariants.{Carrier, Departure}
 use Rattle.prep_causes.specs.Groups.{capped, no_group, group_with, carried_with}
+use Rattle.prep_frames.specs.Frames.{frame_in}
 use Rattle.prep_cut.specs.declared.datagram.Datagram.{Datagram}
 use Rattle.prep_cut.specs.declared.plan.Plan.{Plan}
 use Rattle.prep_cut.specs.declared.reason.Reason.{Reason}
 use Rattle.prep_cut.specs.declared.reason.Reason.TheVariants as reasons
 use Rattle.prep_cut.specs.Caused.{needs_cause}
-use Rattle.prep_cut.specs.Datagrams.{datagram_of_block, frame_of, payload_of_block}
+use Rattle.prep_cut.specs.Datagrams.{datagram_of_block, payload_of_block}
 use Rattle.prep_cut.specs.Marks.{Marked}
 use Rattle.prep_cut.specs.Needing.{reach_of}
 
@@ -89,7 +90,7 @@ by_side plan line block datagram Leaves =
 -- A packet has at least 34 bytes of headers, of Ethernet and of IPv4 or IPv6.
 abbrev pub unread_by : Plan → Option ℕ → Block → Option PacketHead → Option Datagram → Option Unread
 unread_by plan line block None datagram = None
-unread_by plan line block (Some head) None = if is_carrier plan.policy (frame_of block head) then Some (Carrier head.stamp (head.original - 34)) else None
+unread_by plan line block (Some head) None = if is_carrier plan.policy (frame_in block head) then Some (Carrier head.stamp (head.original - 34)) else None
 unread_by plan None block (Some head) (Some datagram) = None
 unread_by plan (Some line) block (Some head) (Some datagram) = by_side plan line block datagram datagram.side
 

@@ -11,7 +11,8 @@ ghost use Rattle.prep_cut.specs.Cutting.{IsCutting, GoesOn, IsRefused, IsCut, Is
 use crate::fault::CutFault;
 use crate::marker::Marker;
 use crate::plan::{Plan, Proposal};
-use crate::tally::{Tallies, Totals};
+use crate::tallies::Tallies;
+use crate::tally::Totals;
 use prep_blocks::BlockSplitter;
 use std::alloc::Global;
 

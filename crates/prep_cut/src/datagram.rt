@@ -3,13 +3,15 @@
 ghost use Rattle.std.specs.Prelude.{◌≡◌, nat_lt};
 ghost use Rattle.audit_packets.specs.Reading.{datagram_of};
 ghost use Rattle.audit_packets.specs.View.{view};
-ghost use Rattle.prep_cut.specs.Datagrams.{frame_of, datagram_of_block, of_seen, of_ends, is_secured, carries, payload_of, payload_of_block};
+ghost use Rattle.prep_frames.specs.Frames.{frame_in};
+ghost use Rattle.prep_cut.specs.Datagrams.{datagram_of_block, of_seen, of_ends, is_secured, carries, payload_of, payload_of_block};
 
 use crate::transaction::{Transaction, id_in};
 use audit_model::{Addr, Policy, Side};
 use audit_packets::{Seen, slice_datagram};
 use audit_pcapng::PacketSlice;
 use prep_blocks::{Block, PacketHead};
+use prep_frames::frame_of;
 
 /// A UDP datagram with at least one end in the service.
 #[derive(Clone, Copy, Debug, PartialEq, Eq)]
@@ -40,34 +42,13 @@ const ALLOCATE_REQUEST: u16 = 0x0003;
 
 const ALLOCATE_SUCCESS: u16 = 0x0103;
 
-/// Where a packet's bytes begin in its block.
-const FRAME: usize = 28;
-
-/// The packet's bytes: as many as were captured, as far as the block contains them.
-#[tactic(auto, using(std::proofs::lemmas::List::take_all, std::proofs::lemmas::List::drop_all))]
-pub fn frame_in<'a>(block: &'a Block, head: PacketHead) -> &'a [u8]
-    ensures { result.now ≡ frame_of block.now head }
-{
-    let bytes = block.bytes.as_slice();
-    if bytes.len() < FRAME {
-        return &[];
-    }
-    let (_, from) = bytes.split_at(FRAME);
-    let captured = head.captured as usize;
-    if from.len() < captured {
-        return from;
-    }
-    let (frame, _) = from.split_at(captured);
-    frame
-}
-
 /// Parses a block's packet.
 fn seen_in(block: &Block, head: PacketHead) -> Seen<'_>
-    ensures { view result ≡ datagram_of (frame_of block.now head) (nat_lt head.captured head.original) }
+    ensures { view result ≡ datagram_of (frame_in block.now head) (nat_lt head.captured head.original) }
 {
     slice_datagram(PacketSlice {
         stamp: head.stamp,
-        bytes: frame_in(block, head),
+        bytes: frame_of(block, head),
         iface: head.iface,
         captured: head.captured,
         original: head.original,

@@ -7,13 +7,13 @@ ghost use Rattle.prep_cut.specs.declared.lease.Event.{Event as AnyEvent};
 ghost use Rattle.prep_cut.specs.declared.lease.Said.{Said as AnySaid};
 ghost use Rattle.prep_cut.specs.Leases.{IsSaid, IsEvent, IsEventIn, said_of, seconds_of, relayed_of, renewal_of};
 
-use crate::datagram::frame_in;
 use audit_model::{Addr, Policy};
 use audit_packets::{Seen, slice_datagram};
 use audit_pcapng::PacketSlice;
 use audit_stun::numbers::{attribute, method};
 use audit_stun::{Class, Message, address, message};
 use prep_blocks::Block;
+use prep_frames::frame_of;
 
 /// The effect of a success response on the allocation of its client.
 #[derive(Clone, Copy, Debug, PartialEq, Eq)]
@@ -52,7 +52,7 @@ pub(crate) fn event_in(policy: &Policy, block: &Block) -> Option<Event>
     let head = block.packet?;
     let frame = PacketSlice {
         stamp: head.stamp,
-        bytes: frame_in(block, head),
+        bytes: frame_of(block, head),
         iface: head.iface,
         captured: head.captured,
         original: head.original,

@@ -17,13 +17,14 @@ mod plan;
 mod reason;
 mod release;
 mod stated;
+mod tallies;
 mod tally;
 mod transaction;
 mod unread;
 
 pub use allocations::Allocations;
 pub use cutter::{Cutter, WasCut};
-pub use datagram::{Datagram, datagram_in, frame_in};
+pub use datagram::{Datagram, datagram_in};
 pub use edge::slack_of;
 pub use fault::{CutFault, CutRefused};
 pub use laws::{
@@ -34,5 +35,6 @@ pub use prep_causes::CauseNumber;
 pub use reason::{FarEnd, Reason, ReasonKind};
 pub use release::Release;
 pub use stated::Stated;
-pub use tally::{Count, Tallies, Tally, Totals};
+pub use tallies::Tallies;
+pub use tally::{Count, Tally, Totals};
 pub use transaction::Transaction;

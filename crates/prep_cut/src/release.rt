@@ -4,13 +4,13 @@ ghost use Rattle.std.specs.Prelude.{◌≡◌, IsTrue, IfSome};
 ghost use Rattle.audit_packets.specs.View.{view};
 ghost use Rattle.prep_cut.specs.Releasing.{EndsAllocation, IsRelease, IsReleaseIn};
 
-use crate::datagram::frame_in;
 use audit_model::{Addr, Policy};
 use audit_packets::{Seen, slice_datagram};
 use audit_pcapng::PacketSlice;
 use audit_stun::numbers::{attribute, method};
 use audit_stun::{Class, message};
 use prep_blocks::Block;
+use prep_frames::frame_of;
 
 /// A deletion: a Refresh success response with LIFETIME 0 left for the client.
 #[derive(Clone, Copy, Debug, PartialEq, Eq, PartialOrd, Ord)]
@@ -28,7 +28,7 @@ pub fn release_in(policy: &Policy, block: &Block) -> Option<Release>
     let head = block.packet?;
     let frame = PacketSlice {
         stamp: head.stamp,
-        bytes: frame_in(block, head),
+        bytes: frame_of(block, head),
         iface: head.iface,
         captured: head.captured,
         original: head.original,

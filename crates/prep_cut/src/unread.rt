@@ -5,13 +5,13 @@ ghost use Rattle.std.specs.Prelude.{◌≡◌, ◌≤◌, List, ℕ, slice_get};
 ghost use Rattle.audit_packets.specs.Frame.{long_number};
 ghost use Rattle.prep_cut.specs.Unread.{is_of_service_at, is_carrier, is_handshake, is_unread, owes_by, owes_datagram, added_by, by_side, unread_by, group_of};
 
-use crate::datagram::{Datagram, frame_in, payload_in};
+use crate::datagram::{Datagram, payload_in};
 use crate::plan::{LineNumber, Plan};
 use crate::reason::Reason;
 use audit_model::{Policy, Side};
 use prep_blocks::{Block, PacketHead};
 use prep_causes::{CauseNumber, Unread};
-use prep_frames::{byte_at, content_place, number_at};
+use prep_frames::{byte_at, content_place, frame_of, number_at};
 
 /// The types of IPv4 (RFC 894) and IPv6 (RFC 2464) in Ethernet.
 const IPV4_TYPE: u16 = 0x0800;
@@ -174,7 +174,7 @@ impl Plan {
     {
         let head = packet?;
         let Some(datagram) = datagram else {
-            if !is_carrier(&self.policy, frame_in(block, head)) {
+            if !is_carrier(&self.policy, frame_of(block, head)) {
                 return None;
             }
             return Some(Unread::Carrier {

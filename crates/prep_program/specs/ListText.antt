@@ -6,13 +6,14 @@ use Rattle.prep_cut.specs.declared.reason.Reason.{Reason}
 use Rattle.prep_cut.specs.declared.reason.Reason.TheVariants as reasons
 use Rattle.prep_cut.specs.declared.stated.Stated.{Stated}
 use Rattle.prep_cut.specs.declared.tally.Count.{Count}
-use Rattle.prep_cut.specs.declared.tally.Tallies.{Tallies}
+use Rattle.prep_cut.specs.declared.tallies.Tallies.{Tallies}
 use Rattle.prep_cut.specs.declared.tally.Tally.{Tally}
 use Rattle.prep_cut.specs.declared.tally.Totals.{Totals}
 use Rattle.prep_causes.specs.Slots.{pairs_in}
 use Rattle.prep_cut.specs.Marking.{carried_of}
 use Rattle.prep_cut.specs.ReasonText.{reason_text}
-use Rattle.prep_cut.specs.Tallied.{capped, counted_both, is_counted, no_count}
+use Rattle.prep_causes.specs.Groups.{capped}
+use Rattle.prep_cut.specs.Tallied.{counted_both, is_counted, no_count}
 use Rattle.prep_program.specs.declared.cutting.AllCut.{AllCut}
 use Rattle.prep_program.specs.declared.list_totals.Departures.{Departures}
 use Rattle.prep_program.specs.declared.list_totals.Sums.{Sums}

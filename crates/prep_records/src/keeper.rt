@@ -11,7 +11,8 @@ use audit_model::{Addr, Policy, Side};
 use audit_packets::{Seen, slice_datagram};
 use audit_pcapng::PacketSlice;
 use prep_blocks::{Block, PacketHead};
-use prep_cut::{Allocations, Stated, frame_in, slack_of};
+use prep_cut::{Allocations, Stated, slack_of};
+use prep_frames::frame_of;
 use std::alloc::{AllocError, Global};
 
 /// Keeps records of packets, capture by capture.
@@ -87,7 +88,7 @@ impl<'p> Keeper<'p> {
             self.packets.count = self.packets.count.saturating_add(1);
             return Ok(());
         }
-        let frame = frame_in(block, head);
+        let frame = frame_of(block, head);
         let packet = PacketSlice {
             stamp: head.stamp,
             bytes: frame,

@@ -6,13 +6,13 @@ use Rattle.prep_blocks.specs.declared.block.Block.{Block}
 use Rattle.prep_blocks.specs.declared.block.PacketHead.{PacketHead}
 use Rattle.prep_cut.specs.declared.plan.Plan.{Plan}
 use Rattle.prep_cut.specs.declared.plan.Proposal.{Proposal}
-use Rattle.prep_cut.specs.Datagrams.{frame_of}
+use Rattle.prep_frames.specs.Frames.{frame_in}
 use Rattle.prep_cut.specs.Marks.{Marked, marked, is_written}
 use Rattle.prep_program.specs.CutComment.{file_of}
 
 -- a packet, by its block's fields and its bytes
 abbrev pub packet_by : Block → PacketHead → Packet
-packet_by block head = record { stamp = head.stamp; bytes = frame_of block head; iface = head.iface; captured = head.captured; original = head.original }
+packet_by block head = record { stamp = head.stamp; bytes = frame_in block head; iface = head.iface; captured = head.captured; original = head.original }
 
 -- the packet of a block; `None` if it has none
 abbrev pub packet_in : Block → Option Packet

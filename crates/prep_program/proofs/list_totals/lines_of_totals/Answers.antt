@@ -1,5 +1,5 @@
 use Rattle.std.proofs.Common.{◌≡◌, ◌++◌, ◌+◌, ◌∙◌, ℕ, List, ap, string_bytes}
-use Rattle.prep_cut.specs.Tallied.{capped}
+use Rattle.prep_causes.specs.Groups.{capped}
 use Rattle.prep_program.specs.ListText.{sums_text, excluded_of, excluded_text, kept_text}
 use Rattle.prep_program.proofs.Texts.{with_more}
 use Rattle.prep_program.proofs.list_totals.lines_of_totals.Goals as goal

@@ -2,7 +2,7 @@ use Rattle.std.proofs.Common.{◌∙◌, get_or, is_none, refl, ap, Bor}
 use Rattle.prep_causes.specs.declared.groups.Groups.{Groups}
 use Rattle.prep_causes.specs.Groups.{no_group}
 use Rattle.prep_cut.specs.declared.plan.Plan.{Plan}
-use Rattle.prep_cut.specs.declared.tally.Tallies.{Tallies}
+use Rattle.prep_cut.specs.declared.tallies.Tallies.{Tallies}
 use Rattle.prep_cut.specs.Datagrams.{datagram_of_block}
 use Rattle.prep_cut.specs.Marks.{line_of, proposed_for, proposed_line}
 use Rattle.prep_cut.specs.Marking.{tallied_with}

@@ -1,7 +1,7 @@
 use Rattle.std.proofs.Common.{subst, sym, ℕ}
 use Rattle.prep_cut.specs.Pairs.{ArePaired}
 use Rattle.prep_cut.proofs.Pairing.{are_paired}
-use Rattle.prep_cut.proofs.tally.Tallies.pairs.Goals as goal
+use Rattle.prep_cut.proofs.tallies.Tallies.pairs.Goals as goal
 
 pub returns-clause-paired : goal.returns-clause-paired
 returns-clause-paired c = λ plan blocks are.
