@@ -82,10 +82,14 @@ abbrev pub added_by : Option Reason → ℕ
 added_by (Some (reasons.Dtls pair)) = 104
 added_by other = 7
 
+-- so that the bytes of the carriers bound the number of departures
+abbrev pub at_least_one : ℕ → ℕ
+at_least_one bytes = if bytes == 0 then 1 else bytes
+
 abbrev pub by_side : Plan → ℕ → Block → Datagram → Side → Option Unread
-by_side plan line block datagram Arrives = Some (Carrier datagram.stamp datagram.size)
+by_side plan line block datagram Arrives = Some (Carrier datagram.stamp (at_least_one datagram.size))
 by_side plan line block datagram Leaves =
-    if owes_by (slice_get plan.lines line) (payload_of_block block) then Some (Departure datagram.stamp (datagram.size - added_by (slice_get plan.lines line))) else None
+    if owes_by (slice_get plan.lines line) (payload_of_block block) then Some (Departure datagram.stamp (at_least_one (datagram.size - added_by (slice_get plan.lines line)))) else None
 
 -- A packet has at least 34 bytes of headers, of Ethernet and of IPv4 or IPv6.
 abbrev pub unread_by : Plan → Option ℕ → Block → Option PacketHead → Option Datagram → Option Unread

@@ -3,7 +3,7 @@
 
 ghost use Rattle.std.specs.Prelude.{◌≡◌, ◌≤◌, List, ℕ, slice_get};
 ghost use Rattle.audit_packets.specs.Frame.{long_number};
-ghost use Rattle.prep_cut.specs.Unread.{is_of_service_at, is_carrier, is_handshake, is_unread, owes_by, owes_datagram, added_by, by_side, unread_by, group_of};
+ghost use Rattle.prep_cut.specs.Unread.{is_of_service_at, is_carrier, is_handshake, is_unread, owes_by, owes_datagram, at_least_one, added_by, by_side, unread_by, group_of};
 
 use crate::datagram::{Datagram, payload_in};
 use crate::plan::{LineNumber, Plan};
@@ -32,6 +32,13 @@ const SIZE_STEP: u64 = 7;
 /// The same for a departure over DTLS, plus the header of a Data indication and the overhead of
 /// DTLS.
 const ADDED_BY_DTLS: u64 = 104;
+
+/// At least one byte, so that the bytes of the carriers bound the number of departures.
+fn at_least_one(bytes: u64) -> u64
+    ensures { result ≡ at_least_one bytes }
+{
+    if bytes == 0 { 1 } else { bytes }
+}
 
 /// An IP address in a frame.
 fn ip_at(frame: &[u8], at: usize) -> u32
@@ -150,12 +157,15 @@ impl Plan {
         let stamp = datagram.stamp;
         let size = datagram.size as u64;
         match datagram.side {
-            Side::Arrives => Some(Unread::Carrier { stamp, bytes: size }),
+            Side::Arrives => Some(Unread::Carrier {
+                stamp,
+                bytes: at_least_one(size),
+            }),
             Side::Leaves => {
                 if !self.owes_by(line, payload_in(block)) {
                     return None;
                 }
-                let bytes = size.saturating_sub(self.added_by(line));
+                let bytes = at_least_one(size.saturating_sub(self.added_by(line)));
                 Some(Unread::Departure { stamp, bytes })
             }
         }
