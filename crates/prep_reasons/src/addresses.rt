@@ -3,7 +3,6 @@
 use crate::hang_ups::HangUps;
 use crate::late::{Owners, exclude_late_to_peer};
 use crate::origin::Origin;
-use crate::pool::Pool;
 use crate::responses::Shown;
 use crate::sheet::Sheet;
 use crate::strays::{Cause, Stray, Strays, find_strays, relayed_in};
@@ -23,11 +22,10 @@ pub(crate) fn exclude_addresses(
     sheet: &mut Sheet<'_>,
     shown: &Shown,
     hang_ups: &HangUps,
-    by_client: Pool,
     unread: &mut Unread,
 ) -> Result<Owners, AllocError> {
     unread.rewind();
-    let found = find_strays(sheet, &shown.tenures, hang_ups, by_client)?;
+    let found = find_strays(sheet, &shown.tenures, hang_ups)?;
     let mut left: LeftOf = BTreeSet::new(sheet.alloc);
     for place in 0..found.all.len() {
         let Some(stray) = found.all.get(place).copied() else {

@@ -5,7 +5,7 @@ use crate::before::{TimeBefore, explain, time_before};
 use crate::dtls::exclude_dtls;
 use crate::from_before::exclude_clients;
 use crate::hang_ups::{HangUps, exclude_hang_ups};
-use crate::inner::{exclude_inner, pool_of_arrivals};
+use crate::inner::exclude_inner;
 use crate::late::exclude_late_data;
 use crate::members::Members;
 use crate::pairing::{Pairing, keep_unpaired};
@@ -74,13 +74,12 @@ fn sort_all<'a>(
     }
     let hang_ups = HangUps::new(&sheet)?;
     sheet.members = Members::new(alloc);
-    let mut by_client = pool_of_arrivals(&sheet)?;
     let mut unread = Unread::new(&mut sheet)?;
     if !stated.keeps_inner {
-        exclude_inner(&mut sheet, &shown, &mut by_client, &mut unread)?;
+        exclude_inner(&mut sheet, &shown, &mut unread)?;
     }
     exclude_hang_ups(&mut sheet, &shown.tenures, &hang_ups)?;
-    let owners = exclude_addresses(&mut sheet, &shown, &hang_ups, by_client, &mut unread)?;
+    let owners = exclude_addresses(&mut sheet, &shown, &hang_ups, &mut unread)?;
     exclude_clients(&mut sheet, &times, &shown)?;
     exclude_late_data(&mut sheet, &shown.tenures, &hang_ups, &owners)?;
     // A paired record is no carrier of DTLS, and DTLS is in no pair.

@@ -66,6 +66,11 @@ impl HangUps {
         Ok(found)
     }
 
+    /// Whether the captures have no deletion, or the operator states no time.
+    pub(crate) fn is_empty(&self) -> bool {
+        self.all.is_empty()
+    }
+
     /// The last deletion by a client before a moment.
     fn last_of(&self, client: u32, stamp: u64) -> Option<&Released> {
         let behind = self

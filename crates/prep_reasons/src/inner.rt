@@ -99,7 +99,6 @@ pub(crate) fn wanted_of(sheet: &Sheet<'_>, record: &Record, group: Group) -> Wan
 pub(crate) fn exclude_inner(
     sheet: &mut Sheet<'_>,
     shown: &Shown,
-    by_client: &mut Pool,
     unread: &mut Unread,
 ) -> Result<(), AllocError> {
     for at in 0..sheet.records.len() {
@@ -113,7 +112,7 @@ pub(crate) fn exclude_inner(
             exclude_data(sheet, &shown.channels, at)?;
         }
     }
-    exclude_inner_departures(sheet, shown, by_client, unread)
+    exclude_inner_departures(sheet, shown, unread)
 }
 
 /// Excludes the data that leaves for clients from addresses of the service. For an address that a
@@ -122,10 +121,10 @@ pub(crate) fn exclude_inner(
 fn exclude_inner_departures(
     sheet: &mut Sheet<'_>,
     shown: &Shown,
-    by_client: &mut Pool,
     unread: &mut Unread,
 ) -> Result<(), AllocError> {
-    // The pool is made when it is first needed: most captures have no such data.
+    // Each pool is made when it is first needed: most captures have no such data.
+    let mut by_client: Option<Pool> = None;
     let mut from_before: Option<Pool> = None;
     for at in 0..sheet.records.len() {
         let (Some(record), true) = (sheet.record(at), sheet.is_kept(at)) else {
@@ -138,7 +137,15 @@ fn exclude_inner_departures(
             continue;
         }
         let origin = match shown.tenures.holder(peer, record.stamp) {
-            Some(client) => origin_at(sheet, shown, by_client, (at, client), &record),
+            Some(client) => {
+                let mut pool = match by_client {
+                    Some(pool) => pool,
+                    None => pool_of_arrivals(sheet)?,
+                };
+                let origin = origin_at(sheet, shown, &mut pool, (at, client), &record);
+                by_client = Some(pool);
+                origin
+            }
             None => {
                 let mut pool = match from_before {
                     Some(pool) => pool,

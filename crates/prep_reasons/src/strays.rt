@@ -1,7 +1,7 @@
 //! Records at relayed addresses that nobody was granted, and whose data they carry.
 
 use crate::hang_ups::HangUps;
-use crate::inner::{is_data, wanted_of};
+use crate::inner::{is_data, pool_of_arrivals, wanted_of};
 use crate::pool::{Group, Grouping, Pool, Wanted};
 use crate::sheet::{SECOND, Sheet};
 use crate::state_before::StateBefore;
@@ -58,17 +58,40 @@ pub(crate) fn find_strays(
     sheet: &mut Sheet<'_>,
     tenures: &Tenures,
     hang_ups: &HangUps,
-    by_client: Pool,
 ) -> Result<Strays, AllocError> {
     let mut found = Strays {
-        all: strays_of(sheet, tenures, hang_ups, by_client)?,
+        all: Vec::new(sheet.alloc),
         votes: BTreeMap::new(sheet.alloc),
         owners: BTreeMap::new(sheet.alloc),
     };
+    if hang_ups.is_empty() && !needs_uses(sheet, tenures) {
+        return Ok(found);
+    }
+    found.all = strays_of(sheet, tenures, hang_ups)?;
     find_causes(sheet, &mut found)?;
     find_arrivals(sheet, &mut found)?;
     find_owners(sheet, &mut found)?;
     Ok(found)
+}
+
+/// Whether any decision depends on which data is used: a record is at an address that nobody was
+/// granted, is of DTLS, or is of a client from before. In most captures of whole calls none is.
+fn needs_uses(sheet: &Sheet<'_>, tenures: &Tenures) -> bool {
+    for at in 0..sheet.records.len() {
+        let (Some(record), true) = (sheet.record(at), sheet.is_kept(at)) else {
+            continue;
+        };
+        let is_stray = match relayed_in(&record) {
+            Some(relayed) => tenures.holder(relayed, record.stamp).is_none(),
+            None => false,
+        };
+        let is_dtls = matches!(record.content, Content::Dtls);
+        let is_from_before = sheet.state_before(at) == StateBefore::Explains;
+        if is_stray || is_dtls || is_from_before {
+            return true;
+        }
+    }
+    false
 }
 
 /// Takes the data that left from its client's own address, and finds the records at addresses that
@@ -77,9 +100,8 @@ fn strays_of(
     sheet: &mut Sheet<'_>,
     tenures: &Tenures,
     hang_ups: &HangUps,
-    by_client: Pool,
 ) -> Result<Vec<Stray>, AllocError> {
-    let mut by_client = by_client;
+    let mut by_client = pool_of_arrivals(sheet)?;
     let mut strays = Vec::new(sheet.alloc);
     for at in 0..sheet.records.len() {
         let (Some(record), true) = (sheet.record(at), sheet.is_kept(at)) else {
