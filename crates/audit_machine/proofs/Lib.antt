@@ -10,3 +10,4 @@ pub mod ForgettingArrivals
 pub mod Complete
 pub mod Unmoved
 pub mod ForgettingClients
+pub mod Purging

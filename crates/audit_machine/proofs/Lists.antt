@@ -28,3 +28,8 @@ module _ (policy : Policy) (key_for : KeyFor) (view : View) where
       (subst (λ xs. IsSegment policy key_for view (a excluded) xs (c excluded)) (sym (steps_cut p (action ∷ [])))
       (joined policy key_for view (ignore_past_grace policy key_for view) (a excluded) (b excluded) (c excluded) (steps_of p) (step_of action ∷ [])
       (h excluded (all_left (NamesIncluded excluded) p (action ∷ []) parts)) (k excluded (all_right (NamesIncluded excluded) p (action ∷ []) parts).0)))
+
+-- forgetting twice is a segment without a step
+pub nothing_joined : (policy other : Policy) → other ≡ policy → (key_for : KeyFor) (view : View) (a b c : Cut) → IsSegment policy key_for view a [] b → IsSegment other key_for view b [] c → IsSegment policy key_for view a [] c
+nothing_joined policy other same key_for view a b c h k =
+    joined policy key_for view (ignore_past_grace policy key_for view) a b c [] [] h (subst (λ (p : Policy). IsSegment p key_for view b [] c) same k)

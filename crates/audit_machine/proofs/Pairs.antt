@@ -1,5 +1,5 @@
 -- Keys of clients.
-use Rattle.std.proofs.Common.{◌≡◌, true, false, ◌∙◌, refl, sym}
+use Rattle.std.proofs.Common.{◌≡◌, ◌≢◌, true, false, ◌∙◌, refl, sym, subst}
 use Rattle.std.specs.Ordering.{is_eq}
 use Rattle.std.proofs.lemmas.Bool.{true≢false}
 use Rattle.audit_model.specs.declared.pair.Pair.{Pair}
@@ -17,3 +17,10 @@ same_either_way a b = elim (same_client b a) as (λ v. same_client b a ≡ v →
 -- two clients have the same key exactly if they are the same client
 pub key_at : (k q : Pair) → is_eq (pair_cmp (k.client, k.listen) (q.client, q.listen)) ≡ same_client q k
 key_at k q = same k.client k.listen q.client q.listen ∙ same_either_way k q
+
+-- what holds of one client and of each other one holds of all
+pub by_client : (pair : Pair) (P : Pair → Type 0) → P pair → ((c : Pair) → c ≢ pair → P c) → (c : Pair) → P c
+by_client pair P own other c = elim (same_client c pair) as (λ b. same_client c pair ≡ b → P c) [
+  | true ↦ λ q. subst P (sym (client_true c pair q)) own
+  | false ↦ λ q. other c (λ e. true≢false (sym (client_same c pair e) ∙ q))
+] refl

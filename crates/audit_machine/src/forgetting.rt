@@ -7,7 +7,7 @@ ghost use Rattle.audit_rules.specs.Keys.{KeyFor};
 ghost use Rattle.audit_segments.specs.PastGrace.{HasNoAllocation};
 ghost use Rattle.audit_segments.specs.Segment.{View, IsSegment};
 ghost use Rattle.audit_machine.specs.Machine.{cut_of, IsConsistent};
-ghost use Rattle.audit_machine.specs.Tables.{allocation_of, table_of};
+ghost use Rattle.audit_machine.specs.Tables.{allocation_of, table_of, AreTablesPurged};
 ghost use Rattle.audit_machine.specs.Times.{time_of};
 
 use crate::machine::Machine;
@@ -66,5 +66,18 @@ impl Machine {
         if self.has_no_allocation(pair) {
             self.tables.drop_table(pair);
         }
+    }
+
+    /// Forgets the permissions and channel bindings of a client that are past the grace. It takes
+    /// time in proportion to their number.
+    pub fn purge_client(&mut self, pair: Pair)
+        requires consistent { IsConsistent self.old }
+        ensures segment { (key_for : KeyFor) (view : View) (excluded : SightName → Bool) →
+            IsSegment self.old.policy key_for view (cut_of self.old excluded) [] (cut_of self.new excluded) }
+        ensures consistent { IsConsistent self.new }
+        ensures purged { AreTablesPurged self.old.last self.old.policy.grace (table_of self.old.tables pair) (table_of self.new.tables pair) }
+        ensures policy { self.new.policy ≡ self.old.policy }
+    {
+        self.tables.purge(pair, self.last, self.policy.grace);
     }
 }

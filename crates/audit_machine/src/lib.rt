@@ -12,8 +12,10 @@ mod moves;
 mod refusal;
 mod tables;
 mod times;
+mod upkeep;
 
 pub use explaining::explains;
 pub use machine::Machine;
 pub use moves::{Action, Stop};
 pub use refusal::Refusal;
+pub use upkeep::Upkeep;

@@ -1,12 +1,12 @@
 //! The server's state for each client.
 
-ghost use Rattle.std.specs.Prelude.{◌≡◌, Some, None, OnOk, option_copied};
+ghost use Rattle.std.specs.Prelude.{◌≡◌, ◌≢◌, Some, None, OnOk, option_copied};
 ghost use Rattle.audit_model.specs.declared.pair.Pair.{Pair as Client};
 ghost use Rattle.audit_model.specs.Sames.{same_client};
 ghost use Rattle.audit_server.specs.State.{put};
 ghost use Rattle.audit_rules.specs.declared.table.LaneTable.{LaneTable as Table};
 ghost use Rattle.audit_rules.specs.Effect.{standing};
-ghost use Rattle.audit_machine.specs.Tables.{table_of, allocation_of, AreOwn};
+ghost use Rattle.audit_machine.specs.Tables.{table_of, allocation_of, AreOwn, AreTablesPurged};
 
 use audit_model::{Addr, Pair};
 use audit_rules::LaneTable;
@@ -73,6 +73,16 @@ impl Tables {
     {
         self.tables.insert((pair.client, pair.listen), table)?;
         Ok(())
+    }
+
+    /// Removes the permissions and channel bindings of a client that are past the grace.
+    pub fn purge(&mut self, pair: Pair, moment: u64, grace: u64)
+        ensures own { AreTablesPurged moment grace (table_of self.old pair) (table_of self.new pair) }
+        ensures rest { (c : Client) → c ≢ pair → table_of self.new c ≡ table_of self.old c }
+    {
+        if let Some(table) = self.tables.get_mut(&(pair.client, pair.listen)) {
+            table.purge(moment, grace);
+        }
     }
 
     /// Drops the table of a client.
