@@ -1,5 +1,5 @@
 //! What a machine will be able to forget, in the order of time. Its memory is that of the clients
-//! with a table, and of the arrivals that are not older than the hold.
+//! with an allocation or an act in the last 300 seconds, and of the arrivals within the hold.
 
 ghost use Rattle.std.specs.Prelude.{◌≡◌, [], Bool};
 ghost use Rattle.audit_model.specs.declared.sighting.SightId.{SightId as SightName};
@@ -150,7 +150,7 @@ impl Machine {
     /// Forgets the arrivals that are older than the hold, and the allocations, permissions and
     /// channel bindings that are past the grace. Each arrival costs constant time, and each client
     /// every 300 seconds the number of its permissions and channels. After an error the machine is
-    /// as good as before, and forgets less.
+    /// as good as before, and forgets less. Not proved: that it forgets all of them.
     pub fn forget(&mut self, upkeep: &mut Upkeep) -> Result<(), AllocError>
         requires consistent { IsConsistent self.old }
         ensures segment { (key_for : KeyFor) (view : View) (excluded : SightName → Bool) →
