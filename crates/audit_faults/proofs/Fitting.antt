@@ -14,8 +14,8 @@ use Rattle.audit_rules.specs.Responses.{AnswersBinding, AnswersError}
 use Rattle.audit_rules.specs.Situation.{Situation, asked, answered}
 use Rattle.audit_rules.specs.Standing.{IsResponse}
 use Rattle.audit_rules.specs.Values.{Names, lifetime_of}
-use Rattle.audit_faults.specs.Fits.{SuccessFits, TellsClient, IsFit}
-use Rattle.audit_faults.proofs.Asking.{to_client}
+use Rattle.audit_faults.specs.Fits.{SuccessFits, NamesClient, IsFit}
+use Rattle.audit_faults.proofs.Causing.{to_client}
 
 module _ (x : Situation) where
   success : (method : ℕ) → IsResponse x Success method → SuccessFits method x.leaves.to x.arrives.payload x.leaves.payload → IsFit x.arrives x.leaves
@@ -24,7 +24,7 @@ module _ (x : Situation) where
     error = λ e. absurd (let both : Success ≡ Error = sym r.response.1 ∙ e in cc);
   }
 
-  own_address : (method : ℕ) → IsResponse x Success method → Names XOR_MAPPED_ADDRESS (answered x) x.client → TellsClient x.leaves.payload x.leaves.to
+  own_address : (method : ℕ) → IsResponse x Success method → Names XOR_MAPPED_ADDRESS (answered x) x.client → NamesClient x.leaves.payload x.leaves.to
   own_address method r named = subst (λ (a : Addr). Names XOR_MAPPED_ADDRESS (answered x) a) (sym (to_client x r.back).1) named
 
   one_number : (a b : ℕ) → Some a ≡ Some b → a ≡ b
@@ -55,19 +55,19 @@ module _ (x : Situation) where
   pub error : AnswersError x → IsFit x.arrives x.leaves
   error r = record {
     success = λ e. absurd (let both : Error ≡ Success = sym r.response.response.1 ∙ e in cc);
-    error = λ _. record { code = r.code; tells = r.tells; challenges = r.fits.challenges; unknown = r.fits.unknown; transport = r.fits.transport };
+    error = λ _. record { code = r.code; has_code = r.tells; challenges = r.fits.challenges; unknown = r.fits.unknown; transport = r.fits.transport };
   }
 
 -- a success that fits is fit, and no other
-pub fit_of_success : (asked given : Sighting) (request response : List ℕ) (b : Bool) → response ≡ given.payload → request ≡ asked.payload → (parts_of response).class ≡ Success →
-    (IsTrue b → SuccessFits (parts_of response).method given.to request response) × (SuccessFits (parts_of response).method given.to request response → IsTrue b) →
-    (IsTrue b → IsFit asked given) × (IsFit asked given → IsTrue b)
-fit_of_success asked given request response b r q class h =
-    let fits : List ℕ → List ℕ → Type 0 = λ one other. SuccessFits (parts_of other).method given.to one other in
-    let class' : (parts_of given.payload).class ≡ Success = sym (ap (λ (p : List ℕ). (parts_of p).class) r) ∙ class in (
+pub fit_of_success : (arrival departure : Sighting) (request response : List ℕ) (b : Bool) → response ≡ departure.payload → request ≡ arrival.payload → (parts_of response).class ≡ Success →
+    (IsTrue b → SuccessFits (parts_of response).method departure.to request response) × (SuccessFits (parts_of response).method departure.to request response → IsTrue b) →
+    (IsTrue b → IsFit arrival departure) × (IsFit arrival departure → IsTrue b)
+fit_of_success arrival departure request response b r q class h =
+    let fits : List ℕ → List ℕ → Type 0 = λ one other. SuccessFits (parts_of other).method departure.to one other in
+    let class' : (parts_of departure.payload).class ≡ Success = sym (ap (λ (p : List ℕ). (parts_of p).class) r) ∙ class in (
       λ t. record {
-        success = λ _. subst (λ (p : List ℕ). fits asked.payload p) r (subst (λ (p : List ℕ). fits p response) q (h.0 t));
+        success = λ _. subst (λ (p : List ℕ). fits arrival.payload p) r (subst (λ (p : List ℕ). fits p response) q (h.0 t));
         error = λ e. absurd (let both : Success ≡ Error = sym class' ∙ e in cc);
       },
-      λ fit. h.1 (subst (λ (p : List ℕ). fits p response) (sym q) (subst (λ (p : List ℕ). fits asked.payload p) (sym r) (fit.success class'))),
+      λ fit. h.1 (subst (λ (p : List ℕ). fits p response) (sym q) (subst (λ (p : List ℕ). fits arrival.payload p) (sym r) (fit.success class'))),
     )

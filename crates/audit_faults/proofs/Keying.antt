@@ -64,8 +64,8 @@ module _ (taken : Taken) (P : Sighting → Type 0) (key low high : ℕ) (keyed :
       (k : ℕ) → n ≤ k → (one : Keyed) → k < length keyed → slice_index_or keyed k one ≡ one → one.key ≡ key → low ≤ one.moment → one.moment ≤ high →
       (s : Sighting) → sighting_at taken one.sight ≡ Some s → P s → ⊥
 
-  pub none_behind : (first past : ℕ) → HasKeyed keyed key low high first past → NoneFrom past
-  none_behind first past has k far one inside is e from to s at p = let h = has k one inside is e from to in omega (arith, far, h.1)
+  pub none_at_end : (first past : ℕ) → HasKeyed keyed key low high first past → NoneFrom past
+  none_at_end first past has k far one inside is e from to s at p = let h = has k one inside is e from to in omega (arith, far, h.1)
 
   pub none_down : (n : ℕ) (d : Keyed) → 0 < n → n ≤ length keyed → NoneFrom n → ((s : Sighting) → sighting_at taken (slice_index_or keyed (n - 1) d).sight ≡ Some s → P s → ⊥) → NoneFrom (n - 1)
   none_down n d some bound none not_here k far one inside is e from to s there p = elim (cases_lt k n) [

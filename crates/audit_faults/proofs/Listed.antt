@@ -12,7 +12,7 @@ use Rattle.audit_rules.specs.Values.{Names, channel_number_of, ips_of, peer_ips_
 use Rattle.audit_faults.specs.declared.keyed.Keyed.{Keyed}
 use Rattle.audit_faults.specs.Grants.{NamesIp, BindsIp}
 use Rattle.audit_faults.specs.Keyed.{placed_as}
-use Rattle.audit_faults.specs.Leased.{answer_key, ask_key, relayed_key, beginning_key, permission_key, channel_key, HasSuccessKey, HasRequestKey}
+use Rattle.audit_faults.specs.Leased.{answer_key, allocate_key, relayed_key, beginning_key, permission_key, channel_key, HasSuccessKey, HasRequestKey}
 use Rattle.audit_faults.proofs.Naming.{names_with, names_step, names_stop, names_end, names_means}
 
 module _ (s : Sighting) (new : List Keyed) where
@@ -25,18 +25,18 @@ module _ (s : Sighting) (new : List Keyed) where
 
   pub success_listed : (success : List ℕ) → Has (answer_key (parts_of success).method s.to (parts_of success).tid) → ((parts_of success).method ≡ ALLOCATE → Has (beginning_key s.to)) →
       ((parts_of success).method ≡ ALLOCATE → (relayed : Addr) → Names XOR_RELAYED_ADDRESS (parts_of success) relayed → Has (relayed_key s.to relayed)) → (key : ℕ) → HasSuccessKey s.to success key → Has key
-  success_listed success answer begins tells key (inl e) = at_key key (answer_key (parts_of success).method s.to (parts_of success).tid) e answer
-  success_listed success answer begins tells key (inr (m, inl e)) = at_key key (beginning_key s.to) e (begins m)
-  success_listed success answer begins tells key (inr (m, inr (relayed, named, e))) = at_key key (relayed_key s.to relayed) e (tells m relayed named)
+  success_listed success answer begins by_address key (inl e) = at_key key (answer_key (parts_of success).method s.to (parts_of success).tid) e answer
+  success_listed success answer begins by_address key (inr (m, inl e)) = at_key key (beginning_key s.to) e (begins m)
+  success_listed success answer begins by_address key (inr (m, inr (relayed, named, e))) = at_key key (relayed_key s.to relayed) e (by_address m relayed named)
 
-  pub request_listed : (request : List ℕ) → ((parts_of request).method ≡ ALLOCATE → Has (ask_key s.from (parts_of request).tid)) → ((ip : ℕ) → NamesIp request ip → Has (permission_key s.from ip)) →
+  pub request_listed : (request : List ℕ) → ((parts_of request).method ≡ ALLOCATE → Has (allocate_key s.from (parts_of request).tid)) → ((ip : ℕ) → NamesIp request ip → Has (permission_key s.from ip)) →
       ((ip : ℕ) → BindsIp request ip → Has (permission_key s.from ip)) →
       ((number : ℕ) (peer : Addr) → channel_number_of (parts_of request) ≡ Some number → Names XOR_PEER_ADDRESS (parts_of request) peer → Has (channel_key s.from number peer)) →
       (key : ℕ) → HasRequestKey s.from request key → Has key
-  request_listed request asks names binds channels key (inl (of, e)) = at_key key (ask_key s.from (parts_of request).tid) e (asks of.2)
-  request_listed request asks names binds channels key (inr (inl (ip, inl (of, h), e))) = at_key key (permission_key s.from ip) e (names ip h)
-  request_listed request asks names binds channels key (inr (inl (ip, inr (of, h), e))) = at_key key (permission_key s.from ip) e (binds ip h)
-  request_listed request asks names binds channels key (inr (inr (number, peer, (of, numbered, named), e))) = at_key key (channel_key s.from number peer) e (channels number peer numbered named)
+  request_listed request allocates names binds channels key (inl (of, e)) = at_key key (allocate_key s.from (parts_of request).tid) e (allocates of.2)
+  request_listed request allocates names binds channels key (inr (inl (ip, inl (of, h), e))) = at_key key (permission_key s.from ip) e (names ip h)
+  request_listed request allocates names binds channels key (inr (inl (ip, inr (of, h), e))) = at_key key (permission_key s.from ip) e (binds ip h)
+  request_listed request allocates names binds channels key (inr (inr (number, peer, (of, numbered, named), e))) = at_key key (channel_key s.from number peer) e (channels number peer numbered named)
 
 -- ---- the peers of a request, one after another
 

@@ -83,7 +83,7 @@ module _ (taken : Taken) (key_for : KeyFor) where
       AreFaultsBefore taken key_for (record { iface = iface + 1; index = 0 }) faults
   more_interface iface index faults far a = record {
     each = a.each;
-    every = λ fault sight before f. a.every fault sight (within taken iface index sight f.given far before f.there) f;
+    every = λ fault sight before f. a.every fault sight (within taken iface index sight f.departure far before f.there) f;
     rising = a.rising;
     before = All-weaker (λ it. IsBefore it.sight (record { iface = iface; index = index })) (λ it. IsBefore it.sight (record { iface = iface + 1; index = 0 })) (λ it h. wider it.sight h) faults a.before;
   } where
@@ -94,6 +94,6 @@ module _ (taken : Taken) (key_for : KeyFor) where
   pub all_done : (n : ℕ) (faults : List ShownFault) → length taken.interfaces ≤ n → AreFaultsBefore taken key_for (record { iface = n; index = 0 }) faults → AreFaults taken key_for faults
   all_done n faults far a = record {
     each = a.each;
-    every = λ fault sight f. a.every fault sight (all_before taken n sight f.given far f.there) f;
+    every = λ fault sight f. a.every fault sight (all_before taken n sight f.departure far f.there) f;
     rising = a.rising;
   }

@@ -17,25 +17,25 @@ never_over policy (Channel number peer) moment needed e = omega (arith, e)
 
 module _ (taken : Taken) (grant : Grant) (always left : Sighting) where
   pub once_granted : HasGrant taken grant always left → WasGranted taken left.hi grant
-  once_granted (request, captured, (asks, (success, there, answers))) = (
+  once_granted (request, captured, (requests, (success, there, answers))) = (
     request,
     captured,
     (
       success,
       there,
       record {
-        arrives = asks.arrives;
-        from = asks.from;
-        to = asks.to;
-        by = asks.before;
-        asks = asks.asks;
+        arrives = requests.arrives;
+        from = requests.from;
+        to = requests.to;
+        by = requests.before;
+        for_lease = requests.for_lease;
         leaves = answers.leaves;
         back_from = answers.from;
         back_to = answers.to;
         after = answers.after;
         succeeds = answers.succeeds;
         same_id = answers.same_id;
-        tells = answers.tells;
+        has_address = answers.has_address;
       },
     ),
   )
@@ -51,7 +51,7 @@ module _ (taken : Taken) (grant : Grant) (always left : Sighting) where
         to = by.to;
         before = by.by;
         lasts = never_over taken.policy grant.lease _ always.lo e;
-        asks = by.asks;
+        for_lease = by.for_lease;
       },
       (
         success,
@@ -64,7 +64,7 @@ module _ (taken : Taken) (grant : Grant) (always left : Sighting) where
           lasts = never_over taken.policy grant.lease _ always.lo e;
           succeeds = by.succeeds;
           same_id = by.same_id;
-          tells = by.tells;
+          has_address = by.has_address;
         },
       ),
     ),

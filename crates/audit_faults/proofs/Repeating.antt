@@ -21,8 +21,8 @@ use Rattle.audit_faults.specs.declared.fault.Grant.{Grant}
 use Rattle.audit_faults.specs.declared.fault.Lease.{Lease}
 use Rattle.audit_faults.specs.declared.fault.Lease.TheVariants.{Allocation, Permission, Channel}
 use Rattle.audit_faults.specs.declared.keyed.Keyed.{Keyed}
-use Rattle.audit_faults.specs.Asks.{InReach, Responds, SentInChannel, SentOn}
-use Rattle.audit_faults.specs.Beginning.{SentOnOnce, SentInChannelOnce, ToldOnce, ToldInChannelOnce, WasWanted, Begins}
+use Rattle.audit_faults.specs.Causes.{InReach, Responds, SentInChannel, SentOn}
+use Rattle.audit_faults.specs.Beginning.{SentOnOnce, SentInChannelOnce, DeliveredOnce, DeliveredInChannelOnce, WasWanted, Begins}
 use Rattle.audit_faults.specs.Explains.{IsWanted, IsProved, Holds, Reasons, Explains}
 use Rattle.audit_faults.specs.Fits.{IsFit}
 use Rattle.audit_faults.specs.Grants.{HasGrant, MayLast}
@@ -51,19 +51,19 @@ lasts policy (Allocation relayed) moment needed sooner le last = tt
 lasts policy (Permission ip) moment needed sooner le last = omega (arith, le, last)
 lasts policy (Channel number peer) moment needed sooner le last = omega (arith, le, last)
 
-module _ (taken : Taken) (fault : Fault) (earlier later given : Sighting) (le : earlier.lo ≤ later.lo) where
-  granted : (grant : Grant) → HasGrant taken grant later given → HasGrant taken grant earlier given
-  granted grant (request, captured, (asks, (success, there, answers))) = (
+module _ (taken : Taken) (fault : Fault) (earlier later departure : Sighting) (le : earlier.lo ≤ later.lo) where
+  granted : (grant : Grant) → HasGrant taken grant later departure → HasGrant taken grant earlier departure
+  granted grant (request, captured, (requests, (success, there, answers))) = (
     request,
     captured,
     (
       record {
-        arrives = asks.arrives;
-        from = asks.from;
-        to = asks.to;
-        before = asks.before;
-        lasts = lasts taken.policy grant.lease _ later.lo earlier.lo le asks.lasts;
-        asks = asks.asks;
+        arrives = requests.arrives;
+        from = requests.from;
+        to = requests.to;
+        before = requests.before;
+        lasts = lasts taken.policy grant.lease _ later.lo earlier.lo le requests.lasts;
+        for_lease = requests.for_lease;
       },
       (
         success,
@@ -76,26 +76,26 @@ module _ (taken : Taken) (fault : Fault) (earlier later given : Sighting) (le : 
           lasts = lasts taken.policy grant.lease success.hi later.lo earlier.lo le answers.lasts;
           succeeds = answers.succeeds;
           same_id = answers.same_id;
-          tells = answers.tells;
+          has_address = answers.has_address;
         },
       ),
     ),
   )
 
-  held_sooner : (client listen : Addr) (lease : Lease) → Holds taken fault client listen lease later given → Holds taken fault client listen lease earlier given
+  held_sooner : (client listen : Addr) (lease : Lease) → Holds taken fault client listen lease later departure → Holds taken fault client listen lease earlier departure
   held_sooner client listen lease = wanted fault lease _ _ (granted (record { client = client; listen = listen; lease = lease }))
 
-module _ (taken : Taken) (key_for : KeyFor) (fault : Fault) (later given : Sighting) (stamp lo hi : ℕ) (id : SightId) (le : lo ≤ later.lo) where
+module _ (taken : Taken) (key_for : KeyFor) (fault : Fault) (later departure : Sighting) (stamp lo hi : ℕ) (id : SightId) (le : lo ≤ later.lo) where
   abbrev earlier : Sighting
   earlier = record later { stamp = stamp; lo = lo; hi = hi; id = id }
 
-  held : (client listen : Addr) (lease : Lease) → Holds taken fault client listen lease later given → Holds taken fault client listen lease earlier given
-  held = held_sooner taken fault earlier later given le
+  held : (client listen : Addr) (lease : Lease) → Holds taken fault client listen lease later departure → Holds taken fault client listen lease earlier departure
+  held = held_sooner taken fault earlier later departure le
 
-  fits : IsFit later given → IsFit earlier given
+  fits : IsFit later departure → IsFit earlier departure
   fits fit = record { success = fit.success; error = fit.error }
 
-  proved : (kind : Fault) → IsProved key_for kind later given → IsProved key_for kind earlier given
+  proved : (kind : Fault) → IsProved key_for kind later departure → IsProved key_for kind earlier departure
   proved Unasked is = tt
   proved Unallocated is = tt
   proved Unpermitted is = tt
@@ -103,7 +103,7 @@ module _ (taken : Taken) (key_for : KeyFor) (fault : Fault) (later given : Sight
   proved Unfit is = fits is
   proved Unauthentic is = (fits is.0, is.1)
 
-  reasons : Reasons taken key_for fault later given → Reasons taken key_for fault earlier given
+  reasons : Reasons taken key_for fault later departure → Reasons taken key_for fault earlier departure
   reasons (inl (responds, is)) = inl (
     record {
       served = responds.served;
@@ -137,43 +137,43 @@ module _ (taken : Taken) (key_for : KeyFor) (fault : Fault) (later given : Sight
     held _ _ _ allocated,
     held _ _ _ bound,
   )))
-  reasons (inr (inr (inr (inl (told, allocated, permitted))))) = inr (inr (inr (inl (
+  reasons (inr (inr (inr (inl (delivered, allocated, permitted))))) = inr (inr (inr (inl (
     record {
-      served = told.served;
-      relayed = told.relayed;
-      indication = told.indication;
-      peer = told.peer;
-      sends = told.sends;
+      served = delivered.served;
+      relayed = delivered.relayed;
+      indication = delivered.indication;
+      peer = delivered.peer;
+      sends = delivered.sends;
     },
     held _ _ _ allocated,
     held _ _ _ permitted,
   ))))
-  reasons (inr (inr (inr (inr (number, told, allocated, permitted, bound))))) = inr (inr (inr (inr (
+  reasons (inr (inr (inr (inr (number, delivered, allocated, permitted, bound))))) = inr (inr (inr (inr (
     number,
     record {
-      served = told.served;
-      relayed = told.relayed;
-      past = told.past;
-      says = told.says;
-      padding = told.padding;
+      served = delivered.served;
+      relayed = delivered.relayed;
+      past = delivered.past;
+      says = delivered.says;
+      padding = delivered.padding;
     },
     held _ _ _ allocated,
     held _ _ _ permitted,
     held _ _ _ bound,
   ))))
 
-  as_earlier : InReach taken.policy.hold earlier given → Explains taken key_for fault later given → Explains taken key_for fault earlier given
+  as_earlier : InReach taken.policy.hold earlier departure → Explains taken key_for fault later departure → Explains taken key_for fault earlier departure
   as_earlier near e = record { arrives = e.arrives; in_reach = near; reasons = reasons e.reasons }
 
-explained_by_same : (taken : Taken) (key_for : KeyFor) (fault : Fault) (earlier later given : Sighting) → earlier.lo ≤ later.lo → AreSame earlier later → InReach taken.policy.hold earlier given →
-    Explains taken key_for fault later given → Explains taken key_for fault earlier given
-explained_by_same taken key_for fault earlier later given le same near e =
-    subst (λ (s : Sighting). Explains taken key_for fault s given) (sym same)
-    (as_earlier taken key_for fault later given earlier.stamp earlier.lo earlier.hi earlier.id le (subst (λ (s : Sighting). InReach taken.policy.hold s given) same near) e)
+explained_by_same : (taken : Taken) (key_for : KeyFor) (fault : Fault) (earlier later departure : Sighting) → earlier.lo ≤ later.lo → AreSame earlier later → InReach taken.policy.hold earlier departure →
+    Explains taken key_for fault later departure → Explains taken key_for fault earlier departure
+explained_by_same taken key_for fault earlier later departure le same near e =
+    subst (λ (s : Sighting). Explains taken key_for fault s departure) (sym same)
+    (as_earlier taken key_for fault later departure earlier.stamp earlier.lo earlier.hi earlier.id le (subst (λ (s : Sighting). InReach taken.policy.hold s departure) same near) e)
 
 -- a Send indication has the data and the peer of another, and asks for nothing else
-module _ (taken : Taken) (earlier later given : Sighting) (again : IsSentAgain taken.policy earlier later) where
-  sent_before : SentOn taken.policy later given → SentOn taken.policy earlier given
+module _ (taken : Taken) (earlier later departure : Sighting) (again : IsSentAgain taken.policy earlier later) where
+  sent_before : SentOn taken.policy later departure → SentOn taken.policy earlier departure
   sent_before sent = record {
     served = subst (λ (a : Addr). IsTrue (listens taken.policy a)) (sym again.to) sent.served;
     relayed = sent.relayed;
@@ -182,24 +182,24 @@ module _ (taken : Taken) (earlier later given : Sighting) (again : IsSentAgain t
     sends = again.payload.content ∙ sent.sends;
   }
 
-  no_request : Responds taken.policy later given → ⊥
+  no_request : Responds taken.policy later departure → ⊥
   no_request responds = let k : Request ≡ Indication = sym responds.request.1 ∙ again.payload.again.1 in cc
 
-  no_channel : (number : ℕ) → SentInChannel taken.policy number later given → ⊥
-  no_channel number sent = let k : channel_data_of later.payload ≡ None = again.payload.not_channel in let h : channel_data_of later.payload ≡ Some (number, given.payload, sent.past) = sent.says in cc
+  no_channel : (number : ℕ) → SentInChannel taken.policy number later departure → ⊥
+  no_channel number sent = let k : channel_data_of later.payload ≡ None = again.payload.not_channel in let h : channel_data_of later.payload ≡ Some (number, departure.payload, sent.past) = sent.says in cc
 
   not_relayed : IsTrue (relays taken.policy later.to) → ⊥
   not_relayed relayed = let k : true ≡ false = sym relayed ∙ again.to_server in cc
 
-  moved : (fault : Fault) (lease : Lease) → Holds taken fault later.from later.to lease earlier given → Holds taken fault earlier.from earlier.to lease earlier given
+  moved : (fault : Fault) (lease : Lease) → Holds taken fault later.from later.to lease earlier departure → Holds taken fault earlier.from earlier.to lease earlier departure
   moved fault lease h =
-      subst (λ (from : Addr). Holds taken fault from earlier.to lease earlier given) (sym again.from) (subst (λ (to : Addr). Holds taken fault later.from to lease earlier given) (sym again.to) h)
+      subst (λ (from : Addr). Holds taken fault from earlier.to lease earlier departure) (sym again.from) (subst (λ (to : Addr). Holds taken fault later.from to lease earlier departure) (sym again.to) h)
 
   once : (fault : Fault) (until : ℕ) (lease : Lease) → WasWanted taken fault until later.from later.to lease → WasWanted taken fault until earlier.from earlier.to lease
   once fault until lease h =
       subst (λ (from : Addr). WasWanted taken fault until from earlier.to lease) (sym again.from) (subst (λ (to : Addr). WasWanted taken fault until later.from to lease) (sym again.to) h)
 
-  explained_by_sent : (key_for : KeyFor) (fault : Fault) → earlier.lo ≤ later.lo → InReach taken.policy.hold earlier given → Explains taken key_for fault later given → Explains taken key_for fault earlier given
+  explained_by_sent : (key_for : KeyFor) (fault : Fault) → earlier.lo ≤ later.lo → InReach taken.policy.hold earlier departure → Explains taken key_for fault later departure → Explains taken key_for fault earlier departure
   explained_by_sent key_for fault le near e = record {
     arrives = again.side ∙ e.arrives;
     in_reach = near;
@@ -207,42 +207,42 @@ module _ (taken : Taken) (earlier later given : Sighting) (again : IsSentAgain t
       | inl responds ↦ absurd (no_request responds.0)
       | inr (inl (sent, allocated, permitted)) ↦ inr (inl (
         sent_before sent,
-        moved fault (Allocation given.from) (held_sooner taken fault earlier later given le later.from later.to _ allocated),
-        moved fault (Permission given.to.ip) (held_sooner taken fault earlier later given le later.from later.to _ permitted),
+        moved fault (Allocation departure.from) (held_sooner taken fault earlier later departure le later.from later.to _ allocated),
+        moved fault (Permission departure.to.ip) (held_sooner taken fault earlier later departure le later.from later.to _ permitted),
       ))
       | inr (inr (inl (number, sent, _, _))) ↦ absurd (no_channel number sent)
-      | inr (inr (inr (inl (told, _, _)))) ↦ absurd (not_relayed told.relayed)
-      | inr (inr (inr (inr (number, told, _, _, _)))) ↦ absurd (not_relayed told.relayed)
+      | inr (inr (inr (inl (delivered, _, _)))) ↦ absurd (not_relayed delivered.relayed)
+      | inr (inr (inr (inr (number, delivered, _, _, _)))) ↦ absurd (not_relayed delivered.relayed)
     ];
   }
 
-  begun_by_sent : (fault : Fault) (until : ℕ) → InReach taken.policy.hold earlier given → Begins taken fault until given later → Begins taken fault until given earlier
-  begun_by_sent fault until near (arrives, _, asks) = (
+  begun_by_sent : (fault : Fault) (until : ℕ) → InReach taken.policy.hold earlier departure → Begins taken fault until departure later → Begins taken fault until departure earlier
+  begun_by_sent fault until near (arrives, _, form) = (
     again.side ∙ arrives,
     near,
-    elim asks [
-      | inl (sent, allocated, permitted) ↦ inl (sent_before sent, once fault until (Allocation given.from) allocated, once fault until (Permission given.to.ip) permitted)
+    elim form [
+      | inl (sent, allocated, permitted) ↦ inl (sent_before sent, once fault until (Allocation departure.from) allocated, once fault until (Permission departure.to.ip) permitted)
       | inr (inl (number, sent, _, _)) ↦ absurd (no_channel number sent)
-      | inr (inr (inl (told, _, _))) ↦ absurd (not_relayed told.relayed)
-      | inr (inr (inr (number, told, _, _, _))) ↦ absurd (not_relayed told.relayed)
+      | inr (inr (inl (delivered, _, _))) ↦ absurd (not_relayed delivered.relayed)
+      | inr (inr (inr (number, delivered, _, _, _))) ↦ absurd (not_relayed delivered.relayed)
     ],
   )
 
-pub explained_by_repeated : (taken : Taken) (key_for : KeyFor) (fault : Fault) (earlier later given : Sighting) → IsRepeat taken.policy earlier later → InReach taken.policy.hold earlier given →
-    Explains taken key_for fault later given → Explains taken key_for fault earlier given
-explained_by_repeated taken key_for fault earlier later given repeats near e = elim repeats.same [
-  | inl same ↦ explained_by_same taken key_for fault earlier later given repeats.first same near e
-  | inr again ↦ explained_by_sent taken earlier later given again key_for fault repeats.first near e
+pub explained_by_repeated : (taken : Taken) (key_for : KeyFor) (fault : Fault) (earlier later departure : Sighting) → IsRepeat taken.policy earlier later → InReach taken.policy.hold earlier departure →
+    Explains taken key_for fault later departure → Explains taken key_for fault earlier departure
+explained_by_repeated taken key_for fault earlier later departure repeats near e = elim repeats.same [
+  | inl same ↦ explained_by_same taken key_for fault earlier later departure repeats.first same near e
+  | inr again ↦ explained_by_sent taken earlier later departure again key_for fault repeats.first near e
 ]
 
 -- ---- and what asked for a departure at the later one asked for it at the earlier one
 
-module _ (taken : Taken) (fault : Fault) (until : ℕ) (later given : Sighting) (stamp lo hi : ℕ) (id : SightId) where
+module _ (taken : Taken) (fault : Fault) (until : ℕ) (later departure : Sighting) (stamp lo hi : ℕ) (id : SightId) where
   abbrev sooner : Sighting
   sooner = record later { stamp = stamp; lo = lo; hi = hi; id = id }
 
-  forms : (SentOnOnce taken fault until later given ⊎ SentInChannelOnce taken fault until later given ⊎ ToldOnce taken fault until later given ⊎ ToldInChannelOnce taken fault until later given) →
-      (SentOnOnce taken fault until sooner given ⊎ SentInChannelOnce taken fault until sooner given ⊎ ToldOnce taken fault until sooner given ⊎ ToldInChannelOnce taken fault until sooner given)
+  forms : (SentOnOnce taken fault until later departure ⊎ SentInChannelOnce taken fault until later departure ⊎ DeliveredOnce taken fault until later departure ⊎ DeliveredInChannelOnce taken fault until later departure) →
+      (SentOnOnce taken fault until sooner departure ⊎ SentInChannelOnce taken fault until sooner departure ⊎ DeliveredOnce taken fault until sooner departure ⊎ DeliveredInChannelOnce taken fault until sooner departure)
   forms (inl (sent, allocated, permitted)) = inl (
     record {
       served = sent.served;
@@ -265,41 +265,41 @@ module _ (taken : Taken) (fault : Fault) (until : ℕ) (later given : Sighting) 
     allocated,
     bound,
   ))
-  forms (inr (inr (inl (told, allocated, permitted)))) = inr (inr (inl (
+  forms (inr (inr (inl (delivered, allocated, permitted)))) = inr (inr (inl (
     record {
-      served = told.served;
-      relayed = told.relayed;
-      indication = told.indication;
-      peer = told.peer;
-      sends = told.sends;
+      served = delivered.served;
+      relayed = delivered.relayed;
+      indication = delivered.indication;
+      peer = delivered.peer;
+      sends = delivered.sends;
     },
     allocated,
     permitted,
   )))
-  forms (inr (inr (inr (number, told, allocated, permitted, bound)))) = inr (inr (inr (
+  forms (inr (inr (inr (number, delivered, allocated, permitted, bound)))) = inr (inr (inr (
     number,
     record {
-      served = told.served;
-      relayed = told.relayed;
-      past = told.past;
-      says = told.says;
-      padding = told.padding;
+      served = delivered.served;
+      relayed = delivered.relayed;
+      past = delivered.past;
+      says = delivered.says;
+      padding = delivered.padding;
     },
     allocated,
     permitted,
     bound,
   )))
 
-  as_sooner : InReach taken.policy.hold sooner given → Begins taken fault until given later → Begins taken fault until given sooner
-  as_sooner near (arrives, _, asks) = (arrives, near, forms asks)
+  as_sooner : InReach taken.policy.hold sooner departure → Begins taken fault until departure later → Begins taken fault until departure sooner
+  as_sooner near (arrives, _, form) = (arrives, near, forms form)
 
-pub begun_by_repeated : (taken : Taken) (fault : Fault) (until : ℕ) (earlier later given : Sighting) → IsRepeat taken.policy earlier later → InReach taken.policy.hold earlier given →
-    Begins taken fault until given later → Begins taken fault until given earlier
-begun_by_repeated taken fault until earlier later given repeats near e = elim repeats.same [
+pub begun_by_repeated : (taken : Taken) (fault : Fault) (until : ℕ) (earlier later departure : Sighting) → IsRepeat taken.policy earlier later → InReach taken.policy.hold earlier departure →
+    Begins taken fault until departure later → Begins taken fault until departure earlier
+begun_by_repeated taken fault until earlier later departure repeats near e = elim repeats.same [
   | inl same ↦
-      subst (Begins taken fault until given) (sym same)
-      (as_sooner taken fault until later given earlier.stamp earlier.lo earlier.hi earlier.id (subst (λ (s : Sighting). InReach taken.policy.hold s given) same near) e)
-  | inr again ↦ begun_by_sent taken earlier later given again fault until near e
+      subst (Begins taken fault until departure) (sym same)
+      (as_sooner taken fault until later departure earlier.stamp earlier.lo earlier.hi earlier.id (subst (λ (s : Sighting). InReach taken.policy.hold s departure) same near) e)
+  | inr again ↦ begun_by_sent taken earlier later departure again fault until near e
 ]
 
 -- ---- so the places of repeats may be passed over
@@ -320,8 +320,8 @@ module _ (taken : Taken) (P : Sighting → Type 0) (key low high first : ℕ) (k
       (k : ℕ) → n ≤ k → (one : Keyed) → k < length keyed → slice_index_or keyed k one ≡ one → one.key ≡ key → low ≤ one.moment → one.moment ≤ high →
       (s : Sighting) → sighting_at taken one.sight ≡ Some s → P s → HasBefore taken keyed P first n
 
-  pub earlier_behind : (past : ℕ) → HasKeyed keyed key low high first past → OnlyWithEarlier past
-  earlier_behind past has k far one inside is e from to s at p = absurd (let h = has k one inside is e from to in omega (arith, far, h.1))
+  pub earlier_at_end : (past : ℕ) → HasKeyed keyed key low high first past → OnlyWithEarlier past
+  earlier_at_end past has k far one inside is e from to s at p = absurd (let h = has k one inside is e from to in omega (arith, far, h.1))
 
   -- a place down, where the fact at that place comes with one before it, or not at all
   pub earlier_down : (n : ℕ) → 0 < n → OnlyWithEarlier n → ((s : Sighting) → IsPlaced taken keyed (n - 1) s → P s → HasBefore taken keyed P first (n - 1)) → OnlyWithEarlier (n - 1)
@@ -367,26 +367,26 @@ module _ (taken : Taken) (P : Sighting → Type 0) (key low high first : ℕ) (k
 
 -- ---- a place of a repeat has one only with an earlier place
 
-module _ (taken : Taken) (places : List Keyed) (given : Sighting) (first low past : ℕ) (repeated : AreRepeatedInReach taken places given first low past) where
-  pub explained_with_earlier : (key_for : KeyFor) (fault : Fault) (k : ℕ) → low ≤ k → k < past → (s : Sighting) → IsPlaced taken places k s → Explains taken key_for fault s given →
-      HasBefore taken places (λ (t : Sighting). Explains taken key_for fault t given) first k
+module _ (taken : Taken) (places : List Keyed) (departure : Sighting) (first low past : ℕ) (repeated : AreRepeatedInReach taken places departure first low past) where
+  pub explained_with_earlier : (key_for : KeyFor) (fault : Fault) (k : ℕ) → low ≤ k → k < past → (s : Sighting) → IsPlaced taken places k s → Explains taken key_for fault s departure →
+      HasBefore taken places (λ (t : Sighting). Explains taken key_for fault t departure) first k
   explained_with_earlier key_for fault k from below s at e =
       let one = repeated k from below in
       let repeats = one.2.0 in
       let same : s ≡ repeats.later = one_sighting taken places k s repeats.later at repeats.here in
-      let later = subst (λ (t : Sighting). Explains taken key_for fault t given) same e in
-      let reach : InReach taken.policy.hold repeats.earlier given = (omega (arith, repeats.repeats.first, later.in_reach.0), one.2.1) in
-      (one.0, one.1, repeats.ahead, (repeats.earlier, repeats.there, explained_by_repeated taken key_for fault repeats.earlier repeats.later given repeats.repeats reach later))
+      let later = subst (λ (t : Sighting). Explains taken key_for fault t departure) same e in
+      let reach : InReach taken.policy.hold repeats.earlier departure = (omega (arith, repeats.repeats.first, later.in_reach.0), one.2.1) in
+      (one.0, one.1, repeats.ahead, (repeats.earlier, repeats.there, explained_by_repeated taken key_for fault repeats.earlier repeats.later departure repeats.repeats reach later))
 
-  pub begun_with_earlier : (fault : Fault) (until : ℕ) (k : ℕ) → low ≤ k → k < past → (s : Sighting) → IsPlaced taken places k s → Begins taken fault until given s →
-      HasBefore taken places (Begins taken fault until given) first k
+  pub begun_with_earlier : (fault : Fault) (until : ℕ) (k : ℕ) → low ≤ k → k < past → (s : Sighting) → IsPlaced taken places k s → Begins taken fault until departure s →
+      HasBefore taken places (Begins taken fault until departure) first k
   begun_with_earlier fault until k from below s at e =
       let one = repeated k from below in
       let repeats = one.2.0 in
       let same : s ≡ repeats.later = one_sighting taken places k s repeats.later at repeats.here in
-      let later = subst (Begins taken fault until given) same e in
-      let reach : InReach taken.policy.hold repeats.earlier given = (omega (arith, repeats.repeats.first, later.1.0), one.2.1) in
-      (one.0, one.1, repeats.ahead, (repeats.earlier, repeats.there, begun_by_repeated taken fault until repeats.earlier repeats.later given repeats.repeats reach later))
+      let later = subst (Begins taken fault until departure) same e in
+      let reach : InReach taken.policy.hold repeats.earlier departure = (omega (arith, repeats.repeats.first, later.1.0), one.2.1) in
+      (one.0, one.1, repeats.ahead, (repeats.earlier, repeats.there, begun_by_repeated taken fault until repeats.earlier repeats.later departure repeats.repeats reach later))
 
 -- ---- the list of them grows
 
@@ -439,9 +439,9 @@ module _ (taken : Taken) (keyed : List Keyed) where
   }
 
   -- a block before those that are passed over is passed over, too, if all that it repeats is in reach
-  pub skip_block : (given : Sighting) (first place past : ℕ) (block : RepeatBlock) → 0 < place → IsBlock taken keyed (place - 1) block → 0 < block.end → first ≤ block.since → given.lo ≤ later block.end taken.policy.hold →
-      AreRepeatedInReach taken keyed given first place past → AreRepeatedInReach taken keyed given first block.first past
-  skip_block given first place past block some is ends since near others k from below = elim (cases_lt k place) [
+  pub skip_block : (departure : Sighting) (first place past : ℕ) (block : RepeatBlock) → 0 < place → IsBlock taken keyed (place - 1) block → 0 < block.end → first ≤ block.since → departure.lo ≤ later block.end taken.policy.hold →
+      AreRepeatedInReach taken keyed departure first place past → AreRepeatedInReach taken keyed departure first block.first past
+  skip_block departure first place past block some is ends since near others k from below = elim (cases_lt k place) [
     | inl lt ↦ let one = is.all ends k from (omega (arith, lt)) in (one.0, omega (arith, one.1, since), (one.2.0, omega (arith, one.2.1, near)))
     | inr ge ↦ others k ge below
   ]

@@ -14,9 +14,9 @@ use Rattle.audit_faults.specs.declared.fault.Fault.TheVariants.{Unallocated}
 use Rattle.audit_faults.specs.declared.fault.Grant.{Grant}
 use Rattle.audit_faults.specs.declared.fault.Lease.{Lease}
 use Rattle.audit_faults.specs.declared.fault.Lease.TheVariants.{Allocation, Permission, Channel}
-use Rattle.audit_faults.specs.Asks.{SentOn, SentInChannel, Told, ToldInChannel, InReach}
+use Rattle.audit_faults.specs.Causes.{SentOn, SentInChannel, Delivered, DeliveredInChannel, InReach}
 use Rattle.audit_faults.specs.Explains.{IsWanted}
-use Rattle.audit_faults.specs.Grants.{IsCaptured, AsksFor, TellsOf}
+use Rattle.audit_faults.specs.Grants.{IsCaptured, IsRequestFor, HasAddressOf}
 
 -- A request of the client for the lease that may have come by then, and its success response, which
 -- left no earlier. How long the lease lasts isn't checked.
@@ -25,14 +25,14 @@ pub record IsGrantedBy (until : ℕ) (grant : Grant) (request success : Sighting
   pub from : request.from ≡ grant.client
   pub to : request.to ≡ grant.listen
   pub by : request.lo ≤ until
-  pub asks : AsksFor grant.lease request.payload
+  pub for_lease : IsRequestFor grant.lease request.payload
   pub leaves : success.side ≡ Leaves
   pub back_from : success.from ≡ grant.listen
   pub back_to : success.to ≡ grant.client
   pub after : request.lo ≤ success.hi
   pub succeeds : IsOf success.payload Success (parts_of request.payload).method
   pub same_id : (parts_of success.payload).tid ≡ (parts_of request.payload).tid
-  pub tells : TellsOf grant.lease success.payload
+  pub has_address : HasAddressOf grant.lease success.payload
 
 module _ (taken : Taken) where
   -- both were captured
@@ -46,29 +46,29 @@ module _ (taken : Taken) where
 
     -- a client's data to a peer, and a peer's data to a client, each with the leases that it needs
     abbrev pub SentOnOnce : Sighting → Sighting → Type 0
-    SentOnOnce asked given = SentOn taken.policy asked given × WasWanted asked.from asked.to (Allocation given.from) × WasWanted asked.from asked.to (Permission given.to.ip)
+    SentOnOnce arrival departure = SentOn taken.policy arrival departure × WasWanted arrival.from arrival.to (Allocation departure.from) × WasWanted arrival.from arrival.to (Permission departure.to.ip)
 
     abbrev pub SentInChannelOnce : Sighting → Sighting → Type 0
-    SentInChannelOnce asked given = (number : ℕ) × SentInChannel taken.policy number asked given × WasWanted asked.from asked.to (Allocation given.from) × WasWanted asked.from asked.to (Channel number given.to)
+    SentInChannelOnce arrival departure = (number : ℕ) × SentInChannel taken.policy number arrival departure × WasWanted arrival.from arrival.to (Allocation departure.from) × WasWanted arrival.from arrival.to (Channel number departure.to)
 
-    abbrev pub ToldOnce : Sighting → Sighting → Type 0
-    ToldOnce asked given = Told taken.policy asked given × WasWanted given.to given.from (Allocation asked.to) × WasWanted given.to given.from (Permission asked.from.ip)
+    abbrev pub DeliveredOnce : Sighting → Sighting → Type 0
+    DeliveredOnce arrival departure = Delivered taken.policy arrival departure × WasWanted departure.to departure.from (Allocation arrival.to) × WasWanted departure.to departure.from (Permission arrival.from.ip)
 
-    abbrev pub ToldInChannelOnce : Sighting → Sighting → Type 0
-    ToldInChannelOnce asked given =
-        (number : ℕ) × ToldInChannel taken.policy number asked given × WasWanted given.to given.from (Allocation asked.to) × WasWanted given.to given.from (Permission asked.from.ip)
-        × WasWanted given.to given.from (Channel number asked.from)
+    abbrev pub DeliveredInChannelOnce : Sighting → Sighting → Type 0
+    DeliveredInChannelOnce arrival departure =
+        (number : ℕ) × DeliveredInChannel taken.policy number arrival departure × WasWanted departure.to departure.from (Allocation arrival.to) × WasWanted departure.to departure.from (Permission arrival.from.ip)
+        × WasWanted departure.to departure.from (Channel number arrival.from)
 
     -- the arrival came in time, and may have caused the departure, for a client that was granted
     -- those leases by then
     abbrev pub Begins : Sighting → Sighting → Type 0
-    Begins given asked = (asked.side ≡ Arrives) × InReach taken.policy.hold asked given × (SentOnOnce asked given ⊎ SentInChannelOnce asked given ⊎ ToldOnce asked given ⊎ ToldInChannelOnce asked given)
+    Begins departure arrival = (arrival.side ≡ Arrives) × InReach taken.policy.hold arrival departure × (SentOnOnce arrival departure ⊎ SentInChannelOnce arrival departure ⊎ DeliveredOnce arrival departure ⊎ DeliveredInChannelOnce arrival departure)
 
     abbrev pub WasBegun : Sighting → Type 0
-    WasBegun given = (asked : Sighting) × IsCaptured taken asked × Begins given asked
+    WasBegun departure = (arrival : Sighting) × IsCaptured taken arrival × Begins departure arrival
 
   -- the allocation's beginning was captured: an Allocate success response granted that relayed
   -- address to a client whose datagram may have caused the departure, and its request may precede
   -- the departure
   abbrev pub HasBeginning : Sighting → Type 0
-  HasBeginning given = WasBegun Unallocated given.hi given
+  HasBeginning departure = WasBegun Unallocated departure.hi departure

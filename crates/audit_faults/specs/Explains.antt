@@ -10,7 +10,7 @@ use Rattle.audit_faults.specs.declared.fault.Fault.TheVariants.{Unasked, Unalloc
 use Rattle.audit_faults.specs.declared.fault.Lease.{Lease}
 use Rattle.audit_faults.specs.declared.fault.Lease.TheVariants.{Allocation, Permission, Channel}
 use Rattle.audit_rules.specs.Keys.{KeyFor}
-use Rattle.audit_faults.specs.Asks.{AnswersAnybody, IsByUser, Responds, SentOn, SentInChannel, Told, ToldInChannel, InReach}
+use Rattle.audit_faults.specs.Causes.{AnswersAnybody, IsByUser, Responds, SentOn, SentInChannel, Delivered, DeliveredInChannel, InReach}
 use Rattle.audit_faults.specs.Fits.{IsFit}
 use Rattle.audit_faults.specs.Grants.{IsCaptured, HasGrant}
 
@@ -38,53 +38,53 @@ IsWanted Unauthentic lease G = G
 
 -- and whether a response must fit its request, and the request must be authentic by a user
 abbrev pub IsProved : KeyFor → Fault → Sighting → Sighting → Type 0
-IsProved key_for Unasked asked given = Unit {0}
-IsProved key_for Unallocated asked given = Unit {0}
-IsProved key_for Unpermitted asked given = Unit {0}
-IsProved key_for Unbound asked given = Unit {0}
-IsProved key_for Unfit asked given = IsFit asked given
-IsProved key_for Unauthentic asked given = IsFit asked given × (AnswersAnybody given.payload ⊎ IsByUser key_for asked.payload)
+IsProved key_for Unasked arrival departure = Unit {0}
+IsProved key_for Unallocated arrival departure = Unit {0}
+IsProved key_for Unpermitted arrival departure = Unit {0}
+IsProved key_for Unbound arrival departure = Unit {0}
+IsProved key_for Unfit arrival departure = IsFit arrival departure
+IsProved key_for Unauthentic arrival departure = IsFit arrival departure × (AnswersAnybody departure.payload ⊎ IsByUser key_for arrival.payload)
 
 module _ (taken : Taken) (fault : Fault) where
   -- the client has the lease, if the fault's check includes it
   abbrev pub Holds : Addr → Addr → Lease → Sighting → Sighting → Type 0
-  Holds client listen lease asked given = IsWanted fault lease (HasGrant taken (record { client = client; listen = listen; lease = lease }) asked given)
+  Holds client listen lease arrival departure = IsWanted fault lease (HasGrant taken (record { client = client; listen = listen; lease = lease }) arrival departure)
 
   -- a Send indication's data under a permission, a client's ChannelData in its channel, a Data
   -- indication under a permission, and ChannelData to the client in its channel under a permission:
   -- each with the relayed address of the allocation (RFC 8656, sections 11 and 12)
   abbrev pub SentOnHeld : Sighting → Sighting → Type 0
-  SentOnHeld asked given = SentOn taken.policy asked given × Holds asked.from asked.to (Allocation given.from) asked given × Holds asked.from asked.to (Permission given.to.ip) asked given
+  SentOnHeld arrival departure = SentOn taken.policy arrival departure × Holds arrival.from arrival.to (Allocation departure.from) arrival departure × Holds arrival.from arrival.to (Permission departure.to.ip) arrival departure
 
   abbrev pub SentInChannelHeld : Sighting → Sighting → Type 0
-  SentInChannelHeld asked given =
-      (number : ℕ) × SentInChannel taken.policy number asked given × Holds asked.from asked.to (Allocation given.from) asked given × Holds asked.from asked.to (Channel number given.to) asked given
+  SentInChannelHeld arrival departure =
+      (number : ℕ) × SentInChannel taken.policy number arrival departure × Holds arrival.from arrival.to (Allocation departure.from) arrival departure × Holds arrival.from arrival.to (Channel number departure.to) arrival departure
 
-  abbrev pub ToldHeld : Sighting → Sighting → Type 0
-  ToldHeld asked given = Told taken.policy asked given × Holds given.to given.from (Allocation asked.to) asked given × Holds given.to given.from (Permission asked.from.ip) asked given
+  abbrev pub DeliveredHeld : Sighting → Sighting → Type 0
+  DeliveredHeld arrival departure = Delivered taken.policy arrival departure × Holds departure.to departure.from (Allocation arrival.to) arrival departure × Holds departure.to departure.from (Permission arrival.from.ip) arrival departure
 
-  abbrev pub ToldInChannelHeld : Sighting → Sighting → Type 0
-  ToldInChannelHeld asked given =
-      (number : ℕ) × ToldInChannel taken.policy number asked given × Holds given.to given.from (Allocation asked.to) asked given
-      × Holds given.to given.from (Permission asked.from.ip) asked given × Holds given.to given.from (Channel number asked.from) asked given
+  abbrev pub DeliveredInChannelHeld : Sighting → Sighting → Type 0
+  DeliveredInChannelHeld arrival departure =
+      (number : ℕ) × DeliveredInChannel taken.policy number arrival departure × Holds departure.to departure.from (Allocation arrival.to) arrival departure
+      × Holds departure.to departure.from (Permission arrival.from.ip) arrival departure × Holds departure.to departure.from (Channel number arrival.from) arrival departure
 
 module _ (taken : Taken) (key_for : KeyFor) (fault : Fault) where
   -- a response needs no lease
   abbrev pub RespondsHeld : Sighting → Sighting → Type 0
-  RespondsHeld asked given = Responds taken.policy asked given × IsProved key_for fault asked given
+  RespondsHeld arrival departure = Responds taken.policy arrival departure × IsProved key_for fault arrival departure
 
   abbrev pub Reasons : Sighting → Sighting → Type 0
-  Reasons asked given = RespondsHeld asked given ⊎ SentOnHeld taken fault asked given ⊎ SentInChannelHeld taken fault asked given ⊎ ToldHeld taken fault asked given ⊎ ToldInChannelHeld taken fault asked given
+  Reasons arrival departure = RespondsHeld arrival departure ⊎ SentOnHeld taken fault arrival departure ⊎ SentInChannelHeld taken fault arrival departure ⊎ DeliveredHeld taken fault arrival departure ⊎ DeliveredInChannelHeld taken fault arrival departure
 
   -- it arrived in time, and caused the departure with all reasons
-  pub record Explains (asked given : Sighting) : Type 0 where
-    pub arrives : asked.side ≡ Arrives
-    pub in_reach : InReach taken.policy.hold asked given
-    pub reasons : Reasons asked given
+  pub record Explains (arrival departure : Sighting) : Type 0 where
+    pub arrives : arrival.side ≡ Arrives
+    pub in_reach : InReach taken.policy.hold arrival departure
+    pub reasons : Reasons arrival departure
 
   -- A departure that no captured arrival explains.
   pub record IsFault (sight : SightId) : Type 0 where
-    pub given : Sighting
-    pub there : sighting_at taken sight ≡ Some given
-    pub leaves : given.side ≡ Leaves
-    pub by_none : (asked : Sighting) → IsCaptured taken asked → Explains asked given → ⊥
+    pub departure : Sighting
+    pub there : sighting_at taken sight ≡ Some departure
+    pub leaves : departure.side ≡ Leaves
+    pub by_none : (arrival : Sighting) → IsCaptured taken arrival → Explains arrival departure → ⊥

@@ -12,7 +12,7 @@ use Rattle.audit_faults.specs.declared.fault.Fault.TheVariants.{Unasked, Unalloc
 use Rattle.audit_faults.specs.declared.fault.Grant.{Grant}
 use Rattle.audit_faults.specs.declared.fault.LastGrant.{LastGrant}
 use Rattle.audit_faults.specs.declared.fault.Lease.TheVariants.{Permission, Channel}
-use Rattle.audit_faults.specs.Asks.{SentOn, SentInChannel, Told, ToldInChannel, InReach}
+use Rattle.audit_faults.specs.Causes.{SentOn, SentInChannel, Delivered, DeliveredInChannel, InReach}
 use Rattle.audit_faults.specs.Beginning.{IsGrantedBy}
 use Rattle.audit_faults.specs.Grants.{IsCaptured}
 
@@ -30,44 +30,44 @@ module _ (policy : Policy) where
   -- the permission that a departure requires if it was sent for an arrival: for the peer's IP, of
   -- the client that sent the data or receives it (RFC 8656, section 9)
   abbrev pub NeedsPermission : Sighting → Sighting → Grant → Type 0
-  NeedsPermission asked given grant =
-      (SentOn policy asked given × (grant ≡ record { client = asked.from; listen = asked.to; lease = Permission given.to.ip }))
-      ⊎ ((Told policy asked given ⊎ ((number : ℕ) × ToldInChannel policy number asked given)) × (grant ≡ record { client = given.to; listen = given.from; lease = Permission asked.from.ip }))
+  NeedsPermission arrival departure grant =
+      (SentOn policy arrival departure × (grant ≡ record { client = arrival.from; listen = arrival.to; lease = Permission departure.to.ip }))
+      ⊎ ((Delivered policy arrival departure ⊎ ((number : ℕ) × DeliveredInChannel policy number arrival departure)) × (grant ≡ record { client = departure.to; listen = departure.from; lease = Permission arrival.from.ip }))
 
   -- the channel, bound to the peer (RFC 8656, section 12)
   abbrev pub NeedsChannel : Sighting → Sighting → Grant → Type 0
-  NeedsChannel asked given grant =
-      ((number : ℕ) × SentInChannel policy number asked given × (grant ≡ record { client = asked.from; listen = asked.to; lease = Channel number given.to }))
-      ⊎ ((number : ℕ) × ToldInChannel policy number asked given × (grant ≡ record { client = given.to; listen = given.from; lease = Channel number asked.from }))
+  NeedsChannel arrival departure grant =
+      ((number : ℕ) × SentInChannel policy number arrival departure × (grant ≡ record { client = arrival.from; listen = arrival.to; lease = Channel number departure.to }))
+      ⊎ ((number : ℕ) × DeliveredInChannel policy number arrival departure × (grant ≡ record { client = departure.to; listen = departure.from; lease = Channel number arrival.from }))
 
   abbrev pub Needs : Fault → Sighting → Sighting → Grant → Type 0
-  Needs Unasked asked given grant = ⊥
-  Needs Unallocated asked given grant = ⊥
-  Needs Unpermitted asked given grant = NeedsPermission asked given grant
-  Needs Unbound asked given grant = NeedsChannel asked given grant
-  Needs Unfit asked given grant = ⊥
-  Needs Unauthentic asked given grant = ⊥
+  Needs Unasked arrival departure grant = ⊥
+  Needs Unallocated arrival departure grant = ⊥
+  Needs Unpermitted arrival departure grant = NeedsPermission arrival departure grant
+  Needs Unbound arrival departure grant = NeedsChannel arrival departure grant
+  Needs Unfit arrival departure grant = ⊥
+  Needs Unauthentic arrival departure grant = ⊥
 
   -- the arrival is later by this time than the end of the lease that the success response granted,
   -- grace included
   abbrev pub IsOver : Fault → Sighting → Sighting → ℕ → Type 0
-  IsOver fault asked success time = (later (seconds_after success.hi (seconds_of fault)) policy.grace + time ≡ asked.lo) × (0 < time)
+  IsOver fault arrival success time = (later (seconds_after success.hi (seconds_of fault)) policy.grace + time ≡ arrival.lo) × (0 < time)
 
 -- The departure may have been sent for a captured arrival, and a captured success response granted
 -- the lease that it then requires, by a request that may precede the departure. That lease had
 -- expired by this time before the arrival, grace included.
 pub record IsTooEarly (taken : Taken) (fault : Fault) (sight : SightId) (last : LastGrant) : Type 0 where
-  pub given : Sighting
-  pub left : sighting_at taken sight ≡ Some given
-  pub asked : Sighting
-  pub here : sighting_at taken last.asked ≡ Some asked
-  pub arrives : asked.side ≡ Arrives
-  pub in_reach : InReach taken.policy.hold asked given
+  pub departure : Sighting
+  pub left : sighting_at taken sight ≡ Some departure
+  pub arrival : Sighting
+  pub here : sighting_at taken last.arrival ≡ Some arrival
+  pub arrives : arrival.side ≡ Arrives
+  pub in_reach : InReach taken.policy.hold arrival departure
   pub grant : Grant
-  pub needs : Needs taken.policy fault asked given grant
+  pub needs : Needs taken.policy fault arrival departure grant
   pub request : Sighting
   pub captured : IsCaptured taken request
   pub success : Sighting
   pub there : sighting_at taken last.success ≡ Some success
-  pub grants : IsGrantedBy given.hi grant request success
-  pub over : IsOver taken.policy fault asked success last.too_early
+  pub grants : IsGrantedBy departure.hi grant request success
+  pub over : IsOver taken.policy fault arrival success last.too_early

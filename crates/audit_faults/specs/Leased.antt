@@ -19,7 +19,7 @@ use Rattle.audit_rules.specs.Values.{Names}
 use Rattle.audit_faults.specs.declared.fault.Lease.TheVariants.{Permission, Channel}
 use Rattle.audit_faults.specs.declared.keyed.ByKey.{ByKey}
 use Rattle.audit_faults.specs.declared.leased.Leases.{Leases}
-use Rattle.audit_faults.specs.Grants.{IsCaptured, AsksFor}
+use Rattle.audit_faults.specs.Grants.{IsCaptured, IsRequestFor}
 use Rattle.audit_faults.specs.Keyed.{digest_of, IsKeyed}
 
 -- a success response of this method grants a lease
@@ -45,8 +45,8 @@ lease_key kind client rest = mixed_of (mixed_of kind (address_number client)) re
 abbrev pub answer_key : ℕ → Addr → List ℕ → ℕ
 answer_key method client tid = lease_key method client (digest_of tid)
 
-abbrev pub ask_key : Addr → List ℕ → ℕ
-ask_key client tid = lease_key 65536 client (digest_of tid)
+abbrev pub allocate_key : Addr → List ℕ → ℕ
+allocate_key client tid = lease_key 65536 client (digest_of tid)
 
 abbrev pub relayed_key : Addr → Addr → ℕ
 relayed_key client relayed = lease_key 65537 client (address_number relayed)
@@ -73,8 +73,8 @@ IsAnswerBy key s = (s.side ≡ Leaves) × IsLeaseMessage Success s.payload × Ha
 -- a request has the keys of the leases that it is for; for an allocation, that of its transaction
 abbrev pub HasRequestKey : Addr → List ℕ → ℕ → Type 0
 HasRequestKey client payload key =
-    (IsOf payload Request ALLOCATE × (key ≡ ask_key client (parts_of payload).tid)) ⊎ ((ip : ℕ) × AsksFor (Permission ip) payload × (key ≡ permission_key client ip))
-    ⊎ ((number : ℕ) × (peer : Addr) × AsksFor (Channel number peer) payload × (key ≡ channel_key client number peer))
+    (IsOf payload Request ALLOCATE × (key ≡ allocate_key client (parts_of payload).tid)) ⊎ ((ip : ℕ) × IsRequestFor (Permission ip) payload × (key ≡ permission_key client ip))
+    ⊎ ((number : ℕ) × (peer : Addr) × IsRequestFor (Channel number peer) payload × (key ≡ channel_key client number peer))
 
 -- a success response to the client, of the request's method and transaction
 abbrev pub Answers : Addr → List ℕ → Sighting → Type 0

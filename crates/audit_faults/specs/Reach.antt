@@ -3,7 +3,7 @@ use Rattle.std.specs.Prelude.{◌≡◌, ℕ, ◌+◌, ◌<◌, ◌≤◌, List,
 use Rattle.audit_model.specs.declared.sighting.Sighting.{Sighting}
 use Rattle.audit_sightings.specs.Intake.{Taken, interface_at}
 use Rattle.audit_faults.specs.declared.reach.Extents.{Extents}
-use Rattle.audit_faults.specs.Asks.{InReach}
+use Rattle.audit_faults.specs.Causes.{InReach}
 
 -- the sighting is at that place of a row
 abbrev pub StandsAt : List Sighting → ℕ → Sighting → Type 0
@@ -19,7 +19,7 @@ AreEarliest row earliest = (length earliest ≡ length row) × ((j k : ℕ) (s :
 
 -- no sighting outside of these places is in reach
 abbrev pub OutsideIsOut : ℕ → Sighting → List Sighting → ℕ → ℕ → Type 0
-OutsideIsOut hold given row first past = (k : ℕ) (s : Sighting) → StandsAt row k s → InReach hold s given → (first ≤ k) × (k < past)
+OutsideIsOut hold departure row first past = (k : ℕ) (s : Sighting) → StandsAt row k s → InReach hold s departure → (first ≤ k) × (k < past)
 
 -- the moments of the interfaces, each by its number, are right; if an interface has none, all of it
 -- may be in reach

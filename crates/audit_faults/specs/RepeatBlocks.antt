@@ -25,5 +25,5 @@ module _ (taken : Taken) (places : List Keyed) where
   -- each place from `low` to before `past` repeats a datagram that is at no place before the first,
   -- and whose window ends at most `hold` before that of the departure begins
   abbrev pub AreRepeatedInReach : Sighting → ℕ → ℕ → ℕ → Type 0
-  AreRepeatedInReach given first low past =
-      (k : ℕ) → low ≤ k → k < past → (before : ℕ) × (first ≤ before) × ((repeated : IsRepeated taken places before k) × (given.lo ≤ later repeated.earlier.hi taken.policy.hold))
+  AreRepeatedInReach departure first low past =
+      (k : ℕ) → low ≤ k → k < past → (before : ℕ) × (first ≤ before) × ((repeated : IsRepeated taken places before k) × (departure.lo ≤ later repeated.earlier.hi taken.policy.hold))

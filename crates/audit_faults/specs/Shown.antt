@@ -30,19 +30,19 @@ IsOfLease Unauthentic = ⊥
 -- the departure lacked a lease, and no captured Allocate success response granted its relayed
 -- address before it to a client whose datagram may have caused it: the captures began too late
 abbrev pub MayPredate : Taken → Fault → SightId → Type 0
-MayPredate taken fault sight = IsOfLease fault × ((given : Sighting) → sighting_at taken sight ≡ Some given → HasBeginning taken given → ⊥)
+MayPredate taken fault sight = IsOfLease fault × ((departure : Sighting) → sighting_at taken sight ≡ Some departure → HasBeginning taken departure → ⊥)
 
 -- when a client whose datagram may have caused it was granted what it lacked: never in the
 -- captures; only by a request after the departure; by one that may have come before it
 abbrev pub IsWhen : Taken → Fault → Sighting → Granted → Type 0
-IsWhen taken fault given Never = WasBegun taken fault 18446744073709551615 given → ⊥
-IsWhen taken fault given Later = WasBegun taken fault 18446744073709551615 given × (WasBegun taken fault given.hi given → ⊥)
-IsWhen taken fault given Before = WasBegun taken fault given.hi given
+IsWhen taken fault departure Never = WasBegun taken fault 18446744073709551615 departure → ⊥
+IsWhen taken fault departure Later = WasBegun taken fault 18446744073709551615 departure × (WasBegun taken fault departure.hi departure → ⊥)
+IsWhen taken fault departure Before = WasBegun taken fault departure.hi departure
 
 -- a time of the grant is reported if the departure lacked a lease
-abbrev pub TellsWhen : Taken → Fault → SightId → Option Granted → Type 0
-TellsWhen taken fault sight None = IsOfLease fault → ⊥
-TellsWhen taken fault sight (Some granted) = IsOfLease fault × ((given : Sighting) → sighting_at taken sight ≡ Some given → IsWhen taken fault given granted)
+abbrev pub ReportsWhen : Taken → Fault → SightId → Option Granted → Type 0
+ReportsWhen taken fault sight None = IsOfLease fault → ⊥
+ReportsWhen taken fault sight (Some granted) = IsOfLease fault × ((departure : Sighting) → sighting_at taken sight ≡ Some departure → IsWhen taken fault departure granted)
 
 module _ (taken : Taken) (key_for : KeyFor) where
   -- the departure shows this fault and none that ranks before it; the record says whether the
@@ -50,7 +50,7 @@ module _ (taken : Taken) (key_for : KeyFor) where
   -- response, that one granted the lease, which had expired
   abbrev pub IsFirstFault : ShownFault → Type 0
   IsFirstFault shown = IsFault taken key_for shown.fault shown.sight × NoneBefore (λ earlier. IsFault taken key_for earlier shown.sight) shown.fault × (IsTrue shown.may_predate ↔ MayPredate taken shown.fault shown.sight)
-      × TellsWhen taken shown.fault shown.sight shown.granted × IfSome shown.last (IsTooEarly taken shown.fault shown.sight)
+      × ReportsWhen taken shown.fault shown.sight shown.granted × IfSome shown.last (IsTooEarly taken shown.fault shown.sight)
 
   -- All shown faults: for each departure that shows one the first, in rising order, and so once.
   pub record AreFaults (faults : List ShownFault) : Type 0 where

@@ -14,12 +14,12 @@ ghost use Rattle.audit_faults.specs.Index.{IsIndex};
 use crate::answers::answers_of;
 use crate::explains::explains;
 use crate::fault::Fault;
+use crate::first_fault::first_fault;
 use crate::index::{Index, extents_by_interface, span_in};
 use crate::keyed::Keyed;
 use crate::laws::fault_excludes;
 use crate::leased::Leases;
 use crate::requests::requests_of;
-use crate::telling::first_fault;
 use audit_keys::Credentials;
 use audit_model::{SightId, Sighting};
 use audit_sightings::Intake;
@@ -29,7 +29,7 @@ use std::alloc::{AllocError, Global};
 /// constant.
 const STEPS_A_SIGHTING: u64 = 16;
 
-const STEPS_BESIDE: u64 = 4_000_000;
+const OTHER_STEPS: u64 = 4_000_000;
 
 /// How often the sightings in reach of a departure are read: once for each fault, and once before.
 const TIMES: u64 = 6;
@@ -60,25 +60,32 @@ fn steps_for(
     index: &Index<'_>,
     credentials: &Credentials,
     most: u64,
-    given: &Sighting,
+    departure: &Sighting,
 ) -> u64
     requires { IsIndex (taken intake.now) index.now }
 {
     let mut in_reach = 0u64;
-    let mut asking = 0u64;
+    let mut arrivals = 0u64;
     'interfaces: for iface in 0..intake.interfaces() {
-        let span = span_in(intake, index, iface, given);
+        let span = span_in(intake, index, iface, departure);
         let row = intake.interface(iface);
-        'places: for asked in row.get(span.first..span.past).unwrap_or(&[]) {
+        'places: for arrival in row.get(span.first..span.past).unwrap_or(&[]) {
             in_reach = in_reach.saturating_add(1);
-            if explains(intake, index, credentials, Fault::Unasked, asked, given) {
-                asking = asking.saturating_add(1);
+            if explains(
+                intake,
+                index,
+                credentials,
+                Fault::Unasked,
+                arrival,
+                departure,
+            ) {
+                arrivals = arrivals.saturating_add(1);
             }
         }
     }
     let each = most.saturating_mul(most).saturating_mul(LEASES);
     in_reach
-        .saturating_add(asking.saturating_mul(each))
+        .saturating_add(arrivals.saturating_mul(each))
         .saturating_mul(TIMES)
 }
 
@@ -93,12 +100,12 @@ fn soon_known(
     requires { IsIndex (taken intake.now) index.now }
     ensures { IfSome result (λ fault. IsFault (taken intake.now) (key_for credentials.now) fault sight) }
 {
-    let given = intake.sighting(sight)?;
+    let departure = intake.sighting(sight)?;
     let (_, sightings) = intake.counts();
     let most_steps = u64::from(sightings)
         .saturating_mul(STEPS_A_SIGHTING)
-        .saturating_add(STEPS_BESIDE);
-    if steps_for(intake, index, credentials, most, given) > most_steps {
+        .saturating_add(OTHER_STEPS);
+    if steps_for(intake, index, credentials, most, departure) > most_steps {
         return None;
     }
     first_fault(intake, index, credentials, sight)
@@ -133,7 +140,7 @@ pub fn fault_among(
     let index = Index {
         extents: extents.as_slice(),
         leases: Some(Leases { answers, requests }),
-        asking: None,
+        arrivals: None,
     };
     let most = most_places(answers.places).max(most_places(requests.places));
     'departures: for sight in sights {

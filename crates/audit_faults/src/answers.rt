@@ -61,7 +61,7 @@ fn add_allocated(
 ) -> Result<(), AllocError>
     ensures begins { OnOk result ((parts_of success.now).method ≡ methods.ALLOCATE →
         Contains keyed.new.items (placed_as (key_of_beginning sighting.now.to) sighting.now.id sighting.now)) }
-    ensures tells { OnOk result ((parts_of success.now).method ≡ methods.ALLOCATE → (relayed : OneAddr) →
+    ensures by_address { OnOk result ((parts_of success.now).method ≡ methods.ALLOCATE → (relayed : OneAddr) →
         Names attributes.XOR_RELAYED_ADDRESS (parts_of success.now) relayed →
         Contains keyed.new.items (placed_as (key_of_relayed sighting.now.to relayed) sighting.now.id sighting.now)) }
     ensures kept { OnOk result ((one : OneKeyed) → Contains keyed.old.items one → Contains keyed.new.items one) }

@@ -3,10 +3,10 @@
 
 ghost use Rattle.std.specs.Prelude.{◌≡◌, ◌↔◌, IsTrue};
 ghost use Rattle.audit_sightings.specs.Intake.{taken};
-ghost use Rattle.audit_faults.specs.Beginning.{WasGranted, WasWanted, SentOnOnce, SentInChannelOnce, ToldOnce, ToldInChannelOnce, Begins};
+ghost use Rattle.audit_faults.specs.Beginning.{WasGranted, WasWanted, SentOnOnce, SentInChannelOnce, DeliveredOnce, DeliveredInChannelOnce, Begins};
 ghost use Rattle.audit_faults.specs.Index.{IsIndex};
 
-use crate::asks::{in_reach, sent_in_channel, sent_on, told, told_in_channel};
+use crate::causes::{delivered, delivered_in_channel, in_reach, sent_in_channel, sent_on};
 use crate::fault::{Fault, Grant, Lease};
 use crate::held::has_grant;
 use crate::index::Index;
@@ -65,23 +65,39 @@ fn sent_on_once(
     fault: Fault,
     always: &Sighting,
     left: &Sighting,
-    asked: &Sighting,
-    given: &Sighting,
+    arrival: &Sighting,
+    departure: &Sighting,
 ) -> bool
     requires index { IsIndex (taken intake.now) index.now }
     requires always { always.now.lo ≡ 0 }
-    ensures { IsTrue result ↔ SentOnOnce (taken intake.now) fault left.now.hi asked.now given.now }
+    ensures { IsTrue result ↔ SentOnOnce (taken intake.now) fault left.now.hi arrival.now departure.now }
 {
     let relayed = Lease::Allocation {
-        relayed: given.from,
+        relayed: departure.from,
     };
-    let permission = Lease::Permission { ip: given.to.ip };
-    sent_on(intake.policy(), asked, given)
+    let permission = Lease::Permission {
+        ip: departure.to.ip,
+    };
+    sent_on(intake.policy(), arrival, departure)
         && was_wanted(
-            intake, index, fault, asked.from, asked.to, relayed, always, left,
+            intake,
+            index,
+            fault,
+            arrival.from,
+            arrival.to,
+            relayed,
+            always,
+            left,
         )
         && was_wanted(
-            intake, index, fault, asked.from, asked.to, permission, always, left,
+            intake,
+            index,
+            fault,
+            arrival.from,
+            arrival.to,
+            permission,
+            always,
+            left,
         )
 }
 
@@ -92,84 +108,141 @@ fn sent_in_channel_once(
     fault: Fault,
     always: &Sighting,
     left: &Sighting,
-    asked: &Sighting,
-    given: &Sighting,
+    arrival: &Sighting,
+    departure: &Sighting,
 ) -> bool
     requires index { IsIndex (taken intake.now) index.now }
     requires always { always.now.lo ≡ 0 }
-    ensures { IsTrue result ↔ SentInChannelOnce (taken intake.now) fault left.now.hi asked.now given.now }
+    ensures { IsTrue result ↔ SentInChannelOnce (taken intake.now) fault left.now.hi arrival.now departure.now }
 {
-    let Some(number) = sent_in_channel(intake.policy(), asked, given) else {
+    let Some(number) = sent_in_channel(intake.policy(), arrival, departure) else {
         return false;
     };
     let allocation = Lease::Allocation {
-        relayed: given.from,
+        relayed: departure.from,
     };
     let channel = Lease::Channel {
         number,
-        peer: given.to,
+        peer: departure.to,
     };
     was_wanted(
-        intake, index, fault, asked.from, asked.to, allocation, always, left,
+        intake,
+        index,
+        fault,
+        arrival.from,
+        arrival.to,
+        allocation,
+        always,
+        left,
     ) && was_wanted(
-        intake, index, fault, asked.from, asked.to, channel, always, left,
+        intake,
+        index,
+        fault,
+        arrival.from,
+        arrival.to,
+        channel,
+        always,
+        left,
     )
 }
 
 /// A Data indication to a client that was ever granted an allocation and a permission.
-fn told_once(
+fn delivered_once(
     intake: &Intake,
     index: &Index<'_>,
     fault: Fault,
     always: &Sighting,
     left: &Sighting,
-    asked: &Sighting,
-    given: &Sighting,
+    arrival: &Sighting,
+    departure: &Sighting,
 ) -> bool
     requires index { IsIndex (taken intake.now) index.now }
     requires always { always.now.lo ≡ 0 }
-    ensures { IsTrue result ↔ ToldOnce (taken intake.now) fault left.now.hi asked.now given.now }
+    ensures { IsTrue result ↔ DeliveredOnce (taken intake.now) fault left.now.hi arrival.now departure.now }
 {
-    let relayed = Lease::Allocation { relayed: asked.to };
-    let permission = Lease::Permission { ip: asked.from.ip };
-    told(intake.policy(), asked, given)
+    let relayed = Lease::Allocation {
+        relayed: arrival.to,
+    };
+    let permission = Lease::Permission {
+        ip: arrival.from.ip,
+    };
+    delivered(intake.policy(), arrival, departure)
         && was_wanted(
-            intake, index, fault, given.to, given.from, relayed, always, left,
+            intake,
+            index,
+            fault,
+            departure.to,
+            departure.from,
+            relayed,
+            always,
+            left,
         )
         && was_wanted(
-            intake, index, fault, given.to, given.from, permission, always, left,
+            intake,
+            index,
+            fault,
+            departure.to,
+            departure.from,
+            permission,
+            always,
+            left,
         )
 }
 
 /// ChannelData to a client that was ever granted an allocation, a permission and the channel.
-fn told_in_channel_once(
+fn delivered_in_channel_once(
     intake: &Intake,
     index: &Index<'_>,
     fault: Fault,
     always: &Sighting,
     left: &Sighting,
-    asked: &Sighting,
-    given: &Sighting,
+    arrival: &Sighting,
+    departure: &Sighting,
 ) -> bool
     requires index { IsIndex (taken intake.now) index.now }
     requires always { always.now.lo ≡ 0 }
-    ensures { IsTrue result ↔ ToldInChannelOnce (taken intake.now) fault left.now.hi asked.now given.now }
+    ensures { IsTrue result ↔ DeliveredInChannelOnce (taken intake.now) fault left.now.hi arrival.now departure.now }
 {
-    let Some(number) = told_in_channel(intake.policy(), asked, given) else {
+    let Some(number) = delivered_in_channel(intake.policy(), arrival, departure) else {
         return false;
     };
-    let allocation = Lease::Allocation { relayed: asked.to };
-    let permission = Lease::Permission { ip: asked.from.ip };
+    let allocation = Lease::Allocation {
+        relayed: arrival.to,
+    };
+    let permission = Lease::Permission {
+        ip: arrival.from.ip,
+    };
     let channel = Lease::Channel {
         number,
-        peer: asked.from,
+        peer: arrival.from,
     };
     was_wanted(
-        intake, index, fault, given.to, given.from, allocation, always, left,
+        intake,
+        index,
+        fault,
+        departure.to,
+        departure.from,
+        allocation,
+        always,
+        left,
     ) && was_wanted(
-        intake, index, fault, given.to, given.from, permission, always, left,
+        intake,
+        index,
+        fault,
+        departure.to,
+        departure.from,
+        permission,
+        always,
+        left,
     ) && was_wanted(
-        intake, index, fault, given.to, given.from, channel, always, left,
+        intake,
+        index,
+        fault,
+        departure.to,
+        departure.from,
+        channel,
+        always,
+        left,
     )
 }
 
@@ -181,18 +254,18 @@ pub fn begins(
     fault: Fault,
     always: &Sighting,
     left: &Sighting,
-    asked: &Sighting,
-    given: &Sighting,
+    arrival: &Sighting,
+    departure: &Sighting,
 ) -> bool
     requires index { IsIndex (taken intake.now) index.now }
     requires always { always.now.lo ≡ 0 }
-    ensures { IsTrue result ↔ Begins (taken intake.now) fault left.now.hi given.now asked.now }
+    ensures { IsTrue result ↔ Begins (taken intake.now) fault left.now.hi departure.now arrival.now }
 {
-    if asked.side != Side::Arrives || !in_reach(intake.policy().hold, asked, given) {
+    if arrival.side != Side::Arrives || !in_reach(intake.policy().hold, arrival, departure) {
         return false;
     }
-    sent_on_once(intake, index, fault, always, left, asked, given)
-        || sent_in_channel_once(intake, index, fault, always, left, asked, given)
-        || told_once(intake, index, fault, always, left, asked, given)
-        || told_in_channel_once(intake, index, fault, always, left, asked, given)
+    sent_on_once(intake, index, fault, always, left, arrival, departure)
+        || sent_in_channel_once(intake, index, fault, always, left, arrival, departure)
+        || delivered_once(intake, index, fault, always, left, arrival, departure)
+        || delivered_in_channel_once(intake, index, fault, always, left, arrival, departure)
 }

@@ -10,21 +10,21 @@ ghost use Rattle.audit_server.specs.Step.{Step};
 ghost use Rattle.audit_whole.specs.CaptureRun.{rules_for, IsCaptureRun};
 ghost use Rattle.audit_whole.specs.Conforms.{Conforms};
 ghost use Rattle.audit_faults.specs.Beginning.{HasBeginning};
-ghost use Rattle.audit_faults.specs.Index.{AreAsked, IsIndex};
-ghost use Rattle.audit_faults.specs.Shown.{AreFaults, AreFaultsBefore, IsOfLease, MayPredate, IsWhen, TellsWhen};
+ghost use Rattle.audit_faults.specs.Index.{AreArrivals, IsIndex};
+ghost use Rattle.audit_faults.specs.Shown.{AreFaults, AreFaultsBefore, IsOfLease, MayPredate, IsWhen, ReportsWhen};
 
 use crate::answers::answers_of;
-use crate::asked::asking_of;
+use crate::arrival_keys::arrivals_of;
 use crate::begun::was_begun;
 use crate::fault::{Fault, Granted, ShownFault};
+use crate::first_fault::first_fault;
 use crate::index::{Index, extents_by_interface};
 use crate::last_grant::last_grant;
 use crate::laws::fault_excludes;
 use crate::leased::Leases;
 use crate::repeat_blocks::blocks_of;
-use crate::repeats::{Asking, repeats_of};
+use crate::repeats::{Arrivals, repeats_of};
 use crate::requests::requests_of;
-use crate::telling::first_fault;
 use audit_keys::Credentials;
 use audit_model::{Addr, Payload, Side, SightId, Sighting};
 use audit_sightings::Intake;
@@ -50,27 +50,27 @@ fn is_of_lease(fault: Fault) -> bool
 fn lacks_beginning(
     intake: &Intake,
     index: &Index<'_>,
-    asking: Asking<'_>,
+    arrivals: Arrivals<'_>,
     always: &Sighting,
     sight: SightId,
 ) -> bool
     requires index { IsIndex (taken intake.now) index.now }
-    requires asking { AreAsked (taken intake.now) asking }
+    requires arrivals { AreArrivals (taken intake.now) arrivals }
     requires always { always.now.lo ≡ 0 }
     requires there { IsSome (sighting_at (taken intake.now) sight) }
-    ensures { IsTrue result ↔ ((given : OneSighting) → sighting_at (taken intake.now) sight ≡ Some given → HasBeginning (taken intake.now) given → ⊥) }
+    ensures { IsTrue result ↔ ((departure : OneSighting) → sighting_at (taken intake.now) sight ≡ Some departure → HasBeginning (taken intake.now) departure → ⊥) }
 {
-    let Some(given) = intake.sighting(sight) else {
+    let Some(departure) = intake.sighting(sight) else {
         return false;
     };
     if was_begun(
         intake,
-        asking,
+        arrivals,
         index,
         Fault::Unallocated,
         always,
-        given,
-        given,
+        departure,
+        departure,
     ) {
         return false;
     }
@@ -81,39 +81,39 @@ fn lacks_beginning(
 fn may_predate(
     intake: &Intake,
     index: &Index<'_>,
-    asking: Asking<'_>,
+    arrivals: Arrivals<'_>,
     always: &Sighting,
     fault: Fault,
     sight: SightId,
 ) -> bool
     requires index { IsIndex (taken intake.now) index.now }
-    requires asking { AreAsked (taken intake.now) asking }
+    requires arrivals { AreArrivals (taken intake.now) arrivals }
     requires always { always.now.lo ≡ 0 }
     requires there { IsSome (sighting_at (taken intake.now) sight) }
     ensures { IsTrue result ↔ MayPredate (taken intake.now) fault sight }
 {
-    is_of_lease(fault) && lacks_beginning(intake, index, asking, always, sight)
+    is_of_lease(fault) && lacks_beginning(intake, index, arrivals, always, sight)
 }
 
 /// When a client whose datagram may have caused the departure was granted what it lacked.
 fn when(
     intake: &Intake,
     index: &Index<'_>,
-    asking: Asking<'_>,
+    arrivals: Arrivals<'_>,
     always: &Sighting,
     fault: Fault,
-    given: &Sighting,
+    departure: &Sighting,
 ) -> Granted
     requires index { IsIndex (taken intake.now) index.now }
-    requires asking { AreAsked (taken intake.now) asking }
+    requires arrivals { AreArrivals (taken intake.now) arrivals }
     requires first { always.now.lo ≡ 0 }
     requires last { always.now.hi ≡ 18446744073709551615 }
-    ensures { IsWhen (taken intake.now) fault given.now result }
+    ensures { IsWhen (taken intake.now) fault departure.now result }
 {
-    if was_begun(intake, asking, index, fault, always, given, given) {
+    if was_begun(intake, arrivals, index, fault, always, departure, departure) {
         return Granted::Before;
     }
-    if was_begun(intake, asking, index, fault, always, always, given) {
+    if was_begun(intake, arrivals, index, fault, always, always, departure) {
         return Granted::Later;
     }
     Granted::Never
@@ -123,23 +123,23 @@ fn when(
 fn granted_when(
     intake: &Intake,
     index: &Index<'_>,
-    asking: Asking<'_>,
+    arrivals: Arrivals<'_>,
     always: &Sighting,
     fault: Fault,
     sight: SightId,
 ) -> Option<Granted>
     requires index { IsIndex (taken intake.now) index.now }
-    requires asking { AreAsked (taken intake.now) asking }
+    requires arrivals { AreArrivals (taken intake.now) arrivals }
     requires first { always.now.lo ≡ 0 }
     requires last { always.now.hi ≡ 18446744073709551615 }
     requires there { IsSome (sighting_at (taken intake.now) sight) }
-    ensures { TellsWhen (taken intake.now) fault sight result }
+    ensures { ReportsWhen (taken intake.now) fault sight result }
 {
-    let Some(given) = intake.sighting(sight) else {
+    let Some(departure) = intake.sighting(sight) else {
         return None;
     };
     if is_of_lease(fault) {
-        return Some(when(intake, index, asking, always, fault, given));
+        return Some(when(intake, index, arrivals, always, fault, departure));
     }
     None
 }
@@ -167,14 +167,14 @@ fn of_all_moments(alloc: Global) -> Result<Sighting, AllocError>
 fn add_of_sighting(
     intake: &Intake,
     index: &Index<'_>,
-    asking: Asking<'_>,
+    arrivals: Arrivals<'_>,
     always: &Sighting,
     credentials: &Credentials,
     sight: SightId,
     faults: &mut Vec<ShownFault>,
 ) -> Result<(), AllocError>
     requires index { IsIndex (taken intake.now) index.now }
-    requires asking { AreAsked (taken intake.now) asking }
+    requires arrivals { AreArrivals (taken intake.now) arrivals }
     requires first { always.now.lo ≡ 0 }
     requires last { always.now.hi ≡ 18446744073709551615 }
     requires so_far { AreFaultsBefore (taken intake.now) (key_for credentials.now) sight faults.old.items }
@@ -182,9 +182,9 @@ fn add_of_sighting(
         (record { iface = sight.iface; index = sight.index + 1 }) faults.new.items) }
 {
     if let Some(fault) = first_fault(intake, index, credentials, sight) {
-        let may_predate = may_predate(intake, index, asking, always, fault, sight);
-        let granted = granted_when(intake, index, asking, always, fault, sight);
-        let last = last_grant(intake, index, asking, always, credentials, fault, sight);
+        let may_predate = may_predate(intake, index, arrivals, always, fault, sight);
+        let granted = granted_when(intake, index, arrivals, always, fault, sight);
+        let last = last_grant(intake, index, arrivals, always, credentials, fault, sight);
         faults.push(ShownFault {
             sight,
             fault,
@@ -200,14 +200,14 @@ fn add_of_sighting(
 fn add_of_interface(
     intake: &Intake,
     index: &Index<'_>,
-    asking: Asking<'_>,
+    arrivals: Arrivals<'_>,
     always: &Sighting,
     credentials: &Credentials,
     iface: u32,
     faults: &mut Vec<ShownFault>,
 ) -> Result<(), AllocError>
     requires index { IsIndex (taken intake.now) index.now }
-    requires asking { AreAsked (taken intake.now) asking }
+    requires arrivals { AreArrivals (taken intake.now) arrivals }
     requires first { always.now.lo ≡ 0 }
     requires last { always.now.hi ≡ 18446744073709551615 }
     requires so_far { AreFaultsBefore (taken intake.now) (key_for credentials.now) (record { iface = iface; index = 0 }) faults.old.items }
@@ -218,7 +218,7 @@ fn add_of_interface(
         add_of_sighting(
             intake,
             index,
-            asking,
+            arrivals,
             always,
             credentials,
             sighting.id,
@@ -252,13 +252,13 @@ pub fn shown_faults(
     let answers = answers_kept.by_key();
     let requests_kept = requests_of(alloc, intake, answers)?;
     let requests = requests_kept.by_key();
-    let asking_kept = asking_of(alloc, intake)?;
-    let by_key = asking_kept.by_key();
+    let kept_arrivals = arrivals_of(alloc, intake)?;
+    let by_key = kept_arrivals.by_key();
     let repeats_kept = repeats_of(alloc, intake, by_key.places)?;
     let repeats = repeats_kept.as_slice();
     let blocks_kept = blocks_of(alloc, intake, by_key.places, repeats)?;
     let blocks = blocks_kept.as_slice();
-    let asking = Asking {
+    let arrivals = Arrivals {
         by_key,
         repeats,
         blocks,
@@ -266,7 +266,7 @@ pub fn shown_faults(
     let index = Index {
         extents: extents.as_slice(),
         leases: Some(Leases { answers, requests }),
-        asking: Some(asking),
+        arrivals: Some(arrivals),
     };
     let always = of_all_moments(alloc)?;
     let mut faults = Vec::new(alloc);
@@ -274,7 +274,7 @@ pub fn shown_faults(
         add_of_interface(
             intake,
             &index,
-            asking,
+            arrivals,
             &always,
             credentials,
             iface,

@@ -7,10 +7,12 @@ ghost use Rattle.audit_keys.specs.KeyFor.{key_for};
 ghost use Rattle.audit_faults.specs.Index.{IsIndex};
 ghost use Rattle.audit_stun.specs.Message.{IsMessage};
 ghost use Rattle.audit_stun.specs.Parts.{parts_of};
-ghost use Rattle.audit_faults.specs.Asks.{AnswersAnybody, IsByUser, Responds};
-ghost use Rattle.audit_faults.specs.Explains.{Holds, SentOnHeld, SentInChannelHeld, ToldHeld, ToldInChannelHeld, IsProved, Explains};
+ghost use Rattle.audit_faults.specs.Causes.{AnswersAnybody, IsByUser, Responds};
+ghost use Rattle.audit_faults.specs.Explains.{Holds, SentOnHeld, SentInChannelHeld, DeliveredHeld, DeliveredInChannelHeld, IsProved, Explains};
 
-use crate::asks::{in_reach, responds, sent_in_channel, sent_on, told, told_in_channel};
+use crate::causes::{
+    delivered, delivered_in_channel, in_reach, responds, sent_in_channel, sent_on,
+};
 use crate::fault::{Fault, Grant, Lease};
 use crate::fits::is_fit;
 use crate::held::has_grant;
@@ -30,11 +32,11 @@ pub fn holds(
     client: Addr,
     listen: Addr,
     lease: Lease,
-    asked: &Sighting,
-    given: &Sighting,
+    arrival: &Sighting,
+    departure: &Sighting,
 ) -> bool
     requires { IsIndex (taken intake.now) index.now }
-    ensures { IsTrue result ↔ Holds (taken intake.now) fault client listen lease asked.now given.now }
+    ensures { IsTrue result ↔ Holds (taken intake.now) fault client listen lease arrival.now departure.now }
 {
     let grant = Grant {
         client,
@@ -46,7 +48,7 @@ pub fn holds(
         (Fault::Unallocated, Lease::Permission { ip: _ }) => true,
         (Fault::Unallocated, Lease::Channel { number: _, peer: _ }) => true,
         (Fault::Unpermitted, Lease::Channel { number: _, peer: _ }) => true,
-        _ => has_grant(intake, index, &grant, asked, given),
+        _ => has_grant(intake, index, &grant, arrival, departure),
     }
 }
 
@@ -55,22 +57,38 @@ fn sent_on_held(
     intake: &Intake,
     index: &Index<'_>,
     fault: Fault,
-    asked: &Sighting,
-    given: &Sighting,
+    arrival: &Sighting,
+    departure: &Sighting,
 ) -> bool
     requires { IsIndex (taken intake.now) index.now }
-    ensures { IsTrue result ↔ SentOnHeld (taken intake.now) fault asked.now given.now }
+    ensures { IsTrue result ↔ SentOnHeld (taken intake.now) fault arrival.now departure.now }
 {
     let relayed = Lease::Allocation {
-        relayed: given.from,
+        relayed: departure.from,
     };
-    let permission = Lease::Permission { ip: given.to.ip };
-    sent_on(intake.policy(), asked, given)
+    let permission = Lease::Permission {
+        ip: departure.to.ip,
+    };
+    sent_on(intake.policy(), arrival, departure)
         && holds(
-            intake, index, fault, asked.from, asked.to, relayed, asked, given,
+            intake,
+            index,
+            fault,
+            arrival.from,
+            arrival.to,
+            relayed,
+            arrival,
+            departure,
         )
         && holds(
-            intake, index, fault, asked.from, asked.to, permission, asked, given,
+            intake,
+            index,
+            fault,
+            arrival.from,
+            arrival.to,
+            permission,
+            arrival,
+            departure,
         )
 }
 
@@ -79,90 +97,147 @@ fn sent_in_channel_held(
     intake: &Intake,
     index: &Index<'_>,
     fault: Fault,
-    asked: &Sighting,
-    given: &Sighting,
+    arrival: &Sighting,
+    departure: &Sighting,
 ) -> bool
     requires { IsIndex (taken intake.now) index.now }
-    ensures { IsTrue result ↔ SentInChannelHeld (taken intake.now) fault asked.now given.now }
+    ensures { IsTrue result ↔ SentInChannelHeld (taken intake.now) fault arrival.now departure.now }
 {
-    let Some(number) = sent_in_channel(intake.policy(), asked, given) else {
+    let Some(number) = sent_in_channel(intake.policy(), arrival, departure) else {
         return false;
     };
     let relayed = Lease::Allocation {
-        relayed: given.from,
+        relayed: departure.from,
     };
     let channel = Lease::Channel {
         number,
-        peer: given.to,
+        peer: departure.to,
     };
     holds(
-        intake, index, fault, asked.from, asked.to, relayed, asked, given,
+        intake,
+        index,
+        fault,
+        arrival.from,
+        arrival.to,
+        relayed,
+        arrival,
+        departure,
     ) && holds(
-        intake, index, fault, asked.from, asked.to, channel, asked, given,
+        intake,
+        index,
+        fault,
+        arrival.from,
+        arrival.to,
+        channel,
+        arrival,
+        departure,
     )
 }
 
 /// A Data indication, with an allocation and a permission.
-fn told_held(
+fn delivered_held(
     intake: &Intake,
     index: &Index<'_>,
     fault: Fault,
-    asked: &Sighting,
-    given: &Sighting,
+    arrival: &Sighting,
+    departure: &Sighting,
 ) -> bool
     requires { IsIndex (taken intake.now) index.now }
-    ensures { IsTrue result ↔ ToldHeld (taken intake.now) fault asked.now given.now }
+    ensures { IsTrue result ↔ DeliveredHeld (taken intake.now) fault arrival.now departure.now }
 {
-    let relayed = Lease::Allocation { relayed: asked.to };
-    let permission = Lease::Permission { ip: asked.from.ip };
-    told(intake.policy(), asked, given)
+    let relayed = Lease::Allocation {
+        relayed: arrival.to,
+    };
+    let permission = Lease::Permission {
+        ip: arrival.from.ip,
+    };
+    delivered(intake.policy(), arrival, departure)
         && holds(
-            intake, index, fault, given.to, given.from, relayed, asked, given,
+            intake,
+            index,
+            fault,
+            departure.to,
+            departure.from,
+            relayed,
+            arrival,
+            departure,
         )
         && holds(
-            intake, index, fault, given.to, given.from, permission, asked, given,
+            intake,
+            index,
+            fault,
+            departure.to,
+            departure.from,
+            permission,
+            arrival,
+            departure,
         )
 }
 
 /// ChannelData to a client, with an allocation, a permission and a channel.
-fn told_in_channel_held(
+fn delivered_in_channel_held(
     intake: &Intake,
     index: &Index<'_>,
     fault: Fault,
-    asked: &Sighting,
-    given: &Sighting,
+    arrival: &Sighting,
+    departure: &Sighting,
 ) -> bool
     requires { IsIndex (taken intake.now) index.now }
-    ensures { IsTrue result ↔ ToldInChannelHeld (taken intake.now) fault asked.now given.now }
+    ensures { IsTrue result ↔ DeliveredInChannelHeld (taken intake.now) fault arrival.now departure.now }
 {
-    let Some(number) = told_in_channel(intake.policy(), asked, given) else {
+    let Some(number) = delivered_in_channel(intake.policy(), arrival, departure) else {
         return false;
     };
-    let relayed = Lease::Allocation { relayed: asked.to };
-    let permission = Lease::Permission { ip: asked.from.ip };
+    let relayed = Lease::Allocation {
+        relayed: arrival.to,
+    };
+    let permission = Lease::Permission {
+        ip: arrival.from.ip,
+    };
     let channel = Lease::Channel {
         number,
-        peer: asked.from,
+        peer: arrival.from,
     };
     holds(
-        intake, index, fault, given.to, given.from, relayed, asked, given,
+        intake,
+        index,
+        fault,
+        departure.to,
+        departure.from,
+        relayed,
+        arrival,
+        departure,
     ) && holds(
-        intake, index, fault, given.to, given.from, permission, asked, given,
+        intake,
+        index,
+        fault,
+        departure.to,
+        departure.from,
+        permission,
+        arrival,
+        departure,
     ) && holds(
-        intake, index, fault, given.to, given.from, channel, asked, given,
+        intake,
+        index,
+        fault,
+        departure.to,
+        departure.from,
+        channel,
+        arrival,
+        departure,
     )
 }
 
 /// Whether the response is one that anybody may get, or its request is authentic by a user.
-fn is_proved(credentials: &Credentials, asked: &[u8], given: &[u8]) -> bool
-    requires asked { IsMessage asked.now (parts_of asked.now) }
-    requires given { IsMessage given.now (parts_of given.now) }
-    ensures { IsTrue result ↔ (AnswersAnybody given.now ⊎ IsByUser (key_for credentials.now) asked.now) }
+fn is_proved(credentials: &Credentials, arrival: &[u8], departure: &[u8]) -> bool
+    requires arrival { IsMessage arrival.now (parts_of arrival.now) }
+    requires departure { IsMessage departure.now (parts_of departure.now) }
+    ensures { IsTrue result ↔ (AnswersAnybody departure.now ⊎ IsByUser (key_for credentials.now) arrival.now) }
 {
-    let Some(response) = message_in(given) else {
+    let Some(response) = message_in(departure) else {
         return false;
     };
-    let Some(request) = message_in(asked) else {
+    let Some(request) = message_in(arrival) else {
         return false;
     };
     if response.class() == Class::Error || response.method() == BINDING {
@@ -177,12 +252,12 @@ fn responds_held(
     policy: &Policy,
     credentials: &Credentials,
     fault: Fault,
-    asked: &Sighting,
-    given: &Sighting,
+    arrival: &Sighting,
+    departure: &Sighting,
 ) -> bool
-    ensures { IsTrue result ↔ (Responds policy.now asked.now given.now × IsProved (key_for credentials.now) fault asked.now given.now) }
+    ensures { IsTrue result ↔ (Responds policy.now arrival.now departure.now × IsProved (key_for credentials.now) fault arrival.now departure.now) }
 {
-    if !responds(policy, asked, given) {
+    if !responds(policy, arrival, departure) {
         return false;
     }
     match fault {
@@ -190,13 +265,13 @@ fn responds_held(
         Fault::Unallocated => true,
         Fault::Unpermitted => true,
         Fault::Unbound => true,
-        Fault::Unfit => is_fit(asked, given),
+        Fault::Unfit => is_fit(arrival, departure),
         Fault::Unauthentic => {
-            is_fit(asked, given)
+            is_fit(arrival, departure)
                 && is_proved(
                     credentials,
-                    asked.payload.as_slice(),
-                    given.payload.as_slice(),
+                    arrival.payload.as_slice(),
+                    departure.payload.as_slice(),
                 )
         }
     }
@@ -209,18 +284,18 @@ pub fn explains(
     index: &Index<'_>,
     credentials: &Credentials,
     fault: Fault,
-    asked: &Sighting,
-    given: &Sighting,
+    arrival: &Sighting,
+    departure: &Sighting,
 ) -> bool
     requires { IsIndex (taken intake.now) index.now }
-    ensures { IsTrue result ↔ Explains (taken intake.now) (key_for credentials.now) fault asked.now given.now }
+    ensures { IsTrue result ↔ Explains (taken intake.now) (key_for credentials.now) fault arrival.now departure.now }
 {
-    if asked.side != Side::Arrives || !in_reach(intake.policy().hold, asked, given) {
+    if arrival.side != Side::Arrives || !in_reach(intake.policy().hold, arrival, departure) {
         return false;
     }
-    responds_held(intake.policy(), credentials, fault, asked, given)
-        || sent_on_held(intake, index, fault, asked, given)
-        || sent_in_channel_held(intake, index, fault, asked, given)
-        || told_held(intake, index, fault, asked, given)
-        || told_in_channel_held(intake, index, fault, asked, given)
+    responds_held(intake.policy(), credentials, fault, arrival, departure)
+        || sent_on_held(intake, index, fault, arrival, departure)
+        || sent_in_channel_held(intake, index, fault, arrival, departure)
+        || delivered_held(intake, index, fault, arrival, departure)
+        || delivered_in_channel_held(intake, index, fault, arrival, departure)
 }

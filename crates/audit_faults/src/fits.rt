@@ -4,7 +4,7 @@ ghost use Rattle.std.specs.Prelude.{◌≡◌, ◌⊎◌, ◌↔◌, IsTrue};
 ghost use Rattle.audit_model.specs.declared.sighting.Sighting.{Sighting as OneSighting};
 ghost use Rattle.audit_stun.specs.Message.{IsMessage};
 ghost use Rattle.audit_stun.specs.Parts.{parts_of};
-ghost use Rattle.audit_faults.specs.Fits.{TellsClient, TellsLifetime, AsksChannel, SuccessFits, Challenges, AsksOther, ErrorFits, IsFit};
+ghost use Rattle.audit_faults.specs.Fits.{NamesClient, FitsLifetime, RequestsChannel, SuccessFits, Challenges, RequestsOther, ErrorFits, IsFit};
 
 use crate::values::{
     address_in, channel_number_in, error_code_in, lifetime_in, message_in, transport_in,
@@ -25,15 +25,15 @@ const LEAST_CHANNEL: u16 = 0x4000;
 const GREATEST_CHANNEL: u16 = 0x4FFF;
 
 /// Whether a success response has the client's own address.
-fn tells_client(response: &Message<'_>, client: Addr) -> bool
-    ensures { IsTrue result ↔ TellsClient response.now client }
+fn names_client(response: &Message<'_>, client: Addr) -> bool
+    ensures { IsTrue result ↔ NamesClient response.now client }
 {
     address_in(response, XOR_MAPPED_ADDRESS) == Some(client)
 }
 
 /// Whether a Refresh success response has a lifetime, which is 0 exactly if the request's is 0.
-fn tells_lifetime(request: &Message<'_>, response: &Message<'_>) -> bool
-    ensures { IsTrue result ↔ TellsLifetime request.now response.now }
+fn fits_lifetime(request: &Message<'_>, response: &Message<'_>) -> bool
+    ensures { IsTrue result ↔ FitsLifetime request.now response.now }
 {
     let Some(seconds) = lifetime_in(response) else {
         return false;
@@ -46,8 +46,8 @@ fn tells_lifetime(request: &Message<'_>, response: &Message<'_>) -> bool
 }
 
 /// Whether a request has a channel number and a peer.
-fn asks_channel(request: &Message<'_>) -> bool
-    ensures { IsTrue result ↔ AsksChannel request.now }
+fn requests_channel(request: &Message<'_>) -> bool
+    ensures { IsTrue result ↔ RequestsChannel request.now }
 {
     let Some(number) = channel_number_in(request) else {
         return false;
@@ -64,13 +64,13 @@ fn success_fits(request: &Message<'_>, response: &Message<'_>, client: Addr) -> 
 {
     let method = response.method();
     if method == BINDING || method == ALLOCATE {
-        return tells_client(response, client);
+        return names_client(response, client);
     }
     if method == REFRESH {
-        return tells_lifetime(request, response);
+        return fits_lifetime(request, response);
     }
     if method == CHANNEL_BIND {
-        return asks_channel(request);
+        return requests_channel(request);
     }
     method == CREATE_PERMISSION
 }
@@ -83,8 +83,8 @@ fn challenges(response: &Message<'_>) -> bool
 }
 
 /// Whether it is an Allocate request for another transport than UDP.
-fn asks_other(request: &Message<'_>) -> bool
-    ensures { IsTrue result ↔ AsksOther request.now }
+fn requests_other(request: &Message<'_>) -> bool
+    ensures { IsTrue result ↔ RequestsOther request.now }
 {
     let Some(protocol) = transport_in(request) else {
         return false;
@@ -106,25 +106,25 @@ fn error_fits(request: &Message<'_>, response: &Message<'_>) -> bool
         return response.first(UNKNOWN_ATTRIBUTES).is_some();
     }
     if code == 442 {
-        return asks_other(request);
+        return requests_other(request);
     }
     true
 }
 
 /// Whether a response fits its request.
-pub fn is_fit(asked: &Sighting, given: &Sighting) -> bool
-    requires asked { IsMessage asked.now.payload (parts_of asked.now.payload) }
-    requires given { IsMessage given.now.payload (parts_of given.now.payload) }
-    ensures { IsTrue result ↔ IsFit asked.now given.now }
+pub fn is_fit(arrival: &Sighting, departure: &Sighting) -> bool
+    requires arrival { IsMessage arrival.now.payload (parts_of arrival.now.payload) }
+    requires departure { IsMessage departure.now.payload (parts_of departure.now.payload) }
+    ensures { IsTrue result ↔ IsFit arrival.now departure.now }
 {
-    let Some(response) = message_in(given.payload.as_slice()) else {
+    let Some(response) = message_in(departure.payload.as_slice()) else {
         return false;
     };
-    let Some(request) = message_in(asked.payload.as_slice()) else {
+    let Some(request) = message_in(arrival.payload.as_slice()) else {
         return false;
     };
     match response.class() {
-        Class::Success => success_fits(&request, &response, given.to),
+        Class::Success => success_fits(&request, &response, departure.to),
         Class::Error => error_fits(&request, &response),
         Class::Request => true,
         Class::Indication => true,

@@ -12,7 +12,7 @@ use crate::fault::Grant;
 use crate::keyed::{ByKey, span_of_key};
 use crate::lease_keys::answer_key;
 use crate::leased::Leases;
-use crate::leases::{least_asked, requests, succeeds};
+use crate::leases::{least_request, requests, succeeds};
 use crate::values::message_in;
 use audit_model::{Addr, SightId, Sighting};
 use audit_sightings::Intake;
@@ -41,17 +41,17 @@ fn is_success_at(
     intake: &Intake,
     sight: SightId,
     grant: &Grant,
-    asked: &Sighting,
+    arrival: &Sighting,
     request: &Sighting,
 ) -> bool
     requires { IsMessage request.now.payload (parts_of request.now.payload) }
     ensures { IsTrue result ↔ ((success : OneSighting) × (sighting_at (taken intake.now) sight ≡ Some success)
-        × Succeeds (taken intake.now).policy grant.now asked.now request.now success) }
+        × Succeeds (taken intake.now).policy grant.now arrival.now request.now success) }
 {
     let Some(success) = intake.sighting(sight) else {
         return false;
     };
-    succeeds(intake.policy(), grant, asked, request, success)
+    succeeds(intake.policy(), grant, arrival, request, success)
 }
 
 /// Whether the success response to the request was captured. The last one is tried first.
@@ -59,14 +59,14 @@ fn is_succeeded(
     intake: &Intake,
     answers: ByKey<'_>,
     grant: &Grant,
-    asked: &Sighting,
+    arrival: &Sighting,
     request: &Sighting,
 ) -> bool
     requires answers { AreAnswers (taken intake.now) answers }
     requires message { IsMessage request.now.payload (parts_of request.now.payload) }
     requires method { IsLeaseMethod (parts_of request.now.payload).method }
     ensures { IsTrue result ↔ ((success : OneSighting) × IsCaptured (taken intake.now) success
-        × Succeeds (taken intake.now).policy grant.now asked.now request.now success) }
+        × Succeeds (taken intake.now).policy grant.now arrival.now request.now success) }
 {
     let key = answer_key_to(grant.client, request.payload.as_slice());
     let first = narrowly_before(request.lo, answers.width);
@@ -74,7 +74,7 @@ fn is_succeeded(
     let mut place = span.past;
     'places: while span.first < place {
         place -= 1;
-        if is_success_at(intake, answers.places[place].sight, grant, asked, request) {
+        if is_success_at(intake, answers.places[place].sight, grant, arrival, request) {
             return true;
         }
     }
@@ -86,16 +86,16 @@ fn is_granted(
     intake: &Intake,
     answers: ByKey<'_>,
     grant: &Grant,
-    asked: &Sighting,
-    given: &Sighting,
+    arrival: &Sighting,
+    departure: &Sighting,
     request: &Sighting,
 ) -> bool
     requires { AreAnswers (taken intake.now) answers }
-    ensures { IsTrue result ↔ IsGranted (taken intake.now) grant.now asked.now given.now request.now }
+    ensures { IsTrue result ↔ IsGranted (taken intake.now) grant.now arrival.now departure.now request.now }
 {
-    requests(intake.policy(), grant, asked, given, request)
+    requests(intake.policy(), grant, arrival, departure, request)
         && message_in(request.payload.as_slice()).is_some()
-        && is_succeeded(intake, answers, grant, asked, request)
+        && is_succeeded(intake, answers, grant, arrival, request)
 }
 
 /// Whether the sighting of that id is such a request.
@@ -104,17 +104,17 @@ fn is_granted_at(
     answers: ByKey<'_>,
     sight: SightId,
     grant: &Grant,
-    asked: &Sighting,
-    given: &Sighting,
+    arrival: &Sighting,
+    departure: &Sighting,
 ) -> bool
     requires { AreAnswers (taken intake.now) answers }
     ensures { IsTrue result ↔ ((request : OneSighting) × (sighting_at (taken intake.now) sight ≡ Some request)
-        × IsGranted (taken intake.now) grant.now asked.now given.now request) }
+        × IsGranted (taken intake.now) grant.now arrival.now departure.now request) }
 {
     let Some(request) = intake.sighting(sight) else {
         return false;
     };
-    is_granted(intake, answers, grant, asked, given, request)
+    is_granted(intake, answers, grant, arrival, departure, request)
 }
 
 /// Whether such a request with the key was captured. The last one is tried first.
@@ -123,16 +123,16 @@ pub fn granted_by(
     listed: Leases<'_>,
     key: u64,
     grant: &Grant,
-    asked: &Sighting,
-    given: &Sighting,
+    arrival: &Sighting,
+    departure: &Sighting,
 ) -> bool
     requires { AreLeases (taken intake.now) listed }
-    ensures some { IsTrue result → HasGrant (taken intake.now) grant.now asked.now given.now }
+    ensures some { IsTrue result → HasGrant (taken intake.now) grant.now arrival.now departure.now }
     ensures all { (request : OneSighting) → IsCaptured (taken intake.now) request → IsRequestBy (taken intake.now) key request →
-        IsGranted (taken intake.now) grant.now asked.now given.now request → IsTrue result }
+        IsGranted (taken intake.now) grant.now arrival.now departure.now request → IsTrue result }
 {
-    let first = least_asked(intake.policy(), grant.lease, asked, listed.requests.width);
-    let span = span_of_key(listed.requests.places, key, first, given.hi);
+    let first = least_request(intake.policy(), grant.lease, arrival, listed.requests.width);
+    let span = span_of_key(listed.requests.places, key, first, departure.hi);
     let mut place = span.past;
     'places: while span.first < place {
         place -= 1;
@@ -141,8 +141,8 @@ pub fn granted_by(
             listed.answers,
             listed.requests.places[place].sight,
             grant,
-            asked,
-            given,
+            arrival,
+            departure,
         ) {
             return true;
         }

@@ -23,15 +23,15 @@ fn has_permission(
     listed: Leases<'_>,
     ip: u32,
     grant: &Grant,
-    asked: &Sighting,
-    given: &Sighting,
+    arrival: &Sighting,
+    departure: &Sighting,
 ) -> bool
     requires listed { AreLeases (taken intake.now) listed }
     requires lease { grant.now.lease ≡ leases.Permission ip }
-    ensures { IsTrue result ↔ HasGrant (taken intake.now) grant.now asked.now given.now }
+    ensures { IsTrue result ↔ HasGrant (taken intake.now) grant.now arrival.now departure.now }
 {
     let key = permission_key(grant.client, ip);
-    granted_by(intake, listed, key, grant, asked, given)
+    granted_by(intake, listed, key, grant, arrival, departure)
 }
 
 /// Whether a channel was bound.
@@ -41,15 +41,15 @@ fn has_channel(
     number: u16,
     peer: Addr,
     grant: &Grant,
-    asked: &Sighting,
-    given: &Sighting,
+    arrival: &Sighting,
+    departure: &Sighting,
 ) -> bool
     requires listed { AreLeases (taken intake.now) listed }
     requires lease { grant.now.lease ≡ leases.Channel number peer }
-    ensures { IsTrue result ↔ HasGrant (taken intake.now) grant.now asked.now given.now }
+    ensures { IsTrue result ↔ HasGrant (taken intake.now) grant.now arrival.now departure.now }
 {
     let key = channel_key(grant.client, number, peer);
-    granted_by(intake, listed, key, grant, asked, given)
+    granted_by(intake, listed, key, grant, arrival, departure)
 }
 
 /// Whether the lease was granted, searched by key.
@@ -57,19 +57,19 @@ fn has_grant_by_keys(
     intake: &Intake,
     listed: Leases<'_>,
     grant: &Grant,
-    asked: &Sighting,
-    given: &Sighting,
+    arrival: &Sighting,
+    departure: &Sighting,
 ) -> bool
     requires { AreLeases (taken intake.now) listed }
-    ensures { IsTrue result ↔ HasGrant (taken intake.now) grant.now asked.now given.now }
+    ensures { IsTrue result ↔ HasGrant (taken intake.now) grant.now arrival.now departure.now }
 {
     match grant.lease {
         Lease::Allocation { relayed } => {
-            has_allocation(intake, listed, relayed, grant, asked, given)
+            has_allocation(intake, listed, relayed, grant, arrival, departure)
         }
-        Lease::Permission { ip } => has_permission(intake, listed, ip, grant, asked, given),
+        Lease::Permission { ip } => has_permission(intake, listed, ip, grant, arrival, departure),
         Lease::Channel { number, peer } => {
-            has_channel(intake, listed, number, peer, grant, asked, given)
+            has_channel(intake, listed, number, peer, grant, arrival, departure)
         }
     }
 }
@@ -79,14 +79,14 @@ pub fn has_grant(
     intake: &Intake,
     index: &Index<'_>,
     grant: &Grant,
-    asked: &Sighting,
-    given: &Sighting,
+    arrival: &Sighting,
+    departure: &Sighting,
 ) -> bool
     requires { IsIndex (taken intake.now) index.now }
-    ensures { IsTrue result ↔ HasGrant (taken intake.now) grant.now asked.now given.now }
+    ensures { IsTrue result ↔ HasGrant (taken intake.now) grant.now arrival.now departure.now }
 {
     match index.leases {
-        Some(listed) => has_grant_by_keys(intake, listed, grant, asked, given),
-        None => has_grant_somewhere(intake, grant, asked, given),
+        Some(listed) => has_grant_by_keys(intake, listed, grant, arrival, departure),
+        None => has_grant_somewhere(intake, grant, arrival, departure),
     }
 }

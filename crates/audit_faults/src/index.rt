@@ -7,7 +7,7 @@ ghost use Rattle.audit_faults.specs.Reach.{AreExtents, OutsideIsOut};
 
 use crate::leased::Leases;
 use crate::reach::{Extents, Span, extents_of, span_of};
-use crate::repeats::Asking;
+use crate::repeats::Arrivals;
 use audit_model::Sighting;
 use audit_sightings::Intake;
 use std::alloc::{AllocError, Global};
@@ -20,7 +20,7 @@ pub struct Index<'a> {
     /// The requests for leases and their success responses.
     pub leases: Option<Leases<'a>>,
     /// All arrivals, by what they request.
-    pub asking: Option<Asking<'a>>,
+    pub arrivals: Option<Arrivals<'a>>,
 }
 
 /// The moments of each interface. It takes memory for two numbers a sighting, and linear time.
@@ -36,13 +36,13 @@ pub fn extents_by_interface(alloc: Global, intake: &Intake) -> Result<Vec<Extent
 
 /// The span of the interface outside of which no sighting is in reach of the departure. It takes
 /// logarithmic time.
-pub fn span_in(intake: &Intake, index: &Index<'_>, iface: u32, given: &Sighting) -> Span
+pub fn span_in(intake: &Intake, index: &Index<'_>, iface: u32, departure: &Sighting) -> Span
     requires { IsIndex (taken intake.now) index.now }
     ensures past { result.past ≤ length (interface_at (taken intake.now) iface) }
-    ensures out { OutsideIsOut (taken intake.now).policy.hold given.now (interface_at (taken intake.now) iface) result.first result.past }
+    ensures out { OutsideIsOut (taken intake.now).policy.hold departure.now (interface_at (taken intake.now) iface) result.first result.past }
 {
     match index.extents.get(iface as usize) {
-        Some(extents) => span_of(extents, intake.policy().hold, given),
+        Some(extents) => span_of(extents, intake.policy().hold, departure),
         None => Span {
             first: 0,
             past: intake.interface(iface).len(),

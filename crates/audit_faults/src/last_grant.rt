@@ -4,13 +4,13 @@
 ghost use Rattle.std.specs.Prelude.{◌≡◌, ◌↔◌, ◌*◌, IsTrue, IfSome};
 ghost use Rattle.audit_model.specs.declared.sighting.Side.TheVariants as sides;
 ghost use Rattle.audit_sightings.specs.Intake.{taken};
-ghost use Rattle.audit_faults.specs.Asks.{InReach};
+ghost use Rattle.audit_faults.specs.Causes.{InReach};
 ghost use Rattle.audit_faults.specs.Grants.{Requests, Succeeds};
 ghost use Rattle.audit_faults.specs.Index.{IsIndex};
 ghost use Rattle.audit_faults.specs.LastGrant.{seconds_of, NeedsPermission, NeedsChannel, Needs, IsOver, IsTooEarly};
 
-use crate::asked::{channel_key as key_of_channel_data, message_key};
-use crate::asks::{in_reach, sent_in_channel, sent_on, told, told_in_channel};
+use crate::arrival_keys::{channel_key as key_of_channel_data, message_key};
+use crate::causes::{delivered, delivered_in_channel, in_reach, sent_in_channel, sent_on};
 use crate::explains::explains;
 use crate::fault::{Fault, Grant, LastGrant, Lease};
 use crate::index::Index;
@@ -18,7 +18,7 @@ use crate::keyed::{ByKey, digest, span_of_key};
 use crate::lease_keys::{answer_key, channel_key, permission_key, relayed_key};
 use crate::leased::{Leases, lease_message};
 use crate::leases::{requests, succeeds};
-use crate::repeats::Asking;
+use crate::repeats::Arrivals;
 use crate::requests::is_answer_at;
 use crate::sought::earliest;
 use crate::values::message_in;
@@ -47,30 +47,30 @@ fn granted(
     policy: &Policy,
     grant: &Grant,
     always: &Sighting,
-    given: &Sighting,
+    departure: &Sighting,
     request: &Sighting,
     success: &Sighting,
 ) -> bool
-    ensures { IsTrue result → Requests policy.now grant.now always.now given.now request.now × Succeeds policy.now grant.now always.now request.now success.now }
+    ensures { IsTrue result → Requests policy.now grant.now always.now departure.now request.now × Succeeds policy.now grant.now always.now request.now success.now }
 {
-    requests(policy, grant, always, given, request)
+    requests(policy, grant, always, departure, request)
         && message_in(request.payload.as_slice()).is_some()
         && succeeds(policy, grant, always, request, success)
 }
 
 /// By how much the lease that the success response granted had expired when the arrival came, grace
 /// included; none if it may have lasted.
-fn too_early(policy: &Policy, fault: Fault, asked: &Sighting, success: &Sighting) -> Option<u64>
-    ensures { IfSome result (IsOver policy.now fault asked.now success.now) }
+fn too_early(policy: &Policy, fault: Fault, arrival: &Sighting, success: &Sighting) -> Option<u64>
+    ensures { IfSome result (IsOver policy.now fault arrival.now success.now) }
 {
     let end = success
         .hi
         .saturating_add(time_of(fault))
         .saturating_add(policy.grace);
-    if asked.lo <= end {
+    if arrival.lo <= end {
         return None;
     }
-    Some(asked.lo - end)
+    Some(arrival.lo - end)
 }
 
 /// The fault before it. The arrival has all reasons of that one's check.
@@ -83,9 +83,9 @@ fn fault_before(fault: Fault) -> Option<Fault> {
 }
 
 /// The key of the arrivals that may have caused the departure.
-fn key_of(policy: &Policy, given: &Sighting) -> Option<u64> {
-    let payload = given.payload.as_slice();
-    if policy.relays(given.from) {
+fn key_of(policy: &Policy, departure: &Sighting) -> Option<u64> {
+    let payload = departure.payload.as_slice();
+    if policy.relays(departure.from) {
         return Some(digest(payload));
     }
     if let Some(key) = message_key(payload) {
@@ -95,34 +95,34 @@ fn key_of(policy: &Policy, given: &Sighting) -> Option<u64> {
 }
 
 /// Whether it arrived, and the departure may have been sent at most `hold` after it.
-fn is_in_time(policy: &Policy, asked: &Sighting, given: &Sighting) -> bool
-    ensures { IsTrue result ↔ ((asked.now.side ≡ sides.Arrives) × InReach policy.now.hold asked.now given.now) }
+fn is_in_time(policy: &Policy, arrival: &Sighting, departure: &Sighting) -> bool
+    ensures { IsTrue result ↔ ((arrival.now.side ≡ sides.Arrives) × InReach policy.now.hold arrival.now departure.now) }
 {
-    asked.side == Side::Arrives && in_reach(policy.hold, asked, given)
+    arrival.side == Side::Arrives && in_reach(policy.hold, arrival, departure)
 }
 
 /// The last arrival that may have caused the departure, and has all reasons except the fault's own.
-fn last_asked(
+fn last_arrival(
     intake: &Intake,
     index: &Index<'_>,
-    asking: Asking<'_>,
+    arrivals: Arrivals<'_>,
     credentials: &Credentials,
     fault: Fault,
-    given: &Sighting,
+    departure: &Sighting,
 ) -> Option<SightId>
     requires { IsIndex (taken intake.now) index.now }
 {
     let before = fault_before(fault)?;
-    let key = key_of(intake.policy(), given)?;
-    let first = earliest(given, intake.policy().hold, asking.by_key.width);
-    let span = span_of_key(asking.by_key.places, key, first, given.hi);
+    let key = key_of(intake.policy(), departure)?;
+    let first = earliest(departure, intake.policy().hold, arrivals.by_key.width);
+    let span = span_of_key(arrivals.by_key.places, key, first, departure.hi);
     let low = span.past.saturating_sub(MOST).max(span.first);
     let mut place = span.past;
     'places: while low < place {
         place -= 1;
-        let one = asking.by_key.places.get(place)?;
-        let asked = intake.sighting(one.sight)?;
-        if explains(intake, index, credentials, before, asked, given) {
+        let one = arrivals.by_key.places.get(place)?;
+        let arrival = intake.sighting(one.sight)?;
+        if explains(intake, index, credentials, before, arrival, departure) {
             return Some(one.sight);
         }
     }
@@ -130,54 +130,60 @@ fn last_asked(
 }
 
 /// The permission that the departure lacked.
-fn lacked_permission(policy: &Policy, asked: &Sighting, given: &Sighting) -> Option<Grant>
-    ensures { IfSome result (NeedsPermission policy.now asked.now given.now) }
+fn lacked_permission(policy: &Policy, arrival: &Sighting, departure: &Sighting) -> Option<Grant>
+    ensures { IfSome result (NeedsPermission policy.now arrival.now departure.now) }
 {
-    if sent_on(policy, asked, given) {
+    if sent_on(policy, arrival, departure) {
         return Some(Grant {
-            client: asked.from,
-            listen: asked.to,
-            lease: Lease::Permission { ip: given.to.ip },
+            client: arrival.from,
+            listen: arrival.to,
+            lease: Lease::Permission {
+                ip: departure.to.ip,
+            },
         });
     }
-    if told(policy, asked, given) || told_in_channel(policy, asked, given).is_some() {
+    if delivered(policy, arrival, departure)
+        || delivered_in_channel(policy, arrival, departure).is_some()
+    {
         return Some(Grant {
-            client: given.to,
-            listen: given.from,
-            lease: Lease::Permission { ip: asked.from.ip },
+            client: departure.to,
+            listen: departure.from,
+            lease: Lease::Permission {
+                ip: arrival.from.ip,
+            },
         });
     }
     None
 }
 
 /// The channel that it lacked.
-fn lacked_channel(policy: &Policy, asked: &Sighting, given: &Sighting) -> Option<Grant>
-    ensures { IfSome result (NeedsChannel policy.now asked.now given.now) }
+fn lacked_channel(policy: &Policy, arrival: &Sighting, departure: &Sighting) -> Option<Grant>
+    ensures { IfSome result (NeedsChannel policy.now arrival.now departure.now) }
 {
-    if let Some(number) = sent_in_channel(policy, asked, given) {
-        let peer = given.to;
+    if let Some(number) = sent_in_channel(policy, arrival, departure) {
+        let peer = departure.to;
         return Some(Grant {
-            client: asked.from,
-            listen: asked.to,
+            client: arrival.from,
+            listen: arrival.to,
             lease: Lease::Channel { number, peer },
         });
     }
-    let number = told_in_channel(policy, asked, given)?;
-    let peer = asked.from;
+    let number = delivered_in_channel(policy, arrival, departure)?;
+    let peer = arrival.from;
     Some(Grant {
-        client: given.to,
-        listen: given.from,
+        client: departure.to,
+        listen: departure.from,
         lease: Lease::Channel { number, peer },
     })
 }
 
 /// The lease that the departure lacked.
-fn lacked(policy: &Policy, fault: Fault, asked: &Sighting, given: &Sighting) -> Option<Grant>
-    ensures { IfSome result (Needs policy.now fault asked.now given.now) }
+fn lacked(policy: &Policy, fault: Fault, arrival: &Sighting, departure: &Sighting) -> Option<Grant>
+    ensures { IfSome result (Needs policy.now fault arrival.now departure.now) }
 {
     match fault {
-        Fault::Unpermitted => lacked_permission(policy, asked, given),
-        Fault::Unbound => lacked_channel(policy, asked, given),
+        Fault::Unpermitted => lacked_permission(policy, arrival, departure),
+        Fault::Unbound => lacked_channel(policy, arrival, departure),
         Fault::Unasked | Fault::Unallocated | Fault::Unfit | Fault::Unauthentic => None,
     }
 }
@@ -214,9 +220,9 @@ fn last_request(
     intake: &Intake,
     leases: Leases<'_>,
     grant: &Grant,
-    given: &Sighting,
+    departure: &Sighting,
 ) -> Option<SightId> {
-    let span = span_of_key(leases.requests.places, key_of_lease(grant), 0, given.hi);
+    let span = span_of_key(leases.requests.places, key_of_lease(grant), 0, departure.hi);
     let one = leases.requests.places.get(span.past.checked_sub(1)?)?;
     Some(one.sight)
 }
@@ -227,7 +233,7 @@ fn last_request(
 pub fn last_grant(
     intake: &Intake,
     index: &Index<'_>,
-    asking: Asking<'_>,
+    arrivals: Arrivals<'_>,
     always: &Sighting,
     credentials: &Credentials,
     fault: Fault,
@@ -238,22 +244,22 @@ pub fn last_grant(
     ensures { IfSome result (IsTooEarly (taken intake.now) fault sight) }
 {
     let policy = intake.policy();
-    let given = intake.sighting(sight)?;
+    let departure = intake.sighting(sight)?;
     let leases = index.leases?;
-    let asked_on = last_asked(intake, index, asking, credentials, fault, given)?;
-    let asked = intake.sighting(asked_on)?;
-    let grant = lacked(policy, fault, asked, given)?;
-    let request = intake.sighting(last_request(intake, leases, &grant, given)?)?;
+    let arrival_on = last_arrival(intake, index, arrivals, credentials, fault, departure)?;
+    let arrival = intake.sighting(arrival_on)?;
+    let grant = lacked(policy, fault, arrival, departure)?;
+    let request = intake.sighting(last_request(intake, leases, &grant, departure)?)?;
     let granted_on = last_success(intake, leases.answers, &grant, request)?;
     let success = intake.sighting(granted_on)?;
-    if !is_in_time(policy, asked, given)
-        || !granted(policy, &grant, always, given, request, success)
+    if !is_in_time(policy, arrival, departure)
+        || !granted(policy, &grant, always, departure, request, success)
     {
         return None;
     }
-    let too_early = too_early(policy, fault, asked, success)?;
+    let too_early = too_early(policy, fault, arrival, success)?;
     Some(LastGrant {
-        asked: asked_on,
+        arrival: arrival_on,
         success: granted_on,
         too_early,
     })

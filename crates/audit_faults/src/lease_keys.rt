@@ -2,7 +2,7 @@
 
 ghost use Rattle.std.specs.Prelude.{◌≡◌};
 ghost use Rattle.audit_stun.specs.Parts.{parts_of};
-ghost use Rattle.audit_faults.specs.Leased.{mixed_of, address_number as number_of_address, lease_key, answer_key as key_of_answer, ask_key as key_of_ask, relayed_key as key_of_relayed, beginning_key as key_of_beginning, permission_key as key_of_permission, channel_key as key_of_channel};
+ghost use Rattle.audit_faults.specs.Leased.{mixed_of, address_number as number_of_address, lease_key, answer_key as key_of_answer, allocate_key as key_of_allocate, relayed_key as key_of_relayed, beginning_key as key_of_beginning, permission_key as key_of_permission, channel_key as key_of_channel};
 
 use crate::keyed::transaction_key;
 use audit_model::Addr;
@@ -10,7 +10,7 @@ use audit_stun::Message;
 use std::hash::{DefaultHasher, Hasher};
 
 /// Kinds of keys. The numbers below them are methods, and above them channel numbers.
-const ASKED: u64 = 65_536;
+const ALLOCATE_REQUEST: u64 = 65_536;
 
 const RELAYED: u64 = 65_537;
 
@@ -53,10 +53,10 @@ pub fn answer_key(client: Addr, said: &Message<'_>) -> u64
 }
 
 /// The key of an Allocate request of the client: the transaction that it shares with its response.
-pub fn ask_key(client: Addr, said: &Message<'_>) -> u64
-    ensures { result ≡ key_of_ask client (parts_of said.now).tid }
+pub fn allocate_key(client: Addr, said: &Message<'_>) -> u64
+    ensures { result ≡ key_of_allocate client (parts_of said.now).tid }
 {
-    of_client(ASKED, client, transaction_key(said))
+    of_client(ALLOCATE_REQUEST, client, transaction_key(said))
 }
 
 /// The key of an Allocate success response: its relayed address.

@@ -25,18 +25,18 @@ fn explained_just_before(
     credentials: &Credentials,
     iface: u32,
     fault: Fault,
-    given: &Sighting,
+    departure: &Sighting,
 ) -> bool
     requires { IsIndex (taken intake.now) index.now }
-    ensures { IsTrue result → Any (λ asked. Explains (taken intake.now) (key_for credentials.now) fault asked given.now) (interface_at (taken intake.now) iface) }
+    ensures { IsTrue result → Any (λ arrival. Explains (taken intake.now) (key_for credentials.now) fault arrival departure.now) (interface_at (taken intake.now) iface) }
 {
     let row = intake.interface(iface);
-    let span = span_in(intake, index, iface, given);
+    let span = span_in(intake, index, iface, departure);
     let low = span.past.saturating_sub(FEW).max(span.first);
     let mut place = span.past;
     'places: while low < place {
         place -= 1;
-        if explains(intake, index, credentials, fault, &row[place], given) {
+        if explains(intake, index, credentials, fault, &row[place], departure) {
             return true;
         }
     }
@@ -50,13 +50,13 @@ pub fn is_explained_just_before(
     index: &Index<'_>,
     credentials: &Credentials,
     fault: Fault,
-    given: &Sighting,
+    departure: &Sighting,
 ) -> bool
     requires { IsIndex (taken intake.now) index.now }
-    ensures { IsTrue result → ((asked : Sighting) × IsCaptured (taken intake.now) asked × Explains (taken intake.now) (key_for credentials.now) fault asked given.now) }
+    ensures { IsTrue result → ((arrival : Sighting) × IsCaptured (taken intake.now) arrival × Explains (taken intake.now) (key_for credentials.now) fault arrival departure.now) }
 {
     'interfaces: for iface in 0..intake.interfaces() {
-        if explained_just_before(intake, index, credentials, iface, fault, given) {
+        if explained_just_before(intake, index, credentials, iface, fault, departure) {
             return true;
         }
     }

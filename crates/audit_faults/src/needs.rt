@@ -4,7 +4,7 @@
 ghost use Rattle.std.specs.Prelude.{IsTrue};
 ghost use Rattle.audit_rules.specs.Keys.{KeyFor};
 ghost use Rattle.audit_sightings.specs.Intake.{taken};
-ghost use Rattle.audit_faults.specs.Explains.{SentOnHeld, SentInChannelHeld, ToldHeld, ToldInChannelHeld, Explains};
+ghost use Rattle.audit_faults.specs.Explains.{SentOnHeld, SentInChannelHeld, DeliveredHeld, DeliveredInChannelHeld, Explains};
 ghost use Rattle.audit_faults.specs.Index.{IsIndex};
 
 use crate::explains::holds;
@@ -20,21 +20,37 @@ fn may_be_sent_on(
     intake: &Intake,
     index: &Index<'_>,
     fault: Fault,
-    asked: &Sighting,
-    given: &Sighting,
+    arrival: &Sighting,
+    departure: &Sighting,
 ) -> bool
     requires { IsIndex (taken intake.now) index.now }
-    ensures { SentOnHeld (taken intake.now) fault asked.now given.now → IsTrue result }
+    ensures { SentOnHeld (taken intake.now) fault arrival.now departure.now → IsTrue result }
 {
     let relayed = Lease::Allocation {
-        relayed: given.from,
+        relayed: departure.from,
     };
-    let permission = Lease::Permission { ip: given.to.ip };
+    let permission = Lease::Permission {
+        ip: departure.to.ip,
+    };
     holds(
-        intake, index, fault, asked.from, asked.to, relayed, asked, given,
+        intake,
+        index,
+        fault,
+        arrival.from,
+        arrival.to,
+        relayed,
+        arrival,
+        departure,
     ) && holds(
-        intake, index, fault, asked.from, asked.to, permission, asked, given,
-    ) && message_in(asked.payload.as_slice()).is_some()
+        intake,
+        index,
+        fault,
+        arrival.from,
+        arrival.to,
+        permission,
+        arrival,
+        departure,
+    ) && message_in(arrival.payload.as_slice()).is_some()
 }
 
 /// Whether there is an allocation and the channel for the data of a client's ChannelData.
@@ -42,72 +58,120 @@ fn may_be_sent_in_channel(
     intake: &Intake,
     index: &Index<'_>,
     fault: Fault,
-    asked: &Sighting,
-    given: &Sighting,
+    arrival: &Sighting,
+    departure: &Sighting,
 ) -> bool
     requires { IsIndex (taken intake.now) index.now }
-    ensures { SentInChannelHeld (taken intake.now) fault asked.now given.now → IsTrue result }
+    ensures { SentInChannelHeld (taken intake.now) fault arrival.now departure.now → IsTrue result }
 {
-    let Some((number, _, _)) = channel_data(asked.payload.as_slice()) else {
+    let Some((number, _, _)) = channel_data(arrival.payload.as_slice()) else {
         return false;
     };
     let relayed = Lease::Allocation {
-        relayed: given.from,
+        relayed: departure.from,
     };
     let channel = Lease::Channel {
         number,
-        peer: given.to,
+        peer: departure.to,
     };
     holds(
-        intake, index, fault, asked.from, asked.to, relayed, asked, given,
+        intake,
+        index,
+        fault,
+        arrival.from,
+        arrival.to,
+        relayed,
+        arrival,
+        departure,
     ) && holds(
-        intake, index, fault, asked.from, asked.to, channel, asked, given,
+        intake,
+        index,
+        fault,
+        arrival.from,
+        arrival.to,
+        channel,
+        arrival,
+        departure,
     )
 }
 
 /// Whether there is an allocation and a permission for a peer's data in a Data indication.
-fn may_be_told(
+fn may_be_delivered(
     intake: &Intake,
     index: &Index<'_>,
     fault: Fault,
-    asked: &Sighting,
-    given: &Sighting,
+    arrival: &Sighting,
+    departure: &Sighting,
 ) -> bool
     requires { IsIndex (taken intake.now) index.now }
-    ensures { ToldHeld (taken intake.now) fault asked.now given.now → IsTrue result }
+    ensures { DeliveredHeld (taken intake.now) fault arrival.now departure.now → IsTrue result }
 {
-    let relayed = Lease::Allocation { relayed: asked.to };
-    let permission = Lease::Permission { ip: asked.from.ip };
+    let relayed = Lease::Allocation {
+        relayed: arrival.to,
+    };
+    let permission = Lease::Permission {
+        ip: arrival.from.ip,
+    };
     holds(
-        intake, index, fault, given.to, given.from, relayed, asked, given,
+        intake,
+        index,
+        fault,
+        departure.to,
+        departure.from,
+        relayed,
+        arrival,
+        departure,
     ) && holds(
-        intake, index, fault, given.to, given.from, permission, asked, given,
-    ) && message_in(given.payload.as_slice()).is_some()
+        intake,
+        index,
+        fault,
+        departure.to,
+        departure.from,
+        permission,
+        arrival,
+        departure,
+    ) && message_in(departure.payload.as_slice()).is_some()
 }
 
 /// Whether there is an allocation and the channel for a peer's data in ChannelData.
-fn may_be_told_in_channel(
+fn may_be_delivered_in_channel(
     intake: &Intake,
     index: &Index<'_>,
     fault: Fault,
-    asked: &Sighting,
-    given: &Sighting,
+    arrival: &Sighting,
+    departure: &Sighting,
 ) -> bool
     requires { IsIndex (taken intake.now) index.now }
-    ensures { ToldInChannelHeld (taken intake.now) fault asked.now given.now → IsTrue result }
+    ensures { DeliveredInChannelHeld (taken intake.now) fault arrival.now departure.now → IsTrue result }
 {
-    let Some((number, _, _)) = channel_data(given.payload.as_slice()) else {
+    let Some((number, _, _)) = channel_data(departure.payload.as_slice()) else {
         return false;
     };
-    let relayed = Lease::Allocation { relayed: asked.to };
+    let relayed = Lease::Allocation {
+        relayed: arrival.to,
+    };
     let channel = Lease::Channel {
         number,
-        peer: asked.from,
+        peer: arrival.from,
     };
     holds(
-        intake, index, fault, given.to, given.from, relayed, asked, given,
+        intake,
+        index,
+        fault,
+        departure.to,
+        departure.from,
+        relayed,
+        arrival,
+        departure,
     ) && holds(
-        intake, index, fault, given.to, given.from, channel, asked, given,
+        intake,
+        index,
+        fault,
+        departure.to,
+        departure.from,
+        channel,
+        arrival,
+        departure,
     )
 }
 
@@ -117,15 +181,15 @@ pub fn has_needed_leases(
     intake: &Intake,
     index: &Index<'_>,
     fault: Fault,
-    asked: &Sighting,
-    given: &Sighting,
+    arrival: &Sighting,
+    departure: &Sighting,
 ) -> bool
     requires { IsIndex (taken intake.now) index.now }
-    ensures { (key_for : KeyFor) → Explains (taken intake.now) key_for fault asked.now given.now → IsTrue result }
+    ensures { (key_for : KeyFor) → Explains (taken intake.now) key_for fault arrival.now departure.now → IsTrue result }
 {
-    asked.to == given.from
-        || may_be_sent_on(intake, index, fault, asked, given)
-        || may_be_sent_in_channel(intake, index, fault, asked, given)
-        || may_be_told(intake, index, fault, asked, given)
-        || may_be_told_in_channel(intake, index, fault, asked, given)
+    arrival.to == departure.from
+        || may_be_sent_on(intake, index, fault, arrival, departure)
+        || may_be_sent_in_channel(intake, index, fault, arrival, departure)
+        || may_be_delivered(intake, index, fault, arrival, departure)
+        || may_be_delivered_in_channel(intake, index, fault, arrival, departure)
 }

@@ -43,8 +43,8 @@ fn earliest_of(alloc: Global, row: &[Sighting]) -> Result<Vec<u64>, AllocError>
 {
     let mut earliest = Vec::with_capacity(alloc, row.len())?;
     let mut least = u64::MAX;
-    'places: for behind in 0..row.len() {
-        least = row[row.len() - 1 - behind].lo.min(least);
+    'places: for from_end in 0..row.len() {
+        least = row[row.len() - 1 - from_end].lo.min(least);
         earliest.push(least)?;
     }
     Ok(earliest)
@@ -100,14 +100,14 @@ fn too_late(earliest: &[u64], moment: u64) -> usize
 
 /// The places of an interface outside of which no sighting is in reach of the departure. It takes
 /// logarithmic time.
-pub fn span_of(extents: &Extents, hold: u64, given: &Sighting) -> Span
+pub fn span_of(extents: &Extents, hold: u64, departure: &Sighting) -> Span
     ensures past { (row : List Sighting) → AreLatest row extents.now.latest.items → result.past ≤ length row }
     ensures out { (row : List Sighting) → AreLatest row extents.now.latest.items → AreEarliest row extents.now.earliest.items →
-        OutsideIsOut hold given.now row result.first result.past }
+        OutsideIsOut hold departure.now row result.first result.past }
 {
-    let late = too_late(&extents.earliest, given.hi);
+    let late = too_late(&extents.earliest, departure.hi);
     Span {
-        first: too_early(&extents.latest, hold, given.lo),
+        first: too_early(&extents.latest, hold, departure.lo),
         past: extents.latest.len().saturating_sub(late),
     }
 }

@@ -9,7 +9,7 @@ ghost use Rattle.audit_faults.specs.RepeatBlocks.{AreBlocks, AreRepeatedInReach,
 ghost use Rattle.audit_faults.specs.Repeats.{AreRepeats};
 
 use crate::keyed::Keyed;
-use crate::repeats::Asking;
+use crate::repeats::Arrivals;
 use audit_model::Sighting;
 use audit_sightings::Intake;
 use std::alloc::{AllocError, Global};
@@ -111,43 +111,43 @@ pub fn blocks_of(
 
 /// Whether each place of the block repeats a datagram that is at the first place or after it, and
 /// in reach of the departure if the place's own datagram is.
-fn is_in_reach(hold: u64, block: &RepeatBlock, first: usize, given: &Sighting) -> bool
-    ensures { IsTrue result → (0 < block.now.end) × (first ≤ block.now.since) × (given.now.lo ≤ later block.now.end hold) }
+fn is_in_reach(hold: u64, block: &RepeatBlock, first: usize, departure: &Sighting) -> bool
+    ensures { IsTrue result → (0 < block.now.end) × (first ≤ block.now.since) × (departure.now.lo ≤ later block.now.end hold) }
 {
-    0 < block.end && first <= block.since as usize && given.lo <= block.end.saturating_add(hold)
+    0 < block.end && first <= block.since as usize && departure.lo <= block.end.saturating_add(hold)
 }
 
 /// The last place from the first to before `past` that doesn't repeat one of these places which is
 /// in reach of the departure; none if each does. It takes logarithmic time.
 pub fn last_unrepeated(
     intake: &Intake,
-    asking: Asking<'_>,
+    arrivals: Arrivals<'_>,
     first: usize,
     past: usize,
-    given: &Sighting,
+    departure: &Sighting,
 ) -> Option<usize>
-    requires repeats { AreRepeats (taken intake.now) asking.by_key.places.now asking.repeats.now }
-    requires listed { AreBlocks (taken intake.now) asking.by_key.places.now asking.blocks.now }
+    requires repeats { AreRepeats (taken intake.now) arrivals.by_key.places.now arrivals.repeats.now }
+    requires listed { AreBlocks (taken intake.now) arrivals.by_key.places.now arrivals.blocks.now }
     ensures place { IfSome result (λ place. (first ≤ place) × (place < past)) }
     ensures others { MatchOption result
-        (AreRepeatedInReach (taken intake.now) asking.entry.by_key.places.now given.now first first past)
-        (λ place. AreRepeatedInReach (taken intake.now) asking.entry.by_key.places.now given.now first (place + 1) past) }
+        (AreRepeatedInReach (taken intake.now) arrivals.entry.by_key.places.now departure.now first first past)
+        (λ place. AreRepeatedInReach (taken intake.now) arrivals.entry.by_key.places.now departure.now first (place + 1) past) }
 {
     let hold = intake.policy().hold;
     let mut place = past;
     'skips: while first < place {
-        let Some(block) = asking.blocks.get(place - 1) else {
+        let Some(block) = arrivals.blocks.get(place - 1) else {
             return Some(place - 1);
         };
-        if is_in_reach(hold, block, first, given) {
+        if is_in_reach(hold, block, first, departure) {
             place = block.first as usize;
             continue;
         }
         let Ok(number) = u32::try_from(place - 1) else {
             return Some(place - 1);
         };
-        let alone = block_at(intake, asking.by_key.places, asking.repeats, number);
-        if !is_in_reach(hold, &alone, first, given) {
+        let alone = block_at(intake, arrivals.by_key.places, arrivals.repeats, number);
+        if !is_in_reach(hold, &alone, first, departure) {
             return Some(place - 1);
         }
         place -= 1;

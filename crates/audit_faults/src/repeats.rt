@@ -19,7 +19,7 @@ use std::collections::BTreeMap;
 
 /// The arrivals, by what they request.
 #[derive(Clone, Copy)]
-pub struct Asking<'a> {
+pub struct Arrivals<'a> {
     pub by_key: ByKey<'a>,
     /// For each place, the last place before it of the same datagram, if there is one.
     pub repeats: &'a [Option<u32>],

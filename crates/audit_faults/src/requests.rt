@@ -11,10 +11,10 @@ ghost use Rattle.audit_rules.specs.Values.{Names, channel_number_of};
 ghost use Rattle.audit_faults.specs.declared.keyed.Keyed.{Keyed as OneKeyed};
 ghost use Rattle.audit_faults.specs.Grants.{IsCaptured, NamesIp, BindsIp};
 ghost use Rattle.audit_faults.specs.Keyed.{AreKeyedBefore, IsKeyed, placed_as};
-ghost use Rattle.audit_faults.specs.Leased.{IsLeaseMethod, Answers, IsRequestBy, AreAnswers, AreRequests, ask_key as key_of_ask, permission_key as key_of_permission, channel_key as key_of_channel};
+ghost use Rattle.audit_faults.specs.Leased.{IsLeaseMethod, Answers, IsRequestBy, AreAnswers, AreRequests, allocate_key as key_of_allocate, permission_key as key_of_permission, channel_key as key_of_channel};
 
 use crate::keyed::{ByKey, Keyed, KeyedList, add_key, sort_keyed, span_of_key, wider};
-use crate::lease_keys::{answer_key, ask_key, channel_key, permission_key};
+use crate::lease_keys::{allocate_key, answer_key, channel_key, permission_key};
 use crate::leased::lease_message;
 use crate::values::{address_in, channel_number_in, message_of, same_id};
 use audit_model::{Addr, Side, SightId, Sighting};
@@ -61,19 +61,19 @@ fn is_answered(intake: &Intake, answers: ByKey<'_>, client: Addr, request: &Mess
 }
 
 /// Adds the place of an Allocate request.
-fn add_ask(
+fn add_allocate(
     request: &Message<'_>,
     sighting: &Sighting,
     keyed: &mut Vec<Keyed>,
 ) -> Result<(), AllocError>
     ensures here { OnOk result ((parts_of request.now).method ≡ methods.ALLOCATE →
-        Contains keyed.new.items (placed_as (key_of_ask sighting.now.from (parts_of request.now).tid) sighting.now.id sighting.now)) }
+        Contains keyed.new.items (placed_as (key_of_allocate sighting.now.from (parts_of request.now).tid) sighting.now.id sighting.now)) }
     ensures kept { OnOk result ((one : OneKeyed) → Contains keyed.old.items one → Contains keyed.new.items one) }
 {
     if request.method() != ALLOCATE {
         return Ok(());
     }
-    add_key(ask_key(sighting.from, request), sighting, keyed)?;
+    add_key(allocate_key(sighting.from, request), sighting, keyed)?;
     Ok(())
 }
 
@@ -155,7 +155,7 @@ fn add_request(
     if !is_answered(intake, answers, sighting.from, &request) {
         return Ok(());
     }
-    add_ask(&request, sighting, keyed)?;
+    add_allocate(&request, sighting, keyed)?;
     add_permissions(&request, sighting, keyed)?;
     add_bound(&request, sighting, keyed)?;
     Ok(())

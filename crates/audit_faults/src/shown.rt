@@ -13,9 +13,9 @@ ghost use Rattle.audit_keys.specs.KeyFor.{key_for};
 ghost use Rattle.audit_faults.specs.Explains.{IsFault, NoneBefore};
 
 use crate::fault::Fault;
+use crate::first_fault::first_fault;
 use crate::index::Index;
 use crate::laws::{fault_excludes, faults_of_any_users};
-use crate::telling::first_fault;
 use audit_keys::Credentials;
 use audit_model::SightId;
 use audit_sightings::Intake;
@@ -44,7 +44,7 @@ pub fn shown_fault(intake: &Intake, credentials: &Credentials, sight: SightId) -
     let everywhere = Index {
         extents: &[],
         leases: None,
-        asking: None,
+        arrivals: None,
     };
     first_fault(intake, &everywhere, credentials, sight)
 }

@@ -6,14 +6,14 @@ ghost use Rattle.audit_model.specs.Window.{later};
 ghost use Rattle.audit_model.specs.declared.sighting.Sighting.{Sighting};
 ghost use Rattle.audit_keys.specs.KeyFor.{key_for};
 ghost use Rattle.audit_sightings.specs.Intake.{taken, sighting_at};
-ghost use Rattle.audit_faults.specs.Asked.{HasMessageKey, HasChannelKey, IsAskedBy};
+ghost use Rattle.audit_faults.specs.ArrivalKeys.{HasMessageKey, HasChannelKey, IsArrivalBy};
 ghost use Rattle.audit_faults.specs.Explains.{Explains};
 ghost use Rattle.audit_faults.specs.Grants.{IsCaptured};
-ghost use Rattle.audit_faults.specs.Index.{AreAsked, IsIndex};
+ghost use Rattle.audit_faults.specs.Index.{AreArrivals, IsIndex};
 ghost use Rattle.audit_faults.specs.Keyed.{digest_of};
 ghost use Rattle.audit_faults.specs.Repeats.{IsPlaced};
 
-use crate::asked::{channel_key, message_key};
+use crate::arrival_keys::{channel_key, message_key};
 use crate::explains::explains;
 use crate::fault::Fault;
 use crate::index::Index;
@@ -21,7 +21,7 @@ use crate::keyed::{digest, span_of_key};
 use crate::needs::has_needed_leases;
 use crate::reach::Span;
 use crate::repeat_blocks::last_unrepeated;
-use crate::repeats::Asking;
+use crate::repeats::Arrivals;
 use audit_keys::Credentials;
 use audit_model::{SightId, Sighting};
 use audit_sightings::Intake;
@@ -32,10 +32,10 @@ const LONG: usize = 2048;
 
 /// The earliest first moment of an arrival in reach of the departure, if no window is wider than
 /// `width`.
-pub fn earliest(given: &Sighting, hold: u64, width: u64) -> u64
-    ensures { (lo hi : ℕ) → given.now.lo ≤ later hi hold → hi ≤ lo + width → result ≤ lo }
+pub fn earliest(departure: &Sighting, hold: u64, width: u64) -> u64
+    ensures { (lo hi : ℕ) → departure.now.lo ≤ later hi hold → hi ≤ lo + width → result ≤ lo }
 {
-    given.lo.saturating_sub(hold).saturating_sub(width)
+    departure.lo.saturating_sub(hold).saturating_sub(width)
 }
 
 /// Whether an arrival explains the departure. For a long one the leases are checked first.
@@ -44,18 +44,18 @@ fn explains_by_leases(
     index: &Index<'_>,
     credentials: &Credentials,
     fault: Fault,
-    asked: &Sighting,
-    given: &Sighting,
+    arrival: &Sighting,
+    departure: &Sighting,
 ) -> bool
     requires { IsIndex (taken intake.now) index.now }
-    ensures { IsTrue result ↔ Explains (taken intake.now) (key_for credentials.now) fault asked.now given.now }
+    ensures { IsTrue result ↔ Explains (taken intake.now) (key_for credentials.now) fault arrival.now departure.now }
 {
-    if asked.payload.len() > LONG {
-        if !has_needed_leases(intake, index, fault, asked, given) {
+    if arrival.payload.len() > LONG {
+        if !has_needed_leases(intake, index, fault, arrival, departure) {
             return false;
         }
     }
-    explains(intake, index, credentials, fault, asked, given)
+    explains(intake, index, credentials, fault, arrival, departure)
 }
 
 /// Whether the sighting of that id explains the departure.
@@ -65,61 +65,61 @@ fn explains_at(
     credentials: &Credentials,
     fault: Fault,
     sight: SightId,
-    given: &Sighting,
+    departure: &Sighting,
 ) -> bool
     requires { IsIndex (taken intake.now) index.now }
-    ensures { IsTrue result ↔ ((asked : Sighting) × (sighting_at (taken intake.now) sight ≡ Some asked)
-        × Explains (taken intake.now) (key_for credentials.now) fault asked given.now) }
+    ensures { IsTrue result ↔ ((arrival : Sighting) × (sighting_at (taken intake.now) sight ≡ Some arrival)
+        × Explains (taken intake.now) (key_for credentials.now) fault arrival departure.now) }
 {
-    let Some(asked) = intake.sighting(sight) else {
+    let Some(arrival) = intake.sighting(sight) else {
         return false;
     };
-    explains_by_leases(intake, index, credentials, fault, asked, given)
+    explains_by_leases(intake, index, credentials, fault, arrival, departure)
 }
 
 /// Whether the sighting at a place explains the departure.
 fn explains_from(
     intake: &Intake,
     index: &Index<'_>,
-    asking: Asking<'_>,
+    arrivals: Arrivals<'_>,
     credentials: &Credentials,
     fault: Fault,
     place: usize,
-    given: &Sighting,
+    departure: &Sighting,
 ) -> bool
     requires { IsIndex (taken intake.now) index.now }
-    ensures some { IsTrue result → ((asked : Sighting) × IsCaptured (taken intake.now) asked
-        × Explains (taken intake.now) (key_for credentials.now) fault asked given.now) }
-    ensures none { IsFalse result → (asked : Sighting) → IsPlaced (taken intake.now) asking.entry.by_key.places.now place asked →
-        Explains (taken intake.now) (key_for credentials.now) fault asked given.now → ⊥ }
+    ensures some { IsTrue result → ((arrival : Sighting) × IsCaptured (taken intake.now) arrival
+        × Explains (taken intake.now) (key_for credentials.now) fault arrival departure.now) }
+    ensures none { IsFalse result → (arrival : Sighting) → IsPlaced (taken intake.now) arrivals.entry.by_key.places.now place arrival →
+        Explains (taken intake.now) (key_for credentials.now) fault arrival departure.now → ⊥ }
 {
-    let Some(one) = asking.by_key.places.get(place) else {
+    let Some(one) = arrivals.by_key.places.get(place) else {
         return false;
     };
-    explains_at(intake, index, credentials, fault, one.sight, given)
+    explains_at(intake, index, credentials, fault, one.sight, departure)
 }
 
 /// Whether the sighting at the last of these places explains the departure. Mostly it does.
 fn explains_last(
     intake: &Intake,
     index: &Index<'_>,
-    asking: Asking<'_>,
+    arrivals: Arrivals<'_>,
     credentials: &Credentials,
     fault: Fault,
     span: Span,
-    given: &Sighting,
+    departure: &Sighting,
 ) -> bool
     requires { IsIndex (taken intake.now) index.now }
-    ensures { IsTrue result → ((asked : Sighting) × IsCaptured (taken intake.now) asked
-        × Explains (taken intake.now) (key_for credentials.now) fault asked given.now) }
+    ensures { IsTrue result → ((arrival : Sighting) × IsCaptured (taken intake.now) arrival
+        × Explains (taken intake.now) (key_for credentials.now) fault arrival departure.now) }
 {
     if span.past <= span.first {
         return false;
     }
-    let Some(one) = asking.by_key.places.get(span.past - 1) else {
+    let Some(one) = arrivals.by_key.places.get(span.past - 1) else {
         return false;
     };
-    explains_at(intake, index, credentials, fault, one.sight, given)
+    explains_at(intake, index, credentials, fault, one.sight, departure)
 }
 
 /// Whether an arrival with the key explains the departure. The last one is tried first. Of equal
@@ -128,27 +128,37 @@ fn explains_last(
 fn explained_by(
     intake: &Intake,
     index: &Index<'_>,
-    asking: Asking<'_>,
+    arrivals: Arrivals<'_>,
     credentials: &Credentials,
     fault: Fault,
     key: u64,
-    given: &Sighting,
+    departure: &Sighting,
 ) -> bool
     requires index { IsIndex (taken intake.now) index.now }
-    requires asking { AreAsked (taken intake.now) asking }
-    ensures some { IsTrue result → ((asked : Sighting) × IsCaptured (taken intake.now) asked
-        × Explains (taken intake.now) (key_for credentials.now) fault asked given.now) }
-    ensures all { (asked : Sighting) → IsCaptured (taken intake.now) asked → IsAskedBy (taken intake.now).policy key asked →
-        Explains (taken intake.now) (key_for credentials.now) fault asked given.now → IsTrue result }
+    requires arrivals { AreArrivals (taken intake.now) arrivals }
+    ensures some { IsTrue result → ((arrival : Sighting) × IsCaptured (taken intake.now) arrival
+        × Explains (taken intake.now) (key_for credentials.now) fault arrival departure.now) }
+    ensures all { (arrival : Sighting) → IsCaptured (taken intake.now) arrival → IsArrivalBy (taken intake.now).policy key arrival →
+        Explains (taken intake.now) (key_for credentials.now) fault arrival departure.now → IsTrue result }
 {
-    let first = earliest(given, intake.policy().hold, asking.by_key.width);
-    let span = span_of_key(asking.by_key.places, key, first, given.hi);
-    if explains_last(intake, index, asking, credentials, fault, span, given) {
+    let first = earliest(departure, intake.policy().hold, arrivals.by_key.width);
+    let span = span_of_key(arrivals.by_key.places, key, first, departure.hi);
+    if explains_last(intake, index, arrivals, credentials, fault, span, departure) {
         return true;
     }
     let mut past = span.past;
-    'places: while let Some(place) = last_unrepeated(intake, asking, span.first, past, given) {
-        if explains_from(intake, index, asking, credentials, fault, place, given) {
+    'places: while let Some(place) = last_unrepeated(
+        intake, arrivals, span.first, past, departure,
+    ) {
+        if explains_from(
+            intake,
+            index,
+            arrivals,
+            credentials,
+            fault,
+            place,
+            departure,
+        ) {
             return true;
         }
         past = place;
@@ -160,88 +170,88 @@ fn explained_by(
 fn explained_by_all_of_it(
     intake: &Intake,
     index: &Index<'_>,
-    asking: Asking<'_>,
+    arrivals: Arrivals<'_>,
     credentials: &Credentials,
     fault: Fault,
-    given: &Sighting,
+    departure: &Sighting,
 ) -> bool
     requires index { IsIndex (taken intake.now) index.now }
-    requires asking { AreAsked (taken intake.now) asking }
-    ensures some { IsTrue result → ((asked : Sighting) × IsCaptured (taken intake.now) asked
-        × Explains (taken intake.now) (key_for credentials.now) fault asked given.now) }
-    ensures all { (key : ℕ) (asked : Sighting) → IsTrue (relays (taken intake.now).policy given.now.from) → key ≡ digest_of given.now.payload → IsCaptured (taken intake.now) asked →
-        IsAskedBy (taken intake.now).policy key asked → Explains (taken intake.now) (key_for credentials.now) fault asked given.now → IsTrue result }
+    requires arrivals { AreArrivals (taken intake.now) arrivals }
+    ensures some { IsTrue result → ((arrival : Sighting) × IsCaptured (taken intake.now) arrival
+        × Explains (taken intake.now) (key_for credentials.now) fault arrival departure.now) }
+    ensures all { (key : ℕ) (arrival : Sighting) → IsTrue (relays (taken intake.now).policy departure.now.from) → key ≡ digest_of departure.now.payload → IsCaptured (taken intake.now) arrival →
+        IsArrivalBy (taken intake.now).policy key arrival → Explains (taken intake.now) (key_for credentials.now) fault arrival departure.now → IsTrue result }
 {
-    if !intake.policy().relays(given.from) {
+    if !intake.policy().relays(departure.from) {
         return false;
     }
-    let key = digest(given.payload.as_slice());
-    explained_by(intake, index, asking, credentials, fault, key, given)
+    let key = digest(departure.payload.as_slice());
+    explained_by(intake, index, arrivals, credentials, fault, key, departure)
 }
 
 /// Whether an arrival explains a message to a client.
 fn explained_by_message(
     intake: &Intake,
     index: &Index<'_>,
-    asking: Asking<'_>,
+    arrivals: Arrivals<'_>,
     credentials: &Credentials,
     fault: Fault,
-    given: &Sighting,
+    departure: &Sighting,
 ) -> bool
     requires index { IsIndex (taken intake.now) index.now }
-    requires asking { AreAsked (taken intake.now) asking }
-    ensures some { IsTrue result → ((asked : Sighting) × IsCaptured (taken intake.now) asked
-        × Explains (taken intake.now) (key_for credentials.now) fault asked given.now) }
-    ensures all { (key : ℕ) (asked : Sighting) → HasMessageKey given.now.payload key → IsCaptured (taken intake.now) asked →
-        IsAskedBy (taken intake.now).policy key asked → Explains (taken intake.now) (key_for credentials.now) fault asked given.now → IsTrue result }
+    requires arrivals { AreArrivals (taken intake.now) arrivals }
+    ensures some { IsTrue result → ((arrival : Sighting) × IsCaptured (taken intake.now) arrival
+        × Explains (taken intake.now) (key_for credentials.now) fault arrival departure.now) }
+    ensures all { (key : ℕ) (arrival : Sighting) → HasMessageKey departure.now.payload key → IsCaptured (taken intake.now) arrival →
+        IsArrivalBy (taken intake.now).policy key arrival → Explains (taken intake.now) (key_for credentials.now) fault arrival departure.now → IsTrue result }
 {
-    let Some(key) = message_key(given.payload.as_slice()) else {
+    let Some(key) = message_key(departure.payload.as_slice()) else {
         return false;
     };
-    explained_by(intake, index, asking, credentials, fault, key, given)
+    explained_by(intake, index, arrivals, credentials, fault, key, departure)
 }
 
 /// Whether an arrival explains ChannelData to a client.
 fn explained_by_channel(
     intake: &Intake,
     index: &Index<'_>,
-    asking: Asking<'_>,
+    arrivals: Arrivals<'_>,
     credentials: &Credentials,
     fault: Fault,
-    given: &Sighting,
+    departure: &Sighting,
 ) -> bool
     requires index { IsIndex (taken intake.now) index.now }
-    requires asking { AreAsked (taken intake.now) asking }
-    ensures some { IsTrue result → ((asked : Sighting) × IsCaptured (taken intake.now) asked
-        × Explains (taken intake.now) (key_for credentials.now) fault asked given.now) }
-    ensures all { (key : ℕ) (asked : Sighting) → HasChannelKey given.now.payload key → IsCaptured (taken intake.now) asked →
-        IsAskedBy (taken intake.now).policy key asked → Explains (taken intake.now) (key_for credentials.now) fault asked given.now → IsTrue result }
+    requires arrivals { AreArrivals (taken intake.now) arrivals }
+    ensures some { IsTrue result → ((arrival : Sighting) × IsCaptured (taken intake.now) arrival
+        × Explains (taken intake.now) (key_for credentials.now) fault arrival departure.now) }
+    ensures all { (key : ℕ) (arrival : Sighting) → HasChannelKey departure.now.payload key → IsCaptured (taken intake.now) arrival →
+        IsArrivalBy (taken intake.now).policy key arrival → Explains (taken intake.now) (key_for credentials.now) fault arrival departure.now → IsTrue result }
 {
-    let Some(key) = channel_key(given.payload.as_slice()) else {
+    let Some(key) = channel_key(departure.payload.as_slice()) else {
         return false;
     };
-    explained_by(intake, index, asking, credentials, fault, key, given)
+    explained_by(intake, index, arrivals, credentials, fault, key, departure)
 }
 
 /// Whether an arrival with a key of the departure explains it. Each that explains it has one.
 pub fn is_explained_by_keys(
     intake: &Intake,
     index: &Index<'_>,
-    asking: Asking<'_>,
+    arrivals: Arrivals<'_>,
     credentials: &Credentials,
     fault: Fault,
-    given: &Sighting,
+    departure: &Sighting,
 ) -> bool
     requires index { IsIndex (taken intake.now) index.now }
-    requires asking { AreAsked (taken intake.now) asking }
-    ensures { IsTrue result ↔ ((asked : Sighting) × IsCaptured (taken intake.now) asked
-        × Explains (taken intake.now) (key_for credentials.now) fault asked given.now) }
+    requires arrivals { AreArrivals (taken intake.now) arrivals }
+    ensures { IsTrue result ↔ ((arrival : Sighting) × IsCaptured (taken intake.now) arrival
+        × Explains (taken intake.now) (key_for credentials.now) fault arrival departure.now) }
 {
-    if explained_by_all_of_it(intake, index, asking, credentials, fault, given) {
+    if explained_by_all_of_it(intake, index, arrivals, credentials, fault, departure) {
         return true;
     }
-    if explained_by_message(intake, index, asking, credentials, fault, given) {
+    if explained_by_message(intake, index, arrivals, credentials, fault, departure) {
         return true;
     }
-    explained_by_channel(intake, index, asking, credentials, fault, given)
+    explained_by_channel(intake, index, arrivals, credentials, fault, departure)
 }

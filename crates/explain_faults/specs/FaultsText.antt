@@ -23,7 +23,7 @@ last_line None = []
 last_line (Some last) =
     codes "last granted by datagram "
     ++ (decimal last.success.iface
-    ++ (codes "." ++ (decimal last.success.index ++ (codes ", too early by " ++ (decimal last.too_early ++ (codes " nanoseconds for datagram " ++ (decimal last.asked.iface ++ (codes "." ++ (decimal last.asked.index ++ codes "\n")))))))))
+    ++ (codes "." ++ (decimal last.success.index ++ (codes ", too early by " ++ (decimal last.too_early ++ (codes " nanoseconds for datagram " ++ (decimal last.arrival.iface ++ (codes "." ++ (decimal last.arrival.index ++ codes "\n")))))))))
 
 -- a fault, its datagram, its reason, the last grant, and its note
 abbrev pub fault_lines : Taken → Reported → List ℕ

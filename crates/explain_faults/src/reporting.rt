@@ -70,10 +70,10 @@ fn line_of_grant(alloc: Global, last: LastGrant) -> Result<String, AllocError>
     let iface = last.success.iface;
     let index = last.success.index;
     let too_early = last.too_early;
-    let asked_on = last.asked.iface;
-    let asked = last.asked.index;
+    let arrival_on = last.arrival.iface;
+    let arrival = last.arrival.index;
     format!(in alloc;
-        "last granted by datagram {iface}.{index}, too early by {too_early} nanoseconds for datagram {asked_on}.{asked}\n"
+        "last granted by datagram {iface}.{index}, too early by {too_early} nanoseconds for datagram {arrival_on}.{arrival}\n"
     )
 }
 

@@ -46,7 +46,7 @@ const SELF: &str = "/proc/self/exe";
 
 /// The SHA-256 of docs/headline.txt, which states what is proved. `tests/explain_page.py` compares
 /// it.
-const HEADLINE: &str = "1e4c5c5646447581ebcbb49af6c408bed255911a77c6c8765c1f90185bf6692c";
+const HEADLINE: &str = "2d0755c44e7f104bb2caf1da0e986125c73459a778d01a35cd16f13ce245b311";
 
 /// The contents of the page, collected.
 #[derive(Drop)]

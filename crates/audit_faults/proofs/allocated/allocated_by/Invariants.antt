@@ -8,8 +8,8 @@ use Rattle.audit_faults.proofs.allocated.allocated_by.Given as goal
 -- none of the places of the key from here on is such a request
 abbrev pub invariant-places : goal.invariant-places
 invariant-places l = record {
-  bound : l.place ≤ length l.asks.places.now;
-  none : NoneFrom (taken l.intake) (λ (s : Sighting). Requests (taken l.intake).policy l.grant l.asked l.given s × Succeeds (taken l.intake).policy l.grant l.asked s l.success) l.key 0 l.last l.asks.places.now l.place;
+  bound : l.place ≤ length l.requests_by_key.places.now;
+  none : NoneFrom (taken l.intake) (λ (s : Sighting). Requests (taken l.intake).policy l.grant l.arrival l.departure s × Succeeds (taken l.intake).policy l.grant l.arrival s l.success) l.key 0 l.last l.requests_by_key.places.now l.place;
 }
 
 abbrev pub decreases-places : goal.decreases-places

@@ -8,7 +8,7 @@ use Rattle.audit_faults.proofs.allocated.has_allocation.Goals as goal
 pub places-init : goal.places-init
 places-init c = record {
   order = omega arith;
-  none = none_ahead (taken c.args.intake.now) (IsAllocatedBy (taken c.args.intake.now) c.args.grant.now c.args.asked.now c.args.given.now) c.relayed_key-key.result 0 18446744073709551615 c.args.listed.answers.places.now
+  none = none_ahead (taken c.args.intake.now) (IsAllocatedBy (taken c.args.intake.now) c.args.grant.now c.args.arrival.now c.args.departure.now) c.relayed_key-key.result 0 18446744073709551615 c.args.listed.answers.places.now
       c.span_of_key-span.result.first c.span_of_key-span.result.past (c.span_of_key-span.ensures.has c.requires.listed.answers.sorted);
 }
 
@@ -19,7 +19,7 @@ places-preserved c =
     let order = c.places.invariant.order in
     record {
       order = omega (arith, order);
-      none = none_up (taken c.args.intake.now) (IsAllocatedBy (taken c.args.intake.now) c.args.grant.now c.args.asked.now c.args.given.now) c.relayed_key-key.result 0 18446744073709551615 c.args.listed.answers.places.now c.places.place _ (omega (arith, test, past)) c.places.invariant.none
+      none = none_up (taken c.args.intake.now) (IsAllocatedBy (taken c.args.intake.now) c.args.grant.now c.args.arrival.now c.args.departure.now) c.relayed_key-key.result 0 18446744073709551615 c.args.listed.answers.places.now c.places.place _ (omega (arith, test, past)) c.places.invariant.none
           (λ s there p. let k : true ≡ false = sym (c.is_allocated_by.ensures.all s p.0 there p.1 p.2 p.3) ∙ c.if-is_allocated_by.false in cc);
     }
 
@@ -32,8 +32,8 @@ returns c =
       λ h. absurd (let k : false ≡ true = h in cc),
       λ (request, captured, (r, (success, there, h))).
           let may = subst (λ (k : ℕ). IsAnswerBy k success) (sym c.relayed_key-key.ensures)
-          (allocation_has_key (taken c.args.intake.now) c.args.grant.now c.args.asked.now c.args.given.now c.args.relayed request success c.requires.lease r h) in
-          absurd (none_of_key_up (taken c.args.intake.now) (IsAllocatedBy (taken c.args.intake.now) c.args.grant.now c.args.asked.now c.args.given.now) c.relayed_key-key.result 0 18446744073709551615 c.args.listed.answers.places.now
+          (allocation_has_key (taken c.args.intake.now) c.args.grant.now c.args.arrival.now c.args.departure.now c.args.relayed request success c.requires.lease r h) in
+          absurd (none_of_key_up (taken c.args.intake.now) (IsAllocatedBy (taken c.args.intake.now) c.args.grant.now c.args.arrival.now c.args.departure.now) c.relayed_key-key.result 0 18446744073709551615 c.args.listed.answers.places.now
           IsAnswerBy c.args.listed.answers.width c.span_of_key-span.result.first c.span_of_key-span.result.past c.places.place (c.span_of_key-span.ensures.has c.requires.listed.answers.sorted)
           (omega (arith, test)) c.places.invariant.none c.requires.listed.answers success there may (λ narrow. (omega arith, narrow.1)) (request, captured, r, h)),
     )

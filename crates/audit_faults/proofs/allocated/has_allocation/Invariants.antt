@@ -8,7 +8,7 @@ use Rattle.audit_faults.proofs.allocated.has_allocation.Given as goal
 abbrev pub invariant-places : goal.invariant-places
 invariant-places l = record {
   order : l.span.first ≤ l.place;
-  none : NoneTo (taken l.intake) (IsAllocatedBy (taken l.intake) l.grant l.asked l.given) l.key 0 18446744073709551615 l.answers.places.now l.place;
+  none : NoneTo (taken l.intake) (IsAllocatedBy (taken l.intake) l.grant l.arrival l.departure) l.key 0 18446744073709551615 l.answers.places.now l.place;
 }
 
 abbrev pub decreases-places : goal.decreases-places

@@ -11,4 +11,4 @@ allocated_by-requires-clause-captured c = (c.args.sight, sym c.in-Some.ensures)
 pub returns-clause-all : goal.returns-clause-all
 returns-clause-all c success request there captured r h =
     let same : success ≡ c.in-Some.success.now = same_Some success c.in-Some.success.now (sym there ∙ sym c.in-Some.ensures) in
-    c.allocated_by.ensures.all request captured r (subst (λ (s : Sighting). Succeeds (taken c.args.intake.now).policy c.args.grant.now c.args.asked.now request s) same h)
+    c.allocated_by.ensures.all request captured r (subst (λ (s : Sighting). Succeeds (taken c.args.intake.now).policy c.args.grant.now c.args.arrival.now request s) same h)

@@ -10,5 +10,5 @@ returns-clause-begins c m =
     c.in_ok-add_relayed.ensures.kept (placed_as (beginning_key s.to) s.id s)
     (subst (λ (k : ℕ). Contains c.add_key.new.keyed.items (placed_as k s.id s)) c.beginning_key.ensures c.in_ok-add_key.ensures.here)
 
-pub returns-clause-tells : goal.returns-clause-tells
-returns-clause-tells c m relayed named = c.in_ok-add_relayed.ensures.here relayed named
+pub returns-clause-by_address : goal.returns-clause-by_address
+returns-clause-by_address c m relayed named = c.in_ok-add_relayed.ensures.here relayed named

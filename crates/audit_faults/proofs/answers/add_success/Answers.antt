@@ -11,4 +11,4 @@ returns-clause-here c key (leaves, message, has) =
     let success : List ℕ = c.in-Some.success in
     success_listed s c.add_allocated.new.keyed.items success
     (c.in_ok-add_allocated.ensures.kept (placed_as (answer_key (parts_of success).method s.to (parts_of success).tid) s.id s) c.in_ok-add_answer.ensures.here)
-    c.in_ok-add_allocated.ensures.begins c.in_ok-add_allocated.ensures.tells key (subst (λ (p : List ℕ). HasSuccessKey s.to p key) (sym (c.in-Some.ensures.0 ∙ c.as_slice.ensures)) has)
+    c.in_ok-add_allocated.ensures.begins c.in_ok-add_allocated.ensures.by_address key (subst (λ (p : List ℕ). HasSuccessKey s.to p key) (sym (c.in-Some.ensures.0 ∙ c.as_slice.ensures)) has)

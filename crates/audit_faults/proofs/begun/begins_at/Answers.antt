@@ -7,8 +7,8 @@ use Rattle.audit_faults.proofs.begun.begins_at.Goals as goal
 
 pub returns : goal.returns
 returns c = (
-  λ t. (c.in-Some.asked.now, sym c.in-Some.ensures, c.begins.ensures.0 t),
+  λ t. (c.in-Some.arrival.now, sym c.in-Some.ensures, c.begins.ensures.0 t),
   λ e.
-      let same : e.0 ≡ c.in-Some.asked.now = same_Some e.0 c.in-Some.asked.now (sym e.1 ∙ sym c.in-Some.ensures) in
-      c.begins.ensures.1 (subst (λ (s : Sighting). Begins (taken c.args.intake.now) c.args.fault c.args.left.now.hi c.args.given.now s) same e.2),
+      let same : e.0 ≡ c.in-Some.arrival.now = same_Some e.0 c.in-Some.arrival.now (sym e.1 ∙ sym c.in-Some.ensures) in
+      c.begins.ensures.1 (subst (λ (s : Sighting). Begins (taken c.args.intake.now) c.args.fault c.args.left.now.hi c.args.departure.now s) same e.2),
 )

@@ -7,8 +7,8 @@ use Rattle.audit_faults.proofs.begun.begun_by.Given as goal
 -- a place of the key from here on did only where one before it did
 abbrev pub invariant-places : goal.invariant-places
 invariant-places l = record {
-  bound : l.past ≤ length l.asking.by_key.places.now;
-  none : OnlyWithEarlier (taken l.intake) (Begins (taken l.intake) l.fault l.left.hi l.given) l.key l.first l.given.hi l.span.first l.asking.by_key.places.now l.past;
+  bound : l.past ≤ length l.arrivals.by_key.places.now;
+  none : OnlyWithEarlier (taken l.intake) (Begins (taken l.intake) l.fault l.left.hi l.departure) l.key l.first l.departure.hi l.span.first l.arrivals.by_key.places.now l.past;
 }
 
 abbrev pub decreases-places : goal.decreases-places

@@ -8,7 +8,7 @@ use Rattle.audit_faults.proofs.every.granted_when.Goals as goal
 pub returns-then-is_of_lease : goal.returns-then-is_of_lease
 returns-then-is_of_lease c = (
   c.is_of_lease.ensures.0 c.if-is_of_lease.true,
-  λ given there.
-      let same : given ≡ c.in-Some.given.now = same_Some given c.in-Some.given.now (sym there ∙ sym c.in-Some.ensures) in
+  λ departure there.
+      let same : departure ≡ c.in-Some.departure.now = same_Some departure c.in-Some.departure.now (sym there ∙ sym c.in-Some.ensures) in
       subst (λ (s : Sighting). IsWhen (taken c.args.intake.now) c.args.fault s c.when.result) (sym same) c.when.ensures,
 )

@@ -27,9 +27,9 @@ returns-clause-no_certificate c =
     All-weaker (IsFirstFault taken key_for) (λ shown. (certificate : Certificate) → Conforms taken (rules_for taken key_for) certificate → ⊥)
     (λ shown first certificate k. c.fault_excludes.ensures taken key_for shown.fault shown.sight first.0 _ k.run) c.interfaces.faults.items c.interfaces.invariant.each
 
-pub add_of_interface-requires-clause-asking : goal.add_of_interface-requires-clause-asking
-add_of_interface-requires-clause-asking c = record {
-  keyed = rw (c.by_key-by_key.ensures.places, c.by_key-by_key.ensures.width) c.in_ok-asking_kept.ensures;
+pub add_of_interface-requires-clause-arrivals : goal.add_of_interface-requires-clause-arrivals
+add_of_interface-requires-clause-arrivals c = record {
+  keyed = rw (c.by_key-by_key.ensures.places, c.by_key-by_key.ensures.width) c.in_ok-kept_arrivals.ensures;
   repeats = rw c.as_slice-repeats.ensures.value c.in_ok-repeats_kept.ensures;
   blocks = rw c.as_slice-blocks.ensures.value c.in_ok-blocks_kept.ensures;
 }
@@ -38,8 +38,8 @@ pub add_of_interface-requires-clause-index : goal.add_of_interface-requires-clau
 add_of_interface-requires-clause-index c = record {
   reach = search rules;
   leases = search rules;
-  asking = record {
-    keyed = rw (c.by_key-by_key.ensures.places, c.by_key-by_key.ensures.width) c.in_ok-asking_kept.ensures;
+  arrivals = record {
+    keyed = rw (c.by_key-by_key.ensures.places, c.by_key-by_key.ensures.width) c.in_ok-kept_arrivals.ensures;
     repeats = rw c.as_slice-repeats.ensures.value c.in_ok-repeats_kept.ensures;
     blocks = rw c.as_slice-blocks.ensures.value c.in_ok-blocks_kept.ensures;
   };

@@ -5,13 +5,13 @@ use Rattle.audit_model.specs.declared.sighting.Sighting.{Sighting}
 use Rattle.audit_sightings.specs.Intake.{taken}
 use Rattle.audit_faults.specs.Grants.{IsGranted, MayLast}
 use Rattle.audit_faults.specs.Leased.{IsRequestBy}
-use Rattle.audit_faults.proofs.Keying.{none_behind, none_down, none_of_key}
+use Rattle.audit_faults.proofs.Keying.{none_at_end, none_down, none_of_key}
 use Rattle.audit_faults.proofs.granted.granted_by.Goals as goal
 
 pub places-init : goal.places-init
 places-init c = record {
   bound = c.span_of_key-span.ensures.past;
-  none = none_behind (taken c.args.intake.now) (λ (s : Sighting). IsGranted (taken c.args.intake.now) c.args.grant.now c.args.asked.now c.args.given.now s) c.args.key c.least_asked-first.result c.args.given.now.hi
+  none = none_at_end (taken c.args.intake.now) (λ (s : Sighting). IsGranted (taken c.args.intake.now) c.args.grant.now c.args.arrival.now c.args.departure.now s) c.args.key c.least_request-first.result c.args.departure.now.hi
       c.args.listed.requests.places.now c.span_of_key-span.result.first c.span_of_key-span.result.past (c.span_of_key-span.ensures.has c.requires.requests.sorted);
 }
 
@@ -21,7 +21,7 @@ places-preserved c =
     let bound = c.places.invariant.bound in
     record {
       bound = omega (arith, bound);
-      none = none_down (taken c.args.intake.now) (λ (s : Sighting). IsGranted (taken c.args.intake.now) c.args.grant.now c.args.asked.now c.args.given.now s) c.args.key c.least_asked-first.result c.args.given.now.hi
+      none = none_down (taken c.args.intake.now) (λ (s : Sighting). IsGranted (taken c.args.intake.now) c.args.grant.now c.args.arrival.now c.args.departure.now s) c.args.key c.least_request-first.result c.args.departure.now.hi
           c.args.listed.requests.places.now c.places.place _ (omega (arith, test)) bound c.places.invariant.none
           (λ s there p. let k : true ≡ false = sym (c.is_granted_at.ensures.1 (s, there, p)) ∙ c.if-is_granted_at.false in cc);
     }
@@ -32,6 +32,6 @@ returns-then-is_granted_at-clause-some c _ = let e = c.is_granted_at.ensures.0 c
 pub returns-clause-all : goal.returns-clause-all
 returns-clause-all c request captured may granted =
     let test = c.places-test.false in
-    absurd (none_of_key (taken c.args.intake.now) (λ (s : Sighting). IsGranted (taken c.args.intake.now) c.args.grant.now c.args.asked.now c.args.given.now s) c.args.key c.least_asked-first.result c.args.given.now.hi
+    absurd (none_of_key (taken c.args.intake.now) (λ (s : Sighting). IsGranted (taken c.args.intake.now) c.args.grant.now c.args.arrival.now c.args.departure.now s) c.args.key c.least_request-first.result c.args.departure.now.hi
     c.args.listed.requests.places.now (IsRequestBy (taken c.args.intake.now)) c.args.listed.requests.width c.span_of_key-span.result.first c.span_of_key-span.result.past c.places.place (c.span_of_key-span.ensures.has c.requires.requests.sorted)
-    (omega (arith, test)) c.places.invariant.none c.requires.requests request captured may (λ narrow. (c.least_asked-first.ensures request.lo request.hi (subst (λ (p : Policy). MayLast p c.args.grant.now.lease (later request.hi p.hold) c.args.asked.now.lo) (sym c.policy.ensures) granted.0.lasts) narrow.0, granted.0.before)) granted)
+    (omega (arith, test)) c.places.invariant.none c.requires.requests request captured may (λ narrow. (c.least_request-first.ensures request.lo request.hi (subst (λ (p : Policy). MayLast p c.args.grant.now.lease (later request.hi p.hold) c.args.arrival.now.lo) (sym c.policy.ensures) granted.0.lasts) narrow.0, granted.0.before)) granted)

@@ -9,7 +9,7 @@ use Rattle.audit_faults.proofs.granted.granted_by.Given as goal
 abbrev pub invariant-places : goal.invariant-places
 invariant-places l = record {
   bound : l.place ≤ length l.listed.requests.places.now;
-  none : NoneFrom (taken l.intake) (λ (s : Sighting). IsGranted (taken l.intake) l.grant l.asked l.given s) l.key l.first l.given.hi l.listed.requests.places.now l.place;
+  none : NoneFrom (taken l.intake) (λ (s : Sighting). IsGranted (taken l.intake) l.grant l.arrival l.departure s) l.key l.first l.departure.hi l.listed.requests.places.now l.place;
 }
 
 abbrev pub decreases-places : goal.decreases-places

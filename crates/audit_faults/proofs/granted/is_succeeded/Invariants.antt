@@ -9,7 +9,7 @@ use Rattle.audit_faults.proofs.granted.is_succeeded.Given as goal
 abbrev pub invariant-places : goal.invariant-places
 invariant-places l = record {
   bound : l.place ≤ length l.answers.places.now;
-  none : NoneFrom (taken l.intake) (λ (s : Sighting). Succeeds (taken l.intake).policy l.grant l.asked l.request s) l.key l.first 18446744073709551615 l.answers.places.now l.place;
+  none : NoneFrom (taken l.intake) (λ (s : Sighting). Succeeds (taken l.intake).policy l.grant l.arrival l.request s) l.key l.first 18446744073709551615 l.answers.places.now l.place;
 }
 
 abbrev pub decreases-places : goal.decreases-places

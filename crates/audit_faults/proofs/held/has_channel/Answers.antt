@@ -8,5 +8,5 @@ pub returns : goal.returns
 returns c = (
   λ t. c.granted_by.ensures.some t,
   λ e. c.granted_by.ensures.all e.0 e.1 (subst (λ (k : ℕ). IsRequestBy (taken c.args.intake.now) k e.0) (sym c.channel_key-key.ensures)
-      (channel_has_key (taken c.args.intake.now) c.args.grant.now c.args.asked.now c.args.given.now c.args.number c.args.peer e.0 c.requires.lease e.2)) e.2,
+      (channel_has_key (taken c.args.intake.now) c.args.grant.now c.args.arrival.now c.args.departure.now c.args.number c.args.peer e.0 c.requires.lease e.2)) e.2,
 )

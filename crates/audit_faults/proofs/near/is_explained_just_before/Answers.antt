@@ -8,5 +8,5 @@ use Rattle.audit_faults.proofs.near.is_explained_just_before.Goals as goal
 
 pub returns-then-explained_just_before : goal.returns-then-explained_just_before
 returns-then-explained_just_before c _ =
-    some_of (taken c.args.intake.now) (λ (s : Sighting). Explains (taken c.args.intake.now) (key_for c.args.credentials.now) c.args.fault s c.args.given.now) c.interfaces.iface (interface_at (taken c.args.intake.now) c.interfaces.iface) refl
+    some_of (taken c.args.intake.now) (λ (s : Sighting). Explains (taken c.args.intake.now) (key_for c.args.credentials.now) c.args.fault s c.args.departure.now) c.interfaces.iface (interface_at (taken c.args.intake.now) c.interfaces.iface) refl
     (c.explained_just_before.ensures c.if-explained_just_before.true)

@@ -2,7 +2,7 @@ use Rattle.std.proofs.Common.{◌≡◌, ℕ, List, true, false, sym, ◌∙◌,
 use Rattle.audit_stun.specs.Parts.{parts_of}
 use Rattle.audit_faults.specs.Keyed.{placed_as}
 use Rattle.audit_stun.specs.declared.class.Class.TheVariants.{Request}
-use Rattle.audit_faults.specs.Leased.{ask_key, permission_key, Answers, HasRequestKey, IsLeaseMessage}
+use Rattle.audit_faults.specs.Leased.{allocate_key, permission_key, Answers, HasRequestKey, IsLeaseMessage}
 use Rattle.audit_faults.proofs.Leasing.{request_message}
 use Rattle.audit_faults.proofs.Listed.{request_listed}
 use Rattle.audit_faults.proofs.requests.add_request.Goals as goal
@@ -20,6 +20,6 @@ returns-clause-here c key (arrives, has, answered) =
     let s = c.args.sighting.now in
     let request : List ℕ = c.in-Some.request in
     request_listed s c.add_bound.new.keyed.items request
-    (λ m. c.in_ok-add_bound.ensures.kept (placed_as (ask_key s.from (parts_of request).tid) s.id s) (c.in_ok-add_permissions.ensures.kept (placed_as (ask_key s.from (parts_of request).tid) s.id s) (c.in_ok-add_ask.ensures.here m)))
+    (λ m. c.in_ok-add_bound.ensures.kept (placed_as (allocate_key s.from (parts_of request).tid) s.id s) (c.in_ok-add_permissions.ensures.kept (placed_as (allocate_key s.from (parts_of request).tid) s.id s) (c.in_ok-add_allocate.ensures.here m)))
     (λ ip h. c.in_ok-add_bound.ensures.kept (placed_as (permission_key s.from ip) s.id s) (c.in_ok-add_permissions.ensures.here ip h))
     c.in_ok-add_bound.ensures.permission c.in_ok-add_bound.ensures.channel key (subst (λ (p : List ℕ). HasRequestKey s.from p key) (sym (c.in-Some.ensures.0 ∙ c.as_slice.ensures)) has)

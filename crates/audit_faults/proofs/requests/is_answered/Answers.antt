@@ -1,14 +1,14 @@
 use Rattle.std.proofs.Common.{◌≡◌, ℕ, true, false, sym, ◌∙◌, subst, arith}
 use Rattle.audit_sightings.specs.Intake.{taken}
 use Rattle.audit_faults.specs.Leased.{Answers, IsAnswerBy}
-use Rattle.audit_faults.proofs.Keying.{none_behind, none_down, none_of_key}
+use Rattle.audit_faults.proofs.Keying.{none_at_end, none_down, none_of_key}
 use Rattle.audit_faults.proofs.Leasing.{answer_has_key}
 use Rattle.audit_faults.proofs.requests.is_answered.Goals as goal
 
 pub places-init : goal.places-init
 places-init c = record {
   bound = c.span_of_key-span.ensures.past;
-  none = none_behind (taken c.args.intake.now) (Answers c.args.client c.args.request.now) c.answer_key-key.result 0 18446744073709551615 c.args.answers.places.now
+  none = none_at_end (taken c.args.intake.now) (Answers c.args.client c.args.request.now) c.answer_key-key.result 0 18446744073709551615 c.args.answers.places.now
       c.span_of_key-span.result.first c.span_of_key-span.result.past (c.span_of_key-span.ensures.has c.requires.answers.sorted);
 }
 

@@ -1,9 +1,0 @@
-use Rattle.std.proofs.Common.{inl, inr}
-use Rattle.audit_faults.specs.Keyed.{placed_as}
-use Rattle.audit_faults.proofs.asked.add_of_client.Goals as goal
-
-pub returns-clause-here : goal.returns-clause-here
-returns-clause-here c key served has = elim has [
-  | inl h ↦ c.in_ok-add_channel.ensures.kept (placed_as key c.args.sighting.now.id c.args.sighting.now) (c.in_ok-add_message.ensures.here key h)
-  | inr h ↦ c.in_ok-add_channel.ensures.here key h
-]

@@ -1,7 +1,0 @@
-use Rattle.audit_sightings.specs.Intake.{taken}
-use Rattle.audit_faults.specs.Asked.{IsAskedBy}
-use Rattle.audit_faults.specs.Keyed.{AreKeyedBefore}
-use Rattle.audit_faults.proofs.asked.add_row.Given as goal
-
-abbrev pub invariant-sightings : goal.invariant-sightings
-invariant-sightings l = AreKeyedBefore (taken l.intake) (IsAskedBy (taken l.intake).policy) (record { iface = l.iface; index = l.sighting-index }) l.keyed.items l.widest

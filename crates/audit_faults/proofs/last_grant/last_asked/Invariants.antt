@@ -1,4 +1,0 @@
-use Rattle.audit_faults.proofs.last_grant.last_asked.Given as goal
-
-abbrev pub decreases-places : goal.decreases-places
-decreases-places l = l.place

@@ -1,0 +1,167 @@
+//! The first fault that a departure shows.
+
+ghost use Rattle.std.specs.Prelude.{◌≡◌, ◌↔◌, IsTrue, Any, Some, None, IfSome};
+ghost use Rattle.audit_model.specs.declared.sighting.Sighting.{Sighting};
+ghost use Rattle.audit_model.specs.declared.sighting.Side.TheVariants as sides;
+ghost use Rattle.audit_keys.specs.KeyFor.{key_for};
+ghost use Rattle.audit_sightings.specs.Intake.{taken, sighting_at, interface_at};
+ghost use Rattle.audit_faults.specs.declared.fault.Fault.{Fault as FaultKind};
+ghost use Rattle.audit_faults.specs.Explains.{Explains, IsFault, NoneBefore};
+ghost use Rattle.audit_faults.specs.Grants.{IsCaptured};
+ghost use Rattle.audit_faults.specs.Index.{IsIndex};
+
+use crate::explains::explains;
+use crate::fault::Fault;
+use crate::index::{Index, span_in};
+use crate::near::is_explained_just_before;
+use crate::sought::is_explained_by_keys;
+use audit_keys::Credentials;
+use audit_model::{Side, SightId, Sighting};
+use audit_sightings::Intake;
+
+/// Whether a sighting of the interface explains the departure. It searches those in reach from the
+/// last one back, since the arrival that caused a departure mostly came just before it.
+fn explained_among(
+    intake: &Intake,
+    index: &Index<'_>,
+    credentials: &Credentials,
+    iface: u32,
+    fault: Fault,
+    departure: &Sighting,
+) -> bool
+    requires { IsIndex (taken intake.now) index.now }
+    ensures { IsTrue result ↔ Any (λ arrival. Explains (taken intake.now) (key_for credentials.now) fault arrival departure.now) (interface_at (taken intake.now) iface) }
+{
+    let row = intake.interface(iface);
+    let span = span_in(intake, index, iface, departure);
+    let mut place = span.past;
+    'places: while span.first < place {
+        place -= 1;
+        if explains(intake, index, credentials, fault, &row[place], departure) {
+            return true;
+        }
+    }
+    false
+}
+
+/// Whether a captured arrival in reach explains the departure.
+fn is_explained_somewhere(
+    intake: &Intake,
+    index: &Index<'_>,
+    credentials: &Credentials,
+    fault: Fault,
+    departure: &Sighting,
+) -> bool
+    requires { IsIndex (taken intake.now) index.now }
+    ensures { IsTrue result ↔ ((arrival : Sighting) × IsCaptured (taken intake.now) arrival × Explains (taken intake.now) (key_for credentials.now) fault arrival departure.now) }
+{
+    'interfaces: for iface in 0..intake.interfaces() {
+        if explained_among(intake, index, credentials, iface, fault, departure) {
+            return true;
+        }
+    }
+    false
+}
+
+/// Whether a captured arrival explains the departure.
+fn is_explained(
+    intake: &Intake,
+    index: &Index<'_>,
+    credentials: &Credentials,
+    fault: Fault,
+    departure: &Sighting,
+) -> bool
+    requires { IsIndex (taken intake.now) index.now }
+    ensures { IsTrue result ↔ ((arrival : Sighting) × IsCaptured (taken intake.now) arrival × Explains (taken intake.now) (key_for credentials.now) fault arrival departure.now) }
+{
+    if is_explained_just_before(intake, index, credentials, fault, departure) {
+        return true;
+    }
+    match index.arrivals {
+        Some(arrivals) => is_explained_by_keys(
+            intake,
+            index,
+            arrivals,
+            credentials,
+            fault,
+            departure,
+        ),
+        None => is_explained_somewhere(intake, index, credentials, fault, departure),
+    }
+}
+
+/// Whether the departure of that id shows the fault.
+fn is_fault(
+    intake: &Intake,
+    index: &Index<'_>,
+    credentials: &Credentials,
+    fault: Fault,
+    sight: SightId,
+    departure: &Sighting,
+) -> bool
+    requires index { IsIndex (taken intake.now) index.now }
+    requires there { sighting_at (taken intake.now) sight ≡ Some departure.now }
+    requires leaves { departure.now.side ≡ sides.Leaves }
+    ensures { IsTrue result ↔ IsFault (taken intake.now) (key_for credentials.now) fault sight }
+{
+    !is_explained(intake, index, credentials, fault, departure)
+}
+
+/// The first fault that a departure shows; none if there is no departure of that id.
+pub fn first_fault(
+    intake: &Intake,
+    index: &Index<'_>,
+    credentials: &Credentials,
+    sight: SightId,
+) -> Option<Fault>
+    requires { IsIndex (taken intake.now) index.now }
+    ensures shown { IfSome result (λ fault. IsFault (taken intake.now) (key_for credentials.now) fault sight) }
+    ensures first { IfSome result (NoneBefore (λ earlier. IsFault (taken intake.now) (key_for credentials.now) earlier sight)) }
+    ensures none { result ≡ None → (fault : FaultKind) → IsFault (taken intake.now) (key_for credentials.now) fault sight → ⊥ }
+{
+    let departure = intake.sighting(sight)?;
+    if departure.side != Side::Leaves {
+        return None;
+    }
+    // If it is explained with all reasons, it shows none of the faults.
+    if !is_fault(
+        intake,
+        index,
+        credentials,
+        Fault::Unauthentic,
+        sight,
+        departure,
+    ) {
+        return None;
+    }
+    if is_fault(intake, index, credentials, Fault::Unasked, sight, departure) {
+        return Some(Fault::Unasked);
+    }
+    if is_fault(
+        intake,
+        index,
+        credentials,
+        Fault::Unallocated,
+        sight,
+        departure,
+    ) {
+        return Some(Fault::Unallocated);
+    }
+    if is_fault(
+        intake,
+        index,
+        credentials,
+        Fault::Unpermitted,
+        sight,
+        departure,
+    ) {
+        return Some(Fault::Unpermitted);
+    }
+    if is_fault(intake, index, credentials, Fault::Unbound, sight, departure) {
+        return Some(Fault::Unbound);
+    }
+    if is_fault(intake, index, credentials, Fault::Unfit, sight, departure) {
+        return Some(Fault::Unfit);
+    }
+    Some(Fault::Unauthentic)
+}
