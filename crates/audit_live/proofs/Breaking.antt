@@ -27,8 +27,8 @@ use Rattle.audit_verdict.proofs.Running.{IsOpen, open_to}
 use Rattle.audit_sightings.specs.Intake.{Taken, sighting_at}
 use Rattle.audit_live.specs.Remembered.{Remembers, StopsAsWalk}
 use Rattle.audit_live.specs.Steps.{AreRowsOf}
-use Rattle.audit_live.proofs.FirstTold.{first_said}
-use Rattle.audit_live.proofs.Remembering.{agrees, asked, asked_is, came_then, not_since, not_taken}
+use Rattle.audit_live.proofs.FirstByKeys.{first_said}
+use Rattle.audit_live.proofs.Remembering.{agrees, request_situation, request_situation_is, came_then, not_since, not_taken}
 
 mapped : {X Y : Type 0} (f : X → Y) (o : Option X) → is_some o ≡ is_some (option_map f o)
 mapped f None = refl
@@ -58,11 +58,11 @@ module _ (taken : Taken) (key_for : KeyFor) (pair : Pair) (number place : ℕ) (
     -- S9, S10 and S12
     by_lane : (came : Option Arrival) (gave : Option Departure) → old.came a.id ≡ came → old.gave l.id ≡ gave → act_fault taken.policy.hold came gave key.moment ≡ Some rule
         → ByWalk (m.came a.id) (m.taken a.id || is_some (m.since l.id))
-    by_lane None gave at given is =
+    by_lane None gave at sent is =
         subst (λ (o : Option ℕ). ByWalk o (m.taken a.id || is_some (m.since l.id))) (ap (option_map (λ (x : Arrival). x.moment)) (sym at) ∙ known.came a.id) (sym (same_Some ActBeforeArrival rule is))
-    by_lane (Some one) gave at given is =
+    by_lane (Some one) gave at sent is =
         let came : Some one.moment ≡ m.came a.id = ap (option_map (λ (x : Arrival). x.moment)) (sym at) ∙ known.came a.id in
-        let since : is_some gave ≡ is_some (m.since l.id) = mapped (λ (d : Departure). d.arrived) gave ∙ ap (λ o. is_some (option_map (λ (d : Departure). d.arrived) o)) (sym given) ∙ ap is_some (known.since l.id) in
+        let since : is_some gave ≡ is_some (m.since l.id) = mapped (λ (d : Departure). d.arrived) gave ∙ ap (λ o. is_some (option_map (λ (d : Departure). d.arrived) o)) (sym sent) ∙ ap is_some (known.since l.id) in
         let again : (one.acted || is_some gave) ≡ (m.taken a.id || is_some (m.since l.id)) = ap (λ b. b || is_some gave) (known.taken a.id one at) ∙ ap (λ b. m.taken a.id || b) since in
         subst (λ (o : Option ℕ). ByWalk o (m.taken a.id || is_some (m.since l.id))) came
         (subst (ByWalk (Some one.moment)) again (by_again taken key_for key.moment ByAnswer rule one.moment (one.acted || is_some gave) is))
@@ -70,11 +70,11 @@ module _ (taken : Taken) (key_for : KeyFor) (pair : Pair) (number place : ℕ) (
     -- the first rule of the table
     by_answer : (may_be : IsOpen taken.policy.hold key.moment (old.came a.id) (old.gave l.id)) → AreRowsOf key_for (Acted a l key) rows → IsKnown (sighting_at taken) (Acted a l key)
         → FirstRule (situation_in terms old a l key.moment) rule → ByWalk (m.came a.id) (m.taken a.id || is_some (m.since l.id))
-    unfolding asked
+    unfolding request_situation
     by_answer may_be named there first =
         let keys : KeyFor = terms.keys (told_by (old.came a.id)) in
-        let x : Situation = asked taken key_for pair number place rows old m known a l key may_be keys in
-        let moved : FirstRule x rule = subst (λ (y : Situation). FirstRule y rule) (asked_is taken key_for pair number place rows old m known a l key may_be) first in
+        let x : Situation = request_situation taken key_for pair number place rows old m known a l key may_be keys in
+        let moved : FirstRule x rule = subst (λ (y : Situation). FirstRule y rule) (request_situation_is taken key_for pair number place rows old m known a l key may_be) first in
         let by_all : FirstRule (with_keys key_for x) rule = first_said key_for x (agrees taken key_for pair number place rows old m known a l key may_be named.0 named.1 named.2) rule moved in
         let answer : ByAnswer rule =
         subst (λ o. BreaksAnswer taken key_for pair key.moment m.allocation o (sighting_at taken l.id) rule) (sym there.0)
@@ -86,10 +86,10 @@ module _ (taken : Taken) (key_for : KeyFor) (pair : Pair) (number place : ℕ) (
 
   -- S11 and S12
   by_departure : (s : Sighting) (moment : ℕ) (rule : Rule) (gave : Option Departure) → old.gave s.id ≡ gave → out_fault taken.policy.hold gave moment ≡ Some rule → BreaksGiven taken key_for (m.since s.id) moment rule
-  by_departure s moment rule None given is =
-      subst (λ (o : Option ℕ). BreaksGiven taken key_for o moment rule) (ap (option_map (λ (d : Departure). d.arrived)) (sym given) ∙ known.since s.id) (sym (same_Some LeftWithoutAct rule is))
-  by_departure s moment rule (Some one) given is =
-      subst (λ (o : Option ℕ). BreaksGiven taken key_for o moment rule) (ap (option_map (λ (d : Departure). d.arrived)) (sym given) ∙ known.since s.id)
+  by_departure s moment rule None sent is =
+      subst (λ (o : Option ℕ). BreaksGiven taken key_for o moment rule) (ap (option_map (λ (d : Departure). d.arrived)) (sym sent) ∙ known.since s.id) (sym (same_Some LeftWithoutAct rule is))
+  by_departure s moment rule (Some one) sent is =
+      subst (λ (o : Option ℕ). BreaksGiven taken key_for o moment rule) (ap (option_map (λ (d : Departure). d.arrived)) (sym sent) ∙ known.since s.id)
       (by_past taken key_for moment (λ r. ⊥) rule one.arrived (is_past taken.policy.hold one.arrived moment) refl is)
 
 pub stops_on : (taken : Taken) (key_for : KeyFor) (pair : Pair) (number place : ℕ) (event : Happening) (rows : List CredRow) (old : Kept) (m : Memory) (breach : Breach) → StopsAsWalk taken key_for pair number place event rows old m breach

@@ -23,9 +23,9 @@ use Rattle.audit_sightings.specs.Intake.{Taken, NamesWhatIsThere}
 use Rattle.audit_live.specs.declared.front.Front.{Front}
 use Rattle.audit_live.specs.declared.lanes.LiveLanes.{LiveLanes}
 use Rattle.audit_live.specs.Chain.{Chain}
-use Rattle.audit_live.specs.Knows.{Knows, Tells, stands_for}
+use Rattle.audit_live.specs.Knows.{Knows, TakesExtension, stands_for}
 use Rattle.audit_live.specs.Turn.{AddsLane, TakesTurn}
-use Rattle.audit_live.proofs.Joining.{come_past, known_whole, told_whole}
+use Rattle.audit_live.proofs.Joining.{come_past, known_whole, breach_of_whole}
 use Rattle.audit_live.proofs.Named.{events_named}
 
 pub extension_named : (taken : Taken) (old new : Certificate) (extension : Extension) → Extends old extension new → HasRoom old extension → AllNamed taken new
@@ -45,14 +45,14 @@ lanes_count old new extension extends =
 
 module _ (taken : Taken) (key_for : KeyFor) (last : Option ℕ) (old new : Front) (with_new : LiveLanes) (extension : Extension) (extends : Extends old.placing.certificate extension new.placing.certificate)
     (pairs : List (Addr × Addr)) (pairs_are : pairs ≡ extension.lanes) where
-  pub tells_lanes : (events : List (ℕ × Event)) → events ≡ extension.events → IsLeast (ShowsPlaced taken new.placing.certificate) None → Chain AddsLane old.lanes.lanes.items pairs with_new.lanes.items
+  pub takes_lanes : (events : List (ℕ × Event)) → events ≡ extension.events → IsLeast (ShowsPlaced taken new.placing.certificate) None → Chain AddsLane old.lanes.lanes.items pairs with_new.lanes.items
       → with_new.owed ≡ old.lanes.owed → with_new.holders ≡ old.lanes.holders → (result : Result (Option Breach) AllocError)
-      → IfOk result (TakesTurn taken key_for last with_new events new.lanes) → IfOk result (Tells taken key_for last old extension new)
-  tells_lanes events events_are none adds owed holders (Ok found) takes = record {
+      → IfOk result (TakesTurn taken key_for last with_new events new.lanes) → IfOk result (TakesExtension taken key_for last old extension new)
+  takes_lanes events events_are none adds owed holders (Ok found) takes = record {
     extends = extends;
     of_placement = None;
     least = none;
-    told = (
+    reports = (
       with_new,
       subst (λ (ps : List (Addr × Addr)). Chain AddsLane old.lanes.lanes.items ps with_new.lanes.items) pairs_are adds,
       owed,
@@ -60,7 +60,7 @@ module _ (taken : Taken) (key_for : KeyFor) (last : Option ℕ) (old new : Front
       subst (λ (es : List (ℕ × Event)). TakesTurn taken key_for last with_new es new.lanes found) events_are takes,
     );
   }
-  tells_lanes events events_are none adds owed holders (Err fault) takes = tt
+  takes_lanes events events_are none adds owed holders (Err fault) takes = tt
 
   pub lanes_there : vec_len old.lanes.lanes ≡ length old.placing.certificate.lanes → vec_len with_new.lanes ≡ vec_len old.lanes.lanes + length pairs → (result : Result (Option Breach) AllocError)
       → OnOk result (vec_len new.lanes.lanes ≡ vec_len with_new.lanes) → OnOk result (vec_len new.lanes.lanes ≡ length new.placing.certificate.lanes)
@@ -72,13 +72,13 @@ module _ (taken : Taken) (key_for : KeyFor) (last : Option ℕ) (old new : Front
 
 module _ (taken : Taken) (key_for : KeyFor) (last : Option ℕ) (old new : Front) (extension : Extension) (knows : Knows taken key_for last old) (horizon : ℕ) (may : MayAdvance (stands_for taken old last) horizon extension) where
   -- what is told is the breach of the whole
-  pub shows_whole : (result : Result (Option Breach) AllocError) → IfOk result (Tells taken key_for last old extension new) → IfOk result (LiveBreach taken key_for new.placing.certificate)
-  shows_whole (Ok found) tells = told_whole taken key_for last old new extension knows may.fits (come_past taken key_for last horizon old new extension knows may) found tells
-  shows_whole (Err fault) tells = tt
+  pub shows_whole : (result : Result (Option Breach) AllocError) → IfOk result (TakesExtension taken key_for last old extension new) → IfOk result (LiveBreach taken key_for new.placing.certificate)
+  shows_whole (Ok found) takes_extension = breach_of_whole taken key_for last old new extension knows may.fits (come_past taken key_for last horizon old new extension knows may) found takes_extension
+  shows_whole (Err fault) takes_extension = tt
 
   -- and where there is none, what is known goes on
-  pub knows_on : Keeps taken new.placing → (result : Result (Option Breach) AllocError) → IfOk result (Tells taken key_for last old extension new)
+  pub knows_on : Keeps taken new.placing → (result : Result (Option Breach) AllocError) → IfOk result (TakesExtension taken key_for last old extension new)
       → OnOk result (vec_len new.lanes.lanes ≡ length new.placing.certificate.lanes) → IfOk result (λ found. IfNone found (Knows taken key_for (Some horizon) new))
-  knows_on keeps (Ok None) tells count = known_whole taken key_for last horizon old new extension knows may tells keeps count
-  knows_on keeps (Ok (Some breach)) tells count = tt
-  knows_on keeps (Err fault) tells count = tt
+  knows_on keeps (Ok None) takes_extension count = known_whole taken key_for last horizon old new extension knows may takes_extension keeps count
+  knows_on keeps (Ok (Some breach)) takes_extension count = tt
+  knows_on keeps (Err fault) takes_extension count = tt

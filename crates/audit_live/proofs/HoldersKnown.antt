@@ -30,11 +30,11 @@ use Rattle.audit_whole.specs.Glued.{lanes_from}
 use Rattle.audit_whole.proofs.Conforming.{contained_all}
 use Rattle.audit_live.specs.declared.holders.Holders.{Holders}
 use Rattle.audit_live.specs.declared.lane.LiveLane.{LiveLane}
-use Rattle.audit_live.specs.Asked.{AreTouched, is_past_last}
+use Rattle.audit_live.specs.CheckedTenancies.{AreTouched, is_past_last}
 use Rattle.audit_live.specs.Chain.{Chain}
 use Rattle.audit_live.specs.Holding.{holder_of, runs_in, running_at}
 use Rattle.audit_live.specs.Walked.{events_of}
-use Rattle.audit_live.proofs.AskedEnough.{ByLast, not_past}
+use Rattle.audit_live.proofs.CheckedEnough.{ByLast, not_past}
 use Rattle.audit_live.proofs.HoldersNoted.{IsLater, Noting, born_noted, kept_noted}
 use Rattle.audit_live.proofs.LaneTurns.{born_by, born_in_lane, has_events, lane_of_turn, no_more, turn_at, turn_there, whole_runs}
 use Rattle.audit_live.proofs.Lists.{there_is}

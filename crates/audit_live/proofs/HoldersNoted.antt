@@ -15,7 +15,7 @@ use Rattle.audit_model.proofs.Sames.{addr_same, addr_true}
 use Rattle.audit_prefix.proofs.Later.{lanes_apart}
 use Rattle.audit_live.specs.declared.holders.Holders.{Holders}
 use Rattle.audit_live.specs.declared.lane.LiveLane.{LiveLane}
-use Rattle.audit_live.specs.Asked.{is_past_last}
+use Rattle.audit_live.specs.CheckedTenancies.{is_past_last}
 use Rattle.audit_live.specs.Chain.{Chain}
 use Rattle.audit_live.specs.Holding.{Notes, held_in, holder_of, is_before, is_held_later, is_less, running_at, same_addr}
 use Rattle.audit_live.specs.Turn.{NotesRunning}

@@ -51,12 +51,12 @@ module _ (taken : Taken) (key_for : KeyFor) where
   LaneStep old shown new = Steps taken key_for old shown.event new shown.found
 
   -- what a lane shows, that came to a place and remembers this, by the events from there on
-  pub record LaneOutcome (pair : Pair) (number place : ℕ) (last : Option Key) (m : Memory) (asked : ℕ) (shown : List Shown) (new : LiveLane) : Type 0 where
+  pub record LaneOutcome (pair : Pair) (number place : ℕ) (last : Option Key) (m : Memory) (checked : ℕ) (shown : List Shown) (new : LiveLane) : Type 0 where
     pub outcome : Option Breach
     pub walks : Walks taken key_for m (placed_in pair number place last shown) outcome
     pub to : (b : Breach) → outcome ≡ Some b → Contains (founds shown) (Some b)
     pub from : (b : Breach) → Contains (founds shown) (Some b) → outcome ≡ Some b
-    pub ends : outcome ≡ None → IsAt pair number (place + length shown) (remembered_all (rules_for taken key_for) m (placed_in pair number place last shown)) asked new
+    pub ends : outcome ≡ None → IsAt pair number (place + length shown) (remembered_all (rules_for taken key_for) m (placed_in pair number place last shown)) checked new
 
 module _ (taken : Taken) (numbered : AreNumbered taken) (key_for : KeyFor) where
   same_id : (id : SightId) (s : Sighting) → sighting_at taken id ≡ Some s → s.id ≡ id
@@ -89,7 +89,7 @@ module _ (taken : Taken) (numbered : AreNumbered taken) (key_for : KeyFor) where
 
   -- ---- one step
 
-  module _ (pair : Pair) (number place : ℕ) (last : Option Key) (m : Memory) (asked : ℕ) (old : LiveLane) (at : IsAt pair number place m asked old) (event : Event) (new : LiveLane) where
+  module _ (pair : Pair) (number place : ℕ) (last : Option Key) (m : Memory) (checked : ℕ) (old : LiveLane) (at : IsAt pair number place m checked old) (event : Event) (new : LiveLane) where
     abbrev next : Placed
     next = placed_of (entry_of (Some pair) number place last event)
 
@@ -100,7 +100,7 @@ module _ (taken : Taken) (numbered : AreNumbered taken) (key_for : KeyFor) where
         ∙ ap (λ k. placed_of (entry_of (Some pair) number k last event)) at.steps
 
     step_on : IsStepped taken key_for old event new → place + 1 ≤ 4294967295 →
-        GoesOn (rules_for taken key_for) m next.at.key.moment next.move × IsAt pair number (place + 1) (remembered (rules_for taken key_for) m next) asked new
+        GoesOn (rules_for taken key_for) m next.at.key.moment next.move × IsAt pair number (place + 1) (remembered (rules_for taken key_for) m next) checked new
     step_on stepped room =
         let meaning = stepped.goes_on.0 in
         let terms : Terms = terms_by old.number taken.policy meaning.rows in
@@ -118,7 +118,7 @@ module _ (taken : Taken) (numbered : AreNumbered taken) (key_for : KeyFor) where
             keeps = both.1;
             number' = ap (λ (l : LiveLane). l.number) stepped.rest ∙ at.number';
             steps = omega (arith, steps, at.steps, room);
-            asked' = ap (λ (l : LiveLane). l.asked) stepped.rest ∙ at.asked';
+            checked' = ap (λ (l : LiveLane). l.checked) stepped.rest ∙ at.checked';
             whole = ap (λ (l : LiveLane). l.broken) stepped.rest ∙ at.whole;
             owing = owing;
             owes' = stepped.owing.2 ∙ ap (λ (n : ℕ). min n 4294967295) (owes_count (place + 1) (kept_of new.state) (remembered w m next).owing stepped.owing.0 owing stepped.owing.1);
@@ -150,30 +150,30 @@ module _ (taken : Taken) (numbered : AreNumbered taken) (key_for : KeyFor) where
   silent [] old new broke chain b c = contains_none (Some b) c
   silent (one ∷ shown) old new broke chain b c = silent_step one shown old chain.0 broke b c (λ then_broke there. silent shown chain.0 new then_broke chain.2 b there) one.found refl chain.1
 
-  module _ (pair : Pair) (number place : ℕ) (last : Option Key) (m : Memory) (asked : ℕ) (old : LiveLane) (at : IsAt pair number place m asked old) (one : Shown) (shown : List Shown) (mid new : LiveLane)
+  module _ (pair : Pair) (number place : ℕ) (last : Option Key) (m : Memory) (checked : ℕ) (old : LiveLane) (at : IsAt pair number place m checked old) (one : Shown) (shown : List Shown) (mid new : LiveLane)
       (room : place + length (one ∷ shown) ≤ 4294967295) (chain : Chain (LaneStep taken key_for) mid shown new) where
     abbrev this : Placed
     this = placed_of (entry_of (Some pair) number place last one.event)
 
     abbrev Rest : Type 0
-    Rest = IsAt pair number (place + 1) (remembered (rules_for taken key_for) m this) asked mid
-        → LaneOutcome taken key_for pair number (place + 1) (Some (key_of one.event)) (remembered (rules_for taken key_for) m this) asked shown new
+    Rest = IsAt pair number (place + 1) (remembered (rules_for taken key_for) m this) checked mid
+        → LaneOutcome taken key_for pair number (place + 1) (Some (key_of one.event)) (remembered (rules_for taken key_for) m this) checked shown new
 
-    walks_step : Rest → (found : Option Breach) → one.found ≡ found → Steps taken key_for old one.event mid found → LaneOutcome taken key_for pair number place last m asked (one ∷ shown) new
+    walks_step : Rest → (found : Option Breach) → one.found ≡ found → Steps taken key_for old one.event mid found → LaneOutcome taken key_for pair number place last m checked (one ∷ shown) new
     walks_step go None is (inl (broke, same)) = absurd (true≢false (sym broke ∙ at.whole))
     walks_step go None is (inr stepped) =
-        let on = step_on pair number place last m asked old at one.event mid stepped (omega (arith, room)) in
+        let on = step_on pair number place last m checked old at one.event mid stepped (omega (arith, room)) in
         let rest = go on.1 in
         record {
           outcome = rest.outcome;
           walks = inr (on.0, rest.walks);
           to = λ b h. contains_tail one.found (Some b) (founds shown) (rest.to b h);
           from = λ b c. elim (contains_cases one.found (Some b) (founds shown) c) [ inl here ↦ absurd (none-some b (sym is ∙ here)) | inr there ↦ rest.from b there ];
-          ends = λ none. subst (λ (k : ℕ). IsAt pair number k (remembered_all (rules_for taken key_for) m (placed_in pair number place last (one ∷ shown))) asked new) (omega arith) (rest.ends none);
+          ends = λ none. subst (λ (k : ℕ). IsAt pair number k (remembered_all (rules_for taken key_for) m (placed_in pair number place last (one ∷ shown))) checked new) (omega arith) (rest.ends none);
         }
     walks_step go (Some breach) is breaks = record {
       outcome = Some breach;
-      walks = inl (step_stops pair number place last m asked old at one.event mid breach breaks);
+      walks = inl (step_stops pair number place last m checked old at one.event mid breach breaks);
       to = λ b h. subst (λ (o : Option Breach). Contains (one.found ∷ founds shown) o) (is ∙ h) (contains_head one.found (founds shown));
       from = λ b c. elim (contains_cases one.found (Some b) (founds shown) c) [
         | inl here ↦ sym is ∙ here
@@ -182,16 +182,16 @@ module _ (taken : Taken) (numbered : AreNumbered taken) (key_for : KeyFor) where
       ends = λ none. absurd (none-some breach (sym none));
     }
 
-  pub lane_walks : (shown : List Shown) (pair : Pair) (number place : ℕ) (last : Option Key) (m : Memory) (asked : ℕ) (old new : LiveLane) → IsAt pair number place m asked old → place + length shown ≤ 4294967295
-      → Chain (LaneStep taken key_for) old shown new → LaneOutcome taken key_for pair number place last m asked shown new
-  lane_walks [] pair number place last m asked old new at room chain = record {
+  pub lane_walks : (shown : List Shown) (pair : Pair) (number place : ℕ) (last : Option Key) (m : Memory) (checked : ℕ) (old new : LiveLane) → IsAt pair number place m checked old → place + length shown ≤ 4294967295
+      → Chain (LaneStep taken key_for) old shown new → LaneOutcome taken key_for pair number place last m checked shown new
+  lane_walks [] pair number place last m checked old new at room chain = record {
     outcome = None;
     walks = refl;
     to = λ b is. absurd (none-some b is);
     from = λ b c. absurd (contains_none (Some b) c);
-    ends = λ none. subst (IsAt pair number (place + 0) m asked) (sym chain) (subst (λ (k : ℕ). IsAt pair number k m asked old) (omega arith) at);
+    ends = λ none. subst (IsAt pair number (place + 0) m checked) (sym chain) (subst (λ (k : ℕ). IsAt pair number k m checked old) (omega arith) at);
   }
-  lane_walks (one ∷ shown) pair number place last m asked old new at room chain =
-      walks_step pair number place last m asked old at one shown chain.0 new room chain.2
-      (λ on. lane_walks shown pair number (place + 1) (Some (key_of one.event)) (remembered (rules_for taken key_for) m (placed_of (entry_of (Some pair) number place last one.event))) asked chain.0 new on (omega (arith, room)) chain.2)
+  lane_walks (one ∷ shown) pair number place last m checked old new at room chain =
+      walks_step pair number place last m checked old at one shown chain.0 new room chain.2
+      (λ on. lane_walks shown pair number (place + 1) (Some (key_of one.event)) (remembered (rules_for taken key_for) m (placed_of (entry_of (Some pair) number place last one.event))) checked chain.0 new on (omega (arith, room)) chain.2)
       one.found refl chain.1

@@ -3,7 +3,7 @@ pub mod Chains
 pub mod Walking
 pub mod Meanings
 pub mod Fresh
-pub mod FirstTold
+pub mod FirstByKeys
 pub mod Remembering
 pub mod Rising
 pub mod OwingSteps
@@ -13,8 +13,8 @@ pub mod LaneShare
 pub mod Summed
 pub mod Outcomes
 pub mod LaneTurns
-pub mod AskedEnough
-pub mod AskedNoted
+pub mod CheckedEnough
+pub mod CheckedNoted
 pub mod NewLanes
 pub mod WalkedOn
 pub mod HoldersNoted
@@ -25,4 +25,4 @@ pub mod Named
 pub mod Takes
 pub mod Joining
 pub mod Fronts
-pub mod OneTold
+pub mod OneResult

@@ -29,7 +29,7 @@ use Rattle.audit_live.specs.Holding.{holder_of}
 use Rattle.audit_live.specs.Steps.{IsNew}
 use Rattle.audit_live.specs.Turn.{AddsLane}
 use Rattle.audit_live.specs.Walked.{AreNoted, AreWalked, IsWalked, events_of}
-use Rattle.audit_live.proofs.AskedEnough.{ByLast}
+use Rattle.audit_live.proofs.CheckedEnough.{ByLast}
 use Rattle.audit_live.proofs.Lists.{get_either, of_map}
 use Rattle.audit_live.proofs.OwingSteps.{owes_none}
 use Rattle.audit_live.proofs.Outcomes.{turn_of}
@@ -43,7 +43,7 @@ module _ (taken : Taken) (key_for : KeyFor) where
       client = ap (λ s. s.client) new.state.standing;
       listen = ap (λ s. s.listen) new.state.standing;
       came = λ s. ap (option_map (λ (a : Arrival). a.moment)) (new.state.came s);
-      told = λ s a is. absurd (none-some a (sym (new.state.came s) ∙ is));
+      first_user = λ s a is. absurd (none-some a (sym (new.state.came s) ∙ is));
       taken = λ s a is. absurd (none-some a (sym (new.state.came s) ∙ is));
       fresh = λ s is. refl;
       since = λ t. ap (option_map (λ (d : Departure). d.arrived)) (new.state.gave t);
@@ -53,7 +53,7 @@ module _ (taken : Taken) (key_for : KeyFor) where
     };
     number' = new.number';
     steps = new.steps;
-    asked' = new.asked;
+    checked' = new.checked;
     whole = new.broken;
     owing = owes_none (kept_of lane.state) new.state.owed new.state.gave;
     owes' = new.owes;

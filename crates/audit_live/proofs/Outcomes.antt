@@ -53,7 +53,7 @@ IsAfter taken key_for events number lane live =
 module _ (taken : Taken) (numbered : AreNumbered taken) (key_for : KeyFor) (lanes : List CertLane) (events : List (ℕ × Event)) (old mid : LiveLanes) (of_lanes : Option Breach)
     (count : length old.lanes.items ≡ length lanes) (walked : AreWalked taken key_for lanes old.lanes.items) (room : event_count lanes + length events ≤ 4294967295) (walks : WalksAll taken key_for old events mid of_lanes) where
   -- what a lane shows in the turn
-  record LaneTold (number : ℕ) (lane : CertLane) : Type 0 where
+  record OutcomeOfLane (number : ℕ) (lane : CertLane) : Type 0 where
     pub outcome : Option Breach
     pub of_turn : OutcomeOfTurn taken key_for (turn_of events number lane) outcome
     pub to : (b : Breach) → outcome ≡ Some b → Contains (founds walks.shown) (Some b)
@@ -65,8 +65,8 @@ module _ (taken : Taken) (numbered : AreNumbered taken) (key_for : KeyFor) (lane
   its_events : (number : ℕ) → map (λ (one : Shown). one.event) (numbered_as number walks.shown) ≡ of_lane number events
   its_events number = events_numbered number walks.shown ∙ ap (of_lane number) walks.events_are
 
-  lane_told : (number : ℕ) (lane : CertLane) → slice_get lanes number ≡ Some lane → LaneTold number lane
-  lane_told number lane there =
+  outcome_of_lane : (number : ℕ) (lane : CertLane) → slice_get lanes number ≡ Some lane → OutcomeOfLane number lane
+  outcome_of_lane number lane there =
       let first = there_is old.lanes.items number (let within = slice_get_within lanes number lane there in omega (arith, within, count)) in
       let chain = chain_of taken key_for number walks.shown old mid first.0 first.1 walks.chain in
       let few = few_in_lane lanes number lane there in
@@ -99,11 +99,11 @@ module _ (taken : Taken) (numbered : AreNumbered taken) (key_for : KeyFor) (lane
     pub to : (b : Breach) → Contains all (Some b) → Contains (founds walks.shown) (Some b)
     pub from : (i : ℕ) → i < length rest → (b : Breach) → Contains (founds (numbered_as (n + i) walks.shown)) (Some b) → Contains all (Some b)
 
-  outcomes : (n : ℕ) (rest : List CertLane) → ((i number : ℕ) (lane : CertLane) → number ≡ n + i → slice_get rest i ≡ Some lane → LaneTold number lane) → Outcomes n rest
-  outcomes n [] told = record { all = []; each = tt; to = λ b c. absurd (contains_none (Some b) c); from = λ i within. absurd (omega (arith, within)) }
-  outcomes n (lane ∷ rest) told =
-      let first : LaneTold n lane = told 0 n lane (omega arith) refl in
-      let others = outcomes (n + 1) rest (λ i number one is there. told (suc i) number one (omega (arith, is)) there) in
+  outcomes : (n : ℕ) (rest : List CertLane) → ((i number : ℕ) (lane : CertLane) → number ≡ n + i → slice_get rest i ≡ Some lane → OutcomeOfLane number lane) → Outcomes n rest
+  outcomes n [] outcome_at = record { all = []; each = tt; to = λ b c. absurd (contains_none (Some b) c); from = λ i within. absurd (omega (arith, within)) }
+  outcomes n (lane ∷ rest) outcome_at =
+      let first : OutcomeOfLane n lane = outcome_at 0 n lane (omega arith) refl in
+      let others = outcomes (n + 1) rest (λ i number one is there. outcome_at (suc i) number one (omega (arith, is)) there) in
       record {
         all = first.outcome ∷ others.all;
         each = (first.of_turn, others.each);
@@ -119,12 +119,12 @@ module _ (taken : Taken) (numbered : AreNumbered taken) (key_for : KeyFor) (lane
         from_lane outcome all here beyond (suc i) within b c =
             contains_tail outcome (Some b) all (beyond i (omega (arith, within)) b (subst (λ (k : ℕ). Contains (founds (numbered_as k walks.shown)) (Some b)) (omega arith) c))
 
-  told_from : (i number : ℕ) (lane : CertLane) → number ≡ 0 + i → slice_get lanes i ≡ Some lane → LaneTold number lane
-  told_from i number lane is there = lane_told number lane (ap (slice_get lanes) (let same : number ≡ i = omega (arith, is) in same) ∙ there)
+  outcome_from : (i number : ℕ) (lane : CertLane) → number ≡ 0 + i → slice_get lanes i ≡ Some lane → OutcomeOfLane number lane
+  outcome_from i number lane is there = outcome_of_lane number lane (ap (slice_get lanes) (let same : number ≡ i = omega (arith, is) in same) ∙ there)
 
   pub least_of_turns : LeastOf (ForEachTurn taken key_for (turns_from 0 lanes events)) of_lanes
   least_of_turns =
-      let o = outcomes 0 lanes told_from in
+      let o = outcomes 0 lanes outcome_from in
       record {
         outcomes = o.all;
         each = o.each;
@@ -138,9 +138,9 @@ module _ (taken : Taken) (numbered : AreNumbered taken) (key_for : KeyFor) (lane
   -- where no lane broke, each has come to the end of its events
   pub lane_after : of_lanes ≡ None → (number : ℕ) (lane : CertLane) → slice_get lanes number ≡ Some lane → (live : LiveLane) × (slice_get mid.lanes.items number ≡ Some live) × IsAfter taken key_for events number lane live
   lane_after none number lane there =
-      let told = lane_told number lane there in
+      let outcome_at = outcome_of_lane number lane there in
       let silent = subst (IsLeast (λ b. Contains (founds walks.shown) (Some b))) none walks.least in
-      (told.live, told.there, told.ends (by_outcome told.outcome (λ b is. silent b (told.to b is)))) where
+      (outcome_at.live, outcome_at.there, outcome_at.ends (by_outcome outcome_at.outcome (λ b is. silent b (outcome_at.to b is)))) where
         by_outcome : (o : Option Breach) → ((b : Breach) → o ≡ Some b → ⊥) → o ≡ None
         by_outcome None f = refl
         by_outcome (Some b) f = absurd (f b refl)

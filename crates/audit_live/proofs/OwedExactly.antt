@@ -71,8 +71,8 @@ module _ (taken : Taken) (key_for : KeyFor) where
       (omega (arith, sum, here, least, events, few, rest.0), omega (arith, least, events, rest.1))
 
   -- what is told of what is owed
-  pub owed_told : (last : Option ℕ) (front : Front) → Knows taken key_for last front → min front.lanes.owed 4294967295 ≡ owed_in taken key_for (lanes_from 0 front.placing.certificate.lanes)
-  owed_told last front knows =
+  pub owed_of_lanes : (last : Option ℕ) (front : Front) → Knows taken key_for last front → min front.lanes.owed 4294967295 ≡ owed_in taken key_for (lanes_from 0 front.placing.certificate.lanes)
+  owed_of_lanes last front knows =
       let many = knows.lanes in
       let ok = front.lanes.lanes.ok in
       let few = front.placing.certificate.few_events in

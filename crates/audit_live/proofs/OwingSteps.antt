@@ -64,7 +64,7 @@ owes_same place next old new owing later owed gave owes = record {
 
 module _ (place : ℕ) (old : Kept) (owing : List Owing) (owes : Owes place old owing) where
   -- one that is owing was given its departure at its place
-  its_gift : (one : Owing) → Contains owing one → (given : Option Departure) → old.gave one.gives ≡ given → (d : Departure) × (old.gave one.gives ≡ Some d) × (d.place ≡ one.at.place)
+  its_gift : (one : Owing) → Contains owing one → (sent : Option Departure) → old.gave one.gives ≡ sent → (d : Departure) × (old.gave one.gives ≡ Some d) × (d.place ≡ one.at.place)
   its_gift one c None is = absurd (none-some one.at.place (sym (ap (option_map (λ (d : Departure). d.place)) is) ∙ owes.gives one c))
   its_gift one c (Some d) is = (d, is, same_Some d.place one.at.place (sym (ap (option_map (λ (d : Departure). d.place)) is) ∙ owes.gives one c))
 
@@ -76,7 +76,7 @@ module _ (place : ℕ) (old : Kept) (owing : List Owing) (owes : Owes place old 
 
   -- ---- a departure leaves
 
-  module _ (s : SightId) (given : Departure) (is : old.gave s ≡ Some given) (new : Kept) (owed : (p : ℕ) → new.owed p ≡ cond (nat_eq p given.place) None (old.owed p)) (gave : (t : SightId) → new.gave t ≡ old.gave t) where
+  module _ (s : SightId) (sent : Departure) (is : old.gave s ≡ Some sent) (new : Kept) (owed : (p : ℕ) → new.owed p ≡ cond (nat_eq p sent.place) None (old.owed p)) (gave : (t : SightId) → new.gave t ≡ old.gave t) where
     abbrev stays : Owing → Bool
     stays one = not (same_sight s one.gives)
 
@@ -84,34 +84,34 @@ module _ (place : ℕ) (old : Kept) (owing : List Owing) (owes : Owes place old 
     left = filter stays owing
 
     -- what stays is of another place
-    other_place : (one : Owing) → Contains owing one → stays one ≡ true → one.at.place ≡ given.place → ⊥
+    other_place : (one : Owing) → Contains owing one → stays one ≡ true → one.at.place ≡ sent.place → ⊥
     other_place one c kept same =
         let gift = its_gift one c (old.gave one.gives) refl in
-        let it : s ≡ one.gives = owes.apart s one.gives given gift.0 is gift.1 (sym same ∙ sym gift.2) in
+        let it : s ≡ one.gives = owes.apart s one.gives sent gift.0 is gift.1 (sym same ∙ sym gift.2) in
         let no : not (same_sight s one.gives) ≡ false = ap not (sight_same s one.gives it) in
         let clash : false ≡ true = sym no ∙ kept in cc
 
     -- and what is of another place stays
-    other_stays : (one : Owing) → Contains owing one → (one.at.place ≡ given.place → ⊥) → (b : Bool) → same_sight s one.gives ≡ b → stays one ≡ true
+    other_stays : (one : Owing) → Contains owing one → (one.at.place ≡ sent.place → ⊥) → (b : Bool) → same_sight s one.gives ≡ b → stays one ≡ true
     other_stays one c other true same =
         let it : s ≡ one.gives = sight_true s one.gives same in
         let gift = its_gift one c (old.gave one.gives) refl in
-        let one_gift : gift.0 ≡ given = same_Some gift.0 given (sym gift.1 ∙ ap old.gave (sym it) ∙ is) in
+        let one_gift : gift.0 ≡ sent = same_Some gift.0 sent (sym gift.1 ∙ ap old.gave (sym it) ∙ is) in
         absurd (other (sym gift.2 ∙ ap (λ (d : Departure). d.place) one_gift))
     other_stays one c other false same = ap not same
 
-    all_left : (p : ℕ) (b : Bool) → nat_eq p given.place ≡ b → IsSome (cond b None (old.owed p)) ↔ Contains (places_of left) p
+    all_left : (p : ℕ) (b : Bool) → nat_eq p sent.place ≡ b → IsSome (cond b None (old.owed p)) ↔ Contains (places_of left) p
     all_left p true same = (
       λ some. absurd (let no : false ≡ true = some in cc),
       λ c.
           let one = from_map place_in left p c in
           let was = in_filter place_in stays owing one.0 one.1 in
-          absurd (other_place one.0 was.0 was.1 (one.2 ∙ eqb-true p given.place same)),
+          absurd (other_place one.0 was.0 was.1 (one.2 ∙ eqb-true p sent.place same)),
     )
     all_left p false same = (
       λ some.
           let one = from_map place_in owing p ((owes.all p).0 some) in
-          let kept = other_stays one.0 one.1 (λ at. absurd (let no : true ≡ false = sym (eq-eqb p given.place (sym one.2 ∙ at)) ∙ same in cc)) (same_sight s one.0.gives) refl in
+          let kept = other_stays one.0 one.1 (λ at. absurd (let no : true ≡ false = sym (eq-eqb p sent.place (sym one.2 ∙ at)) ∙ same in cc)) (same_sight s one.0.gives) refl in
           subst (Contains (places_of left)) one.2 (to_map place_in left one.0 (to_filter place_in stays owing one.0 one.1 kept)),
       λ c.
           let one = from_map place_in left p c in
@@ -122,8 +122,8 @@ module _ (place : ℕ) (old : Kept) (owing : List Owing) (owes : Owes place old 
     owes_left = record {
       rising = rise_filter place_in stays owing owes.rising;
       all = λ p. (
-        λ some. (all_left p (nat_eq p given.place) refl).0 (subst IsSome (owed p) some),
-        λ c. subst IsSome (sym (owed p)) ((all_left p (nat_eq p given.place) refl).1 c),
+        λ some. (all_left p (nat_eq p sent.place) refl).0 (subst IsSome (owed p) some),
+        λ c. subst IsSome (sym (owed p)) ((all_left p (nat_eq p sent.place) refl).1 c),
       );
       gives = λ one c. ap (option_map (λ (d : Departure). d.place)) (gave one.gives) ∙ owes.gives one (in_filter place_in stays owing one c).0;
       before = λ t d at. omega (arith, owes.before t d (sym (gave t) ∙ at));
@@ -165,16 +165,16 @@ module _ (place : ℕ) (old : Kept) (owing : List Owing) (owes : Owes place old 
     apart_more t u d e (inr here) (inr there) same = owes.apart t u d e here there same
 
     -- the departure of one that was owing is another
-    still_given : (was : Owing) → Contains owing was → (b : Bool) → same_sight was.gives one.gives ≡ b
+    still_sent : (was : Owing) → Contains owing was → (b : Bool) → same_sight was.gives one.gives ≡ b
         → option_map (λ (d : Departure). d.place) (cond b (Some (record { arrived = arrived; place = place })) (old.gave was.gives)) ≡ Some was.at.place
-    still_given was c true same =
+    still_sent was c true same =
         let gone : old.gave was.gives ≡ None = ap old.gave (sight_true was.gives one.gives same) ∙ not_given in
         absurd (none-some was.at.place (sym (ap (option_map (λ (d : Departure). d.place)) gone) ∙ owes.gives was c))
-    still_given was c false same = owes.gives was c
+    still_sent was c false same = owes.gives was c
 
     gives_more : (was : Owing) → Contains more was → option_map (λ (d : Departure). d.place) (new.gave was.gives) ≡ Some was.at.place
     gives_more was c = elim (Contains-push_cases owing one was c) [
-      | inl there ↦ ap (option_map (λ (d : Departure). d.place)) (gave was.gives) ∙ still_given was there (same_sight was.gives one.gives) refl
+      | inl there ↦ ap (option_map (λ (d : Departure). d.place)) (gave was.gives) ∙ still_sent was there (same_sight was.gives one.gives) refl
       | inr is ↦ subst (λ (o : Owing). option_map (λ (d : Departure). d.place) (new.gave o.gives) ≡ Some o.at.place) is
           (ap (option_map (λ (d : Departure). d.place)) (gave one.gives ∙ ap (λ (b : Bool). cond b (Some (record { arrived = arrived; place = place })) (old.gave one.gives)) (sight_same one.gives one.gives refl)) ∙ ap Some (sym at))
     ]
@@ -193,9 +193,9 @@ module _ (place : ℕ) (old : Kept) (owing : List Owing) (owes : Owes place old 
 
 -- ---- an event
 
-was_given : (hold moment : ℕ) (given : Option Departure) → out_fault hold given moment ≡ None → (d : Departure) × (given ≡ Some d)
-was_given hold moment None right = absurd (none-some LeftWithoutAct (sym right))
-was_given hold moment (Some d) right = (d, refl)
+was_sent : (hold moment : ℕ) (sent : Option Departure) → out_fault hold sent moment ≡ None → (d : Departure) × (sent ≡ Some d)
+was_sent hold moment None right = absurd (none-some LeftWithoutAct (sym right))
+was_sent hold moment (Some d) right = (d, refl)
 
 module _ (w : Rules) (terms : Terms) (pair : Pair) (place : ℕ) (old new : Kept) (m : Memory) (owes : Owes place old m.owing) where
   pub owes_on : (event : Happening) → IsRight terms old event → SameKept new (after terms place old event) → Owes (place + 1) new (remembered w m (placed_at terms pair place event)).owing
@@ -204,9 +204,9 @@ module _ (w : Rules) (terms : Terms) (pair : Pair) (place : ℕ) (old new : Kept
       let may_be = open_to terms.policy.hold key.moment (old.came a.id) (old.gave l.id) right.0 in
       owes_more place old m.owing owes (record { at = place_at terms key place; sight = a.id; gives = l.id }) refl may_be.came may_be.not_given new
       (record { at = place_at terms key place; sight = a.id }) same.owed
-      (λ t. same.gave t ∙ ap (λ (given : Option Departure). cond (same_sight t l.id) given (old.gave t)) (ap (λ (o : Option Arrival). given_for o place) may_be.is))
+      (λ t. same.gave t ∙ ap (λ (sent : Option Departure). cond (same_sight t l.id) sent (old.gave t)) (ap (λ (o : Option Arrival). given_for o place) may_be.is))
   owes_on (Went s key) right same =
-      let was = was_given terms.policy.hold key.moment (old.gave s.id) right in
+      let was = was_sent terms.policy.hold key.moment (old.gave s.id) right in
       owes_left place old m.owing owes s.id was.0 was.1 new (λ p. same.owed p ∙ without p (old.gave s.id) was.0 was.1) same.gave where
-        without : (p : ℕ) (given : Option Departure) (d : Departure) → given ≡ Some d → (after terms place (record old { gave = λ _. given }) (Went s key)).owed p ≡ cond (nat_eq p d.place) None (old.owed p)
-        without p given d is = ap (λ (o : Option Departure). (after terms place (record old { gave = λ _. o }) (Went s key)).owed p) is
+        without : (p : ℕ) (sent : Option Departure) (d : Departure) → sent ≡ Some d → (after terms place (record old { gave = λ _. sent }) (Went s key)).owed p ≡ cond (nat_eq p d.place) None (old.owed p)
+        without p sent d is = ap (λ (o : Option Departure). (after terms place (record old { gave = λ _. o }) (Went s key)).owed p) is

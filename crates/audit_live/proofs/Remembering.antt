@@ -56,9 +56,9 @@ past_to : (b : Bool) (r : Rule) → cond b (Some r) None ≡ None → b ≡ fals
 past_to true r h = absurd (none-some r (sym h))
 past_to false r h = refl
 
-left_in_time : (hold moment : ℕ) (given : Option Departure) → out_fault hold given moment ≡ None → IsInTime hold (option_map (λ (d : Departure). d.arrived) given) moment
+left_in_time : (hold moment : ℕ) (sent : Option Departure) → out_fault hold sent moment ≡ None → IsInTime hold (option_map (λ (d : Departure). d.arrived) sent) moment
 left_in_time hold moment None right = absurd (none-some LeftWithoutAct (sym right))
-left_in_time hold moment (Some given) right = ltb-false (later given.arrived hold) moment (past_to (is_past hold given.arrived moment) HeldTooLong right)
+left_in_time hold moment (Some sent) right = ltb-false (later sent.arrived hold) moment (past_to (is_past hold sent.arrived moment) HeldTooLong right)
 
 module _ (taken : Taken) (key_for : KeyFor) (pair : Pair) (number place : ℕ) (rows : List CredRow) (old : Kept) (m : Memory) (known : Remembers pair old m) where
   abbrev pub terms : Terms
@@ -77,25 +77,25 @@ module _ (taken : Taken) (key_for : KeyFor) (pair : Pair) (number place : ℕ) (
     pub not_since : is_some (m.since l.id) ≡ false
     not_since = ap is_some (sym (known.since l.id) ∙ ap (option_map (λ (d : Departure). d.arrived)) may_be.not_given)
 
-    tells_first : told_by (old.came a.id) ≡ Some 0
-    tells_first = ap told_by may_be.is ∙ known.told a.id arrived may_be.is
+    first_user_is : told_by (old.came a.id) ≡ Some 0
+    first_user_is = ap told_by may_be.is ∙ known.first_user a.id arrived may_be.is
 
     -- the key of whom the arrival names
     pub agrees : (named : Option CredRow) → rows ≡ option_to_list named → IsRowOf key_for a.payload named → AgreeInRequest (terms.keys (told_by (old.came a.id))) key_for a.payload
     agrees named rows_are is =
-        subst (λ (told : Option ℕ). AgreeInRequest (terms.keys told) key_for a.payload) (sym tells_first)
+        subst (λ (first_user : Option ℕ). AgreeInRequest (terms.keys first_user) key_for a.payload) (sym first_user_is)
         (subst (λ (rs : List CredRow). AgreeInRequest ((terms_by number taken.policy rs).keys (Some 0)) key_for a.payload) (sym rows_are) (first_row named is))
       where
         first_row : (named : Option CredRow) → IsRowOf key_for a.payload named → AgreeInRequest ((terms_by number taken.policy (option_to_list named)).keys (Some 0)) key_for a.payload
         first_row None nobody = row_agrees key_for a.payload None nobody
         first_row (Some row) names = row_agrees key_for a.payload (Some row) names
 
-    unfoldable pub asked : KeyFor → Situation
-    asked keys = record { client = pair.client; listen = pair.listen; policy = taken.policy; key_for = keys; allocation = m.allocation; arrives = a; leaves = l; moment = key.moment }
+    unfoldable pub request_situation : KeyFor → Situation
+    request_situation keys = record { client = pair.client; listen = pair.listen; policy = taken.policy; key_for = keys; allocation = m.allocation; arrives = a; leaves = l; moment = key.moment }
 
-    pub asked_is : situation_in terms old a l key.moment ≡ asked (terms.keys (told_by (old.came a.id)))
-    unfolding asked
-    asked_is = λ i. record {
+    pub request_situation_is : situation_in terms old a l key.moment ≡ request_situation (terms.keys (told_by (old.came a.id)))
+    unfolding request_situation
+    request_situation_is = λ i. record {
       client = known.client i;
       listen = known.listen i;
       policy = taken.policy;
@@ -108,9 +108,9 @@ module _ (taken : Taken) (key_for : KeyFor) (pair : Pair) (number place : ℕ) (
 
     may_answer : AgreeInRequest (terms.keys (told_by (old.came a.id))) key_for a.payload → MayAnswer (situation_in terms old a l key.moment) (change_in (situation_in terms old a l key.moment))
         → sighting_at taken a.id ≡ Some a → sighting_at taken l.id ≡ Some l → (rules_for taken key_for).MayAnswer pair a.id l.id key.moment m.allocation
-    unfolding asked
+    unfolding request_situation
     may_answer agree right there gives_there =
-        let by_all = may_said key_for (asked (terms.keys (told_by (old.came a.id)))) agree (subst (λ (x : Situation). MayAnswer x (change_in x)) asked_is right) in
+        let by_all = may_said key_for (request_situation (terms.keys (told_by (old.came a.id)))) agree (subst (λ (x : Situation). MayAnswer x (change_in x)) request_situation_is right) in
         subst (λ o. MayBetween taken.policy key_for pair key.moment m.allocation o (sighting_at taken l.id)) (sym there)
         (subst (λ o. MayBetween taken.policy key_for pair key.moment m.allocation (Some a) o) (sym gives_there) by_all)
 
@@ -141,13 +141,13 @@ module _ (taken : Taken) (key_for : KeyFor) (pair : Pair) (number place : ℕ) (
         by_sight true = refl
         by_sight false = known.came q
 
-    told_then : (was : Option Arrival) (q : SightId) (a : Arrival) → came_first old.came s.id (new_arrival user key.moment) was q ≡ Some a → a.user ≡ Some 0
-    told_then (Some before) q a is = known.told q a is
-    told_then None q a is = by_sight (same_sight q s.id) is
+    first_user_then : (was : Option Arrival) (q : SightId) (a : Arrival) → came_first old.came s.id (new_arrival user key.moment) was q ≡ Some a → a.user ≡ Some 0
+    first_user_then (Some before) q a is = known.first_user q a is
+    first_user_then None q a is = by_sight (same_sight q s.id) is
       where
         by_sight : (b : Bool) → cond b (Some (new_arrival user key.moment)) (old.came q) ≡ Some a → a.user ≡ Some 0
         by_sight true is = sym (ap (λ (x : Arrival). x.user) (same_Some (new_arrival user key.moment) a is)) ∙ first
-        by_sight false is = known.told q a is
+        by_sight false is = known.first_user q a is
 
     taken_then : (was : Option Arrival) → old.came s.id ≡ was → (q : SightId) (a : Arrival) → came_first old.came s.id (new_arrival user key.moment) was q ≡ Some a → a.acted ≡ m.taken q
     taken_then (Some before) at q a is = known.taken q a is
@@ -173,7 +173,7 @@ module _ (taken : Taken) (key_for : KeyFor) (pair : Pair) (number place : ℕ) (
     listen = ap (λ x. x.listen) same.standing ∙ known.listen;
     came = λ q. ap (option_map (λ (a : Arrival). a.moment)) (same.came q) ∙ came_by s user key first (old.came s.id) refl q
         ∙ ap (λ (o : Option ℕ). cond (is_some o) m.came (put same_sight m.came s.id (Some key.moment)) q) (known.came s.id);
-    told = λ q a is. told_then s user key first (old.came s.id) q a (sym (same.came q) ∙ is);
+    first_user = λ q a is. first_user_then s user key first (old.came s.id) q a (sym (same.came q) ∙ is);
     taken = λ q a is. taken_then s user key first (old.came s.id) refl q a (sym (same.came q) ∙ is);
     fresh = λ q is. fresh_then s user key first (old.came s.id) q (sym (same.came q) ∙ is);
     since = λ t. ap (option_map (λ (d : Departure). d.arrived)) (same.gave t) ∙ known.since t;
@@ -188,7 +188,7 @@ module _ (taken : Taken) (key_for : KeyFor) (pair : Pair) (number place : ℕ) (
     client = ap (λ x. x.client) same.standing ∙ known.client;
     listen = ap (λ x. x.listen) same.standing ∙ known.listen;
     came = λ q. ap (option_map (λ (a : Arrival). a.moment)) (same.came q) ∙ known.came q;
-    told = λ q a is. known.told q a (sym (same.came q) ∙ is);
+    first_user = λ q a is. known.first_user q a (sym (same.came q) ∙ is);
     taken = λ q a is. known.taken q a (sym (same.came q) ∙ is);
     fresh = λ q is. known.fresh q (sym (same.came q) ∙ is);
     since = λ t. ap (option_map (λ (d : Departure). d.arrived)) (same.gave t) ∙ known.since t;
@@ -207,9 +207,9 @@ module _ (taken : Taken) (key_for : KeyFor) (pair : Pair) (number place : ℕ) (
     came_act q true one = ap (λ (o : Option Arrival). option_map (λ (x : Arrival). x.moment) (taken_up o)) may_be.is ∙ sym (ap (option_map (λ (x : Arrival). x.moment)) may_be.is) ∙ known.came a.id ∙ ap m.came (sym (same_is q a.id one))
     came_act q false one = known.came q
 
-    told_act : (q : SightId) (x : Arrival) (b : Bool) → cond b (taken_up (old.came a.id)) (old.came q) ≡ Some x → x.user ≡ Some 0
-    told_act q x true is = sym (ap (λ (y : Arrival). y.user) (same_Some (record { moment = may_be.came; user = may_be.user; acted = true }) x (sym (ap taken_up may_be.is) ∙ is))) ∙ known.told a.id first may_be.is
-    told_act q x false is = known.told q x is
+    first_user_act : (q : SightId) (x : Arrival) (b : Bool) → cond b (taken_up (old.came a.id)) (old.came q) ≡ Some x → x.user ≡ Some 0
+    first_user_act q x true is = sym (ap (λ (y : Arrival). y.user) (same_Some (record { moment = may_be.came; user = may_be.user; acted = true }) x (sym (ap taken_up may_be.is) ∙ is))) ∙ known.first_user a.id first may_be.is
+    first_user_act q x false is = known.first_user q x is
 
     taken_act : (q : SightId) (x : Arrival) (b : Bool) → cond b (taken_up (old.came a.id)) (old.came q) ≡ Some x → x.acted ≡ cond b true (m.taken q)
     taken_act q x true is = sym (ap (λ (y : Arrival). y.acted) (same_Some (record { moment = may_be.came; user = may_be.user; acted = true }) x (sym (ap taken_up may_be.is) ∙ is)))
@@ -231,7 +231,7 @@ module _ (taken : Taken) (key_for : KeyFor) (pair : Pair) (number place : ℕ) (
       client = ap (λ x. x.client) same.standing ∙ known.client;
       listen = ap (λ x. x.listen) same.standing ∙ known.listen;
       came = λ q. ap (option_map (λ (x : Arrival). x.moment)) (same.came q) ∙ came_act q (same_sight q a.id) refl;
-      told = λ q x is. told_act q x (same_sight q a.id) (sym (same.came q) ∙ is);
+      first_user = λ q x is. first_user_act q x (same_sight q a.id) (sym (same.came q) ∙ is);
       taken = λ q x is. taken_act q x (same_sight q a.id) (sym (same.came q) ∙ is);
       fresh = λ q is. fresh_act q (same_sight q a.id) (sym (same.came q) ∙ is);
       since = λ q. ap (option_map (λ (d : Departure). d.arrived)) (same.gave q) ∙ since_act q (same_sight q l.id);

@@ -14,7 +14,7 @@ use Rattle.audit_live.specs.declared.lane.LiveLane.{LiveLane}
 use Rattle.audit_live.specs.declared.lanes.LiveLanes.{LiveLanes}
 use Rattle.audit_live.specs.Chain.{Chain}
 use Rattle.audit_live.specs.Steps.{Steps}
-use Rattle.audit_live.specs.Turn.{AddsLane, NotesAsked, Shown, StepsIn}
+use Rattle.audit_live.specs.Turn.{AddsLane, NotesChecked, Shown, StepsIn}
 use Rattle.audit_live.specs.Walked.{IsSummed}
 use Rattle.audit_live.proofs.LaneShare.{all_length}
 
@@ -84,11 +84,11 @@ adds_none (pair ∷ pairs) old new chain few =
     (rest.0, rest.1 ∙ (let same : sum_by owes_of chain.0 ≡ sum_by owes_of old = omega (arith, more, one, nothing) in same))
 
 -- what is asked of a lane changes nothing that it owes
-pub notes_none : (touched : List ℕ) (old new : List LiveLane) → Chain NotesAsked old touched new → AreFew old → AreFew new × (sum_by owes_of new ≡ sum_by owes_of old)
+pub notes_none : (touched : List ℕ) (old new : List LiveLane) → Chain NotesChecked old touched new → AreFew old → AreFew new × (sum_by owes_of new ≡ sum_by owes_of old)
 notes_none [] old new chain few = subst (λ (ls : List LiveLane). AreFew ls × (sum_by owes_of ls ≡ sum_by owes_of old)) (sym chain) (few, refl)
 notes_none (number ∷ touched) old new chain few =
     let was = chain.1.0 in
-    let is : LiveLane = record was { asked = length (kept_of was.state).ended } in
+    let is : LiveLane = record was { checked = length (kept_of was.state).ended } in
     let mid_few = subst AreFew (sym chain.1.2) (few_set old number is few (few_at old number was few chain.1.1)) in
     let rest = notes_none touched chain.0 new chain.2 mid_few in
     let set = set_sum old number was is chain.1.1 in
@@ -120,7 +120,7 @@ module _ (taken : Taken) (key_for : KeyFor) where
   -- a turn that shows nothing
   pub turn_summed : (old with_new mid new : LiveLanes) (pairs : List (Addr × Addr)) (shown : List Shown) (touched : List ℕ) → length with_new.lanes.items ≤ 65536 → IsSummed old
       → Chain AddsLane old.lanes.items pairs with_new.lanes.items → with_new.owed ≡ old.owed → Chain (StepsIn taken key_for) with_new shown mid
-      → Chain NotesAsked mid.lanes.items touched new.lanes.items → new.owed ≡ mid.owed → IsSummed new
+      → Chain NotesChecked mid.lanes.items touched new.lanes.items → new.owed ≡ mid.owed → IsSummed new
   turn_summed old with_new mid new pairs shown touched count summed adds owed steps notes owed_now =
       let first = adds_none pairs old.lanes.items with_new.lanes.items adds summed.few in
       let walked = steps_summed shown with_new mid count (record { sum = owed ∙ summed.sum ∙ sym first.1; few = first.0 }) steps in

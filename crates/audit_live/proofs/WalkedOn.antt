@@ -16,19 +16,19 @@ use Rattle.audit_sightings.specs.Intake.{Taken}
 use Rattle.audit_whole.specs.CaptureRun.{rules_for}
 use Rattle.audit_whole.specs.Glued.{pair_of_lane}
 use Rattle.audit_live.specs.declared.lane.LiveLane.{LiveLane}
-use Rattle.audit_live.specs.Asked.{AreTouched}
+use Rattle.audit_live.specs.CheckedTenancies.{AreTouched}
 use Rattle.audit_live.specs.Chain.{Chain}
 use Rattle.audit_live.specs.Holding.{runs_in, running_at}
 use Rattle.audit_live.specs.Owed.{Owes}
 use Rattle.audit_live.specs.Remembered.{Remembers}
-use Rattle.audit_live.specs.Turn.{NotesAsked}
+use Rattle.audit_live.specs.Turn.{NotesChecked}
 use Rattle.audit_live.specs.Walked.{AreWalked, IsWalked, events_of, memory_of}
-use Rattle.audit_live.proofs.AskedNoted.{IsNoted, ended_count, noted_lane}
+use Rattle.audit_live.proofs.CheckedNoted.{IsNoted, ended_count, noted_lane}
 use Rattle.audit_live.proofs.LaneTurns.{has_events, no_more, whole_runs}
 use Rattle.audit_live.proofs.NewLanes.{grown, grown_at, grown_events}
 use Rattle.audit_live.proofs.Outcomes.{IsAfter, turn_of}
 
-module _ (taken : Taken) (key_for : KeyFor) (lanes : List CertLane) (events : List (ℕ × Event)) (mid new : List LiveLane) (touched : List ℕ) (are_touched : AreTouched events touched) (chain : Chain NotesAsked mid touched new)
+module _ (taken : Taken) (key_for : KeyFor) (lanes : List CertLane) (events : List (ℕ × Event)) (mid new : List LiveLane) (touched : List ℕ) (are_touched : AreTouched events touched) (chain : Chain NotesChecked mid touched new)
     (after : (number : ℕ) (lane : CertLane) → slice_get lanes number ≡ Some lane → (live : LiveLane) × (slice_get mid number ≡ Some live) × IsAfter taken key_for events number lane live) where
   module _ (number : ℕ) (lane : CertLane) (live : LiveLane) (at : IsAfter taken key_for events number lane live) (noted : IsNoted number live touched new) where
     then_memory : remembered_all (rules_for taken key_for) nothing_yet (whole (turn_of events number lane)) ≡ memory_of taken key_for number (grown events number lane)
@@ -43,12 +43,12 @@ module _ (taken : Taken) (key_for : KeyFor) (lanes : List CertLane) (events : Li
     ended_is : ended_count live ≡ length (memory_of taken key_for number (grown events number lane)).ended
     ended_is = ap length at.keeps.ended ∙ ap (λ (m : Memory). length m.ended) then_memory
 
-    all_asked : noted.new.asked ≡ length (memory_of taken key_for number (grown events number lane)).ended
-    all_asked = elim (has_events events number events) [
-      | inl has ↦ noted.asked ((are_touched number).1 has) ∙ ended_is
+    all_checked : noted.new.checked ≡ length (memory_of taken key_for number (grown events number lane)).ended
+    all_checked = elim (has_events events number events) [
+      | inl has ↦ noted.checked ((are_touched number).1 has) ∙ ended_is
       | inr none ↦ elim noted.or_before [
         | inl before ↦
-            before ∙ at.asked' ∙ ap (λ (es : List Placed). length (remembered_all (rules_for taken key_for) nothing_yet es).ended)
+            before ∙ at.checked' ∙ ap (λ (es : List Placed). length (remembered_all (rules_for taken key_for) nothing_yet es).ended)
             (sym (whole_runs (rules_for taken key_for) (turn_of events number lane) (no_more events number lane none)) ∙ sym (grown_events events number lane))
         | inr now ↦ now ∙ ended_is
       ]
@@ -59,7 +59,7 @@ module _ (taken : Taken) (key_for : KeyFor) (lanes : List CertLane) (events : Li
       keeps = subst (λ (m : Memory). Remembers (pair_of_lane lane) (kept_of noted.new.state) m) then_memory (subst (λ (s : LaneState). Remembers (pair_of_lane lane) (kept_of s) _) (sym same_state) at.keeps);
       number' = ap (λ (l : LiveLane). l.number) noted.rest ∙ at.number';
       steps = ap (λ (l : LiveLane). l.steps) noted.rest ∙ at.steps ∙ sym (length-append lane.events (of_lane number events));
-      asked' = all_asked;
+      checked' = all_checked;
       whole = ap (λ (l : LiveLane). l.broken) noted.rest ∙ at.whole;
       owing = subst (λ (m : Memory). Owes (length (grown events number lane).events) (kept_of noted.new.state) m.owing) then_memory
           (subst (λ (s : LaneState). Owes (length (grown events number lane).events) (kept_of s) owing_then) (sym same_state)

@@ -43,8 +43,8 @@ TakesWithNew taken key_for last old extension new found =
 
 -- The extension is added to the certificate. The result is the least breach in what the whole then
 -- places, or else the breach that the lanes show.
-pub record Tells (taken : Taken) (key_for : KeyFor) (last : Option ℕ) (old : Front) (extension : Extension) (new : Front) (found : Option Breach) : Type 0 where
+pub record TakesExtension (taken : Taken) (key_for : KeyFor) (last : Option ℕ) (old : Front) (extension : Extension) (new : Front) (found : Option Breach) : Type 0 where
   pub extends : Extends old.placing.certificate extension new.placing.certificate
   pub of_placement : Option Breach
   pub least : IsLeast (ShowsPlaced taken new.placing.certificate) of_placement
-  pub told : OrElse of_placement (TakesWithNew taken key_for last old extension new) found
+  pub reports : OrElse of_placement (TakesWithNew taken key_for last old extension new) found

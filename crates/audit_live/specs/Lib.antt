@@ -1,7 +1,7 @@
 pub mod Chain
 pub mod Steps
 pub mod Holding
-pub mod Asked
+pub mod CheckedTenancies
 pub mod Turn
 pub mod Knows
 pub mod Audit

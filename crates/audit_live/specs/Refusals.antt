@@ -64,13 +64,13 @@ IfBreach faults.Ended Fact = Unit {0}
 IfBreach faults.Lane Fact = Unit {0}
 
 -- the first cause, as it is reported at the end
-abbrev pub told_by : Cause → Result Verdict LiveEnd
-told_by (Broke breach) = Ok (NotShown breach)
-told_by NoMemory = Err ends.Memory
-told_by (Refused fault) = Err (ends.Input fault)
+abbrev pub end_by : Cause → Result Verdict LiveEnd
+end_by (Broke breach) = Ok (NotShown breach)
+end_by NoMemory = Err ends.Memory
+end_by (Refused fault) = Err (ends.Input fault)
 
 -- the end of each file is checked before there is a verdict
-abbrev pub AsksTheEnds : Result Verdict LiveEnd → List Fed → Type 0
-AsksTheEnds (Ok verdict) files = FilesEnd (Ok tt) files
-AsksTheEnds (Err ends.Memory) files = FilesEnd (Ok tt) files
-AsksTheEnds (Err (ends.Input fault)) files = FilesEnd (Err fault) files
+abbrev pub ChecksTheEnds : Result Verdict LiveEnd → List Fed → Type 0
+ChecksTheEnds (Ok verdict) files = FilesEnd (Ok tt) files
+ChecksTheEnds (Err ends.Memory) files = FilesEnd (Ok tt) files
+ChecksTheEnds (Err (ends.Input fault)) files = FilesEnd (Err fault) files

@@ -25,7 +25,7 @@ pub record Remembers (pair : Pair) (kept : Kept) (m : Memory) : Type 0 where
   pub client : kept.standing.client ≡ pair.client
   pub listen : kept.standing.listen ≡ pair.listen
   pub came : (s : SightId) → option_map (λ a. a.moment) (kept.came s) ≡ m.came s
-  pub told : (s : SightId) (a : Arrival) → kept.came s ≡ Some a → a.user ≡ Some 0
+  pub first_user : (s : SightId) (a : Arrival) → kept.came s ≡ Some a → a.user ≡ Some 0
   pub taken : (s : SightId) (a : Arrival) → kept.came s ≡ Some a → a.acted ≡ m.taken s
   pub fresh : (s : SightId) → kept.came s ≡ None → m.taken s ≡ false
   pub since : (t : SightId) → option_map (λ d. d.arrived) (kept.gave t) ≡ m.since t

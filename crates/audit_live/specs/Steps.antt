@@ -57,7 +57,7 @@ pub record IsNew (number : ℕ) (pair : Addr × Addr) (lane : LiveLane) : Type 0
   pub state : SameKept (kept_of lane.state) (at_first (record { client = pair.0; listen = pair.1; lane = number; allocation = None; tenancy = None }))
   pub number' : lane.number ≡ number
   pub steps : lane.steps ≡ 0
-  pub asked : lane.asked ≡ 0
+  pub checked : lane.checked ≡ 0
   pub owes : lane.owes ≡ 0
   pub broken : lane.broken ≡ false
 

@@ -13,7 +13,7 @@ use Rattle.audit_sightings.specs.Intake.{Taken}
 use Rattle.audit_live.specs.declared.holders.Holders.{Holders}
 use Rattle.audit_live.specs.declared.lane.LiveLane.{LiveLane}
 use Rattle.audit_live.specs.declared.lanes.LiveLanes.{LiveLanes}
-use Rattle.audit_live.specs.Asked.{is_past_last, asked_of, AreTouched}
+use Rattle.audit_live.specs.CheckedTenancies.{is_past_last, checked_of, AreTouched}
 use Rattle.audit_live.specs.Chain.{Chain}
 use Rattle.audit_live.specs.Holding.{running_at, Notes}
 use Rattle.audit_live.specs.Steps.{IsNew, Steps}
@@ -47,8 +47,8 @@ pub record Walks (taken : Taken) (key_for : KeyFor) (old : LiveLanes) (events : 
   pub least : IsLeast (λ breach. Contains (map (λ one. one.found) shown) (Some breach)) found
 
 -- the ended tenancies of the lane are marked as checked
-abbrev pub NotesAsked : List LiveLane → ℕ → List LiveLane → Type 0
-NotesAsked old number new = (was : LiveLane) × (slice_get old number ≡ Some was) × (new ≡ slice_set old number (record was { asked = length (kept_of was.state).ended }))
+abbrev pub NotesChecked : List LiveLane → ℕ → List LiveLane → Type 0
+NotesChecked old number new = (was : LiveLane) × (slice_get old number ≡ Some was) × (new ≡ slice_set old number (record was { checked = length (kept_of was.state).ended }))
 
 -- the current tenancy is noted if it was born past the last horizon
 abbrev pub NotesRunning : List LiveLane → Option ℕ → Holders → Option Tenancy → Holders → Type 0
@@ -57,7 +57,7 @@ NotesRunning lanes last old (Some tenancy) new = MatchBool (is_past_last last te
 
 -- the notes about lanes that were checked
 pub record NotesTurn (last : Option ℕ) (touched : List ℕ) (old new : LiveLanes) : Type 0 where
-  pub lanes : Chain NotesAsked old.lanes.items touched new.lanes.items
+  pub lanes : Chain NotesChecked old.lanes.items touched new.lanes.items
   pub holders : Chain (λ was number is. NotesRunning new.lanes.items last was (running_at new.lanes.items number) is) old.holders touched new.holders
   pub owed : new.owed ≡ old.owed
 
@@ -69,5 +69,5 @@ pub record TakesTurn (taken : Taken) (key_for : KeyFor) (last : Option ℕ) (old
   pub walks : Walks taken key_for old events mid of_lanes
   pub touched : List ℕ
   pub are_touched : AreTouched events touched
-  pub told : OrElse of_lanes (IsLeast (ShowsClash (asked_of mid.lanes.items mid.holders last touched))) found
+  pub reports : OrElse of_lanes (IsLeast (ShowsClash (checked_of mid.lanes.items mid.holders last touched))) found
   pub notes : found ≡ None → NotesTurn last touched mid new

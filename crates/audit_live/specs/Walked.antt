@@ -22,11 +22,11 @@ use Rattle.audit_live.specs.Remembered.{Remembers}
 
 -- The lane's state is that of its walk at a place, this number of its ended tenancies were checked,
 -- and it owes what the walk owes.
-pub record IsAt (pair : Pair) (number place : ℕ) (m : Memory) (asked : ℕ) (lane : LiveLane) : Type 0 where
+pub record IsAt (pair : Pair) (number place : ℕ) (m : Memory) (checked : ℕ) (lane : LiveLane) : Type 0 where
   pub keeps : Remembers pair (kept_of lane.state) m
   pub number' : lane.number ≡ number
   pub steps : lane.steps ≡ place
-  pub asked' : lane.asked ≡ asked
+  pub checked' : lane.checked ≡ checked
   pub whole : lane.broken ≡ false
   pub owing : Owes place (kept_of lane.state) m.owing
   pub owes' : lane.owes ≡ min (length m.owing) 4294967295

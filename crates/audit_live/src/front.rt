@@ -10,7 +10,7 @@ ghost use Rattle.audit_prefix.specs.Told.{LiveBreach};
 ghost use Rattle.audit_rules.specs.Keys.{KeyFor};
 ghost use Rattle.audit_sightings.specs.Intake.{AreNumbered, Taken, taken};
 ghost use Rattle.audit_whole.specs.Glued.{lanes_from};
-ghost use Rattle.audit_live.specs.Knows.{Knows, Tells, stands_for};
+ghost use Rattle.audit_live.specs.Knows.{Knows, TakesExtension, stands_for};
 
 use crate::lanes::LiveLanes;
 use crate::progress::Progress;
@@ -50,7 +50,7 @@ impl Front {
     ) -> Result<Option<Breach>, AllocError>
         requires knows { Knows (taken intake.now) (key_for credentials.now) last self.old }
         requires fits { Fits self.old.placing.certificate extension.now }
-        ensures tells { IfOk result (Tells (taken intake.now) (key_for credentials.now) last self.old extension.now self.new) }
+        ensures takes_extension { IfOk result (TakesExtension (taken intake.now) (key_for credentials.now) last self.old extension.now self.new) }
         // If the extension may come, the result is the breach of the whole certificate,
         ensures shows { (horizon : ℕ) → MayAdvance (stands_for (taken intake.now) self.old last) horizon extension.now →
             IfOk result (LiveBreach (taken intake.now) (key_for credentials.now) self.new.placing.certificate) }

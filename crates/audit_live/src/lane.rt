@@ -22,7 +22,7 @@ pub struct LiveLane {
     /// The number of events so far, which is the place of the next one.
     pub steps: u32,
     /// How many of its ended tenancies were checked for clashes.
-    pub asked: usize,
+    pub checked: usize,
     /// The number of departures that acts sent and that haven't left.
     pub owes: u32,
     /// An event broke a rule; the lane isn't walked on.
@@ -38,7 +38,7 @@ impl LiveLane {
             number,
             state: LaneState::new(alloc, number, client, listen),
             steps: 0,
-            asked: 0,
+            checked: 0,
             owes: 0,
             broken: false,
         }
@@ -172,17 +172,17 @@ impl LiveLane {
 
     /// The ended tenancies that weren't checked for clashes.
     pub fn ended(&self) -> &[Tenancy]
-        ensures { result.now ≡ drop (min self.now.asked (length (kept_of self.now.state).ended)) (kept_of self.now.state).ended }
+        ensures { result.now ≡ drop (min self.now.checked (length (kept_of self.now.state).ended)) (kept_of self.now.state).ended }
     {
         let ended = self.state.tenancies();
-        &ended[self.asked.min(ended.len())..]
+        &ended[self.checked.min(ended.len())..]
     }
 
     /// Marks all ended tenancies as checked for clashes.
-    pub fn note_asked(&mut self)
-        ensures { self.new ≡ record self.old { asked = length (kept_of self.old.state).ended } }
+    pub fn note_checked(&mut self)
+        ensures { self.new ≡ record self.old { checked = length (kept_of self.old.state).ended } }
     {
-        self.asked = self.state.tenancies().len();
+        self.checked = self.state.tenancies().len();
     }
 
     /// The current tenancy.

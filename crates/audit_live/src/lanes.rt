@@ -4,12 +4,12 @@ ghost use Rattle.std.specs.Prelude.{◌≡◌, ◌↔◌, ◌<◌, ◌≤◌, �
 ghost use Rattle.audit_keys.specs.KeyFor.{key_for};
 ghost use Rattle.audit_model.specs.declared.certificate.TheConstants.{MAX_LANES};
 ghost use Rattle.audit_sightings.specs.Intake.{NamesWhatIsThere, taken};
-ghost use Rattle.audit_live.specs.Asked.{AreTouched};
+ghost use Rattle.audit_live.specs.CheckedTenancies.{AreTouched};
 ghost use Rattle.audit_live.specs.Chain.{Chain};
-ghost use Rattle.audit_live.specs.Turn.{AddsLane, NotesAsked, NotesRunning, NotesTurn, StepsIn, TakesTurn, Walks};
+ghost use Rattle.audit_live.specs.Turn.{AddsLane, NotesChecked, NotesRunning, NotesTurn, StepsIn, TakesTurn, Walks};
 ghost use Rattle.audit_live.specs.Holding.{running_at};
 
-use crate::asking::is_past_last;
+use crate::checked_tenancies::is_past_last;
 use crate::holders::Holders;
 use crate::lane::LiveLane;
 use audit_keys::Credentials;
@@ -126,24 +126,24 @@ impl LiveLanes {
         Ok(least)
     }
 
-    fn note_asked_of(&mut self, number: u32)
+    fn note_checked_of(&mut self, number: u32)
         requires { number < vec_len self.old.lanes }
-        ensures lanes { NotesAsked self.old.lanes.items number self.new.lanes.items }
+        ensures lanes { NotesChecked self.old.lanes.items number self.new.lanes.items }
         ensures count { vec_len self.new.lanes ≡ vec_len self.old.lanes }
         ensures rest { (self.new.owed ≡ self.old.owed) × (self.new.holders ≡ self.old.holders) }
     {
-        self.lanes[number as usize].note_asked();
+        self.lanes[number as usize].note_checked();
     }
 
     /// Marks the ended tenancies of those lanes as checked.
-    fn note_asked(&mut self, touched: &[u32])
+    fn note_checked(&mut self, touched: &[u32])
         requires { All (λ number. number < vec_len self.old.lanes) touched.now }
-        ensures lanes { Chain NotesAsked self.old.lanes.items touched.now self.new.lanes.items }
+        ensures lanes { Chain NotesChecked self.old.lanes.items touched.now self.new.lanes.items }
         ensures count { vec_len self.new.lanes ≡ vec_len self.old.lanes }
         ensures rest { (self.new.owed ≡ self.old.owed) × (self.new.holders ≡ self.old.holders) }
     {
         'touched: for number in touched {
-            self.note_asked_of(*number);
+            self.note_checked_of(*number);
         }
     }
 
@@ -179,7 +179,7 @@ impl LiveLanes {
         ensures notes { OnOk result (NotesTurn last touched.now self.old self.new) }
         ensures count { OnOk result (vec_len self.new.lanes ≡ vec_len self.old.lanes) }
     {
-        self.note_asked(touched);
+        self.note_checked(touched);
         self.note_holders(last, touched)?;
         Ok(())
     }
@@ -202,8 +202,8 @@ impl LiveLanes {
         if let Some(breach) = self.walk(intake, credentials, events)? {
             return Ok(Some(breach));
         }
-        let asked = self.asked(last, touched.as_slice())?;
-        if let Some(breach) = clash(self.alloc, asked.as_slice())? {
+        let checked = self.checked(last, touched.as_slice())?;
+        if let Some(breach) = clash(self.alloc, checked.as_slice())? {
             return Ok(Some(breach));
         }
         self.note(last, touched.as_slice())?;

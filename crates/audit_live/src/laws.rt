@@ -15,7 +15,7 @@ ghost use Rattle.audit_rules.specs.declared.credentials.CredRow.{CredRow};
 ghost use Rattle.audit_rules.specs.Keys.{KeyFor};
 ghost use Rattle.audit_sightings.specs.Intake.{Taken, taken as taken_of};
 ghost use Rattle.audit_live.specs.declared.front.Front.{Front};
-ghost use Rattle.audit_live.specs.Knows.{Knows, Tells};
+ghost use Rattle.audit_live.specs.Knows.{Knows, TakesExtension};
 ghost use Rattle.audit_live.specs.Remembered.{GoesOnAsWalk, StopsAsWalk};
 
 use audit_sightings::Intake;
@@ -37,15 +37,15 @@ pub fn breaches_are_those_of_the_walk()
 
 /// If the extension of a turn fits and comes past the last horizon, the turn's breach is that of
 /// the whole certificate with the extension.
-pub fn turns_tell_the_breach_of_the_whole()
+pub fn turns_report_the_breach_of_the_whole()
     ensures { (taken : Taken) (key_for : KeyFor) (last : Option ℕ) (old new : Front) (extension : Extension) (found : Option Breach) →
         Knows taken key_for last old → Fits old.placing.certificate extension → OfMoments (λ moment. IfSome last (λ before. before < moment)) extension →
-        Tells taken key_for last old extension new found → LiveBreach taken key_for new.placing.certificate found }
+        TakesExtension taken key_for last old extension new found → LiveBreach taken key_for new.placing.certificate found }
 {}
 
 /// If a certificate over an intake has no breach, no breach is one by the same definitions. So an
 /// advance is refused by G3 exactly if there is one.
-pub fn a_breach_is_told_or_none(intake: &Intake)
+pub fn a_breach_is_reported_or_none(intake: &Intake)
     ensures { (key_for : KeyFor) (certificate : Certificate) (breach : Breach) →
         LiveBreach (taken_of intake.now) key_for certificate None → LiveBreach (taken_of intake.now) key_for certificate (Some breach) → ⊥ }
 {

@@ -2,8 +2,8 @@
 //! the first turn that breaks a rule is reported.
 #![tactic(auto)]
 
-mod asking;
 mod cause;
+mod checked_tenancies;
 mod fault;
 mod front;
 mod holders;

@@ -18,8 +18,8 @@ ghost use Rattle.audit_whole.specs.Headline.{Headline};
 ghost use Rattle.audit_live.specs.declared.cause.Cause.{Cause as FirstCause};
 ghost use Rattle.audit_live.specs.declared.cause.Cause.TheVariants.{Refused};
 ghost use Rattle.audit_live.specs.declared.fault.LiveFault.TheVariants.{Ended, Input};
-ghost use Rattle.audit_live.specs.Knows.{Tells};
-ghost use Rattle.audit_live.specs.Refusals.{AsksTheEnds, IfBreach, IsInput, IsRefusal, Leaves, standing_of, told_by};
+ghost use Rattle.audit_live.specs.Knows.{TakesExtension};
+ghost use Rattle.audit_live.specs.Refusals.{ChecksTheEnds, IfBreach, IsInput, IsRefusal, Leaves, standing_of, end_by};
 
 use crate::cause::Cause;
 use crate::fault::{LiveEnd, LiveFault};
@@ -178,8 +178,8 @@ impl Live {
         ensures refused { IfErr result (IsRefusal self.old horizon extension) }
         ensures accepted { OnOk result ((self.old.ended ≡ None) × MayAdvance (standing_of self.old) horizon extension × (self.new.last ≡ Some horizon) × (self.new.ended ≡ None)) }
         ensures leaves { IfErr result (Leaves self.old self.new) }
-        ensures passes { OnOk result (Tells (taken self.old.intake) (key_for self.old.credentials) self.old.last self.old.front extension self.new.front None) }
-        ensures breach { IfErr result (λ refusal. IfBreach refusal (λ breach. Tells (taken self.old.intake) (key_for self.old.credentials) self.old.last self.old.front extension self.new.front (Some breach))) }
+        ensures passes { OnOk result (TakesExtension (taken self.old.intake) (key_for self.old.credentials) self.old.last self.old.front extension self.new.front None) }
+        ensures breach { IfErr result (λ refusal. IfBreach refusal (λ breach. TakesExtension (taken self.old.intake) (key_for self.old.credentials) self.old.last self.old.front extension self.new.front (Some breach))) }
         // If accepted, the whole certificate with the extension has no breach; if refused by G3, it
         // has this one.
         ensures advances { OnOk result (Advances (key_for self.old.credentials) (standing_of self.old) horizon extension (standing_of self.new)) }
@@ -245,8 +245,8 @@ impl Live {
     /// the whole intake by the certificate of all extensions. It reads all of both once.
     pub fn finish(&self) -> Result<Verdict, LiveEnd>
         // The first cause is reported again.
-        ensures first_cause { (cause : FirstCause) → self.now.ended ≡ Some cause → result ≡ told_by cause }
-        ensures ends { self.now.ended ≡ None → (files : List Fed) → StandsFor self.now.intake files → AsksTheEnds result files }
+        ensures first_cause { (cause : FirstCause) → self.now.ended ≡ Some cause → result ≡ end_by cause }
+        ensures ends { self.now.ended ≡ None → (files : List Fed) → StandsFor self.now.intake files → ChecksTheEnds result files }
         ensures verdict { self.now.ended ≡ None → IfOk result (IsVerdict (taken self.now.intake) (key_for self.now.credentials) self.now.front.placing.certificate) }
         ensures conforming { self.now.ended ≡ None → IfOk result (λ verdict. IsConforming verdict
             ↔ Conforms (taken self.now.intake) (rules_for (taken self.now.intake) (key_for self.now.credentials)) self.now.front.placing.certificate) }

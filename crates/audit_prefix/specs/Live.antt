@@ -58,7 +58,7 @@ pub record MayAdvance (live : Standing) (horizon : ℕ) (extension : Extension) 
 pub record Shows (key_for : KeyFor) (live : Standing) (extension : Extension) (found : Option Breach) : Type 0 where
   pub certificate : Certificate
   pub extends : Extends live.certificate extension certificate
-  pub told : LiveBreach live.taken key_for certificate found
+  pub reports : LiveBreach live.taken key_for certificate found
 
 -- the state after an accepted advance
 pub record Advances (key_for : KeyFor) (old : Standing) (horizon : ℕ) (extension : Extension) (new : Standing) : Type 0 where

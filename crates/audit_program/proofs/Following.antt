@@ -32,7 +32,7 @@ use Rattle.audit_live.specs.declared.fault.LiveFault.TheVariants as faults
 use Rattle.audit_live.specs.declared.fault.LiveEnd.{LiveEnd}
 use Rattle.audit_live.specs.declared.fault.LiveEnd.TheVariants as live_ends
 use Rattle.audit_live.specs.Audit.{Audit}
-use Rattle.audit_live.specs.Refusals.{AsksTheEnds, IfBreach, IsInput, IsRefusal, Leaves, told_by}
+use Rattle.audit_live.specs.Refusals.{ChecksTheEnds, IfBreach, IsInput, IsRefusal, Leaves, end_by}
 use Rattle.audit_program.specs.Following.{Follows, Goes, LeftBy, NoneRefused, ShowsItsBreach, ShowsItsRefusal, TookIn, WereGiven, WereRefused}
 use Rattle.audit_program.specs.Reads.{AreReadOut, HasEnded}
 use Rattle.audit_program.specs.Watched.{EndsByLive, EndsLiveBy, EndsTurns, IsToldOf}
@@ -271,7 +271,7 @@ goes_opened policy users count given live p c none of_policy same of_users keys 
 -- ---- the end
 
 module _ (turns : Turns) (policy users : List ℕ) (count : ℕ) (given reads : ℕ → Option (List ℕ)) (live : Audit) (follows : Follows policy users count given live)
-    (has_ended : HasEnded turns count reads live) (result : Result Verdict LiveEnd) (first : (cause : Cause) → live.ended ≡ Some cause → result ≡ told_by cause) where
+    (has_ended : HasEnded turns count reads live) (result : Result Verdict LiveEnd) (first : (cause : Cause) → live.ended ≡ Some cause → result ≡ end_by cause) where
   abbrev pub IsTold : Verdict → Type 0
   IsTold = IsToldOf turns given reads live.intake (key_for live.credentials) live.front.placing.certificate
 
@@ -280,18 +280,18 @@ module _ (turns : Turns) (policy users : List ℕ) (count : ℕ) (given reads : 
   read_out none (inl apart) = absurd (apart none)
   read_out none (inr read) = subst (λ (n : ℕ). AreReadOut turns n reads) (sym follows.count') read
 
-  at_the_end : live.ended ≡ None → (r : Result Verdict LiveEnd) → ((files : List Fed) → StandsFor live.intake files → AsksTheEnds r files) → IfOk r (IsVerdict (taken live.intake) (key_for live.credentials) live.front.placing.certificate)
+  at_the_end : live.ended ≡ None → (r : Result Verdict LiveEnd) → ((files : List Fed) → StandsFor live.intake files → ChecksTheEnds r files) → IfOk r (IsVerdict (taken live.intake) (key_for live.credentials) live.front.placing.certificate)
       → IfOk r (λ verdict. IsConforming verdict ↔ Conforms (taken live.intake) (rules_for (taken live.intake) (key_for live.credentials)) live.front.placing.certificate) → IfOk r IsTold
   at_the_end none (Ok verdict) ends is conforming =
       let took = follows.took (none≢refused live none) in inl (record { took = took; read_out = read_out none has_ended; ended = ends took.files took.stands; is = is; conforming = conforming })
   at_the_end none (Err end) ends is conforming = tt
 
-  by_cause : (cause : Cause) → live.ended ≡ Some cause → IfOk (told_by cause) IsTold
+  by_cause : (cause : Cause) → live.ended ≡ Some cause → IfOk (end_by cause) IsTold
   by_cause (Broke breach) is = inr (record { took = follows.took (none_refused live (Some (Broke breach)) is (λ refused. refused)); breach = breach; is = refl; shows = follows.shows breach is })
   by_cause NoMemory is = tt
   by_cause (Refused fault) is = tt
 
-  pub told_at_last : (ended : Option Cause) → live.ended ≡ ended → (live.ended ≡ None → (files : List Fed) → StandsFor live.intake files → AsksTheEnds result files)
+  pub told_at_last : (ended : Option Cause) → live.ended ≡ ended → (live.ended ≡ None → (files : List Fed) → StandsFor live.intake files → ChecksTheEnds result files)
       → (live.ended ≡ None → IfOk result (IsVerdict (taken live.intake) (key_for live.credentials) live.front.placing.certificate))
       → (live.ended ≡ None → IfOk result (λ verdict. IsConforming verdict ↔ Conforms (taken live.intake) (rules_for (taken live.intake) (key_for live.credentials)) live.front.placing.certificate))
       → IfOk result IsTold
@@ -312,12 +312,12 @@ input_of fault other same = cc
 
 -- what ends a run without a verdict
 module _ (policy users : List ℕ) (count : ℕ) (given : ℕ → Option (List ℕ)) (live : Audit) (follows : Follows policy users count given live)
-    (end : LiveEnd) (first : (cause : Cause) → live.ended ≡ Some cause → Err end ≡ told_by cause) (ends : live.ended ≡ None → (files : List Fed) → StandsFor live.intake files → AsksTheEnds (Err end) files) where
+    (end : LiveEnd) (first : (cause : Cause) → live.ended ≡ Some cause → Err end ≡ end_by cause) (ends : live.ended ≡ None → (files : List Fed) → StandsFor live.intake files → ChecksTheEnds (Err end) files) where
   ends_by : (ended : Option Cause) → live.ended ≡ ended → (e : LiveEnd) → end ≡ e → EndsLiveBy count given live.intake.policy e
   ends_by ended is live_ends.Memory same = tt
   ends_by None is (live_ends.Input fault) same =
       let took = follows.took (none≢refused live is) in
-      inr (inr record { intake = live.intake; policy' = refl; took = took; ends = subst (λ (e : LiveEnd). AsksTheEnds (Err e) took.files) same (ends is took.files took.stands) })
+      inr (inr record { intake = live.intake; policy' = refl; took = took; ends = subst (λ (e : LiveEnd). ChecksTheEnds (Err e) took.files) same (ends is took.files took.stands) })
   ends_by (Some (Broke breach)) is (live_ends.Input fault) same = absurd (err≢ok _ _ (first (Broke breach) is))
   ends_by (Some NoMemory) is (live_ends.Input fault) same = absurd (input≢memory fault (sym same ∙ err_of _ _ (first NoMemory is)))
   ends_by (Some (Refused other)) is (live_ends.Input fault) same =

@@ -1,5 +1,5 @@
 use Rattle.std.proofs.Common.{arith}
-use Rattle.audit_live.specs.Asked.{fresh_at}
+use Rattle.audit_live.specs.CheckedTenancies.{fresh_at}
 use Rattle.audit_live.proofs.Fresh.{flat_map_next}
 use Rattle.audit_live.proofs.lanes.LiveLanes.fresh.Goals as goal
 

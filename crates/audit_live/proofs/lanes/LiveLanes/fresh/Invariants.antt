@@ -1,6 +1,6 @@
 use Rattle.std.proofs.Common.{◌≡◌, take}
 use Rattle.std.specs.List.{flat_map}
-use Rattle.audit_live.specs.Asked.{fresh_at}
+use Rattle.audit_live.specs.CheckedTenancies.{fresh_at}
 use Rattle.audit_live.proofs.lanes.LiveLanes.fresh.Given as goal
 
 -- those of the lanes so far

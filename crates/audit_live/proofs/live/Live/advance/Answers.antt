@@ -24,8 +24,8 @@ returns-in-Ok-Some-clause-shows c =
     subst (λ (a : Audit). Shows (key_for a.credentials) (standing_of a) c.args.extension (Some c.in-Ok-Some.breach)) c.self.view_is
     (record {
       certificate = c.take.new.self.placing.certificate;
-      extends = c.in-Ok-Some.ensures.tells.extends;
-      told = subst (LiveBreach (taken c.self.inside.intake) (key_for c.self.inside.credentials) c.take.new.self.placing.certificate) c.in-Ok-Some.field-0-is (c.in-Ok-Some.ensures.shows c.args.horizon may);
+      extends = c.in-Ok-Some.ensures.takes_extension.extends;
+      reports = subst (LiveBreach (taken c.self.inside.intake) (key_for c.self.inside.credentials) c.take.new.self.placing.certificate) c.in-Ok-Some.field-0-is (c.in-Ok-Some.ensures.shows c.args.horizon may);
     })
 
 pub returns-in-Ok-Some-clause-broken : goal.returns-in-Ok-Some-clause-broken

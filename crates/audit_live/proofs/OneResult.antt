@@ -42,12 +42,12 @@ module _ (taken : Taken) (key_for : KeyFor) (bytes : HaveBytes taken) where
 
   by_clashes : (certificate : Certificate) (b : Breach) (second third : Option Breach) → LeastOf (Lanes certificate) second → OrElse second (IsLeast (Clash certificate)) None
       → LeastOf (Lanes certificate) third → OrElse third (IsLeast (Clash certificate)) (Some b) → ⊥
-  by_clashes certificate b (Some c) third none none_told some told = none-some c none_told
-  by_clashes certificate b None (Some c) none none_told some told =
+  by_clashes certificate b (Some c) third none none_reported some reports = none-some c none_reported
+  by_clashes certificate b None (Some c) none none_reported some reports =
       none.least c (subst (λ (os : List (Option Breach)). Contains os (Some c)) (same_outcomes (lanes_from 0 certificate.lanes) some.outcomes none.outcomes some.each none.each) some.least.0)
-  by_clashes certificate b None None none none_told some told = not_both_least (Clash certificate) b none_told told
+  by_clashes certificate b None None none none_reported some reports = not_both_least (Clash certificate) b none_reported reports
 
-  pub not_both_told : (certificate : Certificate) (b : Breach) → LiveBreach taken key_for certificate None → LiveBreach taken key_for certificate (Some b) → ⊥
-  not_both_told certificate b (Some c, least, told) other = none-some c told
-  not_both_told certificate b (None, none, (second, of_lanes, clashes)) (Some c, least, told) = not_both_least (ShowsPlaced taken certificate) c none least
-  not_both_told certificate b (None, none, (second, of_lanes, clashes)) (None, least, (third, others, told)) = by_clashes certificate b second third of_lanes clashes others told
+  pub not_both_results : (certificate : Certificate) (b : Breach) → LiveBreach taken key_for certificate None → LiveBreach taken key_for certificate (Some b) → ⊥
+  not_both_results certificate b (Some c, least, reports) other = none-some c reports
+  not_both_results certificate b (None, none, (second, of_lanes, clashes)) (Some c, least, reports) = not_both_least (ShowsPlaced taken certificate) c none least
+  not_both_results certificate b (None, none, (second, of_lanes, clashes)) (None, least, (third, others, reports)) = by_clashes certificate b second third of_lanes clashes others reports

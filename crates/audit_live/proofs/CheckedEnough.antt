@@ -23,12 +23,12 @@ use Rattle.audit_sightings.specs.Intake.{Taken}
 use Rattle.audit_whole.specs.CaptureRun.{rules_for}
 use Rattle.audit_live.specs.declared.holders.Holders.{Holders}
 use Rattle.audit_live.specs.declared.lane.LiveLane.{LiveLane}
-use Rattle.audit_live.specs.Asked.{AreTouched, asked_of, fresh_at, fresh_of, held_by, is_past_last}
+use Rattle.audit_live.specs.CheckedTenancies.{AreTouched, checked_of, fresh_at, fresh_of, held_by, is_past_last}
 use Rattle.audit_live.specs.Holding.{held_in, holder_of, runs_in, running_at}
 use Rattle.audit_live.specs.Walked.{events_of, memory_of}
 use Rattle.audit_live.proofs.Fresh.{fresh_there}
 use Rattle.audit_live.proofs.LaneTurns.{born_by, born_in_lane, fresh_in_whole, fresh_runs, has_events, lane_of_events, no_more, turn_at, turn_there, whole_runs}
-use Rattle.audit_live.proofs.Lists.{drop_behind, in_flat, in_some, some_in, there_is, to_flat}
+use Rattle.audit_live.proofs.Lists.{drop_append, in_flat, in_some, some_in, there_is, to_flat}
 use Rattle.audit_live.proofs.Outcomes.{IsAfter, turn_of}
 
 -- at the last horizon at the latest; before the first one nothing stands
@@ -64,8 +64,8 @@ module _ (taken : Taken) (key_for : KeyFor) where
         let since : List Tenancy = ended_in w m.allocation m.runs turn.more in
         let ended : (remembered_all w nothing_yet (whole turn)).ended ≡ m.ended ++ since = ap (λ (n : Memory). n.ended) (remembered_cut w turn.before turn.more nothing_yet) ∙ (remembers w turn.more m).2 in
         let kept : (kept_of live.state).ended ≡ m.ended ++ since = after.keeps.ended ∙ ended in
-        ap (λ ts. drop (min live.asked (length ts)) ts ++ option_to_list (runs_in live)) kept
-        ∙ ap (λ ts. ts ++ option_to_list (runs_in live)) (drop_behind m.ended since live.asked after.asked')
+        ap (λ ts. drop (min live.checked (length ts)) ts ++ option_to_list (runs_in live)) kept
+        ∙ ap (λ ts. ts ++ option_to_list (runs_in live)) (drop_append m.ended since live.checked after.checked')
         ∙ ap (λ o. since ++ option_to_list o) after.keeps.runs
         ∙ sym (fresh_are w turn since ended)
 
@@ -95,7 +95,7 @@ module _ (taken : Taken) (key_for : KeyFor) (lanes : List CertLane) (events : Li
   running_all : (number : ℕ) (t : Tenancy) → running_at lives number ≡ Some t → Contains (all_tenancies (w taken key_for) (wholes turns)) t
   running_all number t runs =
       option_and_then_some runs_in (slice_get lives number) t runs
-      (λ live there is. fresh_all number live t there (Contains-append_right (drop (min live.asked (length (kept_of live.state).ended)) (kept_of live.state).ended) (option_to_list (runs_in live)) t (some_in (runs_in live) t is)))
+      (λ live there is. fresh_all number live t there (Contains-append_right (drop (min live.checked (length (kept_of live.state).ended)) (kept_of live.state).ended) (option_to_list (runs_in live)) t (some_in (runs_in live) t is)))
 
   module _ (holders : Holders) (last : Option ℕ) (touched : List ℕ) where
     abbrev frees : List Tenancy
@@ -115,14 +115,14 @@ module _ (taken : Taken) (key_for : KeyFor) (lanes : List CertLane) (events : Li
         (λ number noted runs. running_all number t runs)
 
     -- all that is asked is a tenancy of a lane
-    pub no_others : (t : Tenancy) → Contains (asked_of lives holders last touched) t → Contains (all_tenancies (w taken key_for) (wholes turns)) t
+    pub no_others : (t : Tenancy) → Contains (checked_of lives holders last touched) t → Contains (all_tenancies (w taken key_for) (wholes turns)) t
     no_others t c = elim (Contains-append_cases frees (flat_map (held_by lives holders last) frees) t c) [ inl own ↦ frees_all t own | inr held ↦ held_all t held ]
 
     module _ (are_touched : AreTouched events touched) (before : (number : ℕ) (lane : CertLane) → slice_get lanes number ≡ Some lane → AllByRecursion (ByLast last) (events_of number lane))
         (knows : (number : ℕ) (lane : CertLane) → slice_get lanes number ≡ Some lane → IfSome last (λ horizon. KnowsHolders (w taken key_for) horizon (holder_of holders) (events_of number lane))) where
       -- what is fresh of a lane with events
-      own_asked : (number : ℕ) (lane : CertLane) → slice_get lanes number ≡ Some lane → (turn_of events number lane).more ≢ [] → (t : Tenancy) → Contains (fresh_in (w taken key_for) (turn_of events number lane)) t → Contains frees t
-      own_asked number lane there some t c = elim (has_events events number events) [
+      own_checked : (number : ℕ) (lane : CertLane) → slice_get lanes number ≡ Some lane → (turn_of events number lane).more ≢ [] → (t : Tenancy) → Contains (fresh_in (w taken key_for) (turn_of events number lane)) t → Contains frees t
+      own_checked number lane there some t c = elim (has_events events number events) [
         | inl has ↦
             let found = after number lane there in
             let fresh_is = fresh_there lives number found.0 found.1 ∙ fresh_same taken key_for events number lane found.0 found.2 in
@@ -131,8 +131,8 @@ module _ (taken : Taken) (key_for : KeyFor) (lanes : List CertLane) (events : Li
       ]
 
       -- one that is born past the last horizon is fresh of a lane with events
-      born_asked : (horizon : ℕ) → last ≡ Some horizon → (new : Tenancy) → Contains (fresh (w taken key_for) turns) new → horizon < new.born.key.moment → Contains frees new
-      born_asked horizon is new c past =
+      born_checked : (horizon : ℕ) → last ≡ Some horizon → (new : Tenancy) → Contains (fresh (w taken key_for) turns) new → horizon < new.born.key.moment → Contains frees new
+      born_checked horizon is new c past =
           let one = found_in (w taken key_for) turns new c in
           let at = turn_at events lanes one.0 one.1 in
           let mine = subst (λ (t : Turn). Contains (fresh_in (w taken key_for) t) new) at.3 one.2 in
@@ -148,9 +148,9 @@ module _ (taken : Taken) (key_for : KeyFor) (lanes : List CertLane) (events : Li
                 absurd (omega (arith, born, past))
           ]
 
-      other_asked : (horizon : ℕ) → last ≡ Some horizon → (number : ℕ) (lane : CertLane) → slice_get lanes number ≡ Some lane → (turn_of events number lane).more ≡ [] → (held new : Tenancy)
+      other_checked : (horizon : ℕ) → last ≡ Some horizon → (number : ℕ) (lane : CertLane) → slice_get lanes number ≡ Some lane → (turn_of events number lane).more ≡ [] → (held new : Tenancy)
           → runs_after (w taken key_for) None None (events_of number lane) ≡ Some held → Contains (fresh (w taken key_for) turns) new → MayClash horizon new held → Contains (flat_map (held_by lives holders last) frees) held
-      other_asked horizon is number lane there none held new runs c may =
+      other_checked horizon is number lane there none held new runs c may =
           let found = after number lane there in
           let lane_is = born_in_lane (w taken key_for) number (events_of number lane) held (lane_of_events number lane) runs in
           let noted = subst (λ (o : Option ℕ). IfSome o (λ h. KnowsHolders (w taken key_for) h (holder_of holders) (events_of number lane))) is (knows number lane there) held runs may.held_on in
@@ -161,15 +161,15 @@ module _ (taken : Taken) (key_for : KeyFor) (lanes : List CertLane) (events : Li
           let past : is_past_last last new.born.key.moment ≡ true = ap (λ o. is_past_last o new.born.key.moment) is ∙ lt-ltb horizon new.born.key.moment may.new_born in
           let has : held_by lives holders last new ≡ option_to_list (Some held) =
           ap (λ (b : Bool). if b then option_to_list (held_in lives holders new.relayed) else []) past ∙ ap option_to_list held_is in
-          to_flat (held_by lives holders last) frees new held (born_asked horizon is new c may.new_born) (subst (λ (ts : List Tenancy). Contains ts held) (sym has) (some_in (Some held) held refl))
+          to_flat (held_by lives holders last) frees new held (born_checked horizon is new c may.new_born) (subst (λ (ts : List Tenancy). Contains ts held) (sym has) (some_in (Some held) held refl))
 
       -- what is asked covers what may clash
-      pub covers : Covers (w taken key_for) last turns (asked_of lives holders last touched)
+      pub covers : Covers (w taken key_for) last turns (checked_of lives holders last touched)
       covers = record {
         touched = λ turn c some t k.
             let at = turn_at events lanes turn c in
             Contains-append_left frees (flat_map (held_by lives holders last) frees) t
-            (own_asked at.0 at.1 at.2 (λ none. some (ap (λ (u : Turn). u.more) at.3 ∙ none)) t (subst (λ (u : Turn). Contains (fresh_in (w taken key_for) u) t) at.3 k));
+            (own_checked at.0 at.1 at.2 (λ none. some (ap (λ (u : Turn). u.more) at.3 ∙ none)) t (subst (λ (u : Turn). Contains (fresh_in (w taken key_for) u) t) at.3 k));
         others = λ turn c none held new runs k may.
             let at = turn_at events lanes turn c in
             let ran = subst (λ (u : Turn). runs_after (w taken key_for) None None u.before ≡ Some held) at.3 runs in
@@ -181,4 +181,4 @@ module _ (taken : Taken) (key_for : KeyFor) (lanes : List CertLane) (events : Li
             → Contains (flat_map (held_by lives holders last) frees) held
         by_last None is number lane there none held new runs c may = absurd ((not_past taken key_for last (events_of number lane) held (before number lane there) runs).1 is)
         by_last (Some horizon) is number lane there none held new runs c may =
-            other_asked horizon is number lane there none held new runs c (subst (λ (o : Option ℕ). IfSome o (λ h. MayClash h new held)) is may)
+            other_checked horizon is number lane there none held new runs c (subst (λ (o : Option ℕ). IfSome o (λ h. MayClash h new held)) is may)

@@ -2,7 +2,7 @@
 
 ghost use Rattle.std.specs.Prelude.{◌≡◌, ◌<◌, ◌++◌, All, IfOk, OnOk, vec_len};
 ghost use Rattle.std.specs.List.{flat_map};
-ghost use Rattle.audit_live.specs.Asked.{asked_of, fresh_at, held_by, is_past_last as comes_past};
+ghost use Rattle.audit_live.specs.CheckedTenancies.{checked_of, fresh_at, held_by, is_past_last as comes_past};
 
 use crate::lanes::LiveLanes;
 use audit_model::Tenancy;
@@ -49,13 +49,13 @@ impl LiveLanes {
         &self,
         last: Option<u64>,
         tenancy: &Tenancy,
-        asked: &mut Vec<Tenancy>,
+        checked: &mut Vec<Tenancy>,
     ) -> Result<(), AllocError>
-        ensures { OnOk result (asked.new.items ≡ asked.old.items ++ held_by self.now.lanes.items self.now.holders last tenancy.now) }
+        ensures { OnOk result (checked.new.items ≡ checked.old.items ++ held_by self.now.lanes.items self.now.holders last tenancy.now) }
     {
         if is_past_last(last, tenancy.born.key.moment) {
             if let Some(held) = self.holders.running(&self.lanes, tenancy.relayed) {
-                asked.push(held)?;
+                checked.push(held)?;
             }
         }
         Ok(())
@@ -64,16 +64,16 @@ impl LiveLanes {
     /// The tenancies that are checked for clashes: of the lanes with these numbers those that ended
     /// after they were last checked and the current one, and of other lanes the current one if its
     /// address was granted to one of these past the last horizon.
-    pub fn asked(&self, last: Option<u64>, touched: &[u32]) -> Result<Vec<Tenancy>, AllocError>
+    pub fn checked(&self, last: Option<u64>, touched: &[u32]) -> Result<Vec<Tenancy>, AllocError>
         requires { All (λ number. number < vec_len self.now.lanes) touched.now }
-        ensures { IfOk result (λ asked. asked.items ≡ asked_of self.now.lanes.items self.now.holders last touched.now) }
+        ensures { IfOk result (λ checked. checked.items ≡ checked_of self.now.lanes.items self.now.holders last touched.now) }
     {
         let fresh = self.fresh(touched)?;
         let rows = fresh.as_slice();
-        let mut asked = Vec::from_slice(self.alloc, rows)?;
+        let mut checked = Vec::from_slice(self.alloc, rows)?;
         'rows: for tenancy in rows {
-            self.add_held(last, tenancy, &mut asked)?;
+            self.add_held(last, tenancy, &mut checked)?;
         }
-        Ok(asked)
+        Ok(checked)
     }
 }

@@ -15,7 +15,7 @@ is_past_last (Some last) moment = nat_lt last moment
 
 -- the tenancies of a lane that ended after it was last checked, and the current one
 abbrev pub fresh_of : LiveLane → List Tenancy
-fresh_of lane = drop (min lane.asked (length (kept_of lane.state).ended)) (kept_of lane.state).ended ++ option_to_list (runs_in lane)
+fresh_of lane = drop (min lane.checked (length (kept_of lane.state).ended)) (kept_of lane.state).ended ++ option_to_list (runs_in lane)
 
 abbrev pub fresh_at : List LiveLane → ℕ → List Tenancy
 fresh_at lanes number = flat_map fresh_of (option_to_list (slice_get lanes number))
@@ -25,8 +25,8 @@ fresh_at lanes number = flat_map fresh_of (option_to_list (slice_get lanes numbe
 abbrev pub held_by : List LiveLane → Holders → Option ℕ → Tenancy → List Tenancy
 held_by lanes holders last tenancy = if is_past_last last tenancy.born.key.moment then option_to_list (held_in lanes holders tenancy.relayed) else []
 
-abbrev pub asked_of : List LiveLane → Holders → Option ℕ → List ℕ → List Tenancy
-asked_of lanes holders last touched =
+abbrev pub checked_of : List LiveLane → Holders → Option ℕ → List ℕ → List Tenancy
+checked_of lanes holders last touched =
     flat_map (fresh_at lanes) touched ++ flat_map (held_by lanes holders last) (flat_map (fresh_at lanes) touched)
 
 -- the lanes that have events
