@@ -10,31 +10,31 @@ use Rattle.audit_program.specs.declared.command_line.Inputs.{Inputs}
 use Rattle.audit_program.specs.declared.command_line.Turns.{Turns}
 use Rattle.audit_program.specs.declared.command_line.Request.{Request}
 use Rattle.audit_program.specs.declared.command_line.Request.TheVariants.{Check, Audit, Find, Live, Help, Release, Usage}
-use Rattle.audit_program.specs.Words.{AreNamed, Asks, HasNumber, Names, NamesNothing}
+use Rattle.audit_program.specs.Words.{AreNamed, IsRequested, HasNumber, Names, NamesNothing}
 
 -- what names a command asks for it
-pub named_is_asked : (asked : Option (Text × List Row)) (kinds : Kinds) (request : Request) → Names asked request → Asks asked kinds request
-named_is_asked asked kinds (Check inputs certificate workers) named = named
-named_is_asked asked kinds (Audit inputs workers) named = named
-named_is_asked asked kinds (Find inputs workers) named = named
-named_is_asked asked kinds (Live inputs turns) named = named
-named_is_asked asked kinds (Help page) named = absurd named
-named_is_asked asked kinds Release named = absurd named
-named_is_asked asked kinds (Usage text) named = absurd named
+pub named_is_requested : (subcommand : Option (Text × List Row)) (kinds : Kinds) (request : Request) → Names subcommand request → IsRequested subcommand kinds request
+named_is_requested subcommand kinds (Check inputs certificate workers) named = named
+named_is_requested subcommand kinds (Audit inputs workers) named = named
+named_is_requested subcommand kinds (Find inputs workers) named = named
+named_is_requested subcommand kinds (Live inputs turns) named = named
+named_is_requested subcommand kinds (Help page) named = absurd named
+named_is_requested subcommand kinds Release named = absurd named
+named_is_requested subcommand kinds (Usage text) named = absurd named
 
 -- no command is named where each of the four isn't
-pub none_of_four : (asked : Option (Text × List Row)) →
-    ((inputs : Inputs) (certificate : _) (workers : Workers) → Names asked (Check inputs certificate workers) → ⊥) →
-    ((inputs : Inputs) (workers : Workers) → Names asked (Audit inputs workers) → ⊥) →
-    ((inputs : Inputs) (workers : Workers) → Names asked (Find inputs workers) → ⊥) →
-    ((inputs : Inputs) (turns : Turns) → Names asked (Live inputs turns) → ⊥) → NamesNothing asked
-none_of_four asked check audit find live (Check inputs certificate workers) named = check inputs certificate workers named
-none_of_four asked check audit find live (Audit inputs workers) named = audit inputs workers named
-none_of_four asked check audit find live (Find inputs workers) named = find inputs workers named
-none_of_four asked check audit find live (Live inputs turns) named = live inputs turns named
-none_of_four asked check audit find live (Help page) named = named
-none_of_four asked check audit find live Release named = named
-none_of_four asked check audit find live (Usage text) named = named
+pub none_of_four : (subcommand : Option (Text × List Row)) →
+    ((inputs : Inputs) (certificate : _) (workers : Workers) → Names subcommand (Check inputs certificate workers) → ⊥) →
+    ((inputs : Inputs) (workers : Workers) → Names subcommand (Audit inputs workers) → ⊥) →
+    ((inputs : Inputs) (workers : Workers) → Names subcommand (Find inputs workers) → ⊥) →
+    ((inputs : Inputs) (turns : Turns) → Names subcommand (Live inputs turns) → ⊥) → NamesNothing subcommand
+none_of_four subcommand check audit find live (Check inputs certificate workers) named = check inputs certificate workers named
+none_of_four subcommand check audit find live (Audit inputs workers) named = audit inputs workers named
+none_of_four subcommand check audit find live (Find inputs workers) named = find inputs workers named
+none_of_four subcommand check audit find live (Live inputs turns) named = live inputs turns named
+none_of_four subcommand check audit find live (Help page) named = named
+none_of_four subcommand check audit find live Release named = named
+none_of_four subcommand check audit find live (Usage text) named = named
 
 -- the first letter of the command that is named, by which the four differ
 abbrev letter : Option (Text × List Row) → ℕ

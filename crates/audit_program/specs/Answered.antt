@@ -16,7 +16,7 @@ use Rattle.audit_program.specs.declared.command_line.Request.{Request}
 use Rattle.audit_program.specs.declared.command_line.Request.TheVariants.{Check, Audit, Find, Live, Help, Release, Usage}
 use Rattle.audit_program.specs.Pages.{page_text, release_text}
 use Rattle.audit_program.specs.Watched.{EndsLive, IsWatched}
-use Rattle.audit_program.specs.Words.{Asks, turnaudit}
+use Rattle.audit_program.specs.Words.{IsRequested, turnaudit}
 use Rattle.clap.specs.Words.{Text, fault_of, subcommand_of}
 
 -- the policy and the users that are named have these texts; if no users are named there are none
@@ -54,9 +54,9 @@ pub record IsWritten (finds : Taken → Certificate → Type 0) (policy users : 
   pub certificate : Certificate
   pub found : finds taken certificate
   pub written : after ≡ followed_by before (spelling (said_by certificate))
-  pub told : status ≡ 0
+  pub reported : status ≡ 0
 
-module _ (holds : List ℕ → Option (List ℕ)) (may_fail : List ℕ → Bool) (given reads : ℕ → Option (List ℕ)) (finds : Taken → Certificate → Type 0) (streams : Streams) (failures : Failures) where
+module _ (holds : List ℕ → Option (List ℕ)) (may_fail : List ℕ → Bool) (bytes_read reads : ℕ → Option (List ℕ)) (finds : Taken → Certificate → Type 0) (streams : Streams) (failures : Failures) where
   -- what ends a command before its answer: the first of its files that can't be read or is refused,
   -- in their order, or standard output
   abbrev pub EndsRequest : (Stop → Type 0) → Stop → Type 0
@@ -82,8 +82,8 @@ module _ (holds : List ℕ → Option (List ℕ)) (may_fail : List ℕ → Bool)
       (EndsRequest (EndsFiles may_fail inputs.policy.now policy inputs.credentials users inputs.captures.items captures)))
   Answers (Live inputs turns) done =
       IsSilent streams × ((policy users : List ℕ) → HaveTexts holds inputs policy users →
-      MatchResult done (λ status. (found : Certificate) × IsWatched policy users (length inputs.captures.items) turns given reads found streams.before streams.after status)
-      (EndsRequest (EndsLive may_fail inputs.policy.now policy inputs.credentials users (length inputs.captures.items) given)))
+      MatchResult done (λ status. (found : Certificate) × IsWatched policy users (length inputs.captures.items) turns bytes_read reads found streams.before streams.after status)
+      (EndsRequest (EndsLive may_fail inputs.policy.now policy inputs.credentials users (length inputs.captures.items) bytes_read)))
   Answers (Help page) done =
       IsSilent streams × MatchResult done (λ status. (status ≡ 0) × (streams.after ≡ followed_by streams.before (page_text page))) (EndsWriting failures.before failures.after)
   Answers Release done =
@@ -92,15 +92,15 @@ module _ (holds : List ℕ → Option (List ℕ)) (may_fail : List ℕ → Bool)
       (streams.after ≡ streams.before) × MatchResult done (λ status. (status ≡ 5) × (streams.said_after ≡ followed_by streams.said_before (string_bytes text))) (EndsWriting failures.said_before failures.said_after)
 
 -- the exit status of an answer, or of its failure
-abbrev pub status_told : Result ℕ Stop → ℕ
-status_told (Ok status) = status
-status_told (Err stop) = status_of_stop stop
+abbrev pub status_of_answer : Result ℕ Stop → ℕ
+status_of_answer (Ok status) = status
+status_of_answer (Err stop) = status_of_stop stop
 
 -- The request is that of the arguments, and was answered; a line about the failure may follow on
 -- standard error. Or memory ran out for the arguments.
 abbrev pub IsRun : List Text → (List ℕ → Option (List ℕ)) → (List ℕ → Bool) → (ℕ → Option (List ℕ)) → (ℕ → Option (List ℕ)) → (Taken → Certificate → Type 0) → Streams → Option ℕ → Option ℕ → Option ℕ → ℕ → Type 0
-IsRun words holds may_fail given reads finds streams before after said_before status =
-    ((request : Request) × Asks (subcommand_of turnaudit words) (fault_of turnaudit words) request × (done : Result ℕ Stop) × (said : Option (List ℕ)) × (said_after : Option ℕ)
-    × Answers holds may_fail given reads finds (record streams { said_after = said }) (record { before = before; after = after; said_before = said_before; said_after = said_after }) request done
-    × (status ≡ status_told done) × OnOk done (streams.said_after ≡ said))
+IsRun words holds may_fail bytes_read reads finds streams before after said_before status =
+    ((request : Request) × IsRequested (subcommand_of turnaudit words) (fault_of turnaudit words) request × (done : Result ℕ Stop) × (said : Option (List ℕ)) × (said_after : Option ℕ)
+    × Answers holds may_fail bytes_read reads finds (record streams { said_after = said }) (record { before = before; after = after; said_before = said_before; said_after = said_after }) request done
+    × (status ≡ status_of_answer done) × OnOk done (streams.said_after ≡ said))
     ⊎ ((streams.after ≡ streams.before) × (status ≡ 3))

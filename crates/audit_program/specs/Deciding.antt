@@ -5,7 +5,7 @@ use Rattle.audit_sightings.specs.Intake.{Taken}
 use Rattle.audit_whole.specs.CaptureRun.{rules_for}
 use Rattle.audit_whole.specs.Conforms.{Conforms}
 use Rattle.audit_program.specs.declared.outlook.Outlook.{Outlook}
-use Rattle.audit_program.specs.declared.outlook.Outlook.TheVariants.{Decided, DecidedBehind, Open}
+use Rattle.audit_program.specs.declared.outlook.Outlook.TheVariants.{Decided, DecidedAfter, Open}
 
 -- if any certificate explains the captures, this one does
 abbrev pub Decides : Taken → KeyFor → Certificate → Type 0
@@ -15,7 +15,7 @@ Decides taken key_for found = (other : Certificate) → Conforms taken (rules_fo
 abbrev pub NoneConforms : Taken → KeyFor → Type 0
 NoneConforms taken key_for = (other : Certificate) → Conforms taken (rules_for taken key_for) other → ⊥
 
-abbrev pub Foretells : Taken → KeyFor → Certificate → Outlook → Type 0
-Foretells taken key_for found Decided = Decides taken key_for found
-Foretells taken key_for found DecidedBehind = NoneConforms taken key_for
-Foretells taken key_for found Open = Unit {0}
+abbrev pub IsOutlook : Taken → KeyFor → Certificate → Outlook → Type 0
+IsOutlook taken key_for found Decided = Decides taken key_for found
+IsOutlook taken key_for found DecidedAfter = NoneConforms taken key_for
+IsOutlook taken key_for found Open = Unit {0}

@@ -33,8 +33,8 @@ use Rattle.audit_program.specs.Reads.{AreReadOut}
 
 -- The captures were read out; each ended after a whole block; and this is the verdict by the
 -- certificate: conforming exactly if that explains the sightings by one run of the server.
-pub record AtTheEnd (turns : Turns) (given reads : ℕ → Option (List ℕ)) (intake : Intake) (key_for : KeyFor) (certificate : Certificate) (verdict : Verdict) : Type 0 where
-  pub took : TookIn given intake
+pub record AtTheEnd (turns : Turns) (bytes_read reads : ℕ → Option (List ℕ)) (intake : Intake) (key_for : KeyFor) (certificate : Certificate) (verdict : Verdict) : Type 0 where
+  pub took : TookIn bytes_read intake
   pub read_out : AreReadOut turns (taken intake).files reads
   pub ended : (file : ℕ) → file < length took.files → MayEnd (fed_at took.files file)
   pub is : IsVerdict (taken intake) key_for certificate verdict
@@ -42,46 +42,46 @@ pub record AtTheEnd (turns : Turns) (given reads : ℕ → Option (List ℕ)) (i
 
 -- A turn broke a rule. Sightings without an event and departures that haven't left were no breach
 -- yet.
-pub record OnTheWay (given : ℕ → Option (List ℕ)) (intake : Intake) (key_for : KeyFor) (certificate : Certificate) (verdict : Verdict) : Type 0 where
-  pub took : TookIn given intake
+pub record OnTheWay (bytes_read : ℕ → Option (List ℕ)) (intake : Intake) (key_for : KeyFor) (certificate : Certificate) (verdict : Verdict) : Type 0 where
+  pub took : TookIn bytes_read intake
   pub breach : Breach
   pub is : verdict ≡ NotShown breach
   pub shows : LiveBreach (taken intake) key_for certificate (Some breach)
 
-abbrev pub IsToldOf : Turns → (ℕ → Option (List ℕ)) → (ℕ → Option (List ℕ)) → Intake → KeyFor → Certificate → Verdict → Type 0
-IsToldOf turns given reads intake key_for certificate verdict = AtTheEnd turns given reads intake key_for certificate verdict ⊎ OnTheWay given intake key_for certificate verdict
+abbrev pub IsReportedOf : Turns → (ℕ → Option (List ℕ)) → (ℕ → Option (List ℕ)) → Intake → KeyFor → Certificate → Verdict → Type 0
+IsReportedOf turns bytes_read reads intake key_for certificate verdict = AtTheEnd turns bytes_read reads intake key_for certificate verdict ⊎ OnTheWay bytes_read intake key_for certificate verdict
 
 -- The policy and the users are those of two texts, these bytes were read of the captures, and the
 -- verdict that the status repeats was reported. If it conforms, the headline holds.
-pub record IsWatched (policy users : List ℕ) (captures : ℕ) (turns : Turns) (given reads : ℕ → Option (List ℕ)) (certificate : Certificate) (before after : Option (List ℕ)) (status : ℕ) : Type 0 where
+pub record IsWatched (policy users : List ℕ) (captures : ℕ) (turns : Turns) (bytes_read reads : ℕ → Option (List ℕ)) (certificate : Certificate) (before after : Option (List ℕ)) (status : ℕ) : Type 0 where
   pub intake : Intake
   pub key_for : KeyFor
   pub verdict : Verdict
   pub policy' : policy_of policy ≡ Ok intake.policy
   pub users' : AreUsers users key_for
   pub captures' : (taken intake).files ≡ captures
-  pub is : IsToldOf turns given reads intake key_for certificate verdict
+  pub is : IsReportedOf turns bytes_read reads intake key_for certificate verdict
   pub headline : IsConforming verdict → Headline (taken intake) key_for certificate
   pub written : after ≡ followed_by before (report_text verdict (taken intake))
-  pub told : status ≡ status_of verdict
+  pub reported : status ≡ status_of verdict
 
 -- no bytes of the captures were refused, and this is the first that ends inside a block, or has
 -- none
-pub record MayNotEnd (given : ℕ → Option (List ℕ)) (policy : Policy) (fault : IntakeFault) : Type 0 where
+pub record MayNotEnd (bytes_read : ℕ → Option (List ℕ)) (policy : Policy) (fault : IntakeFault) : Type 0 where
   pub intake : Intake
   pub policy' : intake.policy ≡ policy
-  pub took : TookIn given intake
+  pub took : TookIn bytes_read intake
   pub ends : FilesEnd (Err fault) took.files
 
 -- a capture is refused: for the first fault of the bytes that were read of it; because it is the
 -- 17th; or for how it ends
-abbrev pub IsGivenFault : ℕ → (ℕ → Option (List ℕ)) → Policy → IntakeFault → Type 0
-IsGivenFault captures given policy fault = WereRefused given policy fault ⊎ (((fault ≡ record { kind = Limit; file = 16 }) × (16 < captures)) ⊎ MayNotEnd given policy fault)
+abbrev pub IsCaptureFault : ℕ → (ℕ → Option (List ℕ)) → Policy → IntakeFault → Type 0
+IsCaptureFault captures bytes_read policy fault = WereRefused bytes_read policy fault ⊎ (((fault ≡ record { kind = Limit; file = 16 }) × (16 < captures)) ⊎ MayNotEnd bytes_read policy fault)
 
 -- what ends an audit without a verdict
 abbrev pub EndsLiveBy : ℕ → (ℕ → Option (List ℕ)) → Policy → LiveEnd → Type 0
-EndsLiveBy captures given policy (ends.Input fault) = IsGivenFault captures given policy fault
-EndsLiveBy captures given policy ends.Memory = Unit {0}
+EndsLiveBy captures bytes_read policy (ends.Input fault) = IsCaptureFault captures bytes_read policy fault
+EndsLiveBy captures bytes_read policy ends.Memory = Unit {0}
 
 -- an audit that ends without a verdict ends the run so
 abbrev pub EndsByLive : LiveEnd → Stop → Type 0
@@ -91,9 +91,9 @@ EndsByLive ends.Memory stop = stop ≡ Memory
 -- what ends the captures' turns: exhausted memory, a capture that can't be read, or one that is
 -- refused
 abbrev pub EndsTurns : ℕ → (ℕ → Option (List ℕ)) → Policy → Stop → Type 0
-EndsTurns captures given policy stop = (stop ≡ Memory) ⊎ ((stop ≡ Read) ⊎ ((fault : IntakeFault) × EndsByIntake fault stop × IsGivenFault captures given policy fault))
+EndsTurns captures bytes_read policy stop = (stop ≡ Memory) ⊎ ((stop ≡ Read) ⊎ ((fault : IntakeFault) × EndsByIntake fault stop × IsCaptureFault captures bytes_read policy fault))
 
 -- what ends `live`: its policy, its users, or its captures
 abbrev pub EndsLive : (List ℕ → Bool) → List ℕ → List ℕ → Option (Bor (List ℕ)) → List ℕ → ℕ → (ℕ → Option (List ℕ)) → Stop → Type 0
-EndsLive may_fail policy_name policy users_name users captures given stop =
-    EndsBy may_fail policy_name policy users_name users (λ p s. EndsTurns captures given p s) stop
+EndsLive may_fail policy_name policy users_name users captures bytes_read stop =
+    EndsBy may_fail policy_name policy users_name users (λ p s. EndsTurns captures bytes_read p s) stop

@@ -81,19 +81,19 @@ pub record AreNamed (rows : List Row) (inputs : Inputs) : Type 0 where
 
 -- The request is the command that the arguments name, with the values that they have for it.
 abbrev pub Names : Option (Text × List Row) → Request → Type 0
-Names asked (Check inputs certificate workers) = (rows : List Row) × (asked ≡ Some (codes "check", rows)) × AreNamed rows inputs
+Names subcommand (Check inputs certificate workers) = (rows : List Row) × (subcommand ≡ Some (codes "check", rows)) × AreNamed rows inputs
     × (first_of (codes "cert") rows ≡ Some certificate.now) × HasNumber (codes "workers") rows workers.count
-Names asked (Audit inputs workers) = (rows : List Row) × (asked ≡ Some (codes "audit", rows)) × AreNamed rows inputs × HasNumber (codes "workers") rows workers.count
-Names asked (Find inputs workers) = (rows : List Row) × (asked ≡ Some (codes "find", rows)) × AreNamed rows inputs × HasNumber (codes "workers") rows workers.count
-Names asked (Live inputs turns) = (rows : List Row) × (asked ≡ Some (codes "live", rows)) × AreNamed rows inputs
+Names subcommand (Audit inputs workers) = (rows : List Row) × (subcommand ≡ Some (codes "audit", rows)) × AreNamed rows inputs × HasNumber (codes "workers") rows workers.count
+Names subcommand (Find inputs workers) = (rows : List Row) × (subcommand ≡ Some (codes "find", rows)) × AreNamed rows inputs × HasNumber (codes "workers") rows workers.count
+Names subcommand (Live inputs turns) = (rows : List Row) × (subcommand ≡ Some (codes "live", rows)) × AreNamed rows inputs
     × HasNumber (codes "idle") rows turns.idle × HasNumber (codes "turns") rows turns.most
-Names asked (Help page) = ⊥
-Names asked Release = ⊥
-Names asked (Usage text) = ⊥
+Names subcommand (Help page) = ⊥
+Names subcommand Release = ⊥
+Names subcommand (Usage text) = ⊥
 
 -- the arguments name no command with all that it needs
 abbrev pub NamesNothing : Option (Text × List Row) → Type 0
-NamesNothing asked = (request : Request) → Names asked request → ⊥
+NamesNothing subcommand = (request : Request) → Names subcommand request → ⊥
 
 -- one of the kinds is printed on standard error, which help and the release aren't
 abbrev pub IsRefused : Kinds → Type 0
@@ -102,11 +102,11 @@ IsRefused kinds = (k : ErrorKind) × IsAmong k kinds × (k ≢ kind.DisplayHelp)
 -- A command is requested by its name, and help and the release by their options. Arguments are a
 -- usage error if `clap` refuses them for one of these kinds, or they name no command with all that
 -- it needs.
-abbrev pub Asks : Option (Text × List Row) → Kinds → Request → Type 0
-Asks asked kinds (Help page) = IsAmong kind.DisplayHelp kinds
-Asks asked kinds Release = IsAmong kind.DisplayVersion kinds
-Asks asked kinds (Usage text) = IsRefused kinds ⊎ NamesNothing asked
-Asks asked kinds (Check inputs certificate workers) = Names asked (Check inputs certificate workers)
-Asks asked kinds (Audit inputs workers) = Names asked (Audit inputs workers)
-Asks asked kinds (Find inputs workers) = Names asked (Find inputs workers)
-Asks asked kinds (Live inputs turns) = Names asked (Live inputs turns)
+abbrev pub IsRequested : Option (Text × List Row) → Kinds → Request → Type 0
+IsRequested subcommand kinds (Help page) = IsAmong kind.DisplayHelp kinds
+IsRequested subcommand kinds Release = IsAmong kind.DisplayVersion kinds
+IsRequested subcommand kinds (Usage text) = IsRefused kinds ⊎ NamesNothing subcommand
+IsRequested subcommand kinds (Check inputs certificate workers) = Names subcommand (Check inputs certificate workers)
+IsRequested subcommand kinds (Audit inputs workers) = Names subcommand (Audit inputs workers)
+IsRequested subcommand kinds (Find inputs workers) = Names subcommand (Find inputs workers)
+IsRequested subcommand kinds (Live inputs turns) = Names subcommand (Live inputs turns)

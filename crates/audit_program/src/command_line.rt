@@ -4,7 +4,7 @@ ghost use Rattle.std.specs.Prelude.{◌≡◌, ℕ, IfNone, IfOk, IfSome, List, 
 ghost use Rattle.clap.specs.Words.{HasKind, Kinds, Row, Text, fault_of, found_of, rows_of, subcommand_of, subcommand_rows_of};
 ghost use Rattle.audit_program.specs.declared.command_line.Inputs.{Inputs as AnyInputs};
 ghost use Rattle.audit_files.specs.declared.workers.Workers.{Workers as AnyWorkers};
-ghost use Rattle.audit_program.specs.Words.{AreNamed, Asks, HasNumber, Names, NamesNothing, turnaudit};
+ghost use Rattle.audit_program.specs.Words.{AreNamed, IsRequested, HasNumber, Names, NamesNothing, turnaudit};
 
 use crate::commands::command;
 use crate::pages::{Page, page_of};
@@ -66,7 +66,7 @@ pub struct Turns {
 
 /// The request for an error of clap: help, the release or a usage error.
 fn refused<'a>(alloc: Global, error: Error) -> Result<Request<'a>, AllocError>
-    ensures { (asked : Option (Text × List Row)) (kinds : Kinds) → HasKind kinds error → IfOk result (Asks asked kinds) }
+    ensures { (subcommand : Option (Text × List Row)) (kinds : Kinds) → HasKind kinds error → IfOk result (IsRequested subcommand kinds) }
 {
     let text = format!(in alloc; "{error}")?;
     if error.kind() == ErrorKind::OutOfMemory {
@@ -242,7 +242,7 @@ fn request_of<'a>(
 
 /// Parses the arguments, the first of which is the program's name.
 pub fn read<'a, N: AsStr>(alloc: Global, words: &'a [N]) -> Result<Request<'a>, AllocError>
-    ensures { IfOk result (Asks (subcommand_of turnaudit (map N.text words.now)) (fault_of turnaudit (map N.text words.now))) }
+    ensures { IfOk result (IsRequested (subcommand_of turnaudit (map N.text words.now)) (fault_of turnaudit (map N.text words.now))) }
 {
     let matches = match command(alloc)?.try_get_matches_from(words) {
         Ok(matches) => matches,

@@ -191,7 +191,7 @@ fn decided<R: Threads + Wait + Sync, F: CertificateFinder>(
     match outlook_by(alloc, files, &once.certificate, &once.verdict)? {
         Outlook::Decided => Ok(Some(once)),
         Outlook::Open => Ok(None),
-        Outlook::DecidedBehind => {
+        Outlook::DecidedAfter => {
             // Frees the certificate: the late walk may need its memory.
             drop(once);
             let late = found_late(rt, alloc, finder, files, workers)?;

@@ -14,7 +14,7 @@ ghost use Rattle.audit_program.specs.Reads.{AreReadOnce, AreUnread, HasEnded, We
 ghost use Rattle.audit_program.specs.declared.command_line.Turns.{Turns as AnyTurns};
 ghost use Rattle.audit_program.specs.Following.{Follows, Goes, LeftBy};
 ghost use Rattle.audit_program.specs.Horizon.{IsTurned};
-ghost use Rattle.audit_program.specs.Watched.{EndsByLive, EndsLive, EndsTurns, IsToldOf, IsWatched};
+ghost use Rattle.audit_program.specs.Watched.{EndsByLive, EndsLive, EndsTurns, IsReportedOf, IsWatched};
 ghost use Rattle.audit_files.specs.Ends.{EndsWriting};
 ghost use Rattle.audit_files.specs.Stops.{EndsByIntake};
 ghost use Rattle.audit_files.specs.declared.stop.Stop.TheVariants.{Memory, Read};
@@ -68,7 +68,7 @@ fn turn_of(read: usize) -> Turn
 
 /// Pauses if there were turns without a byte.
 fn pause_after<S: Growing>(source: &mut S, idle: u32)
-    ensures given { S.given source.new ≡ S.given source.old }
+    ensures bytes_read { S.bytes_read source.new ≡ S.bytes_read source.old }
     ensures reads { S.reads source.new ≡ S.reads source.old }
 {
     if idle > 0 {
@@ -116,14 +116,14 @@ impl<F: ExtensionFinder + Drop> Watch<F> {
         ensures goes { (policy_text users_text : List ℕ) →
             S.holds source.old policy.now ≡ Some policy_text →
             IfSome users.entry (λ name. S.holds source.old name.now ≡ Some users_text) → IfNone users.entry (users_text ≡ []) →
-            IfOk result (λ watch. Goes policy_text users_text (length captures.now) (S.given source.new) watch.live) }
+            IfOk result (λ watch. Goes policy_text users_text (length captures.now) (S.bytes_read source.new) watch.live) }
         ensures files { IfOk result (λ watch. vec_len watch.live.intake.files ≡ length captures.now) }
         ensures step { F.given_to finder ≡ None → IfOk result (λ watch. watch.is_stuck ≡ false → F.given_to watch.finder ≡ watch.live.last) }
         ensures unread { OnOk result (AreUnread (length captures.now) (S.reads source.new)) }
-        ensures refused { (policy_text users_text : List ℕ) (given : ℕ → Option (List ℕ)) →
+        ensures refused { (policy_text users_text : List ℕ) (bytes_read : ℕ → Option (List ℕ)) →
             S.holds source.old policy.now ≡ Some policy_text →
             IfSome users.entry (λ name. S.holds source.old name.now ≡ Some users_text) → IfNone users.entry (users_text ≡ []) →
-            IfErr result (EndsLive (S.may_fail source.old) policy.now policy_text users.entry users_text (length captures.now) given) }
+            IfErr result (EndsLive (S.may_fail source.old) policy.now policy_text users.entry users_text (length captures.now) bytes_read) }
     {
         let policy = read_policy(alloc, source, policy)?;
         let users = read_users(alloc, source, users)?;
@@ -146,8 +146,8 @@ impl<F: ExtensionFinder + Drop> Watch<F> {
         piece: &mut [u8],
     ) -> Result<Turn, Stop>
         requires { file < vec_len self.old.live.intake.files }
-        ensures left { (policy users : List ℕ) (count : ℕ) → Goes policy users count (S.given source.old) self.old.live
-            → IfOk result (λ turn. LeftBy turn policy users count (S.given source.new) self.new.live) }
+        ensures left { (policy users : List ℕ) (count : ℕ) → Goes policy users count (S.bytes_read source.old) self.old.live
+            → IfOk result (λ turn. LeftBy turn policy users count (S.bytes_read source.new) self.new.live) }
         ensures files { vec_len self.new.live.intake.files ≡ vec_len self.old.live.intake.files }
         ensures last { (self.new.live.last ≡ self.old.live.last) × (self.new.finder ≡ self.old.finder) }
         ensures stuck { self.new.is_stuck ≡ self.old.is_stuck }
@@ -171,12 +171,12 @@ impl<F: ExtensionFinder + Drop> Watch<F> {
         piece: &mut [u8],
     ) -> Result<Turn, Stop>
         requires { vec_len self.old.live.intake.files ≡ length names.now }
-        ensures left { (policy users : List ℕ) (count : ℕ) → Goes policy users count (S.given source.old) self.old.live
-            → IfOk result (λ turn. LeftBy turn policy users count (S.given source.new) self.new.live) }
+        ensures left { (policy users : List ℕ) (count : ℕ) → Goes policy users count (S.bytes_read source.old) self.old.live
+            → IfOk result (λ turn. LeftBy turn policy users count (S.bytes_read source.new) self.new.live) }
         ensures files { vec_len self.new.live.intake.files ≡ vec_len self.old.live.intake.files }
         ensures last { (self.new.live.last ≡ self.old.live.last) × (self.new.finder ≡ self.old.finder) }
         ensures stuck { self.new.is_stuck ≡ self.old.is_stuck }
-        ensures over { (policy users : List ℕ) (count : ℕ) → Goes policy users count (S.given source.old) self.old.live
+        ensures over { (policy users : List ℕ) (count : ℕ) → Goes policy users count (S.bytes_read source.old) self.old.live
             → IfOk result (λ turn. turn ≡ Refused → self.new.live.ended ≢ None) }
         ensures read { IfOk result (λ turn. turn ≢ Refused → AreReadOnce turn (length names.now) (S.reads source.old) (S.reads source.new)) }
         ensures stopped { IfErr result (λ stop. (stop ≡ Memory) ⊎ (stop ≡ Read)) }
@@ -198,7 +198,7 @@ impl<F: ExtensionFinder + Drop> Watch<F> {
     fn extension(&mut self, horizon: u64) -> Result<Extension, AllocError>
         requires { F.given_to self.old.finder ≡ self.old.live.last }
         ensures in_turn { IfOk result (λ extension. ¬ IsOutOfTurn (standing_of self.old.live) horizon extension) }
-        ensures given { OnOk result (F.given_to self.new.finder ≡ Some horizon) }
+        ensures extended { OnOk result (F.given_to self.new.finder ≡ Some horizon) }
         ensures live { (self.new.live ≡ self.old.live) × (self.new.is_stuck ≡ self.old.is_stuck) }
     {
         self.finder
@@ -208,13 +208,13 @@ impl<F: ExtensionFinder + Drop> Watch<F> {
     /// Finds the certificate up to a horizon, and advances the audit by it.
     fn advance(&mut self, horizon: u64) -> Result<Turn, AllocError>
         requires { self.old.is_stuck ≡ false → F.given_to self.old.finder ≡ self.old.live.last }
-        ensures left { (policy users : List ℕ) (count : ℕ) (given : ℕ → Option (List ℕ)) → Goes policy users count given self.old.live
-            → IfOk result (λ turn. LeftBy turn policy users count given self.new.live) }
+        ensures left { (policy users : List ℕ) (count : ℕ) (bytes_read : ℕ → Option (List ℕ)) → Goes policy users count bytes_read self.old.live
+            → IfOk result (λ turn. LeftBy turn policy users count bytes_read self.new.live) }
         ensures files { vec_len self.new.live.intake.files ≡ vec_len self.old.live.intake.files }
         ensures intake { self.new.live.intake ≡ self.old.live.intake }
         ensures fed { IfOk result (λ turn. turn ≢ Quiet) }
         ensures last { IfOk result (λ turn. turn ≢ Refused → self.new.is_stuck ≡ false → self.new.live.last ≡ Some horizon) }
-        ensures given { OnOk result (self.new.is_stuck ≡ false → F.given_to self.new.finder ≡ Some horizon) }
+        ensures extended { OnOk result (self.new.is_stuck ≡ false → F.given_to self.new.finder ≡ Some horizon) }
         ensures over { self.old.live.ended ≡ None → IfOk result (λ turn. turn ≡ Refused
             → (self.new.live.ended ≢ None) ⊎ IsNotLater (standing_of self.old.live) horizon) }
     {
@@ -241,12 +241,12 @@ impl<F: ExtensionFinder + Drop> Watch<F> {
     ) -> Result<Turn, Stop>
         requires files { vec_len self.old.live.intake.files ≡ length names.now }
         requires step { self.old.is_stuck ≡ false → F.given_to self.old.finder ≡ self.old.live.last }
-        ensures left { (policy users : List ℕ) (count : ℕ) → Goes policy users count (S.given source.old) self.old.live
-            → IfOk result (λ turn. LeftBy turn policy users count (S.given source.new) self.new.live) }
+        ensures left { (policy users : List ℕ) (count : ℕ) → Goes policy users count (S.bytes_read source.old) self.old.live
+            → IfOk result (λ turn. LeftBy turn policy users count (S.bytes_read source.new) self.new.live) }
         ensures files { vec_len self.new.live.intake.files ≡ vec_len self.old.live.intake.files }
         ensures horizon { IfOk result (λ turn. self.new.is_stuck ≡ false → IsTurned turn (taken self.new.live.intake) self.old.live.last self.new.live.last) }
         ensures step { IfOk result (λ turn. turn ≢ Refused → self.new.is_stuck ≡ false → F.given_to self.new.finder ≡ self.new.live.last) }
-        ensures over { (policy users : List ℕ) (count : ℕ) → Goes policy users count (S.given source.old) self.old.live
+        ensures over { (policy users : List ℕ) (count : ℕ) → Goes policy users count (S.bytes_read source.old) self.old.live
             → IfOk result (λ turn. turn ≡ Refused → self.new.live.ended ≢ None) }
         ensures read { IfOk result (λ turn. turn ≢ Refused → AreReadOnce turn (length names.now) (S.reads source.old) (S.reads source.new)) }
         ensures stopped { IfErr result (λ stop. (stop ≡ Memory) ⊎ (stop ≡ Read)) }
@@ -273,13 +273,13 @@ impl<F: ExtensionFinder + Drop> Watch<F> {
         requires files { vec_len self.old.live.intake.files ≡ length names.now }
         requires step { self.old.is_stuck ≡ false → F.given_to self.old.finder ≡ self.old.live.last }
         requires room { idle < 4294967295 }
-        ensures goes { (policy users : List ℕ) (count : ℕ) → Goes policy users count (S.given source.old) self.old.live
-            → IfOk result (λ idle. IfSome idle (λ _. Goes policy users count (S.given source.new) self.new.live)) }
-        ensures follows { (policy users : List ℕ) (count : ℕ) → Goes policy users count (S.given source.old) self.old.live
-            → OnOk result (Follows policy users count (S.given source.new) self.new.live) }
+        ensures goes { (policy users : List ℕ) (count : ℕ) → Goes policy users count (S.bytes_read source.old) self.old.live
+            → IfOk result (λ idle. IfSome idle (λ _. Goes policy users count (S.bytes_read source.new) self.new.live)) }
+        ensures follows { (policy users : List ℕ) (count : ℕ) → Goes policy users count (S.bytes_read source.old) self.old.live
+            → OnOk result (Follows policy users count (S.bytes_read source.new) self.new.live) }
         ensures files { vec_len self.new.live.intake.files ≡ vec_len self.old.live.intake.files }
         ensures step { IfOk result (λ idle. IfSome idle (λ _. self.new.is_stuck ≡ false → F.given_to self.new.finder ≡ self.new.live.last)) }
-        ensures over { (policy users : List ℕ) (count : ℕ) → Goes policy users count (S.given source.old) self.old.live
+        ensures over { (policy users : List ℕ) (count : ℕ) → Goes policy users count (S.bytes_read source.old) self.old.live
             → IfOk result (λ idle. IfNone idle (self.new.live.ended ≢ None)) }
         ensures few { IfOk result (λ now. IfSome now (λ idle_now. idle_now ≤ idle + 1)) }
         ensures read { (count : ℕ) → WereRead (length names.now) count idle (S.reads source.old)
@@ -304,9 +304,9 @@ impl<F: ExtensionFinder + Drop> Watch<F> {
     ) -> Result<(), Stop>
         requires files { vec_len self.old.live.intake.files ≡ length names.now }
         requires step { self.old.is_stuck ≡ false → F.given_to self.old.finder ≡ self.old.live.last }
-        ensures follows { (policy users : List ℕ) (count : ℕ) → Goes policy users count (S.given source.old) self.old.live
-            → OnOk result (Follows policy users count (S.given source.new) self.new.live) }
-        ensures ended { (policy users : List ℕ) (count : ℕ) → Goes policy users count (S.given source.old) self.old.live → AreUnread (length names.now) (S.reads source.old)
+        ensures follows { (policy users : List ℕ) (count : ℕ) → Goes policy users count (S.bytes_read source.old) self.old.live
+            → OnOk result (Follows policy users count (S.bytes_read source.new) self.new.live) }
+        ensures ended { (policy users : List ℕ) (count : ℕ) → Goes policy users count (S.bytes_read source.old) self.old.live → AreUnread (length names.now) (S.reads source.old)
             → OnOk result (HasEnded turns (length names.now) (S.reads source.new) self.new.live) }
         ensures stopped { IfErr result (λ stop. (stop ≡ Memory) ⊎ (stop ≡ Read)) }
     {
@@ -328,13 +328,13 @@ impl<F: ExtensionFinder + Drop> Watch<F> {
 
     /// The verdict, if the captures end here.
     fn verdict(&self) -> Result<Verdict, Stop>
-        ensures told { (policy users : List ℕ) (count : ℕ) (given reads : ℕ → Option (List ℕ)) (turns : AnyTurns)
-            → Follows policy users count given self.now.live → HasEnded turns count reads self.now.live
-            → IfOk result (IsToldOf turns given reads self.now.live.intake (key_for self.now.live.credentials) self.now.live.front.placing.certificate) }
+        ensures reported { (policy users : List ℕ) (count : ℕ) (bytes_read reads : ℕ → Option (List ℕ)) (turns : AnyTurns)
+            → Follows policy users count bytes_read self.now.live → HasEnded turns count reads self.now.live
+            → IfOk result (IsReportedOf turns bytes_read reads self.now.live.intake (key_for self.now.live.credentials) self.now.live.front.placing.certificate) }
         ensures headline { IfOk result (λ verdict. IsConforming verdict
             → Headline (taken self.now.live.intake) (key_for self.now.live.credentials) self.now.live.front.placing.certificate) }
-        ensures refused { (policy users : List ℕ) (count : ℕ) (given : ℕ → Option (List ℕ)) → Follows policy users count given self.now.live
-            → IfErr result (EndsTurns count given self.now.live.intake.policy) }
+        ensures refused { (policy users : List ℕ) (count : ℕ) (bytes_read : ℕ → Option (List ℕ)) → Follows policy users count bytes_read self.now.live
+            → IfErr result (EndsTurns count bytes_read self.now.live.intake.policy) }
     {
         match self.live.finish() {
             Ok(verdict) => Ok(verdict),
@@ -343,12 +343,12 @@ impl<F: ExtensionFinder + Drop> Watch<F> {
     }
 
     /// Writes the report, and returns the exit status.
-    fn tell<O: Sink>(&self, alloc: Global, out: &mut O) -> Result<u8, Stop>
-        ensures told { (policy users : List ℕ) (count : ℕ) (given reads : ℕ → Option (List ℕ)) (turns : AnyTurns)
-            → Follows policy users count given self.now.live → HasEnded turns count reads self.now.live
-            → IfOk result (IsWatched policy users count turns given reads self.now.live.front.placing.certificate (O.taken out.old) (O.taken out.new)) }
-        ensures refused { (policy users : List ℕ) (count : ℕ) (given : ℕ → Option (List ℕ)) → Follows policy users count given self.now.live
-            → IfErr result (λ stop. EndsTurns count given self.now.live.intake.policy stop ⊎ EndsWriting (O.failures out.old) (O.failures out.new) stop) }
+    fn write_report<O: Sink>(&self, alloc: Global, out: &mut O) -> Result<u8, Stop>
+        ensures reported { (policy users : List ℕ) (count : ℕ) (bytes_read reads : ℕ → Option (List ℕ)) (turns : AnyTurns)
+            → Follows policy users count bytes_read self.now.live → HasEnded turns count reads self.now.live
+            → IfOk result (IsWatched policy users count turns bytes_read reads self.now.live.front.placing.certificate (O.taken out.old) (O.taken out.new)) }
+        ensures refused { (policy users : List ℕ) (count : ℕ) (bytes_read : ℕ → Option (List ℕ)) → Follows policy users count bytes_read self.now.live
+            → IfErr result (λ stop. EndsTurns count bytes_read self.now.live.intake.policy stop ⊎ EndsWriting (O.failures out.old) (O.failures out.new) stop) }
     {
         let verdict = self.verdict()?;
         report(alloc, &verdict, self.live.intake(), out)?;
@@ -375,11 +375,11 @@ pub fn run_live<F: CertificateFinder, S: Source + Growing, O: Sink>(
         S.holds source.old policy.now ≡ Some policy_text →
         IfSome users.entry (λ name. S.holds source.old name.now ≡ Some users_text) → IfNone users.entry (users_text ≡ []) →
         IfOk result (λ status. (found : Found)
-        × IsWatched policy_text users_text (length captures.now) turns (S.given source.new) (S.reads source.new) found (O.taken out.old) (O.taken out.new) status) }
+        × IsWatched policy_text users_text (length captures.now) turns (S.bytes_read source.new) (S.reads source.new) found (O.taken out.old) (O.taken out.new) status) }
     ensures ended { (policy_text users_text : List ℕ) →
         S.holds source.old policy.now ≡ Some policy_text →
         IfSome users.entry (λ name. S.holds source.old name.now ≡ Some users_text) → IfNone users.entry (users_text ≡ []) →
-        IfErr result (λ stop. EndsLive (S.may_fail source.old) policy.now policy_text users.entry users_text (length captures.now) (S.given source.new) stop
+        IfErr result (λ stop. EndsLive (S.may_fail source.old) policy.now policy_text users.entry users_text (length captures.now) (S.bytes_read source.new) stop
         ⊎ EndsWriting (O.failures out.old) (O.failures out.new) stop) }
 {
     let mut watch = Watch::open(
@@ -391,5 +391,5 @@ pub fn run_live<F: CertificateFinder, S: Source + Growing, O: Sink>(
         captures,
     )?;
     watch.go(alloc, captures, turns, source)?;
-    watch.tell(alloc, out)
+    watch.write_report(alloc, out)
 }

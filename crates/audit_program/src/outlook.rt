@@ -4,7 +4,7 @@ ghost use Rattle.std.specs.Prelude.{IfOk};
 ghost use Rattle.audit_files.specs.Judged.{Judges};
 ghost use Rattle.audit_keys.specs.KeyFor.{key_for};
 ghost use Rattle.audit_sightings.specs.Intake.{taken};
-ghost use Rattle.audit_program.specs.Deciding.{Foretells};
+ghost use Rattle.audit_program.specs.Deciding.{IsOutlook};
 
 use audit_faults::fault_among;
 use audit_files::Files;
@@ -21,7 +21,7 @@ pub enum Outlook {
     /// so that none conforms.
     Decided,
     /// No order explains a departure soon after that one, so that none conforms either.
-    DecidedBehind,
+    DecidedAfter,
     /// Another certificate may conform.
     Open,
 }
@@ -54,7 +54,7 @@ fn departure_at(certificate: &Certificate, breach: &Breach) -> Option<SightId> {
 }
 
 /// Adds some departures that the lane's acts send after a breach by an expired lease.
-fn add_behind(
+fn add_after(
     certificate: &Certificate,
     breach: &Breach,
     near: &mut Vec<SightId>,
@@ -68,10 +68,10 @@ fn add_behind(
     let Some(lane) = lane_of(certificate, breach) else {
         return Ok(());
     };
-    let behind = (breach.at.place as usize).saturating_add(1);
+    let after = (breach.at.place as usize).saturating_add(1);
     let mut acts = 0usize;
     let mut next = 1usize;
-    for event in lane.events.as_slice().get(behind..).unwrap_or(&[]) {
+    for event in lane.events.as_slice().get(after..).unwrap_or(&[]) {
         if let Event::Act { gives, .. } = event {
             acts = acts.saturating_add(1);
             if acts >= next {
@@ -93,21 +93,21 @@ fn outlook_of(
     certificate: &Certificate,
     breach: &Breach,
 ) -> Result<Outlook, AllocError>
-    ensures { IfOk result (λ outlook. Foretells (taken files.now.intake) (key_for files.now.users) certificate.now outlook) }
+    ensures { IfOk result (λ outlook. IsOutlook (taken files.now.intake) (key_for files.now.users) certificate.now outlook) }
 {
     let Some(departure) = departure_at(certificate, breach) else {
         return Ok(Outlook::Open);
     };
     let mut near = Vec::new(alloc);
     near.push(departure)?;
-    add_behind(certificate, breach, &mut near)?;
+    add_after(certificate, breach, &mut near)?;
     match fault_among(alloc, &files.intake, &files.users, &near)? {
         None => Ok(Outlook::Open),
         Some(sight) => {
             if sight == departure {
                 Ok(Outlook::Decided)
             } else {
-                Ok(Outlook::DecidedBehind)
+                Ok(Outlook::DecidedAfter)
             }
         }
     }
@@ -122,7 +122,7 @@ pub fn outlook_by(
     verdict: &Verdict,
 ) -> Result<Outlook, AllocError>
     requires { Judges (taken files.now.intake) (key_for files.now.users) certificate.now verdict.now }
-    ensures { IfOk result (λ outlook. Foretells (taken files.now.intake) (key_for files.now.users) certificate.now outlook) }
+    ensures { IfOk result (λ outlook. IsOutlook (taken files.now.intake) (key_for files.now.users) certificate.now outlook) }
 {
     match verdict {
         Verdict::Conforming { .. } => Ok(Outlook::Decided),

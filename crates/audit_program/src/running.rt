@@ -104,7 +104,7 @@ fn run_request<
     out: &mut O,
     err: &mut E,
 ) -> Result<u8, Stop>
-    ensures { Answers (S.holds source.old) (S.may_fail source.old) (S.given source.new) (S.reads source.new) F.finds
+    ensures { Answers (S.holds source.old) (S.may_fail source.old) (S.bytes_read source.new) (S.reads source.new) F.finds
         (record { before = O.taken out.old; after = O.taken out.new; said_before = E.taken err.old; said_after = E.taken err.new })
         (record { before = O.failures out.old; after = O.failures out.new; said_before = E.failures err.old; said_after = E.failures err.new }) request.now result }
 {
@@ -175,7 +175,7 @@ pub fn run<
     O: Sink,
     E: Sink,
 >(rt: &R, alloc: Global, finder: &F, words: &[N], source: &mut S, out: &mut O, err: &mut E) -> u8
-    ensures { IsRun (map N.text words.now) (S.holds source.old) (S.may_fail source.old) (S.given source.new) (S.reads source.new) F.finds
+    ensures { IsRun (map N.text words.now) (S.holds source.old) (S.may_fail source.old) (S.bytes_read source.new) (S.reads source.new) F.finds
         (record { before = O.taken out.old; after = O.taken out.new; said_before = E.taken err.old; said_after = E.taken err.new })
         (O.failures out.old) (O.failures out.new) (E.failures err.old) result }
 {

@@ -9,10 +9,10 @@ use Rattle.explain_program.specs.declared.command_line.Subject.TheVariants.{Verd
 use Rattle.explain_program.specs.declared.command_line.Inputs.{Inputs}
 use Rattle.explain_program.specs.declared.command_line.Request.{Request}
 use Rattle.explain_program.specs.declared.command_line.Request.TheVariants.{Explain, AsJson, Faults, Evidence, Help, Release, Usage}
-use Rattle.explain_program.specs.Words.{AreNamed, Asks, HasNumber, Names, NamesNothing}
+use Rattle.explain_program.specs.Words.{AreNamed, IsRequested, HasNumber, Names, NamesNothing}
 
 -- what names a command asks for it
-pub named_is_requested : (named : Option (Text × List Row)) (kinds : Kinds) (request : Request) → Names named request → Asks named kinds request
+pub named_is_requested : (named : Option (Text × List Row)) (kinds : Kinds) (request : Request) → Names named request → IsRequested named kinds request
 named_is_requested named kinds (Explain inputs what) names = names
 named_is_requested named kinds (AsJson inputs what) names = names
 named_is_requested named kinds (Faults inputs) names = names

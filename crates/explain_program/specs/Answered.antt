@@ -12,7 +12,7 @@ use Rattle.explain_program.specs.declared.run_error.RunError.{RunError}
 use Rattle.explain_program.specs.Errors.{status_of_error}
 use Rattle.explain_program.specs.Explained.{IsExplained, IsWrittenAsJson, expected_by}
 use Rattle.explain_program.specs.Pages.{page_text, release_text}
-use Rattle.explain_program.specs.Words.{Asks, turnexplain}
+use Rattle.explain_program.specs.Words.{IsRequested, turnexplain}
 
 -- The named policy, users and captures have these texts; if no users are named, there are none.
 pub record HaveTexts (holds : List ℕ → Option (List ℕ)) (inputs : Inputs) (policy users : List ℕ) (captures : List (List ℕ)) : Type 0 where
@@ -63,6 +63,6 @@ status_given (Err error) = status_of_error error
 -- error. Or there was no memory for the arguments.
 abbrev pub IsRun : List Text → (List ℕ → Option (List ℕ)) → Streams → ℕ → Type 0
 IsRun words holds streams status =
-    ((request : Request) × Asks (subcommand_of turnexplain words) (fault_of turnexplain words) request × (done : Result ℕ RunError) × (said : Option (List ℕ)) × Answers holds (record streams { said_after = said }) request done
+    ((request : Request) × IsRequested (subcommand_of turnexplain words) (fault_of turnexplain words) request × (done : Result ℕ RunError) × (said : Option (List ℕ)) × Answers holds (record streams { said_after = said }) request done
     × (status ≡ status_given done) × OnOk done (streams.said_after ≡ said))
     ⊎ ((streams.after ≡ streams.before) × (status ≡ 3))

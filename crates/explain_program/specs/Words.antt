@@ -166,11 +166,11 @@ IsRefused kinds = (k : ErrorKind) × IsAmong k kinds × (k ≢ kind.DisplayHelp)
 -- A command is requested by its name, and help and the release by their options. It is a usage
 -- error if `clap` refuses the arguments for one of these kinds, or if they name no command with all
 -- that it needs.
-abbrev pub Asks : Option (Text × List Row) → Kinds → Request → Type 0
-Asks named kinds (Help page) = IsAmong kind.DisplayHelp kinds
-Asks named kinds Release = IsAmong kind.DisplayVersion kinds
-Asks named kinds (Usage text) = IsRefused kinds ⊎ NamesNothing named
-Asks named kinds (Explain inputs what) = Names named (Explain inputs what)
-Asks named kinds (AsJson inputs what) = Names named (AsJson inputs what)
-Asks named kinds (Faults inputs) = Names named (Faults inputs)
-Asks named kinds (Evidence inputs file list) = Names named (Evidence inputs file list)
+abbrev pub IsRequested : Option (Text × List Row) → Kinds → Request → Type 0
+IsRequested named kinds (Help page) = IsAmong kind.DisplayHelp kinds
+IsRequested named kinds Release = IsAmong kind.DisplayVersion kinds
+IsRequested named kinds (Usage text) = IsRefused kinds ⊎ NamesNothing named
+IsRequested named kinds (Explain inputs what) = Names named (Explain inputs what)
+IsRequested named kinds (AsJson inputs what) = Names named (AsJson inputs what)
+IsRequested named kinds (Faults inputs) = Names named (Faults inputs)
+IsRequested named kinds (Evidence inputs file list) = Names named (Evidence inputs file list)

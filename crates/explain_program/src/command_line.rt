@@ -4,7 +4,7 @@ ghost use Rattle.std.specs.Prelude.{◌≡◌, ℕ, true, false, IfNone, IfOk, I
 ghost use Rattle.clap.specs.Words.{HasKind, Kinds, Row, Text, fault_of, found_of, rows_of, subcommand_of, subcommand_rows_of};
 ghost use Rattle.explain_program.specs.declared.command_line.Inputs.{Inputs as AnyInputs};
 ghost use Rattle.audit_files.specs.declared.workers.Workers.{Workers as AnyWorkers};
-ghost use Rattle.explain_program.specs.Words.{AreNamed, Asks, HasFlag, HasNumber, HasOptional, HasOptions, Names, NamesNothing, command_name, turnexplain};
+ghost use Rattle.explain_program.specs.Words.{AreNamed, IsRequested, HasFlag, HasNumber, HasOptional, HasOptions, Names, NamesNothing, command_name, turnexplain};
 
 use crate::commands::command;
 use crate::pages::{Page, page_of};
@@ -76,7 +76,7 @@ fn refused<'a, N: AsStr>(
     error: Error,
     words: &[N],
 ) -> Result<Request<'a>, AllocError>
-    ensures { (named : Option (Text × List Row)) (kinds : Kinds) → HasKind kinds error → IfOk result (Asks named kinds) }
+    ensures { (named : Option (Text × List Row)) (kinds : Kinds) → HasKind kinds error → IfOk result (IsRequested named kinds) }
 {
     let text = format!(in alloc; "{error}")?;
     if error.kind() == ErrorKind::OutOfMemory {
@@ -286,7 +286,7 @@ fn request_of<'a>(
 
 /// Parses the arguments, the first of which is the program's name.
 pub fn read<'a, N: AsStr>(alloc: Global, words: &'a [N]) -> Result<Request<'a>, AllocError>
-    ensures { IfOk result (Asks (subcommand_of turnexplain (map N.text words.now)) (fault_of turnexplain (map N.text words.now))) }
+    ensures { IfOk result (IsRequested (subcommand_of turnexplain (map N.text words.now)) (fault_of turnexplain (map N.text words.now))) }
 {
     let matches = match command(alloc)?.try_get_matches_from(words) {
         Ok(matches) => matches,

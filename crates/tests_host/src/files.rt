@@ -150,7 +150,7 @@ impl Growing for Files<'_> {
     ghost use Rattle.std.specs.Prelude.{None};
     ghost use Rattle.tests_host.specs.Held.{gave_of};
 
-    ghost given = { λ files capture. gave_of files.gave.items files.gave_second.items capture };
+    ghost bytes_read = { λ files capture. gave_of files.gave.items files.gave_second.items capture };
 
     // The tests check which bytes were returned; how often, they see by the verdict.
     ghost reads = { λ _ _. None };

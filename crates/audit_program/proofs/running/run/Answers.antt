@@ -1,5 +1,5 @@
 use Rattle.std.proofs.Common.{◌≡◌, ◌∙◌, OnOk, ap, inl, refl, subst, sym}
-use Rattle.audit_program.specs.Answered.{status_told}
+use Rattle.audit_program.specs.Answered.{status_of_answer}
 use Rattle.audit_program.proofs.running.run.Goals as goal
 
 pub returns-in-Ok-run_request : goal.returns-in-Ok-run_request
@@ -12,7 +12,7 @@ returns-in-Ok-run_request g c =
       said,
       g.E.Sink.failures c.run_request.new.err,
       c.run_request.ensures,
-      sym (ap status_told c.in-Ok-run_request.is),
+      sym (ap status_of_answer c.in-Ok-run_request.is),
       subst (λ done. OnOk done (said ≡ said)) (sym c.in-Ok-run_request.is) refl,
     )
 
@@ -26,6 +26,6 @@ returns g c =
       said,
       g.E.Sink.failures c.run_request.new.err,
       c.run_request.ensures,
-      c.status-in-Err-run_request.ensures ∙ sym (ap status_told c.in-Err-run_request.is),
+      c.status-in-Err-run_request.ensures ∙ sym (ap status_of_answer c.in-Err-run_request.is),
       subst (λ done. OnOk done (g.E.Sink.taken c.put_line-in-Err-run_request.new.sink ≡ said)) (sym c.in-Err-run_request.is) tt,
     )

@@ -20,7 +20,7 @@ returns-clause-written g c = λ policy users captures have names. record {
   certificate = c.in_ok-certificate.certificate;
   found = c.in_ok-certificate.ensures;
   written = c.in_ok-write_parallel.ensures.ok;
-  told = refl;
+  reported = refl;
 }
 
 -- a write that failed, or want of memory

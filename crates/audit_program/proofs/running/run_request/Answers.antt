@@ -36,9 +36,9 @@ returns-in-Live g c = rw (c.in-Live.is) (
   refl,
   λ policy users have. both _ _ c.run_live.result
       (subst (λ of. IfOk c.run_live.result (λ status. (found : Certificate)
-      × IsWatched policy users (length of) c.in-Live.turns (g.S.Growing.given c.run_live.new.source) (g.S.Growing.reads c.run_live.new.source) found (g.O.Sink.taken c.args.out.now) (g.O.Sink.taken c.run_live.new.out) status))
+      × IsWatched policy users (length of) c.in-Live.turns (g.S.Growing.bytes_read c.run_live.new.source) (g.S.Growing.reads c.run_live.new.source) found (g.O.Sink.taken c.args.out.now) (g.O.Sink.taken c.run_live.new.out) status))
       c.deref-in-Live.ensures.value (c.run_live.ensures.watched policy users have.policy' have.users' have.nobody))
-      (subst (λ of. IfErr c.run_live.result (λ stop. EndsLive (g.S.Source.may_fail c.args.source.now) c.in-Live.inputs.policy.now policy c.in-Live.inputs.credentials users (length of) (g.S.Growing.given c.run_live.new.source) stop
+      (subst (λ of. IfErr c.run_live.result (λ stop. EndsLive (g.S.Source.may_fail c.args.source.now) c.in-Live.inputs.policy.now policy c.in-Live.inputs.credentials users (length of) (g.S.Growing.bytes_read c.run_live.new.source) stop
       ⊎ EndsWriting (g.O.Sink.failures c.args.out.now) (g.O.Sink.failures c.run_live.new.out) stop))
       c.deref-in-Live.ensures.value (c.run_live.ensures.ended policy users have.policy' have.users' have.nobody)),
 )

@@ -7,14 +7,14 @@ use Rattle.tests_host.proofs.answers.ask.Goals as goal
 pub returns : goal.returns
 returns g c =
     let files = c.args.files.now in
-    let given = c.run-status.new.source in
+    let source_after = c.run-status.new.source in
     let out = c.run-status.new.out in
     let err = c.run-status.new.err in
     let Claimed : List ℕ → List ℕ → Type 0 = λ before said_before. IsRun
     (map (λ word. word.now) c.args.words.now)
     (held_among files.policy.now files.credentials.now files.certificate.now files.capture.now files.second.now)
     (λ name. true)
-    (gave_of given.gave.items given.gave_second.items)
+    (gave_of source_after.gave.items source_after.gave_second.items)
     (λ capture. None)
     IsFound
     (record { before = Some before; after = Some out.bytes.items; said_before = Some said_before; said_after = Some err.bytes.items })

@@ -6,8 +6,8 @@ use Rattle.audit_program.proofs.live.Watch.feed.Goals as goal
 
 pub returns-in-Ok-clause-left : goal.returns-in-Ok-clause-left
 returns-in-Ok-clause-left g c = λ policy users count goes.
-    left_going c.turn_of.result policy users count (g.S.Growing.given c.more.new.self) c.feed.new.self c.turn_of.ensures.taken
-    (goes_fed policy users count (g.S.Growing.given c.args.source.now) c.args.self.now.live goes (g.S.Growing.given c.more.new.self) c.args.file _ c.feed.new.self
+    left_going c.turn_of.result policy users count (g.S.Growing.bytes_read c.more.new.self) c.feed.new.self c.turn_of.ensures.taken
+    (goes_fed policy users count (g.S.Growing.bytes_read c.args.source.now) c.args.self.now.live goes (g.S.Growing.bytes_read c.more.new.self) c.args.file _ c.feed.new.self
     c.in_ok-read.ensures.bytes c.more.ensures.others c.in-Ok.ensures.ok c.in-Ok.ensures.goes_on c.feed.ensures.files c.feed.ensures.policy
     (ap (λ (a : Audit). a.credentials) c.feed.ensures.rest))
 
@@ -25,6 +25,6 @@ returns-in-Err-clause-read g c = λ apart. absurd (apart refl)
 
 pub returns-in-Err-clause-left : goal.returns-in-Err-clause-left
 returns-in-Err-clause-left g c = λ policy users count goes.
-    follows_refused policy users count (g.S.Growing.given c.args.source.now) c.args.self.now.live goes (g.S.Growing.given c.more.new.self) c.args.file _ c.feed.new.self c.in-Err.field-0
+    follows_refused policy users count (g.S.Growing.bytes_read c.args.source.now) c.args.self.now.live goes (g.S.Growing.bytes_read c.more.new.self) c.args.file _ c.feed.new.self c.in-Err.field-0
     c.in_ok-read.ensures.bytes c.more.ensures.others (c.in-Err.ensures.cause goes.0) (c.in-Err.ensures.err goes.0) c.feed.ensures.files c.feed.ensures.policy
     (ap (λ (a : Audit). a.credentials) c.feed.ensures.rest)

@@ -8,7 +8,7 @@ use Rattle.audit_program.proofs.live.Watch.feed_each.Goals.{in-Fed, in-Quiet}
 
 pub returns-in-Refused-clause-left : goal.returns-in-Refused-clause-left
 returns-in-Refused-clause-left g c = λ policy users count goes.
-    subst (λ (t : Turn). LeftBy t policy users count (g.S.Growing.given c.feed.new.source) c.feed.new.self.live) c.in-Refused.is
+    subst (λ (t : Turn). LeftBy t policy users count (g.S.Growing.bytes_read c.feed.new.source) c.feed.new.self.live) c.in-Refused.is
     (c.in_ok-feed.ensures.left policy users count (c.loop-file.invariant.goes policy users count goes))
 
 pub loop-file-preserved : goal.loop-file-preserved
@@ -39,14 +39,14 @@ loop-file-preserved g c = record {
   goes = λ policy users count goes.
       let left = c.in_ok-feed.ensures.left policy users count (c.loop-file.invariant.goes policy users count goes) in
       elim c.match-branch-2.branch [
-        | in-Fed w ↦ subst (λ (t : Turn). LeftBy t policy users count (g.S.Growing.given c.feed.new.source) c.feed.new.self.live) w.in-Fed.is left
-        | in-Quiet w ↦ subst (λ (t : Turn). LeftBy t policy users count (g.S.Growing.given c.feed.new.source) c.feed.new.self.live) w.in-Quiet.is left
+        | in-Fed w ↦ subst (λ (t : Turn). LeftBy t policy users count (g.S.Growing.bytes_read c.feed.new.source) c.feed.new.self.live) w.in-Fed.is left
+        | in-Quiet w ↦ subst (λ (t : Turn). LeftBy t policy users count (g.S.Growing.bytes_read c.feed.new.source) c.feed.new.self.live) w.in-Quiet.is left
       ];
 }
 
 pub returns-clause-left : goal.returns-clause-left
 returns-clause-left g c = λ policy users count goes.
-    left_going c.loop-file.turn policy users count (g.S.Growing.given c.loop-file.source) c.loop-file.self.live c.loop-file.invariant.apart (c.loop-file.invariant.goes policy users count goes)
+    left_going c.loop-file.turn policy users count (g.S.Growing.bytes_read c.loop-file.source) c.loop-file.self.live c.loop-file.invariant.apart (c.loop-file.invariant.goes policy users count goes)
 
 pub returns-in-Refused-clause-over : goal.returns-in-Refused-clause-over
 returns-in-Refused-clause-over g c = λ policy users count goes same. c.in_ok-feed.ensures.over (c.loop-file.invariant.goes policy users count goes).0 c.in-Refused.is

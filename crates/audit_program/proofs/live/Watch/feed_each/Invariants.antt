@@ -14,5 +14,5 @@ invariant-loop-file g l = record {
   stuck : l.self.is_stuck ≡ l.fn.self.is_stuck;
   read : AreReadOnce l.turn l.file (g.S.Growing.reads l.fn.source) (g.S.Growing.reads l.source);
   rest : (other : ℕ) → l.file ≤ other → g.S.Growing.reads l.source other ≡ g.S.Growing.reads l.fn.source other;
-  goes : (policy users : List ℕ) (count : ℕ) → Goes policy users count (g.S.Growing.given l.fn.source) l.fn.self.live → Goes policy users count (g.S.Growing.given l.source) l.self.live;
+  goes : (policy users : List ℕ) (count : ℕ) → Goes policy users count (g.S.Growing.bytes_read l.fn.source) l.fn.self.live → Goes policy users count (g.S.Growing.bytes_read l.source) l.self.live;
 }

@@ -27,8 +27,8 @@ turns-preserved g c = record {
       (subst (λ (o : Option ℕ). IfSome o (λ now. WereRead (length c.args.names.now) (c.turns.turn + 1) now (g.S.Growing.reads c.turn_on.new.source))) c.in-Some.is
       (c.in_ok-now.ensures.read c.turns.turn (c.turns.invariant.read unread)));
   goes = λ policy users count goes.
-      subst (λ (given : ℕ → Option (List ℕ)). Goes policy users count given c.turn_on.new.self.live) (sym c.pause_after.ensures.given)
-      (subst (λ (o : Option ℕ). IfSome o (λ _. Goes policy users count (g.S.Growing.given c.turn_on.new.source) c.turn_on.new.self.live)) c.in-Some.is
+      subst (λ (bytes_read : ℕ → Option (List ℕ)). Goes policy users count bytes_read c.turn_on.new.self.live) (sym c.pause_after.ensures.bytes_read)
+      (subst (λ (o : Option ℕ). IfSome o (λ _. Goes policy users count (g.S.Growing.bytes_read c.turn_on.new.source) c.turn_on.new.self.live)) c.in-Some.is
       (c.in_ok-now.ensures.goes policy users count (c.turns.invariant.goes policy users count goes)));
 }
 
@@ -43,18 +43,18 @@ turns-init g c = record {
 
 pub returns-clause-follows : goal.returns-clause-follows
 returns-clause-follows g c = λ policy users count goes.
-    let now = g.S.Growing.given c.turns-test.source in
+    let now = g.S.Growing.bytes_read c.turns-test.source in
     elim c.turns-test.branch [
       | else-turns-test w ↦
           left_following c.in_ok-advance.field-0 policy users count now c.advance.new.self.live
           (c.in_ok-advance.ensures.left policy users count now
-          (goes_same policy users count (g.S.Growing.given c.turns.source) now c.turns.self.live c.turns-test.self.live (ap (λ s. g.S.Growing.given s) w.source-is) (ap (λ (a : Watch _). a.live) w.self-is)
+          (goes_same policy users count (g.S.Growing.bytes_read c.turns.source) now c.turns.self.live c.turns-test.self.live (ap (λ s. g.S.Growing.bytes_read s) w.source-is) (ap (λ (a : Watch _). a.live) w.self-is)
           (c.turns.invariant.goes policy users count goes)))
       | then-turns-test+in_ok-now+in-Some+then-idle-turns w ↦
           left_following c.in_ok-advance.field-0 policy users count now c.advance.new.self.live
           (c.in_ok-advance.ensures.left policy users count now
-          (goes_same policy users count (g.S.Growing.given w.turn_on.new.source) now w.turn_on.new.self.live c.turns-test.self.live (ap (λ s. g.S.Growing.given s) w.source-is) (ap (λ (a : Watch _). a.live) w.self-is)
-          (subst (λ (o : Option ℕ). IfSome o (λ _. Goes policy users count (g.S.Growing.given w.turn_on.new.source) w.turn_on.new.self.live)) w.in-Some.is
+          (goes_same policy users count (g.S.Growing.bytes_read w.turn_on.new.source) now w.turn_on.new.self.live c.turns-test.self.live (ap (λ s. g.S.Growing.bytes_read s) w.source-is) (ap (λ (a : Watch _). a.live) w.self-is)
+          (subst (λ (o : Option ℕ). IfSome o (λ _. Goes policy users count (g.S.Growing.bytes_read w.turn_on.new.source) w.turn_on.new.self.live)) w.in-Some.is
           (w.in_ok-now.ensures.goes policy users count (c.turns.invariant.goes policy users count goes)))))
     ]
 

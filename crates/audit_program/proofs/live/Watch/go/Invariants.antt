@@ -10,5 +10,5 @@ invariant-turns g l = record {
   step : l.self.is_stuck ≡ false → g.F.ExtensionFinder.given_to l.self.finder ≡ l.self.live.last;
   few : l.idle ≤ l.turn;
   read : AreUnread (length l.names) (g.S.Growing.reads l.fn.source) → WereRead (length l.names) l.turn l.idle (g.S.Growing.reads l.source);
-  goes : (policy users : List ℕ) (count : ℕ) → Goes policy users count (g.S.Growing.given l.fn.source) l.fn.self.live → Goes policy users count (g.S.Growing.given l.source) l.self.live;
+  goes : (policy users : List ℕ) (count : ℕ) → Goes policy users count (g.S.Growing.bytes_read l.fn.source) l.fn.self.live → Goes policy users count (g.S.Growing.bytes_read l.source) l.self.live;
 }

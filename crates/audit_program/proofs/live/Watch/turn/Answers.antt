@@ -9,15 +9,15 @@ use Rattle.audit_program.proofs.live.Watch.turn.Goals as goal
 
 pub returns-in-Quiet-clause-left : goal.returns-in-Quiet-clause-left
 returns-in-Quiet-clause-left g c = λ policy users count goes.
-    subst (λ (t : Turn). LeftBy t policy users count (g.S.Growing.given c.feed_each.new.source) c.feed_each.new.self.live) c.in-Quiet.is (c.in_ok-feed_each.ensures.left policy users count goes)
+    subst (λ (t : Turn). LeftBy t policy users count (g.S.Growing.bytes_read c.feed_each.new.source) c.feed_each.new.self.live) c.in-Quiet.is (c.in_ok-feed_each.ensures.left policy users count goes)
 
 pub returns-in-Refused-clause-left : goal.returns-in-Refused-clause-left
 returns-in-Refused-clause-left g c = λ policy users count goes.
-    subst (λ (t : Turn). LeftBy t policy users count (g.S.Growing.given c.feed_each.new.source) c.feed_each.new.self.live) c.in-Refused.is (c.in_ok-feed_each.ensures.left policy users count goes)
+    subst (λ (t : Turn). LeftBy t policy users count (g.S.Growing.bytes_read c.feed_each.new.source) c.feed_each.new.self.live) c.in-Refused.is (c.in_ok-feed_each.ensures.left policy users count goes)
 
 pub returns-in-None-clause-left : goal.returns-in-None-clause-left
 returns-in-None-clause-left g c = λ policy users count goes.
-    subst (λ (t : Turn). LeftBy t policy users count (g.S.Growing.given c.feed_each.new.source) c.feed_each.new.self.live) c.in-Fed.is (c.in_ok-feed_each.ensures.left policy users count goes)
+    subst (λ (t : Turn). LeftBy t policy users count (g.S.Growing.bytes_read c.feed_each.new.source) c.feed_each.new.self.live) c.in-Fed.is (c.in_ok-feed_each.ensures.left policy users count goes)
 
 pub returns-in-Refused-clause-over : goal.returns-in-Refused-clause-over
 returns-in-Refused-clause-over g c = λ policy users count goes same. c.in_ok-feed_each.ensures.over policy users count goes c.in-Refused.is
@@ -29,13 +29,13 @@ returns-in-Quiet-clause-read g c = λ apart.
 
 pub returns-in_ok-advance-in-Some-clause-left : goal.returns-in_ok-advance-in-Some-clause-left
 returns-in_ok-advance-in-Some-clause-left g c = λ policy users count goes.
-    c.in_ok-advance-in-Some.ensures.left policy users count (g.S.Growing.given c.feed_each.new.source)
-    (subst (λ (t : Turn). LeftBy t policy users count (g.S.Growing.given c.feed_each.new.source) c.feed_each.new.self.live) c.in-Fed.is (c.in_ok-feed_each.ensures.left policy users count goes))
+    c.in_ok-advance-in-Some.ensures.left policy users count (g.S.Growing.bytes_read c.feed_each.new.source)
+    (subst (λ (t : Turn). LeftBy t policy users count (g.S.Growing.bytes_read c.feed_each.new.source) c.feed_each.new.self.live) c.in-Fed.is (c.in_ok-feed_each.ensures.left policy users count goes))
 
 pub returns-in_ok-advance-in-Some-clause-over : goal.returns-in_ok-advance-in-Some-clause-over
 returns-in_ok-advance-in-Some-clause-over g c = λ policy users count goes same none.
     let live = c.feed_each.new.self.live in
-    let going = subst (λ (t : Turn). LeftBy t policy users count (g.S.Growing.given c.feed_each.new.source) live) c.in-Fed.is (c.in_ok-feed_each.ensures.left policy users count goes) in
+    let going = subst (λ (t : Turn). LeftBy t policy users count (g.S.Growing.bytes_read c.feed_each.new.source) live) c.in-Fed.is (c.in_ok-feed_each.ensures.left policy users count goes) in
     let past = subst (λ (last : Option ℕ). IfSome last (λ before. before < c.in-Some.horizon)) c.last.ensures c.in-Some.ensures.some.1 in
     elim (c.in_ok-advance-in-Some.ensures.over going.0 same) [
       | inl apart ↦ apart none
