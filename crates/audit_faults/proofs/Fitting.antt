@@ -11,7 +11,7 @@ use Rattle.audit_rules.specs.Allocation.{Change}
 use Rattle.audit_rules.specs.Allocating.{AnswersNew, AnswersAgain, AnswersRefresh, EndsNothing, IsRefreshed}
 use Rattle.audit_rules.specs.Granting.{AnswersPermission, AnswersChannelBind}
 use Rattle.audit_rules.specs.Responses.{AnswersBinding, AnswersError}
-use Rattle.audit_rules.specs.Situation.{Situation, asked, answered}
+use Rattle.audit_rules.specs.Situation.{Situation, arrival_parts, answered}
 use Rattle.audit_rules.specs.Standing.{IsResponse}
 use Rattle.audit_rules.specs.Values.{Names, lifetime_of}
 use Rattle.audit_faults.specs.Fits.{SuccessFits, NamesClient, IsFit}
@@ -30,7 +30,7 @@ module _ (x : Situation) where
   one_number : (a b : ℕ) → Some a ≡ Some b → a ≡ b
   one_number a b e = cc
 
-  is_zero : (seconds : ℕ) → lifetime_of (answered x) ≡ Some seconds → EndsNothing x ⊎ IsRefreshed x → (lifetime_of (asked x) ≡ Some 0) ↔ (seconds ≡ 0)
+  is_zero : (seconds : ℕ) → lifetime_of (answered x) ≡ Some seconds → EndsNothing x ⊎ IsRefreshed x → (lifetime_of (arrival_parts x) ≡ Some 0) ↔ (seconds ≡ 0)
   is_zero seconds lasts (inl ends) = (λ _. one_number seconds 0 (sym lasts ∙ ends.2), λ _. ends.1)
   is_zero seconds lasts (inr renewed) = (λ a. one_number seconds 0 (sym lasts ∙ renewed.1.0 a), λ z. renewed.1.1 (lasts ∙ ap (λ (n : ℕ). Some n) z))
 
@@ -50,12 +50,12 @@ module _ (x : Situation) where
   permission change r = success CREATE_PERMISSION r.response (inr (inr (inr (inl refl))))
 
   pub channel_bind : (change : Change) → AnswersChannelBind x change → IsFit x.arrives x.leaves
-  channel_bind change r = success CHANNEL_BIND r.response (inr (inr (inr (inr (refl, (r.number, r.asks, r.in_range, (r.peer, r.names)))))))
+  channel_bind change r = success CHANNEL_BIND r.response (inr (inr (inr (inr (refl, (r.number, r.has_number, r.in_range, (r.peer, r.names)))))))
 
   pub error : AnswersError x → IsFit x.arrives x.leaves
   error r = record {
     success = λ e. absurd (let both : Error ≡ Success = sym r.response.response.1 ∙ e in cc);
-    error = λ _. record { code = r.code; has_code = r.tells; challenges = r.fits.challenges; unknown = r.fits.unknown; transport = r.fits.transport };
+    error = λ _. record { code = r.code; has_code = r.has_code; challenges = r.fits.challenges; unknown = r.fits.unknown; transport = r.fits.transport };
   }
 
 -- a success that fits is fit, and no other

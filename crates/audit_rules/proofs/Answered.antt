@@ -11,7 +11,7 @@ use Rattle.audit_stun.specs.Counted.{first_of}
 use Rattle.audit_stun.specs.ChannelData.{channel_data_of}
 use Rattle.audit_rules.specs.declared.table.Channel.{Channel}
 use Rattle.audit_rules.specs.Allocation.{Allocation, Same, Makes, Renews, Grants, Binds, Removes}
-use Rattle.audit_rules.specs.Situation.{Situation, IsServed, asked, answered, IsOf}
+use Rattle.audit_rules.specs.Situation.{Situation, IsServed, arrival_parts, answered, IsOf}
 use Rattle.audit_rules.specs.Values.{Names, address_named, code_of, lifetime_of, channel_number_of, peer_ips_of}
 use Rattle.audit_rules.specs.Standing.{IsResponse, UsableNow, WithUsable, IsOwn, Permits, Carries}
 use Rattle.audit_rules.specs.Responses.{Fits}
@@ -26,19 +26,19 @@ use Rattle.audit_rules.proofs.Facts.{some_and, has_some, both_some, authentic, a
 
 pub binding_may : (x : Situation) → IsServed x → IsResponse x Success BINDING → AllHold (binding_checks x) → MayAnswer x Same
 unfolding MayAnswer
-binding_may x served response (tells, (mapped, end)) = (served, Binding, (record { response = response; mapped = mapped }, refl))
+binding_may x served response (has_mapped, (mapped, end)) = (served, Binding, (record { response = response; mapped = mapped }, refl))
 
-pub error_may : (x : Situation) → IsServed x → IsResponse x Error (asked x).method → AllHold (error_checks x) → MayAnswer x Same
+pub error_may : (x : Situation) → IsServed x → IsResponse x Error (arrival_parts x).method → AllHold (error_checks x) → MayAnswer x Same
 unfolding MayAnswer
-error_may x served response (tells, (fits, end)) =
+error_may x served response (has_code, (fits, end)) =
     let s = some_and (code_of (answered x)) (Fits x) fits in
-    (served, ErrorCase, (record { response = response; code = s.0; tells = s.1; fits = s.2 }, refl))
+    (served, ErrorCase, (record { response = response; code = s.0; has_code = s.1; fits = s.2 }, refl))
 
-pub made_is : (x : Situation) (found : Option Allocation) → made_it x found ≡ true → IsSomeAnd found (λ a. UsableNow x a.until × (a.id ≡ (asked x).tid))
+pub made_is : (x : Situation) (found : Option Allocation) → made_it x found ≡ true → IsSomeAnd found (λ a. UsableNow x a.until × (a.id ≡ (arrival_parts x).tid))
 made_is x None e = absurd cc
 made_is x (Some a) e = (grind (arith, nat_tests, bytes_eq-Decides, e), grind (arith, nat_tests, bytes_eq-Decides, e))
 
-pub not_made : (x : Situation) (found : Option Allocation) → made_it x found ≡ false → IsSomeAnd found (λ a. UsableNow x a.until × (a.id ≡ (asked x).tid)) → ⊥
+pub not_made : (x : Situation) (found : Option Allocation) → made_it x found ≡ false → IsSomeAnd found (λ a. UsableNow x a.until × (a.id ≡ (arrival_parts x).tid)) → ⊥
 not_made x None e h = absurd h
 not_made x (Some a) e h = grind (arith, nat_tests, bytes_eq-Decides, e, h)
 
@@ -48,10 +48,10 @@ is_some_time n time e not_zero =
     omega (arith, h)
 
 pub new_may : (x : Situation) → IsServed x → IsResponse x Success ALLOCATE → made_it x x.allocation ≡ false → AllHold (new_checks x)
-    → (user : List ℕ) (relayed : Addr) (seconds : ℕ) → first_of USERNAME (asked x).attributes ≡ Some user → address_named XOR_RELAYED_ADDRESS (answered x) ≡ Some relayed → lifetime_of (answered x) ≡ Some seconds
+    → (user : List ℕ) (relayed : Addr) (seconds : ℕ) → first_of USERNAME (arrival_parts x).attributes ≡ Some user → address_named XOR_RELAYED_ADDRESS (answered x) ≡ Some relayed → lifetime_of (answered x) ≡ Some seconds
     → MayAnswer x (Makes (made_by x relayed user seconds))
 unfolding MayAnswer
-new_may x served response first (by, (free, (asks, (tells_relayed, (tells_lifetime, (tells_mapped, (in_range, (not_zero, (mapped, (signed, end)))))))))) user relayed seconds u r s = (
+new_may x served response first (by, (free, (transport, (has_relayed, (has_lifetime, (has_mapped, (in_range, (not_zero, (mapped, (signed, end)))))))))) user relayed seconds u r s = (
   served,
   New,
   record {
@@ -60,9 +60,9 @@ new_may x served response first (by, (free, (asks, (tells_relayed, (tells_lifeti
     user = user;
     authentic = authentic_as x user by u;
     free = free;
-    served = asks;
+    served = transport;
     relayed = relayed;
-    tells = r;
+    names_relayed = r;
     in_range = has_some (address_named XOR_RELAYED_ADDRESS (answered x)) (MayBeRelayed x) relayed r in_range;
     seconds = seconds;
     lasts = (s, is_some_time seconds (lifetime_of (answered x)) s not_zero);
@@ -72,14 +72,14 @@ new_may x served response first (by, (free, (asks, (tells_relayed, (tells_lifeti
   },
 )
 
-same_again : (x : Situation) (found : Option Allocation) → IsSomeAnd found (λ a. UsableNow x a.until × (a.id ≡ (asked x).tid)) → IsSomeAnd found (IsOwn x) → IsSomeAnd found (λ a. Names XOR_RELAYED_ADDRESS (answered x) a.relayed)
-    → IsSomeAnd found (λ a. UsableNow x a.until × ((a.id ≡ (asked x).tid) × IsOwn x a × Names XOR_RELAYED_ADDRESS (answered x) a.relayed))
+same_again : (x : Situation) (found : Option Allocation) → IsSomeAnd found (λ a. UsableNow x a.until × (a.id ≡ (arrival_parts x).tid)) → IsSomeAnd found (IsOwn x) → IsSomeAnd found (λ a. Names XOR_RELAYED_ADDRESS (answered x) a.relayed)
+    → IsSomeAnd found (λ a. UsableNow x a.until × ((a.id ≡ (arrival_parts x).tid) × IsOwn x a × Names XOR_RELAYED_ADDRESS (answered x) a.relayed))
 same_again x (Some a) made own names = (made.0, (made.1, own, names))
 same_again x None made own names = absurd made
 
 pub again_may : (x : Situation) → IsServed x → IsResponse x Success ALLOCATE → made_it x x.allocation ≡ true → AllHold (again_checks x) → MayAnswer x Same
 unfolding MayAnswer
-again_may x served response again (by, (own, (tells_relayed, (tells_mapped, (relayed, (mapped, (signed, end))))))) =
+again_may x served response again (by, (own, (has_relayed, (has_mapped, (relayed, (mapped, (signed, end))))))) =
     let user = authentic x by in (
       served,
       Again,
@@ -97,7 +97,7 @@ again_may x served response again (by, (own, (tells_relayed, (tells_mapped, (rel
     )
 
 allowed : (x : Situation) → (EndsNothing x ⊎ IsSome x.allocation) → (EndsNothing x ⊎ WithUsable x (λ a. Unit {0})) → (EndsNothing x ⊎ WithAllocation x (IsOwn x))
-    → (EndsNothing x ⊎ ((lifetime_of (asked x) ≡ Some 0) ↔ (lifetime_of (answered x) ≡ Some 0))) → EndsNothing x ⊎ IsRefreshed x
+    → (EndsNothing x ⊎ ((lifetime_of (arrival_parts x) ≡ Some 0) ↔ (lifetime_of (answered x) ≡ Some 0))) → EndsNothing x ⊎ IsRefreshed x
 allowed x (inl e) b c d = inl e
 allowed x (inr a) (inl e) c d = inl e
 allowed x (inr a) (inr b) (inl e) d = inl e
@@ -107,7 +107,7 @@ allowed x (inr a) (inr b) (inr c) (inr d) = inr (both_some x.allocation (λ a. U
 pub refresh_may : (x : Situation) → IsServed x → IsResponse x Success REFRESH → AllHold (refresh_checks x) → (seconds : ℕ) → lifetime_of (answered x) ≡ Some seconds
     → MayAnswer x (if seconds == 0 then Removes else Renews (seconds_after x.moment seconds))
 unfolding MayAnswer
-refresh_may x served response (by, (tells, (there, (usable, (own, (same_end, (signed, end))))))) seconds s =
+refresh_may x served response (by, (has_lifetime, (there, (usable, (own, (same_end, (signed, end))))))) seconds s =
     let user = authentic x by in (
       served,
       Refresh,
@@ -123,7 +123,7 @@ refresh_may x served response (by, (tells, (there, (usable, (own, (same_end, (si
       },
     )
 
-pub permission_may : (x : Situation) → IsServed x → IsResponse x Success CREATE_PERMISSION → AllHold (permission_checks x) → (ips : List ℕ) → peer_ips_of (asked x) ≡ Some ips
+pub permission_may : (x : Situation) → IsServed x → IsResponse x Success CREATE_PERMISSION → AllHold (permission_checks x) → (ips : List ℕ) → peer_ips_of (arrival_parts x) ≡ Some ips
     → MayAnswer x (Grants ips (seconds_after x.moment 300))
 unfolding MayAnswer
 permission_may x served response (by, (there, (usable, (own, (some, (signed, end)))))) ips p =
@@ -137,7 +137,7 @@ permission_may x served response (by, (there, (usable, (own, (some, (signed, end
         own = both_some x.allocation (λ a. UsableNow x a.until) (IsOwn x) usable own;
         ips = ips;
         names = p;
-        some = has_some (peer_ips_of (asked x)) (λ l. 0 < length l) ips p some;
+        some = has_some (peer_ips_of (arrival_parts x)) (λ l. 0 < length l) ips p some;
         signed = signed;
         changes = refl;
       },
@@ -148,13 +148,13 @@ own_and : (x : Situation) (found : Option Allocation) (P : Allocation → Type 0
 own_and x (Some a) P u own p = (u.0, (own, p))
 own_and x None P u own p = absurd u
 
-pub channel_bind_may : (x : Situation) → IsServed x → IsResponse x Success CHANNEL_BIND → AllHold (channel_bind_checks x) → (number : ℕ) (peer : Addr) → channel_number_of (asked x) ≡ Some number
-    → address_named XOR_PEER_ADDRESS (asked x) ≡ Some peer → MayAnswer x (Binds number peer (seconds_after x.moment 600) (seconds_after x.moment 300))
+pub channel_bind_may : (x : Situation) → IsServed x → IsResponse x Success CHANNEL_BIND → AllHold (channel_bind_checks x) → (number : ℕ) (peer : Addr) → channel_number_of (arrival_parts x) ≡ Some number
+    → address_named XOR_PEER_ADDRESS (arrival_parts x) ≡ Some peer → MayAnswer x (Binds number peer (seconds_after x.moment 600) (seconds_after x.moment 300))
 unfolding MayAnswer
 channel_bind_may x served response (by, (there, (usable, (own, (in_range, (names, (may_bind, (signed, end)))))))) number peer n p =
     let user = authentic x by in
-    let of_peer = has_some (address_named XOR_PEER_ADDRESS (asked x)) (λ one. IsSomeAnd (channel_number_of (asked x)) (λ k. WithAllocation x (NoConflict x k one))) peer p may_bind in
-    let free = has_some (channel_number_of (asked x)) (λ k. WithAllocation x (NoConflict x k peer)) number n of_peer in (
+    let of_peer = has_some (address_named XOR_PEER_ADDRESS (arrival_parts x)) (λ one. IsSomeAnd (channel_number_of (arrival_parts x)) (λ k. WithAllocation x (NoConflict x k one))) peer p may_bind in
+    let free = has_some (channel_number_of (arrival_parts x)) (λ k. WithAllocation x (NoConflict x k peer)) number n of_peer in (
       served,
       ChannelBind,
       record {
@@ -162,8 +162,8 @@ channel_bind_may x served response (by, (there, (usable, (own, (in_range, (names
         user = user.0;
         authentic = user.2;
         number = number;
-        asks = n;
-        in_range = has_some (channel_number_of (asked x)) IsChannelNumber number n in_range;
+        has_number = n;
+        in_range = has_some (channel_number_of (arrival_parts x)) IsChannelNumber number n in_range;
         peer = peer;
         names = p;
         own = own_and x x.allocation (NoConflict x number peer) usable own free;
@@ -201,7 +201,7 @@ data_relays x None u r p = absurd u
 
 pub data_may : (x : Situation) → IsServed x → GoesDown x → IsOf x.leaves.payload Indication DATA_METHOD → AllHold (data_checks x) → MayAnswer x Same
 unfolding MayAnswer
-data_may x served goes is (tells_peer, (tells_data, (there, (usable, (relayed, (granted, (permitted, (peer, (sends, end))))))))) = (
+data_may x served goes is (has_peer, (has_data, (there, (usable, (relayed, (granted, (permitted, (peer, (sends, end))))))))) = (
   served,
   Data,
   (

@@ -18,13 +18,13 @@ use Rattle.audit_stun.specs.ChannelData.{channel_data_of}
 use Rattle.audit_rules.specs.declared.path.Path.{Path}
 use Rattle.audit_rules.specs.declared.path.Path.TheVariants.{Client, Relay}
 use Rattle.audit_rules.specs.Allocation.{Allocation, Change, Same}
-use Rattle.audit_rules.specs.Situation.{Situation, IsServed, asked, answered, IsOf, arrival_path, departure_path}
+use Rattle.audit_rules.specs.Situation.{Situation, IsServed, arrival_parts, answered, IsOf, arrival_path, departure_path}
 use Rattle.audit_rules.specs.Values.{AreBytes, Names, address_named, lifetime_of, channel_number_of, peer_ips_of}
 use Rattle.audit_rules.specs.Standing.{IsResponse, UsableNow, IsOwn}
 use Rattle.audit_rules.specs.Allocating.{IsAgain, AnswersAgain}
 use Rattle.audit_rules.specs.Granting.{IsChannelNumber}
 use Rattle.audit_rules.specs.Answer.{MayAnswer, Answers, Case, Binding, Error as ErrorCase, New, Again, Refresh, Permission, ChannelBind, Send, ChannelUp, Data, ChannelDown}
-use Rattle.audit_rules.specs.Check.{Check, ask, AllHold, FirstFails}
+use Rattle.audit_rules.specs.Check.{Check, check_by, AllHold, FirstFails}
 use Rattle.audit_rules.specs.Checks.{new_checks, again_checks, refresh_checks, permission_checks, channel_bind_checks, send_checks, channel_up_checks, data_checks, channel_down_checks}
 use Rattle.audit_rules.specs.FirstRule.{choose, made_it, success_checks, class_checks, is_channel, IsAnyChannelData, IsRequest, IsItsResponse, up_checks, down_checks, path_checks, checks_of}
 use Rattle.audit_rules.proofs.Facts.{some_and, some_has, map_some, authentic}
@@ -65,7 +65,7 @@ response_all x class method served r which all =
 success_all : (x : Situation) (method : ℕ) → IsServed x → IsResponse x Success method → AllHold (success_checks x method) → AllHold (checks_of x)
 success_all x method served r all = response_all x Success method served r (inl refl) (subst (λ m. AllHold (success_checks x m)) (sym r.response.2) all)
 
-pub made_true : (x : Situation) (found : Option Allocation) → IsSomeAnd found (λ a. UsableNow x a.until × (a.id ≡ (asked x).tid)) → made_it x found ≡ true
+pub made_true : (x : Situation) (found : Option Allocation) → IsSomeAnd found (λ a. UsableNow x a.until × (a.id ≡ (arrival_parts x).tid)) → made_it x found ≡ true
 made_true x None h = absurd h
 made_true x (Some a) h = grind (arith, nat_tests, bytes_eq-Decides, h)
 
@@ -77,7 +77,7 @@ allocate_all : (x : Situation) (made : Bool) → IsServed x → IsResponse x Suc
 allocate_all x made served r e all = success_all x ALLOCATE served r (subst (λ b. AllHold (choose b (again_checks x) (new_checks x))) (sym e) all)
 
 pub again_is : (x : Situation) → AnswersAgain x → IsAgain x
-again_is x r = map_some x.allocation (λ a. UsableNow x a.until × ((a.id ≡ (asked x).tid) × IsOwn x a × Names XOR_RELAYED_ADDRESS (answered x) a.relayed)) (λ a. UsableNow x a.until × (a.id ≡ (asked x).tid)) (λ a h. (h.0, h.1.0)) r.same
+again_is x r = map_some x.allocation (λ a. UsableNow x a.until × ((a.id ≡ (arrival_parts x).tid) × IsOwn x a × Names XOR_RELAYED_ADDRESS (answered x) a.relayed)) (λ a. UsableNow x a.until × (a.id ≡ (arrival_parts x).tid)) (λ a h. (h.0, h.1.0)) r.same
 
 -- a STUN message begins with two zero bits
 message_begins : (number : ℕ) (rest : List ℕ) → number < 16384 → is_channel (to_be_bytes w16 number ++ rest) ≡ false
@@ -103,30 +103,30 @@ channel_is (a ∷ b ∷ c ∷ d ∷ rest) number bytes past fits e =
     grind (arith, nat_tests, e, second)
 
 up_all : (x : Situation) (b : Bool) → IsServed x → arrival_path x ≡ Some Client → departure_path x ≡ Some Relay → is_channel x.arrives.payload ≡ b
-    → AllHold (choose b (ask (IsAnyChannelData x.arrives.payload) NotAnAnswer ∷ channel_up_checks x) (ask (IsOf x.arrives.payload Indication SEND) NotAnAnswer ∷ send_checks x)) → AllHold (checks_of x)
+    → AllHold (choose b (check_by (IsAnyChannelData x.arrives.payload) NotAnAnswer ∷ channel_up_checks x) (check_by (IsOf x.arrives.payload Indication SEND) NotAnAnswer ∷ send_checks x)) → AllHold (checks_of x)
 up_all x b served f g e all = (
   served,
   path_at x (Some Client) (Some Relay) f g
-      (subst (λ t. AllHold (choose t (ask (IsAnyChannelData x.arrives.payload) NotAnAnswer ∷ channel_up_checks x) (ask (IsOf x.arrives.payload Indication SEND) NotAnAnswer ∷ send_checks x))) (sym e) all),
+      (subst (λ t. AllHold (choose t (check_by (IsAnyChannelData x.arrives.payload) NotAnAnswer ∷ channel_up_checks x) (check_by (IsOf x.arrives.payload Indication SEND) NotAnAnswer ∷ send_checks x))) (sym e) all),
 )
 
 down_all : (x : Situation) (b : Bool) → IsServed x → arrival_path x ≡ Some Relay → departure_path x ≡ Some Client → is_channel x.leaves.payload ≡ b
-    → AllHold (choose b (ask (IsAnyChannelData x.leaves.payload) Malformed ∷ channel_down_checks x) (ask (IsMessage x.leaves.payload (answered x)) Malformed ∷ ask (IsOf x.leaves.payload Indication DATA_METHOD) NotAnAnswer ∷ data_checks x)) → AllHold (checks_of x)
+    → AllHold (choose b (check_by (IsAnyChannelData x.leaves.payload) Malformed ∷ channel_down_checks x) (check_by (IsMessage x.leaves.payload (answered x)) Malformed ∷ check_by (IsOf x.leaves.payload Indication DATA_METHOD) NotAnAnswer ∷ data_checks x)) → AllHold (checks_of x)
 down_all x b served f g e all = (
   served,
   path_at x (Some Relay) (Some Client) f g
-      (subst (λ t. AllHold (choose t (ask (IsAnyChannelData x.leaves.payload) Malformed ∷ channel_down_checks x) (ask (IsMessage x.leaves.payload (answered x)) Malformed ∷ ask (IsOf x.leaves.payload Indication DATA_METHOD) NotAnAnswer ∷ data_checks x))) (sym e) all),
+      (subst (λ t. AllHold (choose t (check_by (IsAnyChannelData x.leaves.payload) Malformed ∷ channel_down_checks x) (check_by (IsMessage x.leaves.payload (answered x)) Malformed ∷ check_by (IsOf x.leaves.payload Indication DATA_METHOD) NotAnAnswer ∷ data_checks x))) (sym e) all),
 )
 
 case_holds : (case : Case) (x : Situation) (change : Change) → AreBytes x.arrives.payload → AreBytes x.leaves.payload → IsServed x → Answers case x change → AllHold (checks_of x)
 case_holds Binding x change up down served r = success_all x BINDING served r.0.response (binding_held x r.0)
-case_holds ErrorCase x change up down served r = response_all x Error (asked x).method served r.0.response (inr refl) (error_held x r.0)
+case_holds ErrorCase x change up down served r = response_all x Error (arrival_parts x).method served r.0.response (inr refl) (error_held x r.0)
 case_holds New x change up down served r = allocate_all x false served r.response (made_false x (made_it x x.allocation) refl r.first) (new_held x change r)
 case_holds Again x change up down served r = allocate_all x true served r.0.response (made_true x x.allocation (again_is x r.0)) (again_held x r.0)
 case_holds Refresh x change up down served r = success_all x REFRESH served r.response (refresh_held x change r)
 case_holds Permission x change up down served r = success_all x CREATE_PERMISSION served r.response (permission_held x change r)
 case_holds ChannelBind x change up down served r = success_all x CHANNEL_BIND served r.response (channel_bind_held x change r)
-case_holds Send x change up down served r = up_all x false served r.0.goes.0 r.0.goes.1 (message_is_none x.arrives.payload (asked x) r.0.indication.0) (r.0.indication, send_held x r.0)
+case_holds Send x change up down served r = up_all x false served r.0.goes.0 r.0.goes.1 (message_is_none x.arrives.payload (arrival_parts x) r.0.indication.0) (r.0.indication, send_held x r.0)
 case_holds ChannelUp x change up down served r =
     up_all x true served r.0.goes.0 r.0.goes.1 (channel_is x.arrives.payload r.0.number x.leaves.payload r.0.past up r.0.says)
     (some_has (channel_data_of x.arrives.payload) (λ s. Unit {0}) (r.0.number, x.leaves.payload, r.0.past) r.0.says tt, channel_up_held x r.0)
@@ -153,28 +153,28 @@ abbrev May : Situation → Type 0
 May x = (change : Change) × MayAnswer x change
 
 new_change : (x : Situation) → IsServed x → IsResponse x Success ALLOCATE → made_it x x.allocation ≡ false → AllHold (new_checks x) → May x
-new_change x served r e (by, (free, (asks, (tells_relayed, (tells_lifetime, rest))))) =
+new_change x served r e (by, (free, (transport, (has_relayed, (has_lifetime, rest))))) =
     let user = authentic x by in
-    let relayed = has (address_named XOR_RELAYED_ADDRESS (answered x)) tells_relayed in
-    let seconds = has (lifetime_of (answered x)) tells_lifetime in
-    (_, new_may x served r e (by, (free, (asks, (tells_relayed, (tells_lifetime, rest))))) user.0 relayed.0 seconds.0 user.1 relayed.1 seconds.1)
+    let relayed = has (address_named XOR_RELAYED_ADDRESS (answered x)) has_relayed in
+    let seconds = has (lifetime_of (answered x)) has_lifetime in
+    (_, new_may x served r e (by, (free, (transport, (has_relayed, (has_lifetime, rest))))) user.0 relayed.0 seconds.0 user.1 relayed.1 seconds.1)
 
 allocate_change : (x : Situation) (b : Bool) → made_it x x.allocation ≡ b → IsServed x → IsResponse x Success ALLOCATE → AllHold (choose b (again_checks x) (new_checks x)) → May x
 allocate_change x true e served r all = (Same, again_may x served r e all)
 allocate_change x false e served r all = new_change x served r e all
 
 refresh_change : (x : Situation) → IsServed x → IsResponse x Success REFRESH → AllHold (refresh_checks x) → May x
-refresh_change x served r (by, (tells, rest)) = let seconds = has (lifetime_of (answered x)) tells in (_, refresh_may x served r (by, (tells, rest)) seconds.0 seconds.1)
+refresh_change x served r (by, (has_lifetime, rest)) = let seconds = has (lifetime_of (answered x)) has_lifetime in (_, refresh_may x served r (by, (has_lifetime, rest)) seconds.0 seconds.1)
 
 permission_change : (x : Situation) → IsServed x → IsResponse x Success CREATE_PERMISSION → AllHold (permission_checks x) → May x
 permission_change x served r (by, (there, (usable, (own, (some, rest))))) =
-    let ips = some_and (peer_ips_of (asked x)) (λ l. 0 < length l) some in
+    let ips = some_and (peer_ips_of (arrival_parts x)) (λ l. 0 < length l) some in
     (_, permission_may x served r (by, (there, (usable, (own, (some, rest))))) ips.0 ips.1)
 
 channel_bind_change : (x : Situation) → IsServed x → IsResponse x Success CHANNEL_BIND → AllHold (channel_bind_checks x) → May x
 channel_bind_change x served r (by, (there, (usable, (own, (in_range, (names, rest)))))) =
-    let number = some_and (channel_number_of (asked x)) IsChannelNumber in_range in
-    let peer = has (address_named XOR_PEER_ADDRESS (asked x)) names in
+    let number = some_and (channel_number_of (arrival_parts x)) IsChannelNumber in_range in
+    let peer = has (address_named XOR_PEER_ADDRESS (arrival_parts x)) names in
     (_, channel_bind_may x served r (by, (there, (usable, (own, (in_range, (names, rest)))))) number.0 peer.0 number.1 peer.1)
 
 abbrev Responds : Situation → ℕ → Type 0

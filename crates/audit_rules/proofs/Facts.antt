@@ -10,7 +10,7 @@ use Rattle.audit_keys.specs.Chosen.{chosen_key}
 use Rattle.audit_keys.specs.Keys.{KeyFor}
 use Rattle.audit_keys.specs.Signed.{IsSigned}
 use Rattle.audit_keys.specs.Authentic.{IsAuthentic}
-use Rattle.audit_rules.specs.Situation.{Situation, asked}
+use Rattle.audit_rules.specs.Situation.{Situation, arrival_parts}
 use Rattle.audit_rules.specs.Standing.{IsByUser}
 
 pub some_and : {A : Type 0} (o : Option A) (P : A → Type 0) → IsSomeAnd o P → (a : A) × (o ≡ Some a) × P a
@@ -55,10 +55,10 @@ authentic_of find message (Some user) None n u r e some s = absurd s
 authentic_of find message None r n u e f some s = absurd s
 
 -- a request by a user is authentic by the user that it names
-pub authentic : (x : Situation) → IsByUser x → (user : List ℕ) × (first_of USERNAME (asked x).attributes ≡ Some user) × IsAuthentic x.key_for x.arrives.payload user
-authentic x by = authentic_of x.key_for x.arrives.payload (first_of USERNAME (asked x).attributes) (first_of REALM (asked x).attributes) (first_of NONCE (asked x).attributes) refl refl refl by.0 by.1
+pub authentic : (x : Situation) → IsByUser x → (user : List ℕ) × (first_of USERNAME (arrival_parts x).attributes ≡ Some user) × IsAuthentic x.key_for x.arrives.payload user
+authentic x by = authentic_of x.key_for x.arrives.payload (first_of USERNAME (arrival_parts x).attributes) (first_of REALM (arrival_parts x).attributes) (first_of NONCE (arrival_parts x).attributes) refl refl refl by.0 by.1
 
-pub authentic_as : (x : Situation) (user : List ℕ) → IsByUser x → first_of USERNAME (asked x).attributes ≡ Some user → IsAuthentic x.key_for x.arrives.payload user
+pub authentic_as : (x : Situation) (user : List ℕ) → IsByUser x → first_of USERNAME (arrival_parts x).attributes ≡ Some user → IsAuthentic x.key_for x.arrives.payload user
 authentic_as x user by e =
     let a = authentic x by in
     let same : a.0 ≡ user = cc in

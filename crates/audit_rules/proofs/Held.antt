@@ -5,7 +5,7 @@ use Rattle.audit_stun.specs.declared.numbers.attribute.TheConstants.{XOR_MAPPED_
 use Rattle.audit_stun.specs.Counted.{first_of}
 use Rattle.audit_stun.specs.ChannelData.{channel_data_of}
 use Rattle.audit_rules.specs.Allocation.{Allocation, Change}
-use Rattle.audit_rules.specs.Situation.{Situation, asked, answered}
+use Rattle.audit_rules.specs.Situation.{Situation, arrival_parts, answered}
 use Rattle.audit_rules.specs.Values.{Names, address_named, code_of, lifetime_of, channel_number_of, peer_ips_of}
 use Rattle.audit_keys.specs.Signed.{IsSigned}
 use Rattle.audit_model.specs.declared.address.Addr.{Addr}
@@ -22,7 +22,7 @@ pub binding_held : (x : Situation) → AnswersBinding x → AllHold (binding_che
 binding_held x r = (some_is (address_named XOR_MAPPED_ADDRESS (answered x)) x.client r.mapped, (r.mapped, tt))
 
 pub error_held : (x : Situation) → AnswersError x → AllHold (error_checks x)
-error_held x r = (some_is (code_of (answered x)) r.code r.tells, (some_has (code_of (answered x)) (Fits x) r.code r.tells r.fits, tt))
+error_held x r = (some_is (code_of (answered x)) r.code r.has_code, (some_has (code_of (answered x)) (Fits x) r.code r.has_code r.fits, tt))
 
 not_zero : (n : ℕ) (time : Option ℕ) → time ≡ Some n → 0 < n → time ≢ Some 0
 not_zero n time e more z =
@@ -38,13 +38,13 @@ new_held x change r =
         (
           r.served,
           (
-            some_is relayed r.relayed r.tells,
+            some_is relayed r.relayed r.names_relayed,
             (
               some_is (lifetime_of (answered x)) r.seconds r.lasts.0,
               (
                 some_is (address_named XOR_MAPPED_ADDRESS (answered x)) x.client r.mapped,
                 (
-                  some_has relayed (MayBeRelayed x) r.relayed r.tells r.in_range,
+                  some_has relayed (MayBeRelayed x) r.relayed r.names_relayed r.in_range,
                   (not_zero r.seconds (lifetime_of (answered x)) r.lasts.0 r.lasts.1, (r.mapped, (r.signed, tt))),
                 ),
               ),
@@ -54,7 +54,7 @@ new_held x change r =
       ),
     )
 
-same_names : (x : Situation) (found : Option Allocation) → IsSomeAnd found (λ a. UsableNow x a.until × ((a.id ≡ (asked x).tid) × IsOwn x a × Names XOR_RELAYED_ADDRESS (answered x) a.relayed))
+same_names : (x : Situation) (found : Option Allocation) → IsSomeAnd found (λ a. UsableNow x a.until × ((a.id ≡ (arrival_parts x).tid) × IsOwn x a × Names XOR_RELAYED_ADDRESS (answered x) a.relayed))
     → IsSome (address_named XOR_RELAYED_ADDRESS (answered x))
 same_names x (Some a) h = some_is (address_named XOR_RELAYED_ADDRESS (answered x)) a.relayed h.1.2
 same_names x None h = absurd h
@@ -63,13 +63,13 @@ pub again_held : (x : Situation) → AnswersAgain x → AllHold (again_checks x)
 again_held x r = (
   by_user x r.user r.authentic,
   (
-    map_some x.allocation (λ a. UsableNow x a.until × ((a.id ≡ (asked x).tid) × IsOwn x a × Names XOR_RELAYED_ADDRESS (answered x) a.relayed)) (IsOwn x) (λ a h. h.1.1) r.same,
+    map_some x.allocation (λ a. UsableNow x a.until × ((a.id ≡ (arrival_parts x).tid) × IsOwn x a × Names XOR_RELAYED_ADDRESS (answered x) a.relayed)) (IsOwn x) (λ a h. h.1.1) r.same,
     (
       same_names x x.allocation r.same,
       (
         some_is (address_named XOR_MAPPED_ADDRESS (answered x)) x.client r.mapped,
         (
-          map_some x.allocation (λ a. UsableNow x a.until × ((a.id ≡ (asked x).tid) × IsOwn x a × Names XOR_RELAYED_ADDRESS (answered x) a.relayed)) (λ a. Names XOR_RELAYED_ADDRESS (answered x) a.relayed) (λ a h. h.1.2) r.same,
+          map_some x.allocation (λ a. UsableNow x a.until × ((a.id ≡ (arrival_parts x).tid) × IsOwn x a × Names XOR_RELAYED_ADDRESS (answered x) a.relayed)) (λ a. Names XOR_RELAYED_ADDRESS (answered x) a.relayed) (λ a h. h.1.2) r.same,
           (r.mapped, (r.signed, tt)),
         ),
       ),
@@ -90,7 +90,7 @@ fact x P Q f h = map_some x.allocation (λ a. UsableNow x a.until × P a) Q (λ 
 pub refresh_held : (x : Situation) (change : Change) → AnswersRefresh x change → AllHold (refresh_checks x)
 refresh_held x change r = (by_user x r.user r.authentic, (some_is (lifetime_of (answered x)) r.seconds r.lasts, more r.allowed))
   where
-    more : EndsNothing x ⊎ IsRefreshed x → (EndsNothing x ⊎ IsSome x.allocation) × ((EndsNothing x ⊎ WithUsable x (λ a. Unit {0})) × ((EndsNothing x ⊎ WithAllocation x (IsOwn x)) × ((EndsNothing x ⊎ ((lifetime_of (asked x) ≡ Some 0) ↔ (lifetime_of (answered x) ≡ Some 0))) × (IsSomeAnd (key_named x.key_for (asked x)) (IsSigned x.leaves.payload) × Unit {0}))))
+    more : EndsNothing x ⊎ IsRefreshed x → (EndsNothing x ⊎ IsSome x.allocation) × ((EndsNothing x ⊎ WithUsable x (λ a. Unit {0})) × ((EndsNothing x ⊎ WithAllocation x (IsOwn x)) × ((EndsNothing x ⊎ ((lifetime_of (arrival_parts x) ≡ Some 0) ↔ (lifetime_of (answered x) ≡ Some 0))) × (IsSomeAnd (key_named x.key_for (arrival_parts x)) (IsSigned x.leaves.payload) × Unit {0}))))
     more (inl e) = (inl e, (inl e, (inl e, (inl e, (r.signed, tt)))))
     more (inr f) = (inr (there x (IsOwn x) f.0), (inr (usable x (IsOwn x) f.0), (inr (fact x (IsOwn x) (IsOwn x) (λ a o. o) f.0), (inr f.1, (r.signed, tt)))))
 
@@ -103,7 +103,7 @@ permission_held x change r = (
       usable x (IsOwn x) r.own,
       (
         fact x (IsOwn x) (IsOwn x) (λ a o. o) r.own,
-        (some_has (peer_ips_of (asked x)) (λ ips. 0 < length ips) r.ips r.names r.some, (r.signed, tt)),
+        (some_has (peer_ips_of (arrival_parts x)) (λ ips. 0 < length ips) r.ips r.names r.some, (r.signed, tt)),
       ),
     ),
   ),
@@ -111,8 +111,8 @@ permission_held x change r = (
 
 pub channel_bind_held : (x : Situation) (change : Change) → AnswersChannelBind x change → AllHold (channel_bind_checks x)
 channel_bind_held x change r =
-    let peer = address_named XOR_PEER_ADDRESS (asked x) in
-    let number = channel_number_of (asked x) in
+    let peer = address_named XOR_PEER_ADDRESS (arrival_parts x) in
+    let number = channel_number_of (arrival_parts x) in
     let P : Allocation → Type 0 = λ a. IsOwn x a × NoConflict x r.number r.peer a in (
       by_user x r.user r.authentic,
       (
@@ -122,12 +122,12 @@ channel_bind_held x change r =
           (
             fact x P (IsOwn x) (λ a o. o.0) r.own,
             (
-              some_has number IsChannelNumber r.number r.asks r.in_range,
+              some_has number IsChannelNumber r.number r.has_number r.in_range,
               (
                 some_is peer r.peer r.names,
                 (
                   some_has peer (λ one. IsSomeAnd number (λ k. WithAllocation x (NoConflict x k one))) r.peer r.names
-                      (some_has number (λ k. WithAllocation x (NoConflict x k r.peer)) r.number r.asks (fact x P (NoConflict x r.number r.peer) (λ a o. o.1) r.own)),
+                      (some_has number (λ k. WithAllocation x (NoConflict x k r.peer)) r.number r.has_number (fact x P (NoConflict x r.number r.peer) (λ a o. o.1) r.own)),
                   (r.signed, tt),
                 ),
               ),

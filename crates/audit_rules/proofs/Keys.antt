@@ -18,18 +18,18 @@ use Rattle.audit_rules.specs.Answer.{MayAnswer, Answers, Case, Binding, Error as
 use Rattle.audit_rules.specs.Keys.{KeyFor, AgreeOn, with_keys}
 use Rattle.audit_rules.specs.Responses.{Fits}
 use Rattle.audit_rules.specs.Said.{change_in, change_by_class, change_by_paths}
-use Rattle.audit_rules.specs.Situation.{Situation, asked, answered, arrival_path, departure_path}
+use Rattle.audit_rules.specs.Situation.{Situation, arrival_parts, answered, arrival_path, departure_path}
 use Rattle.audit_rules.specs.Standing.{IsResponse, IsByUser, IsSignedBack, IsOwn, UsableNow, key_named}
 
 module _ (key_for : KeyFor) (x : Situation) (agree : AgreeOn x.key_for key_for x.arrives.payload) where
-  named_by : (u r : Option (List ℕ)) → first_of USERNAME (asked x).attributes ≡ u → first_of REALM (asked x).attributes ≡ r →
+  named_by : (u r : Option (List ℕ)) → first_of USERNAME (arrival_parts x).attributes ≡ u → first_of REALM (arrival_parts x).attributes ≡ r →
       option_and_then (λ user. option_and_then (x.key_for user) r) u ≡ option_and_then (λ user. option_and_then (key_for user) r) u
   named_by None r e f = refl
   named_by (Some user) None e f = refl
   named_by (Some user) (Some realm) e f = agree user realm e f
 
-  same_named : key_named x.key_for (asked x) ≡ key_named key_for (asked x)
-  same_named = ap (λ (k : Option Keys). option_and_then (chosen_key (asked x).attributes) k) (named_by (first_of USERNAME (asked x).attributes) (first_of REALM (asked x).attributes) refl refl)
+  same_named : key_named x.key_for (arrival_parts x) ≡ key_named key_for (arrival_parts x)
+  same_named = ap (λ (k : Option Keys). option_and_then (chosen_key (arrival_parts x).attributes) k) (named_by (first_of USERNAME (arrival_parts x).attributes) (first_of REALM (arrival_parts x).attributes) refl refl)
 
   pub by_user : IsByUser x → IsByUser (with_keys key_for x)
   by_user h = (h.0, subst (λ (k : Option (List ℕ)). IsSomeAnd k (IsSigned x.arrives.payload)) same_named h.1)
@@ -69,7 +69,7 @@ module _ (key_for : KeyFor) (x : Situation) (agree : AgreeOn x.key_for key_for x
 
   case_keyed : (case : Case) (change : Change) → Answers case x change → Answers case (with_keys key_for x) change
   case_keyed Binding change r = (record { response = response Success BINDING r.0.response; mapped = r.0.mapped }, r.1)
-  case_keyed ErrorCase change r = (record { response = response Error (asked x).method r.0.response; code = r.0.code; tells = r.0.tells; fits = fits r.0.code r.0.fits }, r.1)
+  case_keyed ErrorCase change r = (record { response = response Error (arrival_parts x).method r.0.response; code = r.0.code; has_code = r.0.has_code; fits = fits r.0.code r.0.fits }, r.1)
   case_keyed New change r = record {
     response = response Success ALLOCATE r.response;
     first = r.first;
@@ -78,7 +78,7 @@ module _ (key_for : KeyFor) (x : Situation) (agree : AgreeOn x.key_for key_for x
     free = r.free;
     served = r.served;
     relayed = r.relayed;
-    tells = r.tells;
+    names_relayed = r.names_relayed;
     in_range = r.in_range;
     seconds = r.seconds;
     lasts = r.lasts;
@@ -123,7 +123,7 @@ module _ (key_for : KeyFor) (x : Situation) (agree : AgreeOn x.key_for key_for x
     user = r.user;
     authentic = authentic r.user r.authentic;
     number = r.number;
-    asks = r.asks;
+    has_number = r.has_number;
     in_range = r.in_range;
     peer = r.peer;
     names = r.names;

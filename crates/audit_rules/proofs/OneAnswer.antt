@@ -6,7 +6,7 @@ use Rattle.audit_stun.specs.declared.numbers.method.TheConstants.{BINDING, ALLOC
 use Rattle.audit_rules.specs.declared.path.Path.{Path}
 use Rattle.audit_rules.specs.declared.path.Path.TheVariants.{Client, Relay}
 use Rattle.audit_rules.specs.Allocation.{Change}
-use Rattle.audit_rules.specs.Situation.{Situation, asked, answered, arrival_path, departure_path}
+use Rattle.audit_rules.specs.Situation.{Situation, arrival_parts, answered, arrival_path, departure_path}
 use Rattle.audit_rules.specs.Values.{AreBytes}
 use Rattle.audit_rules.specs.Standing.{IsResponse}
 use Rattle.audit_rules.specs.Answer.{Answers, Case, Binding, Error as ErrorCase, New, Again, Refresh, Permission, ChannelBind, Send, ChannelUp, Data, ChannelDown}
@@ -59,13 +59,13 @@ kind_down x b f g e = kind_at x (Some Relay) (Some Client) f g ∙ ap (λ c. pic
 
 kind_is : (case : Case) (x : Situation) (change : Change) → AreBytes x.arrives.payload → AreBytes x.leaves.payload → Answers case x change → kind x ≡ case
 kind_is Binding x change up down r = kind_of_success x BINDING r.0.response
-kind_is ErrorCase x change up down r = kind_of_response x Error (asked x).method r.0.response
+kind_is ErrorCase x change up down r = kind_of_response x Error (arrival_parts x).method r.0.response
 kind_is New x change up down r = kind_of_allocate x false r.response (made_false x (made_it x x.allocation) refl r.first)
 kind_is Again x change up down r = kind_of_allocate x true r.0.response (made_true x x.allocation (again_is x r.0))
 kind_is Refresh x change up down r = kind_of_success x REFRESH r.response
 kind_is Permission x change up down r = kind_of_success x CREATE_PERMISSION r.response
 kind_is ChannelBind x change up down r = kind_of_success x CHANNEL_BIND r.response
-kind_is Send x change up down r = kind_up x false r.0.goes.0 r.0.goes.1 (message_is_none x.arrives.payload (asked x) r.0.indication.0)
+kind_is Send x change up down r = kind_up x false r.0.goes.0 r.0.goes.1 (message_is_none x.arrives.payload (arrival_parts x) r.0.indication.0)
 kind_is ChannelUp x change up down r = kind_up x true r.0.goes.0 r.0.goes.1 (channel_is x.arrives.payload r.0.number x.leaves.payload r.0.past up r.0.says)
 kind_is Data x change up down r = kind_down x false r.0.goes.0 r.0.goes.1 (message_is_none x.leaves.payload (answered x) r.0.indication.0)
 kind_is ChannelDown x change up down r = kind_down x true r.0.goes.0 r.0.goes.1 (channel_is x.leaves.payload r.0.number x.arrives.payload r.0.past down r.0.says)

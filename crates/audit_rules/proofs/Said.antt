@@ -13,7 +13,7 @@ use Rattle.audit_rules.specs.Granting.{AnswersPermission, AnswersChannelBind}
 use Rattle.audit_rules.specs.Answer.{MayAnswer, Answers, Case, Binding, Error as ErrorCase, New, Again, Refresh, Permission, ChannelBind, Send, ChannelUp, Data, ChannelDown}
 use Rattle.audit_rules.specs.FirstRule.{made_it}
 use Rattle.audit_rules.specs.Said.{allocated, lengthened, permitted, channelled, change_by_method, change_by_class, change_by_paths, change_in}
-use Rattle.audit_rules.specs.Situation.{Situation, asked, answered, arrival_path, departure_path}
+use Rattle.audit_rules.specs.Situation.{Situation, arrival_parts, answered, arrival_path, departure_path}
 use Rattle.audit_rules.specs.Standing.{IsResponse}
 use Rattle.audit_rules.specs.Values.{address_named, lifetime_of}
 use Rattle.audit_rules.proofs.Chosen.{made_true, made_false, again_is}
@@ -28,13 +28,13 @@ of_success : (x : Situation) (method : ℕ) → IsResponse x Success method → 
 of_success x method r = of_response x Success method r ∙ ap (change_by_method x) r.response.2
 
 of_allocate : (x : Situation) (made : Bool) → IsResponse x Success ALLOCATE → made_it x x.allocation ≡ made →
-    change_in x ≡ cond made Same (allocated x (address_named XOR_RELAYED_ADDRESS (answered x)) (first_of USERNAME (asked x).attributes) (lifetime_of (answered x)))
-of_allocate x made r e = of_success x ALLOCATE r ∙ ap (λ b. cond b Same (allocated x (address_named XOR_RELAYED_ADDRESS (answered x)) (first_of USERNAME (asked x).attributes) (lifetime_of (answered x)))) e
+    change_in x ≡ cond made Same (allocated x (address_named XOR_RELAYED_ADDRESS (answered x)) (first_of USERNAME (arrival_parts x).attributes) (lifetime_of (answered x)))
+of_allocate x made r e = of_success x ALLOCATE r ∙ ap (λ b. cond b Same (allocated x (address_named XOR_RELAYED_ADDRESS (answered x)) (first_of USERNAME (arrival_parts x).attributes) (lifetime_of (answered x)))) e
 
 new_says : (x : Situation) (change : Change) → AnswersNew x change → change_in x ≡ change
 new_says x change r =
     of_allocate x false r.response (made_false x (made_it x x.allocation) refl r.first)
-    ∙ ap (λ o. allocated x o (first_of USERNAME (asked x).attributes) (lifetime_of (answered x))) r.tells
+    ∙ ap (λ o. allocated x o (first_of USERNAME (arrival_parts x).attributes) (lifetime_of (answered x))) r.names_relayed
     ∙ ap (λ o. allocated x (Some r.relayed) o (lifetime_of (answered x))) r.authentic.names_user
     ∙ ap (allocated x (Some r.relayed) (Some r.user)) r.lasts.0 ∙ sym r.changes
 
@@ -46,13 +46,13 @@ permission_says x change r = of_success x CREATE_PERMISSION r.response ∙ ap (p
 
 channel_bind_says : (x : Situation) (change : Change) → AnswersChannelBind x change → change_in x ≡ change
 channel_bind_says x change r =
-    of_success x CHANNEL_BIND r.response ∙ ap (λ o. channelled x.moment o (address_named XOR_PEER_ADDRESS (asked x))) r.asks
+    of_success x CHANNEL_BIND r.response ∙ ap (λ o. channelled x.moment o (address_named XOR_PEER_ADDRESS (arrival_parts x))) r.has_number
     ∙ ap (channelled x.moment (Some r.number)) r.names ∙ sym r.changes
 
 -- what an answer changes is what is said
 pub case_says : (case : Case) (x : Situation) (change : Change) → Answers case x change → change_in x ≡ change
 case_says Binding x change r = of_success x BINDING r.0.response ∙ sym r.1
-case_says ErrorCase x change r = of_response x Error (asked x).method r.0.response ∙ sym r.1
+case_says ErrorCase x change r = of_response x Error (arrival_parts x).method r.0.response ∙ sym r.1
 case_says New x change r = new_says x change r
 case_says Again x change r = of_allocate x true r.0.response (made_true x x.allocation (again_is x r.0)) ∙ sym r.1
 case_says Refresh x change r = refresh_says x change r

@@ -8,8 +8,8 @@ pub record Check : Type 1 where
   pub rule : Rule
 
 -- a check of this condition, by this rule
-abbrev pub ask : Type 0 → Rule → Check
-ask holds rule = record { holds = holds; rule = rule }
+abbrev pub check_by : Type 0 → Rule → Check
+check_by holds rule = record { holds = holds; rule = rule }
 
 abbrev pub AllHold : List Check → Type 0
 AllHold [] = Unit {0}

@@ -12,18 +12,18 @@ use Rattle.audit_expiry.specs.Lease.{is_usable}
 use Rattle.audit_rules.specs.declared.path.Path.{Path}
 use Rattle.audit_rules.specs.declared.path.Path.TheVariants.{Client, Relay}
 use Rattle.audit_rules.specs.Allocation.{Allocation}
-use Rattle.audit_rules.specs.Situation.{Situation, IsServed, asked, answered, IsOf, arrival_path, departure_path}
-use Rattle.audit_rules.specs.Check.{Check, ask, FirstFails}
+use Rattle.audit_rules.specs.Situation.{Situation, IsServed, arrival_parts, answered, IsOf, arrival_path, departure_path}
+use Rattle.audit_rules.specs.Check.{Check, check_by, FirstFails}
 use Rattle.audit_rules.specs.Checks.{SaysChannel, binding_checks, error_checks, new_checks, again_checks, refresh_checks, permission_checks, channel_bind_checks, send_checks, channel_up_checks, data_checks, channel_down_checks}
 
 -- it is none of the cases
 abbrev pub is_none : List Check
-is_none = ask ⊥ NotAnAnswer ∷ []
+is_none = check_by ⊥ NotAnAnswer ∷ []
 
 -- whether this request made the allocation, and it is usable
 abbrev pub made_it : Situation → Option Allocation → Bool
 made_it x None = false
-made_it x (Some a) = is_usable a.until x.moment x.policy.grace && bytes_eq a.id (asked x).tid
+made_it x (Some a) = is_usable a.until x.moment x.policy.grace && bytes_eq a.id (arrival_parts x).tid
 
 -- the first list if the test holds, else the second
 abbrev pub choose : Bool → List Check → List Check → List Check
@@ -47,16 +47,16 @@ class_checks x Indication = []
 
 -- a request of the client and its response
 abbrev pub IsRequest : Situation → Type 0
-IsRequest x = IsMessage x.arrives.payload (asked x) × ((asked x).class ≡ Request)
+IsRequest x = IsMessage x.arrives.payload (arrival_parts x) × ((arrival_parts x).class ≡ Request)
 
 abbrev pub IsItsResponse : Situation → Type 0
-IsItsResponse x = ((answered x).method ≡ (asked x).method) × ((answered x).tid ≡ (asked x).tid) × (((answered x).class ≡ Success) ⊎ ((answered x).class ≡ Error))
+IsItsResponse x = ((answered x).method ≡ (arrival_parts x).method) × ((answered x).tid ≡ (arrival_parts x).tid) × (((answered x).class ≡ Success) ⊎ ((answered x).class ≡ Error))
 
 abbrev pub response_checks : Situation → List Check
 response_checks x =
-    ask (IsMessage x.leaves.payload (answered x)) Malformed
-    ∷ ask (IsRequest x) NotAnAnswer
-    ∷ ask (IsItsResponse x) NotAnAnswer
+    check_by (IsMessage x.leaves.payload (answered x)) Malformed
+    ∷ check_by (IsRequest x) NotAnAnswer
+    ∷ check_by (IsItsResponse x) NotAnAnswer
     ∷ class_checks x (answered x).class
 
 -- its two first bits are those of ChannelData (RFC 8656, section 12)
@@ -70,14 +70,14 @@ IsAnyChannelData payload = SaysChannel payload (λ number bytes after. Unit {0})
 -- from the client to a peer
 abbrev pub up_checks : Situation → List Check
 up_checks x =
-    choose (is_channel x.arrives.payload) (ask (IsAnyChannelData x.arrives.payload) NotAnAnswer ∷ channel_up_checks x)
-    (ask (IsOf x.arrives.payload Indication SEND) NotAnAnswer ∷ send_checks x)
+    choose (is_channel x.arrives.payload) (check_by (IsAnyChannelData x.arrives.payload) NotAnAnswer ∷ channel_up_checks x)
+    (check_by (IsOf x.arrives.payload Indication SEND) NotAnAnswer ∷ send_checks x)
 
 -- from a peer to the client
 abbrev pub down_checks : Situation → List Check
 down_checks x =
-    choose (is_channel x.leaves.payload) (ask (IsAnyChannelData x.leaves.payload) Malformed ∷ channel_down_checks x)
-    (ask (IsMessage x.leaves.payload (answered x)) Malformed ∷ ask (IsOf x.leaves.payload Indication DATA) NotAnAnswer ∷ data_checks x)
+    choose (is_channel x.leaves.payload) (check_by (IsAnyChannelData x.leaves.payload) Malformed ∷ channel_down_checks x)
+    (check_by (IsMessage x.leaves.payload (answered x)) Malformed ∷ check_by (IsOf x.leaves.payload Indication DATA) NotAnAnswer ∷ data_checks x)
 
 abbrev pub path_checks : Situation → Option Path → Option Path → List Check
 path_checks x (Some Client) (Some Client) = response_checks x
@@ -87,7 +87,7 @@ path_checks x _ _ = is_none
 
 -- all checks of an act
 abbrev pub checks_of : Situation → List Check
-checks_of x = ask (IsServed x) NotAnAnswer ∷ path_checks x (arrival_path x) (departure_path x)
+checks_of x = check_by (IsServed x) NotAnAnswer ∷ path_checks x (arrival_path x) (departure_path x)
 
 -- the rule of the first of them that fails
 abbrev pub FirstRule : Situation → Rule → Type 0

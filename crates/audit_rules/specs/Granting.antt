@@ -10,7 +10,7 @@ use Rattle.audit_expiry.specs.Lease.{IsGone}
 use Rattle.audit_rules.specs.declared.table.Channel.{Channel}
 use Rattle.audit_rules.specs.Allocation.{Allocation, Change, Grants, Binds}
 use Rattle.audit_rules.specs.Allocating.{seconds_after}
-use Rattle.audit_rules.specs.Situation.{Situation, asked}
+use Rattle.audit_rules.specs.Situation.{Situation, arrival_parts}
 use Rattle.audit_rules.specs.Values.{Names, peer_ips_of, channel_number_of}
 use Rattle.audit_rules.specs.Standing.{IsResponse, IsSignedBack, WithUsable, IsOwn}
 
@@ -21,7 +21,7 @@ pub record AnswersPermission (x : Situation) (change : Change) : Type 0 where
   pub authentic : IsAuthentic x.key_for x.arrives.payload user
   pub own : WithUsable x (IsOwn x)
   pub ips : List ℕ
-  pub names : peer_ips_of (asked x) ≡ Some ips
+  pub names : peer_ips_of (arrival_parts x) ≡ Some ips
   pub some : 0 < length ips
   pub signed : IsSignedBack x
   pub changes : change ≡ Grants ips (seconds_after x.moment 300)
@@ -41,10 +41,10 @@ pub record AnswersChannelBind (x : Situation) (change : Change) : Type 0 where
   pub user : List ℕ
   pub authentic : IsAuthentic x.key_for x.arrives.payload user
   pub number : ℕ
-  pub asks : channel_number_of (asked x) ≡ Some number
+  pub has_number : channel_number_of (arrival_parts x) ≡ Some number
   pub in_range : IsChannelNumber number
   pub peer : Addr
-  pub names : Names XOR_PEER_ADDRESS (asked x) peer
+  pub names : Names XOR_PEER_ADDRESS (arrival_parts x) peer
   pub own : WithUsable x (λ a. IsOwn x a × NoConflict x number peer a)
   pub signed : IsSignedBack x
   pub changes : change ≡ Binds number peer (seconds_after x.moment 600) (seconds_after x.moment 300)

@@ -7,7 +7,7 @@ use Rattle.audit_stun.specs.declared.numbers.method.TheConstants.{SEND, DATA as 
 use Rattle.audit_stun.specs.declared.numbers.attribute.TheConstants.{XOR_PEER_ADDRESS, DATA}
 use Rattle.audit_stun.specs.ChannelData.{channel_data_of}
 use Rattle.audit_rules.specs.declared.path.Path.TheVariants.{Client, Relay}
-use Rattle.audit_rules.specs.Situation.{Situation, asked, answered, IsOf, arrival_path, departure_path}
+use Rattle.audit_rules.specs.Situation.{Situation, arrival_parts, answered, IsOf, arrival_path, departure_path}
 use Rattle.audit_rules.specs.Values.{Has, Names}
 use Rattle.audit_rules.specs.Standing.{WithUsable, Permits, Carries}
 
@@ -24,8 +24,8 @@ pub record AnswersSend (x : Situation) : Type 0 where
   pub goes : GoesUp x
   pub indication : IsOf x.arrives.payload Indication SEND
   pub relays : WithUsable x (λ a. (x.leaves.from ≡ a.relayed) × Permits x a x.leaves.to.ip)
-  pub peer : Names XOR_PEER_ADDRESS (asked x) x.leaves.to
-  pub sends : Has DATA (asked x) x.leaves.payload
+  pub peer : Names XOR_PEER_ADDRESS (arrival_parts x) x.leaves.to
+  pub sends : Has DATA (arrival_parts x) x.leaves.payload
 
 -- ChannelData of the client (section 12.6): the data goes to the channel's peer. No permission is
 -- required (own).

@@ -5,7 +5,7 @@ use Rattle.audit_stun.specs.declared.class.Class.TheVariants.{Success, Error}
 use Rattle.audit_stun.specs.declared.numbers.method.TheConstants.{BINDING, ALLOCATE}
 use Rattle.audit_stun.specs.declared.numbers.attribute.TheConstants.{XOR_MAPPED_ADDRESS, REALM, NONCE, UNKNOWN_ATTRIBUTES}
 use Rattle.audit_stun.specs.Counted.{first_of}
-use Rattle.audit_rules.specs.Situation.{Situation, asked, answered}
+use Rattle.audit_rules.specs.Situation.{Situation, arrival_parts, answered}
 use Rattle.audit_rules.specs.Values.{Names, code_of, transport_of}
 use Rattle.audit_rules.specs.Standing.{IsResponse, IsByUser, IsOwn, WithUsable, NothingLasts}
 
@@ -15,13 +15,13 @@ pub record AnswersBinding (x : Situation) : Type 0 where
   pub mapped : Names XOR_MAPPED_ADDRESS (answered x) x.client
 
 -- a transport other than UDP is requested; a value that can't be read requests none
-abbrev pub AsksOtherTransport : Situation → Type 0
-AsksOtherTransport x = IsSomeAnd (transport_of (asked x)) (λ protocol. protocol ≢ 17)
+abbrev pub RequestsOtherTransport : Situation → Type 0
+RequestsOtherTransport x = IsSomeAnd (transport_of (arrival_parts x)) (λ protocol. protocol ≢ 17)
 
 -- an Allocate while an allocation is usable, or another request while none lasts (RFC 8656,
 -- sections 5 and 7.2)
 abbrev pub IsMismatch : Situation → Type 0
-IsMismatch x = ((asked x).method ≡ ALLOCATE → WithUsable x (λ a. Unit {0})) × ((asked x).method ≢ ALLOCATE → NothingLasts x)
+IsMismatch x = ((arrival_parts x).method ≡ ALLOCATE → WithUsable x (λ a. Unit {0})) × ((arrival_parts x).method ≢ ALLOCATE → NothingLasts x)
 
 -- the request is authentic by a user, and the usable allocation is another user's (RFC 8656,
 -- section 5)
@@ -39,11 +39,11 @@ pub record Fits (x : Situation) (code : ℕ) : Type 0 where
   -- Wrong Credentials
   pub other_user : code ≡ 441 → IsByOther x
   -- Unsupported Transport Protocol (RFC 8656, section 7.2)
-  pub transport : code ≡ 442 → ((asked x).method ≡ ALLOCATE) × AsksOtherTransport x
+  pub transport : code ≡ 442 → ((arrival_parts x).method ≡ ALLOCATE) × RequestsOtherTransport x
 
 -- an error response, to a request of any method
 pub record AnswersError (x : Situation) : Type 0 where
-  pub response : IsResponse x Error (asked x).method
+  pub response : IsResponse x Error (arrival_parts x).method
   pub code : ℕ
-  pub tells : code_of (answered x) ≡ Some code
+  pub has_code : code_of (answered x) ≡ Some code
   pub fits : Fits x code

@@ -13,7 +13,7 @@ use Rattle.audit_rules.specs.Allocation.{Change, Same, Makes, Grants, Binds}
 use Rattle.audit_rules.specs.Allocating.{made_by, seconds_after}
 use Rattle.audit_rules.specs.Effect.{refreshed}
 use Rattle.audit_rules.specs.FirstRule.{made_it}
-use Rattle.audit_rules.specs.Situation.{Situation, asked, answered, arrival_path, departure_path}
+use Rattle.audit_rules.specs.Situation.{Situation, arrival_parts, answered, arrival_path, departure_path}
 use Rattle.audit_rules.specs.Values.{address_named, lifetime_of, channel_number_of, peer_ips_of}
 
 -- an Allocate success response with this address and lifetime, for a user
@@ -44,10 +44,10 @@ abbrev pub change_by_method : Situation → ℕ → Change
 change_by_method x method =
     if method == ALLOCATE then
     (if made_it x x.allocation then Same
-    else allocated x (address_named XOR_RELAYED_ADDRESS (answered x)) (first_of USERNAME (asked x).attributes) (lifetime_of (answered x)))
+    else allocated x (address_named XOR_RELAYED_ADDRESS (answered x)) (first_of USERNAME (arrival_parts x).attributes) (lifetime_of (answered x)))
     else (if method == REFRESH then lengthened x.moment (lifetime_of (answered x))
-    else (if method == CREATE_PERMISSION then permitted x.moment (peer_ips_of (asked x))
-    else (if method == CHANNEL_BIND then channelled x.moment (channel_number_of (asked x)) (address_named XOR_PEER_ADDRESS (asked x))
+    else (if method == CREATE_PERMISSION then permitted x.moment (peer_ips_of (arrival_parts x))
+    else (if method == CHANNEL_BIND then channelled x.moment (channel_number_of (arrival_parts x)) (address_named XOR_PEER_ADDRESS (arrival_parts x))
     else Same)))
 
 -- only success responses change something

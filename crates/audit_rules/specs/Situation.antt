@@ -30,8 +30,8 @@ abbrev pub IsServed : Situation → Type 0
 IsServed x = IsTrue (listens x.policy x.listen)
 
 -- the contents of the arrival and the departure, if they are STUN messages
-abbrev pub asked : Situation → Parts
-asked x = parts_of x.arrives.payload
+abbrev pub arrival_parts : Situation → Parts
+arrival_parts x = parts_of x.arrives.payload
 
 abbrev pub answered : Situation → Parts
 answered x = parts_of x.leaves.payload

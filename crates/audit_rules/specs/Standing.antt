@@ -15,7 +15,7 @@ use Rattle.audit_keys.specs.Signed.{IsSigned}
 use Rattle.audit_expiry.specs.Lease.{IsUsable, IsGone}
 use Rattle.audit_rules.specs.declared.path.Path.TheVariants.{Client}
 use Rattle.audit_rules.specs.Allocation.{Allocation}
-use Rattle.audit_rules.specs.Situation.{Situation, asked, answered, IsOf, arrival_path, departure_path}
+use Rattle.audit_rules.specs.Situation.{Situation, arrival_parts, answered, IsOf, arrival_path, departure_path}
 
 -- The departure goes back on the request's path, and has its method and transaction id (RFC 8489,
 -- section 6.3).
@@ -24,7 +24,7 @@ pub record IsResponse (x : Situation) (class : Class) (method : ℕ) : Type 0 wh
   pub back : departure_path x ≡ Some Client
   pub request : IsOf x.arrives.payload Request method
   pub response : IsOf x.leaves.payload class method
-  pub same_id : (answered x).tid ≡ (asked x).tid
+  pub same_id : (answered x).tid ≡ (arrival_parts x).tid
 
 -- the keys of the user and the realm that a request names
 abbrev pub keys_named : KeyFor → Parts → Option Keys
@@ -37,11 +37,11 @@ key_named key_for said = option_and_then (chosen_key said.attributes) (keys_name
 -- the request has a nonce, and is signed under the key that it chooses, of the user and the realm
 -- that it names: it is authentic by that user
 abbrev pub IsByUser : Situation → Type 0
-IsByUser x = IsSome (first_of NONCE (asked x).attributes) × IsSomeAnd (key_named x.key_for (asked x)) (IsSigned x.arrives.payload)
+IsByUser x = IsSome (first_of NONCE (arrival_parts x).attributes) × IsSomeAnd (key_named x.key_for (arrival_parts x)) (IsSigned x.arrives.payload)
 
 -- the response is signed under the key of its request (RFC 8489, section 9.2.4)
 abbrev pub IsSignedBack : Situation → Type 0
-IsSignedBack x = IsSomeAnd (key_named x.key_for (asked x)) (IsSigned x.leaves.payload)
+IsSignedBack x = IsSomeAnd (key_named x.key_for (arrival_parts x)) (IsSigned x.leaves.payload)
 
 -- at the moment of the act, grace included
 abbrev pub UsableNow : Situation → ℕ → Type 0
@@ -57,7 +57,7 @@ NothingLasts x = MatchOption x.allocation (Unit {0}) (λ a. IsGone a.until x.mom
 
 -- the request is the allocation's user's (RFC 8656, section 5)
 abbrev pub IsOwn : Situation → Allocation → Type 0
-IsOwn x a = first_of USERNAME (asked x).attributes ≡ Some a.user
+IsOwn x a = first_of USERNAME (arrival_parts x).attributes ≡ Some a.user
 
 -- the peer's IP has a usable permission (RFC 8656, section 9)
 abbrev pub Permits : Situation → Allocation → ℕ → Type 0

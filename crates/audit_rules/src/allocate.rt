@@ -6,10 +6,10 @@ ghost use Rattle.audit_stun.specs.declared.numbers.attribute.TheConstants.{XOR_R
 ghost use Rattle.audit_stun.specs.declared.numbers.attribute.TheConstants as attributes;
 ghost use Rattle.audit_stun.specs.Counted.{first_of};
 ghost use Rattle.audit_model.specs.declared.rule.Rule.TheVariants.{Malformed, MappedAddress};
-ghost use Rattle.audit_rules.specs.Situation.{asked, answered};
+ghost use Rattle.audit_rules.specs.Situation.{arrival_parts, answered};
 ghost use Rattle.audit_rules.specs.Values.{address_named, lifetime_of};
 ghost use Rattle.audit_rules.specs.Standing.{NothingLasts, IsOwn};
-ghost use Rattle.audit_rules.specs.Allocating.{AsksServed, MayBeRelayed};
+ghost use Rattle.audit_rules.specs.Allocating.{RequestsUdpOnIpv4, MayBeRelayed};
 ghost use Rattle.audit_rules.specs.Check.{AllHold, FirstFails};
 ghost use Rattle.audit_rules.specs.Checks.{new_checks, again_checks};
 ghost use Rattle.audit_rules.specs.FirstRule.{made_it};
@@ -58,9 +58,9 @@ pub fn nothing_lasts(act: &Act<'_, '_>) -> bool
 }
 
 /// Whether the request is for UDP over IPv4. A value that can't be read counts as absent (own).
-fn asks_served(act: &Act<'_, '_>, request: &Message<'_>) -> bool
+fn requests_udp_on_ipv4(act: &Act<'_, '_>, request: &Message<'_>) -> bool
     requires { request.now ≡ (situation act.now).arrives.payload }
-    ensures { IsTrue result ↔ AsksServed (situation act.now) }
+    ensures { IsTrue result ↔ RequestsUdpOnIpv4 (situation act.now) }
 {
     let family = family_in(request);
     transport_in(request) == Some(UDP) && (family == None || family == Some(IPV4))
@@ -84,7 +84,7 @@ pub fn new_allocation<'a>(
     requires success { success.now ≡ (situation act.now).leaves.payload }
     ensures { MatchResult result
         (λ made. AllHold (new_checks (situation act.now))
-        × (first_of attributes.USERNAME (asked (situation act.now)).attributes ≡ Some made.user.now)
+        × (first_of attributes.USERNAME (arrival_parts (situation act.now)).attributes ≡ Some made.user.now)
         × (address_named XOR_RELAYED_ADDRESS (answered (situation act.now)) ≡ Some made.relayed)
         × (lifetime_of (answered (situation act.now)) ≡ Some made.seconds))
         (λ rule. FirstFails (new_checks (situation act.now)) rule) }
@@ -95,7 +95,7 @@ pub fn new_allocation<'a>(
     if !nothing_lasts(act) {
         return Err(Rule::AllocationPresent);
     }
-    if !asks_served(act, request) {
+    if !requests_udp_on_ipv4(act, request) {
         return Err(Rule::TransportOrFamily);
     }
     let Some(relayed) = address_in(success, XOR_RELAYED_ADDRESS) else {

@@ -3,7 +3,7 @@
 
 ghost use Rattle.std.specs.Prelude.{◌≡◌, ◌↔◌, Some, false, IsTrue, MatchResult};
 ghost use Rattle.audit_stun.specs.declared.numbers.attribute.TheConstants as attributes;
-ghost use Rattle.audit_rules.specs.Situation.{asked};
+ghost use Rattle.audit_rules.specs.Situation.{arrival_parts};
 ghost use Rattle.audit_rules.specs.Values.{address_named, channel_number_of};
 ghost use Rattle.audit_rules.specs.Granting.{NoConflict};
 ghost use Rattle.audit_rules.specs.Check.{AllHold, FirstFails};
@@ -46,8 +46,8 @@ fn conflicts(act: &Act<'_, '_>, allocation: &Allocation, bound: Bound) -> bool
 /// Whether the requested binding has no conflict.
 fn may_bind(act: &Act<'_, '_>, allocation: &Allocation, bound: Bound) -> bool
     requires found { act.now.table.now.allocation ≡ Some allocation.now }
-    requires number { channel_number_of (asked (situation act.now)) ≡ Some bound.number }
-    requires peer { address_named attributes.XOR_PEER_ADDRESS (asked (situation act.now)) ≡ Some bound.peer }
+    requires number { channel_number_of (arrival_parts (situation act.now)) ≡ Some bound.number }
+    requires peer { address_named attributes.XOR_PEER_ADDRESS (arrival_parts (situation act.now)) ≡ Some bound.peer }
     ensures { IsTrue result ↔ MayBind (situation act.now) }
 {
     !conflicts(act, allocation, bound)
@@ -63,8 +63,8 @@ pub fn channel_bind(
     requires success { success.now ≡ (situation act.now).leaves.payload }
     ensures { MatchResult result
         (λ bound. AllHold (channel_bind_checks (situation act.now))
-        × (channel_number_of (asked (situation act.now)) ≡ Some bound.number)
-        × (address_named attributes.XOR_PEER_ADDRESS (asked (situation act.now)) ≡ Some bound.peer))
+        × (channel_number_of (arrival_parts (situation act.now)) ≡ Some bound.number)
+        × (address_named attributes.XOR_PEER_ADDRESS (arrival_parts (situation act.now)) ≡ Some bound.peer))
         (λ rule. FirstFails (channel_bind_checks (situation act.now)) rule) }
 {
     let Some(signer) = authenticated(act, request) else {

@@ -6,7 +6,7 @@ ghost use Rattle.audit_stun.specs.declared.numbers.attribute.TheConstants.{USERN
 ghost use Rattle.audit_stun.specs.Counted.{first_of};
 ghost use Rattle.audit_stun.specs.Message.{IsMessage};
 ghost use Rattle.audit_stun.specs.Parts.{parts_of};
-ghost use Rattle.audit_rules.specs.Situation.{asked};
+ghost use Rattle.audit_rules.specs.Situation.{arrival_parts};
 ghost use Rattle.audit_rules.specs.Standing.{key_named, IsByUser, IsSignedBack};
 ghost use Rattle.audit_rules.specs.Seen.{key_in, situation};
 
@@ -102,8 +102,8 @@ fn named<'u, 'k>(users: &'k [CredRow<'_>], request: &Message<'u>) -> Option<Sign
 pub fn authenticated<'u, 'k>(act: &Act<'_, 'k>, request: &Message<'u>) -> Option<Signer<'u, 'k>>
     requires { request.now ≡ (situation act.now).arrives.payload }
     ensures { MatchOption result (IsByUser (situation act.now) → ⊥)
-        (λ signer. IsByUser (situation act.now) × (first_of USERNAME (asked (situation act.now)).attributes ≡ Some signer.user.now)
-        × (key_named (situation act.now).key_for (asked (situation act.now)) ≡ Some signer.key.now)) }
+        (λ signer. IsByUser (situation act.now) × (first_of USERNAME (arrival_parts (situation act.now)).attributes ≡ Some signer.user.now)
+        × (key_named (situation act.now).key_for (arrival_parts (situation act.now)) ≡ Some signer.key.now)) }
 {
     request.first(NONCE)?;
     let signer = named(act.users, request)?;
@@ -117,7 +117,7 @@ pub fn authenticated<'u, 'k>(act: &Act<'_, 'k>, request: &Message<'u>) -> Option
 /// Whether the response is signed under the key of its request.
 pub fn signed_back(act: &Act<'_, '_>, signer: &Signer<'_, '_>, response: &Message<'_>) -> bool
     requires response { response.now ≡ (situation act.now).leaves.payload }
-    requires key { key_named (situation act.now).key_for (asked (situation act.now)) ≡ Some signer.now.key.now }
+    requires key { key_named (situation act.now).key_for (arrival_parts (situation act.now)) ≡ Some signer.now.key.now }
     ensures { IsTrue result ↔ IsSignedBack (situation act.now) }
 {
     signed(response, signer.key)

@@ -2,8 +2,8 @@
 //! docs/RULES.md, Error.
 
 ghost use Rattle.std.specs.Prelude.{◌≡◌, ◌↔◌, IsTrue, MatchResult};
-ghost use Rattle.audit_rules.specs.Situation.{asked};
-ghost use Rattle.audit_rules.specs.Responses.{Fits, IsMismatch, IsByOther, AsksOtherTransport};
+ghost use Rattle.audit_rules.specs.Situation.{arrival_parts};
+ghost use Rattle.audit_rules.specs.Responses.{Fits, IsMismatch, IsByOther, RequestsOtherTransport};
 ghost use Rattle.audit_rules.specs.Check.{AllHold, FirstFails};
 ghost use Rattle.audit_rules.specs.Checks.{error_checks};
 ghost use Rattle.audit_rules.specs.Seen.{situation};
@@ -19,9 +19,9 @@ use audit_stun::numbers::attribute::{NONCE, REALM, UNKNOWN_ATTRIBUTES};
 use audit_stun::numbers::method::ALLOCATE;
 
 /// Whether another transport than UDP is requested.
-fn asks_other_transport(act: &Act<'_, '_>, request: &Message<'_>) -> bool
+fn requests_other_transport(act: &Act<'_, '_>, request: &Message<'_>) -> bool
     requires { request.now ≡ (situation act.now).arrives.payload }
-    ensures { IsTrue result ↔ AsksOtherTransport (situation act.now) }
+    ensures { IsTrue result ↔ RequestsOtherTransport (situation act.now) }
 {
     match transport_in(request) {
         None => false,
@@ -67,7 +67,7 @@ fn fits(act: &Act<'_, '_>, request: &Message<'_>, response: &Message<'_>, code: 
         420 => response.first(UNKNOWN_ATTRIBUTES).is_some(),
         437 => is_mismatch(act, request),
         441 => is_by_other(act, request),
-        442 => request.method() == ALLOCATE && asks_other_transport(act, request),
+        442 => request.method() == ALLOCATE && requests_other_transport(act, request),
         _ => true,
     }
 }

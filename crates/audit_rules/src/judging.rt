@@ -103,7 +103,7 @@ fn sent_in_indication<'a>(act: &Act<'_, '_>) -> Result<Effect<'a>, Rule>
 
 /// Judges ChannelData to the client.
 #[tactic(auto, using(crate::proofs::Answered::channel_down_may))]
-fn told_in_channel<'a>(act: &Act<'_, '_>) -> Result<Effect<'a>, Rule>
+fn delivered_in_channel<'a>(act: &Act<'_, '_>) -> Result<Effect<'a>, Rule>
     requires served { IsServed (situation act.now) }
     requires goes { GoesDown (situation act.now) }
     requires channel { IsTrue (is_channel (situation act.now).leaves.payload) }
@@ -120,7 +120,7 @@ fn told_in_channel<'a>(act: &Act<'_, '_>) -> Result<Effect<'a>, Rule>
 
 /// Judges a Data indication.
 #[tactic(auto, using(crate::proofs::Answered::data_may))]
-fn told_in_indication<'a>(act: &Act<'_, '_>) -> Result<Effect<'a>, Rule>
+fn delivered_in_indication<'a>(act: &Act<'_, '_>) -> Result<Effect<'a>, Rule>
     requires served { IsServed (situation act.now) }
     requires goes { GoesDown (situation act.now) }
     requires channel { is_channel (situation act.now).leaves.payload ≡ false }
@@ -158,9 +158,9 @@ pub fn judged<'a>(alloc: Global, act: &Act<'_, 'a>) -> Result<Effect<'a>, ActFau
         }
         (Some(Path::Relay), Some(Path::Client)) => {
             if begins_channel(act.leaves.payload.as_slice()) {
-                Ok(told_in_channel(act)?)
+                Ok(delivered_in_channel(act)?)
             } else {
-                Ok(told_in_indication(act)?)
+                Ok(delivered_in_indication(act)?)
             }
         }
         _ => Err(ActFault::Broken(Rule::NotAnAnswer)),

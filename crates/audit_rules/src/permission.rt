@@ -3,7 +3,7 @@
 
 ghost use Rattle.std.specs.Prelude.{◌≡◌, Some, IfOk, MatchResult, option_map};
 ghost use Rattle.audit_stun.specs.Parts.{parts_of};
-ghost use Rattle.audit_rules.specs.Situation.{asked};
+ghost use Rattle.audit_rules.specs.Situation.{arrival_parts};
 ghost use Rattle.audit_rules.specs.Values.{peer_ips_of};
 ghost use Rattle.audit_rules.specs.Fault.{IsBroken};
 ghost use Rattle.audit_rules.specs.Check.{AllHold, FirstFails};
@@ -48,7 +48,7 @@ pub fn permission(
     requires request { request.now ≡ (situation act.now).arrives.payload }
     requires success { success.now ≡ (situation act.now).leaves.payload }
     ensures { MatchResult result
-        (λ ips. AllHold (permission_checks (situation act.now)) × (peer_ips_of (asked (situation act.now)) ≡ Some ips.items))
+        (λ ips. AllHold (permission_checks (situation act.now)) × (peer_ips_of (arrival_parts (situation act.now)) ≡ Some ips.items))
         (λ fault. IsBroken fault (λ rule. FirstFails (permission_checks (situation act.now)) rule)) }
 {
     let Some(signer) = authenticated(act, request) else {

@@ -1,7 +1,7 @@
 //! A Refresh request and its success response (RFC 8656, section 8). See docs/RULES.md, Refresh.
 
 ghost use Rattle.std.specs.Prelude.{◌≡◌, ◌↔◌, IsTrue, Some, MatchResult};
-ghost use Rattle.audit_rules.specs.Situation.{asked, answered};
+ghost use Rattle.audit_rules.specs.Situation.{arrival_parts, answered};
 ghost use Rattle.audit_rules.specs.Values.{lifetime_of};
 ghost use Rattle.audit_rules.specs.Standing.{WithUsable};
 ghost use Rattle.audit_rules.specs.Allocating.{EndsNothing};
@@ -32,14 +32,14 @@ pub fn refresh(act: &Act<'_, '_>, request: &Message<'_>, success: &Message<'_>) 
     let Some(seconds) = lifetime_in(success) else {
         return Err(Rule::Malformed);
     };
-    let asks_end = lifetime_in(request) == Some(0);
+    let is_deletion = lifetime_in(request) == Some(0);
     let usable = usable_allocation(act);
-    if usable.is_ok() || !asks_end || seconds != 0 {
+    if usable.is_ok() || !is_deletion || seconds != 0 {
         let found = usable?;
         if signer.user != found.user.as_slice() {
             return Err(Rule::OtherUser);
         }
-        if asks_end != (seconds == 0) {
+        if is_deletion != (seconds == 0) {
             return Err(Rule::Lifetime);
         }
     }

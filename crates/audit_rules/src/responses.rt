@@ -4,7 +4,7 @@ ghost use Rattle.std.specs.Prelude.{◌≡◌, false, IsTrue, MatchResult};
 ghost use Rattle.audit_stun.specs.declared.class.Class.TheVariants.{Success, Error};
 ghost use Rattle.audit_stun.specs.declared.numbers.method.TheConstants as methods;
 ghost use Rattle.audit_rules.specs.Allocation.{Same};
-ghost use Rattle.audit_rules.specs.Situation.{IsServed, asked, answered};
+ghost use Rattle.audit_rules.specs.Situation.{IsServed, arrival_parts, answered};
 ghost use Rattle.audit_rules.specs.Standing.{IsResponse};
 ghost use Rattle.audit_rules.specs.Check.{FirstFails};
 ghost use Rattle.audit_rules.specs.Checks.{binding_checks, error_checks, new_checks, again_checks, refresh_checks, permission_checks, channel_bind_checks};
@@ -150,7 +150,7 @@ pub fn error_response<'a>(
     requires request { request.now ≡ (situation act.now).arrives.payload }
     requires error { response.now ≡ (situation act.now).leaves.payload }
     requires served { IsServed (situation act.now) }
-    requires response { IsResponse (situation act.now) Error (asked (situation act.now)).method }
+    requires response { IsResponse (situation act.now) Error (arrival_parts (situation act.now)).method }
     ensures { MatchResult result
         (MayTakeEffect act.now)
         (λ rule. FirstFails (error_checks (situation act.now)) rule) }

@@ -18,7 +18,7 @@ use Rattle.audit_rules.specs.Answer.{MayAnswer, Answers, Case, Binding, Error as
 use Rattle.audit_rules.specs.FirstRule.{made_it}
 use Rattle.audit_rules.specs.Responses.{Fits}
 use Rattle.audit_rules.specs.Said.{allocated, lengthened, permitted, channelled, change_by_method, change_by_class, change_by_paths, change_in}
-use Rattle.audit_rules.specs.Situation.{Situation, asked, answered, arrival_path, departure_path}
+use Rattle.audit_rules.specs.Situation.{Situation, arrival_parts, answered, arrival_path, departure_path}
 use Rattle.audit_rules.specs.Standing.{IsResponse}
 use Rattle.audit_rules.specs.Values.{address_named, lifetime_of, channel_number_of, peer_ips_of}
 use Rattle.audit_server.specs.Captured.{situation_at, change_between, MayBetween}
@@ -39,7 +39,7 @@ module _ (policy : Policy) (key_for : KeyFor) (c : Pair) (moment : ℕ) (found :
 
   case_renamed : (case : Case) (ch : Change) → Answers case X ch → Answers case Y ch
   case_renamed Binding ch r = (record { response = response Success BINDING r.0.response; mapped = r.0.mapped }, r.1)
-  case_renamed ErrorCase ch r = (record { response = response Error (asked X).method r.0.response; code = r.0.code; tells = r.0.tells; fits = fits r.0.code r.0.fits }, r.1)
+  case_renamed ErrorCase ch r = (record { response = response Error (arrival_parts X).method r.0.response; code = r.0.code; has_code = r.0.has_code; fits = fits r.0.code r.0.fits }, r.1)
   case_renamed New ch r = record {
     response = response Success ALLOCATE r.response;
     first = r.first;
@@ -48,7 +48,7 @@ module _ (policy : Policy) (key_for : KeyFor) (c : Pair) (moment : ℕ) (found :
     free = r.free;
     served = r.served;
     relayed = r.relayed;
-    tells = r.tells;
+    names_relayed = r.names_relayed;
     in_range = r.in_range;
     seconds = r.seconds;
     lasts = r.lasts;
@@ -59,7 +59,7 @@ module _ (policy : Policy) (key_for : KeyFor) (c : Pair) (moment : ℕ) (found :
   case_renamed Again ch r = (record { response = response Success ALLOCATE r.0.response; user = r.0.user; authentic = r.0.authentic; same = r.0.same; mapped = r.0.mapped; signed = r.0.signed }, r.1)
   case_renamed Refresh ch r = record { response = response Success REFRESH r.response; user = r.user; authentic = r.authentic; seconds = r.seconds; lasts = r.lasts; allowed = r.allowed; signed = r.signed; changes = r.changes }
   case_renamed Permission ch r = record { response = response Success CREATE_PERMISSION r.response; user = r.user; authentic = r.authentic; own = r.own; ips = r.ips; names = r.names; some = r.some; signed = r.signed; changes = r.changes }
-  case_renamed ChannelBind ch r = record { response = response Success CHANNEL_BIND r.response; user = r.user; authentic = r.authentic; number = r.number; asks = r.asks; in_range = r.in_range; peer = r.peer; names = r.names; own = r.own; signed = r.signed; changes = r.changes }
+  case_renamed ChannelBind ch r = record { response = response Success CHANNEL_BIND r.response; user = r.user; authentic = r.authentic; number = r.number; has_number = r.has_number; in_range = r.in_range; peer = r.peer; names = r.names; own = r.own; signed = r.signed; changes = r.changes }
   case_renamed Send ch r = (record { goes = r.0.goes; indication = r.0.indication; relays = r.0.relays; peer = r.0.peer; sends = r.0.sends }, r.1)
   case_renamed ChannelUp ch r = (record { goes = r.0.goes; number = r.0.number; past = r.0.past; says = r.0.says; relays = r.0.relays }, r.1)
   case_renamed Data ch r = (record { goes = r.0.goes; indication = r.0.indication; relays = r.0.relays; peer = r.0.peer; sends = r.0.sends }, r.1)
@@ -82,13 +82,13 @@ module _ (policy : Policy) (key_for : KeyFor) (c : Pair) (moment : ℕ) (found :
   abbrev the_rest : ℕ → Change
   the_rest m =
       cond (m == REFRESH) (lengthened moment (lifetime_of (answered X)))
-      (cond (m == CREATE_PERMISSION) (permitted moment (peer_ips_of (asked X)))
-      (cond (m == CHANNEL_BIND) (channelled moment (channel_number_of (asked X)) (address_named XOR_PEER_ADDRESS (asked X))) Same))
+      (cond (m == CREATE_PERMISSION) (permitted moment (peer_ips_of (arrival_parts X)))
+      (cond (m == CHANNEL_BIND) (channelled moment (channel_number_of (arrival_parts X)) (address_named XOR_PEER_ADDRESS (arrival_parts X))) Same))
 
   method_renamed : (m : ℕ) → change_by_method X m ≡ change_by_method Y m
   method_renamed m =
       let a = address_named XOR_RELAYED_ADDRESS (answered X) in
-      let u = first_of USERNAME (asked X).attributes in
+      let u = first_of USERNAME (arrival_parts X).attributes in
       let n = lifetime_of (answered X) in
       ap (λ (v : Bool). cond (m == ALLOCATE) (cond v Same (allocated X a u n)) (the_rest m)) (made_renamed found)
       ∙ ap (λ (ch : Change). cond (m == ALLOCATE) (cond (made_it Y found) Same ch) (the_rest m)) (allocated_renamed a u n)

@@ -28,7 +28,7 @@ use Rattle.audit_rules.specs.FirstRule.{made_it}
 use Rattle.audit_rules.specs.Granting.{NoConflict}
 use Rattle.audit_rules.specs.Responses.{IsByOther, Fits}
 use Rattle.audit_rules.specs.Said.{allocated, lengthened, permitted, channelled, change_by_method, change_by_class, change_by_paths, change_in}
-use Rattle.audit_rules.specs.Situation.{Situation, asked, answered, arrival_path, departure_path}
+use Rattle.audit_rules.specs.Situation.{Situation, arrival_parts, answered, arrival_path, departure_path}
 use Rattle.audit_rules.specs.Standing.{IsResponse, IsByUser, WithUsable, NothingLasts, IsOwn, Permits, Carries}
 use Rattle.audit_rules.specs.Values.{address_named, lifetime_of, channel_number_of, peer_ips_of, Names}
 use Rattle.audit_server.specs.Captured.{situation_at, change_between, MayBetween, rules_of}
@@ -127,7 +127,7 @@ module _ (policy : Policy) (key_for : KeyFor) (c : Pair) (moment : ℕ) (arrives
     any_back h = with_usable y x (λ a. Unit {0}) (λ a. Unit {0}) (λ a b l u. u) back h
 
     again_back : IsAgain (X y) → IsAgain (X x)
-    again_back h = with_usable y x (λ a. a.id ≡ (asked (X y)).tid) (λ a. a.id ≡ (asked (X x)).tid) (λ a b l u. sym l.id ∙ u) back h
+    again_back h = with_usable y x (λ a. a.id ≡ (arrival_parts (X y)).tid) (λ a. a.id ≡ (arrival_parts (X x)).tid) (λ a b l u. sym l.id ∙ u) back h
 
     by_other : IsByOther (X x) → IsByOther (X y)
     by_other h = with_usable x y (λ a. IsByUser (X x) × (IsOwn (X x) a → ⊥)) (λ a. IsByUser (X y) × (IsOwn (X y) a → ⊥)) (λ a b l u. (u.0, λ o. u.1 (o ∙ ap Some (sym l.user)))) k h
@@ -147,7 +147,7 @@ module _ (policy : Policy) (key_for : KeyFor) (c : Pair) (moment : ℕ) (arrives
 
     case_too : (case : Case) (ch : Change) → Answers case (X x) ch → Answers case (X y) ch
     case_too Binding ch r = (record { response = response Success BINDING r.0.response; mapped = r.0.mapped }, r.1)
-    case_too ErrorCase ch r = (record { response = response Error (asked (X x)).method r.0.response; code = r.0.code; tells = r.0.tells; fits = fits r.0.code r.0.fits }, r.1)
+    case_too ErrorCase ch r = (record { response = response Error (arrival_parts (X x)).method r.0.response; code = r.0.code; has_code = r.0.has_code; fits = fits r.0.code r.0.fits }, r.1)
     case_too New ch r = record {
       response = response Success ALLOCATE r.response;
       first = λ h. r.first (again_back h);
@@ -156,7 +156,7 @@ module _ (policy : Policy) (key_for : KeyFor) (c : Pair) (moment : ℕ) (arrives
       free = nothing_lasts x y k r.free;
       served = r.served;
       relayed = r.relayed;
-      tells = r.tells;
+      names_relayed = r.names_relayed;
       in_range = r.in_range;
       seconds = r.seconds;
       lasts = r.lasts;
@@ -169,7 +169,7 @@ module _ (policy : Policy) (key_for : KeyFor) (c : Pair) (moment : ℕ) (arrives
         response = response Success ALLOCATE r.0.response;
         user = r.0.user;
         authentic = r.0.authentic;
-        same = with_usable x y (λ a. (a.id ≡ (asked (X x)).tid) × IsOwn (X x) a × Names XOR_RELAYED_ADDRESS (answered (X x)) a.relayed) (λ a. (a.id ≡ (asked (X y)).tid) × IsOwn (X y) a × Names XOR_RELAYED_ADDRESS (answered (X y)) a.relayed)
+        same = with_usable x y (λ a. (a.id ≡ (arrival_parts (X x)).tid) × IsOwn (X x) a × Names XOR_RELAYED_ADDRESS (answered (X x)) a.relayed) (λ a. (a.id ≡ (arrival_parts (X y)).tid) × IsOwn (X y) a × Names XOR_RELAYED_ADDRESS (answered (X y)) a.relayed)
             (λ a b l u. (sym l.id ∙ u.0, own x y a b l u.1, u.2 ∙ ap Some l.relayed)) k r.0.same;
         mapped = r.0.mapped;
         signed = r.0.signed;
@@ -202,7 +202,7 @@ module _ (policy : Policy) (key_for : KeyFor) (c : Pair) (moment : ℕ) (arrives
       user = r.user;
       authentic = r.authentic;
       number = r.number;
-      asks = r.asks;
+      has_number = r.has_number;
       in_range = r.in_range;
       peer = r.peer;
       names = r.names;
@@ -261,13 +261,13 @@ module _ (policy : Policy) (key_for : KeyFor) (c : Pair) (moment : ℕ) (arrives
 
   made_none : (y : Option Allocation) → HasNoAllocation policy.grace moment y → made_it (X y) y ≡ false
   made_none None n = refl
-  made_none (Some b) n = and_left (is_usable b.until moment policy.grace) (bytes_eq b.id (asked (X (Some b))).tid) (lt-leb moment (later b.until policy.grace) n.1)
+  made_none (Some b) n = and_left (is_usable b.until moment policy.grace) (bytes_eq b.id (arrival_parts (X (Some b))).tid) (lt-leb moment (later b.until policy.grace) n.1)
 
   made_both : (x y : Option Allocation) → AreBoth policy.grace One x y → made_it (X x) x ≡ made_it (X y) y
   made_both None y k = absurd k
   made_both (Some a) None k = absurd k
   made_both (Some a) (Some b) k =
-      ap (λ (n : ℕ). is_usable n moment policy.grace && bytes_eq a.id (asked (X None)).tid) k.until ∙ ap (λ (i : List ℕ). is_usable b.until moment policy.grace && bytes_eq i (asked (X None)).tid) k.id
+      ap (λ (n : ℕ). is_usable n moment policy.grace && bytes_eq a.id (arrival_parts (X None)).tid) k.until ∙ ap (λ (i : List ℕ). is_usable b.until moment policy.grace && bytes_eq i (arrival_parts (X None)).tid) k.id
 
   made_same : (x y : Option Allocation) → Found x y → made_it (X x) x ≡ made_it (X y) y
   made_same x y (inl n) = made_none x n.0 ∙ sym (made_none y n.1)
@@ -283,13 +283,13 @@ module _ (policy : Policy) (key_for : KeyFor) (c : Pair) (moment : ℕ) (arrives
     abbrev the_rest : ℕ → Change
     the_rest m =
         cond (m == REFRESH) (lengthened moment (lifetime_of (answered (X x))))
-        (cond (m == CREATE_PERMISSION) (permitted moment (peer_ips_of (asked (X x))))
-        (cond (m == CHANNEL_BIND) (channelled moment (channel_number_of (asked (X x))) (address_named XOR_PEER_ADDRESS (asked (X x)))) Same))
+        (cond (m == CREATE_PERMISSION) (permitted moment (peer_ips_of (arrival_parts (X x))))
+        (cond (m == CHANNEL_BIND) (channelled moment (channel_number_of (arrival_parts (X x))) (address_named XOR_PEER_ADDRESS (arrival_parts (X x)))) Same))
 
     method_same : (m : ℕ) → change_by_method (X x) m ≡ change_by_method (X y) m
     method_same m =
         let a = address_named XOR_RELAYED_ADDRESS (answered (X x)) in
-        let u = first_of USERNAME (asked (X x)).attributes in
+        let u = first_of USERNAME (arrival_parts (X x)).attributes in
         let n = lifetime_of (answered (X x)) in
         ap (λ (v : Bool). cond (m == ALLOCATE) (cond v Same (allocated (X x) a u n)) (the_rest m)) (made_same x y k)
         ∙ ap (λ (ch : Change). cond (m == ALLOCATE) (cond (made_it (X y) y) Same ch) (the_rest m)) (allocated_same a u n)

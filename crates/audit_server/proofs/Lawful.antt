@@ -19,7 +19,7 @@ use Rattle.audit_rules.specs.Allocation.{Allocation, Change, Same, Makes, Renews
 use Rattle.audit_rules.specs.Allocating.{AnswersRefresh, seconds_after}
 use Rattle.audit_rules.specs.Answer.{MayAnswer, Answers, Case, Binding, Error as ErrorCase, New, Again, Refresh, Permission, ChannelBind, Send, ChannelUp, Data, ChannelDown}
 use Rattle.audit_rules.specs.FirstRule.{made_it}
-use Rattle.audit_rules.specs.Situation.{Situation, asked, answered, arrival_path, departure_path}
+use Rattle.audit_rules.specs.Situation.{Situation, arrival_parts, answered, arrival_path, departure_path}
 use Rattle.audit_rules.specs.Standing.{UsableNow, IsOwn}
 use Rattle.audit_rules.specs.Values.{address_named, lifetime_of, channel_number_of, peer_ips_of}
 use Rattle.audit_model.specs.declared.pair.Pair.{Pair}
@@ -103,15 +103,15 @@ either moment false c d h k = k
 method_onward : (x : Situation) (m : ℕ) → IsOnward x.moment (change_by_method x m)
 method_onward x m =
     let a = address_named XOR_RELAYED_ADDRESS (answered x) in
-    let u = first_of USERNAME (asked x).attributes in
+    let u = first_of USERNAME (arrival_parts x).attributes in
     let n = lifetime_of (answered x) in
     let refresh = lengthened x.moment n in
-    let permit = permitted x.moment (peer_ips_of (asked x)) in
-    let bind = channelled x.moment (channel_number_of (asked x)) (address_named XOR_PEER_ADDRESS (asked x)) in
+    let permit = permitted x.moment (peer_ips_of (arrival_parts x)) in
+    let bind = channelled x.moment (channel_number_of (arrival_parts x)) (address_named XOR_PEER_ADDRESS (arrival_parts x)) in
     either x.moment (m == ALLOCATE) _ _ (either x.moment (made_it x x.allocation) Same (allocated x a u n) tt (allocated_onward x a u n))
     (either x.moment (m == REFRESH) refresh _ (lengthened_onward x.moment n)
-    (either x.moment (m == CREATE_PERMISSION) permit _ (permitted_onward x.moment (peer_ips_of (asked x)))
-    (either x.moment (m == CHANNEL_BIND) bind Same (channelled_onward x.moment (channel_number_of (asked x)) (address_named XOR_PEER_ADDRESS (asked x))) tt)))
+    (either x.moment (m == CREATE_PERMISSION) permit _ (permitted_onward x.moment (peer_ips_of (arrival_parts x)))
+    (either x.moment (m == CHANNEL_BIND) bind Same (channelled_onward x.moment (channel_number_of (arrival_parts x)) (address_named XOR_PEER_ADDRESS (arrival_parts x))) tt)))
 
 class_onward : (x : Situation) (class : Class) → IsOnward x.moment (change_by_class x class)
 class_onward x Success = method_onward x (answered x).method

@@ -15,7 +15,7 @@ use Rattle.audit_rules.specs.declared.path.Path.{Path}
 use Rattle.audit_rules.specs.declared.path.Path.TheVariants.{Client, Relay}
 use Rattle.audit_rules.specs.Allocation.{Allocation, Change}
 use Rattle.audit_rules.specs.Answer.{MayAnswer, Answers, Case, Binding, Error as ErrorCase, New, Again, Refresh, Permission, ChannelBind, Send, ChannelUp, Data, ChannelDown}
-use Rattle.audit_rules.specs.Situation.{Situation, asked, arrival_path, departure_path}
+use Rattle.audit_rules.specs.Situation.{Situation, arrival_parts, arrival_path, departure_path}
 use Rattle.audit_rules.specs.Standing.{IsResponse, UsableNow, Permits as PermitsNow, Carries}
 use Rattle.audit_server.specs.Step.{Step, Move, Act, Out}
 use Rattle.audit_server.specs.Rules.{Rules}
@@ -93,7 +93,7 @@ module _ (taken : Taken) (key_for : KeyFor) (c : Pair) (moment : ℕ) (arrives l
 
     up_case : (case : Case) (ch : Change) → Answers case (Y found) ch → departure_path (Y found) ≡ Some Relay → GroundedUp taken key_for c moment arrives leaves before
     up_case Binding ch r h = absurd (not_up Success BINDING r.0.response h)
-    up_case ErrorCase ch r h = absurd (not_up Error (asked (Y found)).method r.0.response h)
+    up_case ErrorCase ch r h = absurd (not_up Error (arrival_parts (Y found)).method r.0.response h)
     up_case New ch r h = absurd (not_up Success ALLOCATE r.response h)
     up_case Again ch r h = absurd (not_up Success ALLOCATE r.0.response h)
     up_case Refresh ch r h = absurd (not_up Success REFRESH r.response h)
@@ -109,7 +109,7 @@ module _ (taken : Taken) (key_for : KeyFor) (c : Pair) (moment : ℕ) (arrives l
 
     down_case : (case : Case) (ch : Change) → Answers case (Y found) ch → arrival_path (Y found) ≡ Some Relay → GroundedDown taken key_for c moment arrives leaves before
     down_case Binding ch r h = absurd (not_down Success BINDING r.0.response h)
-    down_case ErrorCase ch r h = absurd (not_down Error (asked (Y found)).method r.0.response h)
+    down_case ErrorCase ch r h = absurd (not_down Error (arrival_parts (Y found)).method r.0.response h)
     down_case New ch r h = absurd (not_down Success ALLOCATE r.response h)
     down_case Again ch r h = absurd (not_down Success ALLOCATE r.0.response h)
     down_case Refresh ch r h = absurd (not_down Success REFRESH r.response h)
@@ -136,7 +136,7 @@ module _ (taken : Taken) (key_for : KeyFor) (c : Pair) (moment : ℕ) (arrives l
 
     kind_case : (case : Case) (ch : Change) → Answers case (Y found) ch → (departure_path (Y None) ≡ Some Relay) ⊎ (arrival_path (Y None) ≡ Some Relay) ⊎ IsAResponse (Y None)
     kind_case Binding ch r = inr (inr (response_kind Success BINDING r.0.response (inl refl)))
-    kind_case ErrorCase ch r = inr (inr (response_kind Error (asked (Y found)).method r.0.response (inr refl)))
+    kind_case ErrorCase ch r = inr (inr (response_kind Error (arrival_parts (Y found)).method r.0.response (inr refl)))
     kind_case New ch r = inr (inr (response_kind Success ALLOCATE r.response (inl refl)))
     kind_case Again ch r = inr (inr (response_kind Success ALLOCATE r.0.response (inl refl)))
     kind_case Refresh ch r = inr (inr (response_kind Success REFRESH r.response (inl refl)))

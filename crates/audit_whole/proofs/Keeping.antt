@@ -21,7 +21,7 @@ use Rattle.audit_rules.specs.Allocation.{Allocation, Change, Same, Renews, Remov
 use Rattle.audit_rules.specs.Allocating.{AnswersNew, AnswersAgain, AnswersRefresh, seconds_after}
 use Rattle.audit_rules.specs.Granting.{AnswersPermission, AnswersChannelBind, NoConflict}
 use Rattle.audit_rules.specs.Answer.{MayAnswer, Answers, Case, Binding, Error as ErrorCase, New, Again, Refresh, Permission, ChannelBind, Send, ChannelUp, Data, ChannelDown}
-use Rattle.audit_rules.specs.Situation.{Situation, asked, answered}
+use Rattle.audit_rules.specs.Situation.{Situation, arrival_parts, answered}
 use Rattle.audit_rules.specs.Standing.{UsableNow, IsOwn}
 use Rattle.audit_rules.specs.Values.{address_named, lifetime_of}
 use Rattle.audit_server.specs.Step.{Step, Move, In, Act, Out}
@@ -206,17 +206,17 @@ module _ (taken : Taken) (key_for : KeyFor) (c : Pair) where
 
       again : (ch : Change) → AnswersAgain X → ch ≡ Same → After ch
       again ch r e =
-          let said : Said = Allocates (asked X).tid (address_named XOR_RELAYED_ADDRESS (answered X)) (lifetime_of (answered X)) in
+          let said : Said = Allocates (arrival_parts X).tid (address_named XOR_RELAYED_ADDRESS (answered X)) (lifetime_of (answered X)) in
           let is : says (situation_of taken key_for c moment arrives leaves) ≡ said = said_here said (said_success X ALLOCATE r.response) in
           subst After (sym e) (kept_same before (record { moment = moment; move = Act c s t }) found
-          (λ a there. let k = some_in found (λ b. UsableNow X b.until × ((b.id ≡ (asked X).tid) × IsOwn X b × (address_named XOR_RELAYED_ADDRESS (answered X) ≡ Some b.relayed))) a there r.same in
+          (λ a there. let k = some_in found (λ b. UsableNow X b.until × ((b.id ≡ (arrival_parts X).tid) × IsOwn X b × (address_named XOR_RELAYED_ADDRESS (answered X) ≡ Some b.relayed))) a there r.same in
           goes_on a.user a.id a.relayed said a.until (λ u. u ≡ a.until) is (sym k.1.0, k.1.2, refl))
           (λ number. leaves_channel said is number tt) kept)
 
       new : (ch : Change) → AnswersNew X ch → After ch
       new ch r =
-          let said : Said = Allocates (asked X).tid (Some r.relayed) (Some r.seconds) in
-          let is : says (situation_of taken key_for c moment arrives leaves) ≡ said = said_here said (said_success X ALLOCATE r.response ∙ ap (λ o. Allocates (asked X).tid o (lifetime_of (answered X))) r.tells ∙ ap (Allocates (asked X).tid (Some r.relayed)) r.lasts.0) in
+          let said : Said = Allocates (arrival_parts X).tid (Some r.relayed) (Some r.seconds) in
+          let is : says (situation_of taken key_for c moment arrives leaves) ≡ said = said_here said (said_success X ALLOCATE r.response ∙ ap (λ o. Allocates (arrival_parts X).tid o (lifetime_of (answered X))) r.names_relayed ∙ ap (Allocates (arrival_parts X).tid (Some r.relayed)) r.lasts.0) in
           subst After (sym r.changes) (record {
             since = [];
             given = record {
@@ -317,7 +317,7 @@ module _ (taken : Taken) (key_for : KeyFor) (c : Pair) where
       channel_some : (a : Allocation) → found ≡ Some a → (ch : Change) (r : AnswersChannelBind X ch) → Kept before a → Kept (before ++ record { moment = moment; move = Act c s t } ∷ []) (with_bound r.number r.peer (seconds_after moment 600) (seconds_after moment 300) a)
       channel_some a there ch r k =
           let said : Said = Channels (Some r.number) (Some r.peer) in
-          let is : says (situation_of taken key_for c moment arrives leaves) ≡ said = said_here said (said_success X CHANNEL_BIND r.response ∙ ap (λ o. Channels o (address_named XOR_PEER_ADDRESS (asked X))) r.asks ∙ ap (Channels (Some r.number)) r.names) in
+          let is : says (situation_of taken key_for c moment arrives leaves) ≡ said = said_here said (said_success X CHANNEL_BIND r.response ∙ ap (λ o. Channels o (address_named XOR_PEER_ADDRESS (arrival_parts X))) r.has_number ∙ ap (Channels (Some r.number)) r.names) in
           let own = some_in found (λ b. UsableNow X b.until × (IsOwn X b × NoConflict X r.number r.peer b)) a there r.own in
           let by : r.user ≡ a.user = same_Some r.user a.user (sym r.authentic.names_user ∙ own.1.0) in
           record {
@@ -354,7 +354,7 @@ module _ (taken : Taken) (key_for : KeyFor) (c : Pair) where
 
       by_case : (case : Case) (ch : Change) → Answers case X ch → After ch
       by_case Binding ch r = nothing ch (said_success X BINDING r.0.response) r.1
-      by_case ErrorCase ch r = nothing ch (said_response X Error (asked X).method r.0.response) r.1
+      by_case ErrorCase ch r = nothing ch (said_response X Error (arrival_parts X).method r.0.response) r.1
       by_case New ch r = new ch r
       by_case Again ch r = again ch r.0 r.1
       by_case Refresh ch r = refresh ch r

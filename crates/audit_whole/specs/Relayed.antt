@@ -11,7 +11,7 @@ use Rattle.audit_stun.specs.ChannelData.{channel_data_of}
 use Rattle.audit_sightings.specs.Intake.{Taken}
 use Rattle.audit_rules.specs.declared.path.Path.TheVariants.{Client}
 use Rattle.audit_rules.specs.Keys.{KeyFor}
-use Rattle.audit_rules.specs.Situation.{asked, answered, IsOf, arrival_path, departure_path}
+use Rattle.audit_rules.specs.Situation.{arrival_parts, answered, IsOf, arrival_path, departure_path}
 use Rattle.audit_rules.specs.Values.{Has, Names}
 use Rattle.audit_server.specs.Step.{Step}
 use Rattle.audit_whole.specs.Lasting.{situation_of, Given}
@@ -44,7 +44,7 @@ module _ (taken : Taken) (key_for : KeyFor) (c : Pair) where
   GroundedUp moment arrives leaves before =
       let x = situation_of taken key_for c moment arrives leaves in
       (arrival_path x ≡ Some Client)
-      × ((IsOf arrives.payload Indication SEND × Names XOR_PEER_ADDRESS (asked x) leaves.to × Has DATA (asked x) leaves.payload
+      × ((IsOf arrives.payload Indication SEND × Names XOR_PEER_ADDRESS (arrival_parts x) leaves.to × Has DATA (arrival_parts x) leaves.payload
       × Live moment leaves.from before (HasPermission moment leaves.to.ip))
       ⊎ ((number : ℕ) × (past : ℕ) × (channel_data_of arrives.payload ≡ Some (number, leaves.payload, past))
       × Live moment leaves.from before (HasChannel moment number leaves.to)))

@@ -8,7 +8,7 @@ use Rattle.audit_stun.specs.declared.numbers.method.TheConstants.{ALLOCATE, REFR
 use Rattle.audit_stun.specs.declared.numbers.attribute.TheConstants.{XOR_RELAYED_ADDRESS, XOR_PEER_ADDRESS}
 use Rattle.audit_rules.specs.declared.path.Path.{Path}
 use Rattle.audit_rules.specs.declared.path.Path.TheVariants.{Client, Relay}
-use Rattle.audit_rules.specs.Situation.{Situation, asked, answered, arrival_path, departure_path}
+use Rattle.audit_rules.specs.Situation.{Situation, arrival_parts, answered, arrival_path, departure_path}
 use Rattle.audit_rules.specs.Values.{address_named, lifetime_of, channel_number_of, peer_ips_of}
 
 -- for an Allocate success response the transaction id, the relayed address and the seconds; for a
@@ -23,10 +23,10 @@ pub data Said : Type 0 where
 
 abbrev pub said_by_method : Situation → ℕ → Said
 said_by_method x method =
-    if method == ALLOCATE then Allocates (asked x).tid (address_named XOR_RELAYED_ADDRESS (answered x)) (lifetime_of (answered x))
+    if method == ALLOCATE then Allocates (arrival_parts x).tid (address_named XOR_RELAYED_ADDRESS (answered x)) (lifetime_of (answered x))
     else (if method == REFRESH then Refreshes (lifetime_of (answered x))
-    else (if method == CREATE_PERMISSION then Permits (peer_ips_of (asked x))
-    else (if method == CHANNEL_BIND then Channels (channel_number_of (asked x)) (address_named XOR_PEER_ADDRESS (asked x))
+    else (if method == CREATE_PERMISSION then Permits (peer_ips_of (arrival_parts x))
+    else (if method == CHANNEL_BIND then Channels (channel_number_of (arrival_parts x)) (address_named XOR_PEER_ADDRESS (arrival_parts x))
     else Nothing)))
 
 abbrev pub said_by_class : Situation → Class → Said

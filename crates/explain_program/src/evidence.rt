@@ -46,7 +46,7 @@ const SELF: &str = "/proc/self/exe";
 
 /// The SHA-256 of docs/headline.txt, which states what is proved. `tests/explain_page.py` compares
 /// it.
-const HEADLINE: &str = "2d0755c44e7f104bb2caf1da0e986125c73459a778d01a35cd16f13ce245b311";
+const HEADLINE: &str = "58d11f8ed264d5dc4029228483ebff8582a2e1c34ed4096d49bef5031f4c189d";
 
 /// The contents of the page, collected.
 #[derive(Drop)]

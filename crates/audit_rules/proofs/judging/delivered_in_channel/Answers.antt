@@ -2,7 +2,7 @@ use Rattle.std.proofs.Common.{ap, sym, ◌∙◌}
 use Rattle.audit_stun.specs.ChannelData.{channel_data_of}
 use Rattle.audit_rules.specs.Seen.{situation}
 use Rattle.audit_rules.proofs.Answered.{channel_down_may}
-use Rattle.audit_rules.proofs.judging.told_in_channel.Goals as goal
+use Rattle.audit_rules.proofs.judging.delivered_in_channel.Goals as goal
 
 pub returns : goal.returns
 returns c =
