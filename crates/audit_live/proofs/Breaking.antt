@@ -17,7 +17,7 @@ use Rattle.audit_model.specs.declared.rule.Rule.TheVariants.{ActBeforeArrival, A
 use Rattle.audit_model.specs.declared.sighting.Sighting.{Sighting}
 use Rattle.audit_model.specs.declared.verdict.Breach.{Breach}
 use Rattle.audit_model.specs.Window.{later}
-use Rattle.audit_prefix.specs.Walk.{BreaksAnswer, BreaksArrived, BreaksGiven, BreaksInTime, Memory}
+use Rattle.audit_prefix.specs.Walk.{BreaksAnswer, BreaksArrived, BreaksSent, BreaksInTime, Memory}
 use Rattle.audit_rules.specs.declared.credentials.CredRow.{CredRow}
 use Rattle.audit_rules.specs.FirstRule.{FirstRule}
 use Rattle.audit_rules.specs.Keys.{KeyFor, with_keys}
@@ -85,11 +85,11 @@ module _ (taken : Taken) (key_for : KeyFor) (pair : Pair) (number place : ℕ) (
         (subst (ByWalk (Some may_be.came)) (sym free) (inr (may_be.in_time, answer)))
 
   -- S11 and S12
-  by_departure : (s : Sighting) (moment : ℕ) (rule : Rule) (gave : Option Departure) → old.gave s.id ≡ gave → out_fault taken.policy.hold gave moment ≡ Some rule → BreaksGiven taken key_for (m.since s.id) moment rule
+  by_departure : (s : Sighting) (moment : ℕ) (rule : Rule) (gave : Option Departure) → old.gave s.id ≡ gave → out_fault taken.policy.hold gave moment ≡ Some rule → BreaksSent taken key_for (m.since s.id) moment rule
   by_departure s moment rule None sent is =
-      subst (λ (o : Option ℕ). BreaksGiven taken key_for o moment rule) (ap (option_map (λ (d : Departure). d.arrived)) (sym sent) ∙ known.since s.id) (sym (same_Some LeftWithoutAct rule is))
+      subst (λ (o : Option ℕ). BreaksSent taken key_for o moment rule) (ap (option_map (λ (d : Departure). d.arrived)) (sym sent) ∙ known.since s.id) (sym (same_Some LeftWithoutAct rule is))
   by_departure s moment rule (Some one) sent is =
-      subst (λ (o : Option ℕ). BreaksGiven taken key_for o moment rule) (ap (option_map (λ (d : Departure). d.arrived)) (sym sent) ∙ known.since s.id)
+      subst (λ (o : Option ℕ). BreaksSent taken key_for o moment rule) (ap (option_map (λ (d : Departure). d.arrived)) (sym sent) ∙ known.since s.id)
       (by_past taken key_for moment (λ r. ⊥) rule one.arrived (is_past taken.policy.hold one.arrived moment) refl is)
 
 pub stops_on : (taken : Taken) (key_for : KeyFor) (pair : Pair) (number place : ℕ) (event : Happening) (rows : List CredRow) (old : Kept) (m : Memory) (breach : Breach) → StopsAsWalk taken key_for pair number place event rows old m breach

@@ -17,7 +17,7 @@ use Rattle.audit_order.proofs.PortionSteps.{with_length}
 use Rattle.audit_placement.specs.Named.{AllNamed}
 use Rattle.audit_placement.specs.Shows.{ShowsPlaced}
 use Rattle.audit_prefix.specs.Live.{MayAdvance}
-use Rattle.audit_prefix.specs.Told.{LiveBreach}
+use Rattle.audit_prefix.specs.Breaches.{LiveBreach}
 use Rattle.audit_rules.specs.Keys.{KeyFor}
 use Rattle.audit_sightings.specs.Intake.{Taken, NamesWhatIsThere}
 use Rattle.audit_live.specs.declared.front.Front.{Front}

@@ -20,12 +20,12 @@ use Rattle.audit_order.specs.Kept.{Keeps}
 use Rattle.audit_placement.specs.Shows.{ShowsPlaced}
 use Rattle.audit_prefix.specs.Advance.{OfMoments}
 use Rattle.audit_prefix.specs.Live.{IsGoing, MayAdvance}
-use Rattle.audit_prefix.specs.Told.{ForEachTurn, LeastOf, LiveBreach, OrElse}
+use Rattle.audit_prefix.specs.Breaches.{ForEachTurn, LeastOf, LiveBreach, OrElse}
 use Rattle.audit_prefix.specs.Turn.{Covers, KnowsHolders, Turn, fresh_in, turns_of}
 use Rattle.audit_prefix.proofs.Continuing.{wholes}
 use Rattle.audit_prefix.proofs.Extending.{new_lanes_are}
 use Rattle.audit_prefix.proofs.Living.{goes_on}
-use Rattle.audit_prefix.proofs.Telling.{passes_of_none}
+use Rattle.audit_prefix.proofs.Passing.{passes_of_none}
 use Rattle.audit_prefix.proofs.Turning.{breach_of_turn}
 use Rattle.audit_prefix.proofs.Holders.{in_all as in_turns}
 use Rattle.audit_rules.specs.Keys.{KeyFor}

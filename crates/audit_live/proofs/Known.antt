@@ -15,8 +15,8 @@ use Rattle.audit_prefix.proofs.Covering.{remembers}
 use Rattle.audit_prefix.proofs.Extending.{only_of}
 use Rattle.audit_prefix.proofs.Growth.{go_on, remembered_same}
 use Rattle.audit_prefix.proofs.Living.{goes_at_first}
-use Rattle.audit_prefix.proofs.Telling.{passes_of_none}
-use Rattle.audit_prefix.proofs.ToldLater.{none_later}
+use Rattle.audit_prefix.proofs.Passing.{passes_of_none}
+use Rattle.audit_prefix.proofs.NoneLater.{none_later}
 use Rattle.audit_order.specs.Kept.{Keeps, Stays}
 use Rattle.audit_rules.specs.Keys.{KeyFor}
 use Rattle.audit_server.specs.Placed.{Runs}

@@ -7,7 +7,7 @@ use Rattle.audit_model.specs.declared.verdict.Breach.{Breach}
 use Rattle.audit_model.specs.Clash.{ShowsClash}
 use Rattle.audit_model.specs.Least.{IsLeast}
 use Rattle.audit_placement.specs.Shows.{ShowsPlaced}
-use Rattle.audit_prefix.specs.Told.{ForEach, LeastOf, LiveBreach, OrElse, OutcomeSoFar}
+use Rattle.audit_prefix.specs.Breaches.{ForEach, LeastOf, LiveBreach, OrElse, OutcomeSoFar}
 use Rattle.audit_prefix.specs.Walk.{HaveBytes, nothing_yet}
 use Rattle.audit_prefix.proofs.Deciding.{one_outcome}
 use Rattle.audit_rules.specs.Keys.{KeyFor}

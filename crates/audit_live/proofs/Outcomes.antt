@@ -12,7 +12,7 @@ use Rattle.audit_model.specs.Least.{IsLeast}
 use Rattle.audit_model.proofs.LeastBreach.{least_same}
 use Rattle.audit_order.specs.Grown.{of_lane}
 use Rattle.audit_placement.specs.Entries.{entries_from, lane_entries}
-use Rattle.audit_prefix.specs.Told.{ForEachTurn, LeastOf, OutcomeOfTurn}
+use Rattle.audit_prefix.specs.Breaches.{ForEachTurn, LeastOf, OutcomeOfTurn}
 use Rattle.audit_prefix.specs.Turn.{Turn, more_of, turns_from, whole}
 use Rattle.audit_prefix.specs.Walk.{Memory, Walks, nothing_yet, remembered_all}
 use Rattle.audit_prefix.proofs.Covering.{remembered_cut}

@@ -7,7 +7,7 @@ use Rattle.audit_order.specs.Grown.{Extends}
 use Rattle.audit_order.specs.Kept.{Keeps, Stays}
 use Rattle.audit_placement.specs.Shows.{ShowsPlaced}
 use Rattle.audit_prefix.specs.Live.{IsGoing, Standing}
-use Rattle.audit_prefix.specs.Told.{OrElse}
+use Rattle.audit_prefix.specs.Breaches.{OrElse}
 use Rattle.audit_rules.specs.Keys.{KeyFor}
 use Rattle.audit_sightings.specs.Intake.{AreNumbered, Taken}
 use Rattle.audit_live.specs.declared.front.Front.{Front}

@@ -7,7 +7,7 @@ use Rattle.audit_model.specs.declared.verdict.Tenancy.{Tenancy}
 use Rattle.audit_model.specs.Clash.{ShowsClash}
 use Rattle.audit_model.specs.Least.{IsLeast}
 use Rattle.audit_lane.specs.Seen.{kept_of}
-use Rattle.audit_prefix.specs.Told.{OrElse}
+use Rattle.audit_prefix.specs.Breaches.{OrElse}
 use Rattle.audit_rules.specs.Keys.{KeyFor}
 use Rattle.audit_sightings.specs.Intake.{Taken}
 use Rattle.audit_live.specs.declared.holders.Holders.{Holders}

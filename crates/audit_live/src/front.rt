@@ -6,7 +6,7 @@ ghost use Rattle.audit_order.specs.Grown.{Fits};
 ghost use Rattle.audit_order.specs.Growing.{placing_count};
 ghost use Rattle.audit_placement.specs.Entries.{entries};
 ghost use Rattle.audit_prefix.specs.Live.{MayAdvance, owed_in};
-ghost use Rattle.audit_prefix.specs.Told.{LiveBreach};
+ghost use Rattle.audit_prefix.specs.Breaches.{LiveBreach};
 ghost use Rattle.audit_rules.specs.Keys.{KeyFor};
 ghost use Rattle.audit_sightings.specs.Intake.{AreNumbered, Taken, taken};
 ghost use Rattle.audit_whole.specs.Glued.{lanes_from};

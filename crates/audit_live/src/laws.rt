@@ -9,7 +9,7 @@ ghost use Rattle.audit_model.specs.declared.pair.Pair.{Pair};
 ghost use Rattle.audit_model.specs.declared.verdict.Breach.{Breach};
 ghost use Rattle.audit_order.specs.Grown.{Fits};
 ghost use Rattle.audit_prefix.specs.Advance.{OfMoments};
-ghost use Rattle.audit_prefix.specs.Told.{LiveBreach};
+ghost use Rattle.audit_prefix.specs.Breaches.{LiveBreach};
 ghost use Rattle.audit_prefix.specs.Walk.{Memory};
 ghost use Rattle.audit_rules.specs.declared.credentials.CredRow.{CredRow};
 ghost use Rattle.audit_rules.specs.Keys.{KeyFor};

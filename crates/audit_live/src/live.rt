@@ -5,7 +5,7 @@ ghost use Rattle.audit_keys.specs.KeyFor.{key_for};
 ghost use Rattle.audit_model.specs.declared.certificate.TheConstants.{MAX_LANES};
 ghost use Rattle.audit_prefix.specs.Live.{Advances, IsProgress, MayAdvance, Shows, horizon_of};
 ghost use Rattle.audit_prefix.specs.Prefix.{IsPrefix};
-ghost use Rattle.audit_prefix.specs.Told.{LiveBreach};
+ghost use Rattle.audit_prefix.specs.Breaches.{LiveBreach};
 ghost use Rattle.audit_sightings.specs.Files.{Fed, GoesOn, Refuses, StandsFor, not_fed};
 ghost use Rattle.audit_sightings.specs.Intake.{taken};
 ghost use Rattle.audit_sightings.specs.declared.fault.IntakeFault.{IntakeFault as Fault};

@@ -284,9 +284,9 @@ module _ (w : Rules) (law : AreLawful w) (horizon : ℕ) where
   both_fresh old now none new held (Born b n) h q = (n, newer old now new held b h q, record { new_born = b; held_on = omega (arith, b, q.still_held.0); same_address = q.same_address })
 
   -- tenancies that are enough show what all show
-  pub enough : (n : ℕ) (turns : List Turn) → LaneTurns w horizon n turns → ClashNowhere (all_tenancies w (befores turns)) → (asked : List Tenancy) → AreEnough horizon (all_tenancies w (wholes turns)) (fresh w turns) asked →
-      (b : Breach) → ShowsClash (all_tenancies w (wholes turns)) b ↔ ShowsClash asked b
-  enough n turns l none asked a b = (
+  pub enough : (n : ℕ) (turns : List Turn) → LaneTurns w horizon n turns → ClashNowhere (all_tenancies w (befores turns)) → (checked : List Tenancy) → AreEnough horizon (all_tenancies w (wholes turns)) (fresh w turns) checked →
+      (b : Breach) → ShowsClash (all_tenancies w (wholes turns)) b ↔ ShowsClash checked b
+  enough n turns l none checked a b = (
     λ s.
         let k = both_fresh (all_tenancies w (befores turns)) (fresh w turns) none s.0 s.1 (kinds n turns l s.0 s.2) (kinds n turns l s.1 s.3) s.4 in
         let both = a.each_two s.0 s.1 k.0 k.1 k.2 in

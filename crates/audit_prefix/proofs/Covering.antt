@@ -77,11 +77,11 @@ in_one : (o : Option Tenancy) (t : Tenancy) → Contains (option_to_list o) t �
 in_one None t c = absurd (omega (arith, c.1))
 in_one (Some u) t c = contained_all (λ (x : Tenancy). Some u ≡ Some x) (u ∷ []) t (refl, tt) c
 
-pub enough_of : (w : Rules) (horizon n : ℕ) (turns : List Turn) (asked : List Tenancy) → LaneTurns w horizon n turns → ((t : Tenancy) → Contains asked t → Contains (all_tenancies w (wholes turns)) t) → Covers w (Some horizon) turns asked →
-    AreEnough horizon (all_tenancies w (wholes turns)) (fresh w turns) asked
-enough_of w horizon n turns asked l no_others covers = record {
+pub enough_of : (w : Rules) (horizon n : ℕ) (turns : List Turn) (checked : List Tenancy) → LaneTurns w horizon n turns → ((t : Tenancy) → Contains checked t → Contains (all_tenancies w (wholes turns)) t) → Covers w (Some horizon) turns checked →
+    AreEnough horizon (all_tenancies w (wholes turns)) (fresh w turns) checked
+enough_of w horizon n turns checked l no_others covers = record {
   no_others = no_others;
-  each_two = λ new held a b may. (new_asked new a may, held_asked new held a b may);
+  each_two = λ new held a b may. (new_checked new a may, held_checked new held a b may);
 } where
   by_more : (turn : Turn) → (turn.more ≡ []) ⊎ (turn.more ≢ [])
   by_more turn = elim turn.more as (λ es. (es ≡ []) ⊎ (es ≢ [])) [ [] ↦ inl refl | e ∷ es ↦ inr (λ q. let k : e ∷ es ≡ [] = q in cc) ]
@@ -89,16 +89,16 @@ enough_of w horizon n turns asked l no_others covers = record {
   runs_of : (turn : Turn) (t : Tenancy) → turn.more ≡ [] → Contains (fresh_in w turn) t → runs_after w None None turn.before ≡ Some t
   runs_of turn t q c = in_one (runs_after w None None turn.before) t (subst (λ (es : List Placed). Contains (tenancies_from w (has_after w None turn.before) (runs_after w None None turn.before) es) t) q c)
 
-  held_asked : (new held : Tenancy) → Contains (fresh w turns) new → Contains (fresh w turns) held → MayClash horizon new held → Contains asked held
-  held_asked new held a b may =
+  held_checked : (new held : Tenancy) → Contains (fresh w turns) new → Contains (fresh w turns) held → MayClash horizon new held → Contains checked held
+  held_checked new held a b may =
       let f = found_in w turns held b in
       elim (by_more f.0) [
         | inl q ↦ covers.others f.0 f.1 q held new (runs_of f.0 held q f.2) a may
         | inr q ↦ covers.touched f.0 f.1 q held f.2
       ]
 
-  new_asked : (new : Tenancy) {held : Tenancy} → Contains (fresh w turns) new → MayClash horizon new held → Contains asked new
-  new_asked new a may =
+  new_checked : (new : Tenancy) {held : Tenancy} → Contains (fresh w turns) new → MayClash horizon new held → Contains checked new
+  new_checked new a may =
       let f = found_in w turns new a in
       elim (by_more f.0) [
         | inl q ↦
@@ -115,9 +115,9 @@ abbrev pub IsNew : Turn → Type 0
 IsNew turn = turn.before ≡ []
 
 -- where no lane had events before, all tenancies are asked
-pub all_asked : (w : Rules) (last : Option ℕ) (turns : List Turn) (asked : List Tenancy) → AllByRecursion IsNew turns → Covers w last turns asked → (t : Tenancy) → Contains (all_tenancies w (wholes turns)) t → Contains asked t
-all_asked w last turns asked new covers = from turns (λ t k. k) new where
-  by_turn : (turn : Turn) → Contains turns turn → turn.before ≡ [] → (t : Tenancy) → Contains (tenancies_in w (whole turn)) t → Contains asked t
+pub all_checked : (w : Rules) (last : Option ℕ) (turns : List Turn) (checked : List Tenancy) → AllByRecursion IsNew turns → Covers w last turns checked → (t : Tenancy) → Contains (all_tenancies w (wholes turns)) t → Contains checked t
+all_checked w last turns checked new covers = from turns (λ t k. k) new where
+  by_turn : (turn : Turn) → Contains turns turn → turn.before ≡ [] → (t : Tenancy) → Contains (tenancies_in w (whole turn)) t → Contains checked t
   by_turn turn c q t h =
       let f : Contains (fresh_in w turn) t = subst (λ (es : List Placed). Contains (tenancies_from w (has_after w None es) (runs_after w None None es) turn.more) t) (sym q) (subst (λ (es : List Placed). Contains (tenancies_in w (es ++ turn.more)) t) q h) in
       elim (by_more turn) [
@@ -130,7 +130,7 @@ all_asked w last turns asked new covers = from turns (λ t k. k) new where
         none : (u : Tenancy) → Contains (tenancies_in w []) u → ⊥
         none u k = omega (arith, k.1)
 
-  from : (ts : List Turn) → ((t : Turn) → Contains ts t → Contains turns t) → AllByRecursion IsNew ts → (t : Tenancy) → Contains (all_tenancies w (wholes ts)) t → Contains asked t
+  from : (ts : List Turn) → ((t : Turn) → Contains ts t → Contains turns t) → AllByRecursion IsNew ts → (t : Tenancy) → Contains (all_tenancies w (wholes ts)) t → Contains checked t
   from [] f n t h = absurd (omega (arith, h.1))
   from (u ∷ us) f n t h = elim (Contains-append_cases (tenancies_in w (whole u)) (all_tenancies w (wholes us)) t h) [
     | inl k ↦ by_turn u (f u (Contains-append_left (u ∷ []) us u (Contains-push [] u))) n.0 t k

@@ -16,7 +16,7 @@ use Rattle.audit_server.specs.Step.{Move, In, Act, Out}
 use Rattle.audit_server.specs.Placed.{Placed}
 use Rattle.audit_server.specs.Captured.{MayBetween, situation_at}
 use Rattle.audit_rules.specs.Said.{change_in}
-use Rattle.audit_prefix.specs.Walk.{Memory, remembered, IsInTime, GoesOn, rules, BreaksAnswer, BreaksInTime, BreaksArrived, BreaksGiven, Breaks, sight_named, lane_breach, Walks, HaveBytes}
+use Rattle.audit_prefix.specs.Walk.{Memory, remembered, IsInTime, GoesOn, rules, BreaksAnswer, BreaksInTime, BreaksArrived, BreaksSent, Breaks, sight_named, lane_breach, Walks, HaveBytes}
 
 first_one : (checks : List Check) (one other : Rule) → FirstFails checks one → FirstFails checks other → one ≡ other
 first_one [] one other f g = absurd f
@@ -42,15 +42,15 @@ module _ (taken : Taken) (key_for : KeyFor) where
   arrived_one (Some came) true moment Other h one other f g = f ∙ sym g
   arrived_one (Some came) false moment Other h one other f g = time_one came moment Other h one other f g
 
-  given_one : (since : Option ℕ) (moment : ℕ) (one other : Rule) → BreaksGiven taken key_for since moment one → BreaksGiven taken key_for since moment other → one ≡ other
-  given_one None moment one other f g = f ∙ sym g
-  given_one (Some came) moment one other f g = f.1 ∙ sym g.1
+  sent_one : (since : Option ℕ) (moment : ℕ) (one other : Rule) → BreaksSent taken key_for since moment one → BreaksSent taken key_for since moment other → one ≡ other
+  sent_one None moment one other f g = f ∙ sym g
+  sent_one (Some came) moment one other f g = f.1 ∙ sym g.1
 
   breaks_one : (m : Memory) (moment : ℕ) (move : Move) (one other : Rule) → Breaks taken key_for m moment move one → Breaks taken key_for m moment move other → one ≡ other
   breaks_one m moment (In s) one other f g = absurd f
   breaks_one m moment (Act c s t) one other f g = arrived_one (m.came s) (m.taken s || is_some (m.since t)) moment (BreaksAnswer taken key_for c moment m.allocation (sighting_at taken s) (sighting_at taken t))
       (answer_one c moment m.allocation (sighting_at taken s) (sighting_at taken t)) one other f g
-  breaks_one m moment (Out t) one other f g = given_one (m.since t) moment one other f g
+  breaks_one m moment (Out t) one other f g = sent_one (m.since t) moment one other f g
 
   -- ---- what may come breaks nothing
 
@@ -69,15 +69,15 @@ module _ (taken : Taken) (key_for : KeyFor) where
     arrived_may (Some came) false moment Other rule i a o (inl k) = omega (arith, i, k.0)
     arrived_may (Some came) false moment Other rule i a o (inr k) = o k.1
 
-    given_may : (since : Option ℕ) (moment : ℕ) (rule : Rule) → IsInTime (rules taken key_for).hold since moment → BreaksGiven taken key_for since moment rule → ⊥
-    given_may None moment rule i k = i
-    given_may (Some came) moment rule i k = omega (arith, i, k.0)
+    sent_may : (since : Option ℕ) (moment : ℕ) (rule : Rule) → IsInTime (rules taken key_for).hold since moment → BreaksSent taken key_for since moment rule → ⊥
+    sent_may None moment rule i k = i
+    sent_may (Some came) moment rule i k = omega (arith, i, k.0)
 
     may_not : (m : Memory) (moment : ℕ) (move : Move) (rule : Rule) → GoesOn (rules taken key_for) m moment move → Breaks taken key_for m moment move rule → ⊥
     may_not m moment (In s) rule g k = k
     may_not m moment (Act c s t) rule g k = arrived_may (m.came s) (m.taken s || is_some (m.since t)) moment (BreaksAnswer taken key_for c moment m.allocation (sighting_at taken s) (sighting_at taken t)) rule g.0
         (ap (λ b. b || is_some (m.since t)) g.1 ∙ g.2) (answer_may c moment m.allocation (sighting_at taken s) (sighting_at taken t) (bytes s) (bytes t) rule g.3) k
-    may_not m moment (Out t) rule g k = given_may (m.since t) moment rule g k
+    may_not m moment (Out t) rule g k = sent_may (m.since t) moment rule g k
 
     pub one_outcome : (es : List Placed) (m : Memory) (one other : Option Breach) → Walks taken key_for m es one → Walks taken key_for m es other → one ≡ other
     one_outcome [] m one other f g = f ∙ sym g

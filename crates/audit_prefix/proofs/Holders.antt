@@ -86,11 +86,11 @@ of_wholes P [] h = tt
 of_wholes P (turn ∷ turns) h = (h.0, of_wholes P turns h.1)
 
 -- the lanes that are noted with the addresses of those that are born in the turn are enough
-pub covers_of : (w : Rules) (last : ℕ) (turns : List Turn) (holder : Addr → Option ℕ) (asked : List Tenancy) → AllByRecursion (λ (turn : Turn). KnowsHolders w last holder turn.before) turns →
-    ((turn : Turn) → Contains turns turn → turn.more ≢ [] → (t : Tenancy) → Contains (fresh_in w turn) t → Contains asked t) →
-    ((turn : Turn) → Contains turns turn → turn.more ≡ [] → (held new : Tenancy) → runs_after w None None turn.before ≡ Some held → Contains (fresh w turns) new → last < new.born.key.moment → holder new.relayed ≡ Some held.born.lane → Contains asked held) →
-    Covers w (Some last) turns asked
-covers_of w last turns holder asked knew touched noted = record {
+pub covers_of : (w : Rules) (last : ℕ) (turns : List Turn) (holder : Addr → Option ℕ) (checked : List Tenancy) → AllByRecursion (λ (turn : Turn). KnowsHolders w last holder turn.before) turns →
+    ((turn : Turn) → Contains turns turn → turn.more ≢ [] → (t : Tenancy) → Contains (fresh_in w turn) t → Contains checked t) →
+    ((turn : Turn) → Contains turns turn → turn.more ≡ [] → (held new : Tenancy) → runs_after w None None turn.before ≡ Some held → Contains (fresh w turns) new → last < new.born.key.moment → holder new.relayed ≡ Some held.born.lane → Contains checked held) →
+    Covers w (Some last) turns checked
+covers_of w last turns holder checked knew touched noted = record {
   touched = touched;
   others = λ turn c q held new h n may. noted turn c q held new h n may.new_born
       (ap holder (sym may.same_address) ∙ contained_all (λ (u : Turn). KnowsHolders w last holder u.before) turns turn knew c held h may.held_on);

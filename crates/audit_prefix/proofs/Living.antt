@@ -29,7 +29,7 @@ use Rattle.audit_prefix.specs.Live.{Standing, IsGoing, MayAdvance, Advances, hor
 use Rattle.audit_prefix.specs.Prefix.{IsPrefix, PassesSoFar, EachGoes}
 use Rattle.audit_prefix.proofs.Extending.{stands_by}
 use Rattle.audit_prefix.proofs.Fronts.{prefix_of}
-use Rattle.audit_prefix.proofs.Telling.{passes_of_none, none_of_passes}
+use Rattle.audit_prefix.proofs.Passing.{passes_of_none, none_of_passes}
 
 stands_at : (last : Option ℕ) (certificate : Certificate) → StandsByLast last certificate → StandsBy (horizon_of last) certificate
 stands_at None certificate h = all_weaker (λ (e : Placed). ⊥) (λ (e : Placed). e.at.key.moment ≤ 0) (λ e k. absurd k) (all_placed certificate) h

@@ -72,19 +72,19 @@ sound_so_far taken certificate f =
     }
 
 -- what places the sighting behind another's stands behind it
-abbrev pub StandsBehind : Placed → Placed → Type 0
-StandsBehind d e = (s t : SightId) → placed d.move ≡ Some s → placed e.move ≡ Some t → s.iface ≡ t.iface → s.index ≡ t.index + 1 → at_cmp e.at d.at ≡ Less
+abbrev pub ComesAfter : Placed → Placed → Type 0
+ComesAfter d e = (s t : SightId) → placed d.move ≡ Some s → placed e.move ≡ Some t → s.iface ≡ t.iface → s.index ≡ t.index + 1 → at_cmp e.at d.at ≡ Less
 
 key_less : (a b : At) → key_cmp a.key b.key ≡ Less → at_cmp a b ≡ Less
 key_less a b h = grind (arith, nat_tests)
 
-pub in_order : (es : List Placed) → Rises es → AllByRecursion (λ (d : Placed). AllByRecursion (StandsBehind d) es) es → NeighboursInOrder (map step_of es)
+pub in_order : (es : List Placed) → Rises es → AllByRecursion (λ (d : Placed). AllByRecursion (ComesAfter d) es) es → NeighboursInOrder (map step_of es)
 unfolding IsStrictlySortedBy
 in_order [] r k = tt
 in_order (e ∷ es) r k = (
-  steps es (all_two (λ (d : Placed). at_cmp e.at d.at ≡ Less) (StandsBehind e) (λ (d : Placed). KeepNeighbours e.move d.move)
+  steps es (all_two (λ (d : Placed). at_cmp e.at d.at ≡ Less) (ComesAfter e) (λ (d : Placed). KeepNeighbours e.move d.move)
       (λ d l b s t ps pt i n. at_asym e.at d.at l (b s t ps pt i n)) es r.0 k.0.1),
-  in_order es r.1 (all_weaker (λ (d : Placed). AllByRecursion (StandsBehind d) (e ∷ es)) (λ (d : Placed). AllByRecursion (StandsBehind d) es) (λ d h. h.1) es k.1),
+  in_order es r.1 (all_weaker (λ (d : Placed). AllByRecursion (ComesAfter d) (e ∷ es)) (λ (d : Placed). AllByRecursion (ComesAfter d) es) (λ d h. h.1) es k.1),
 ) where
   steps : (ds : List Placed) → AllByRecursion (λ (d : Placed). KeepNeighbours e.move d.move) ds → AllByRecursion (λ (d : Step). KeepNeighbours e.move d.move) (map step_of ds)
   steps [] h = tt
@@ -102,20 +102,20 @@ module _ (taken : Taken) (numbered : AreNumbered taken) (certificate : Certifica
       (all_of_splits (λ (e : Entry). (s : SightId) → places_in e.event s ≡ true → first_of s ≡ Some e.at) (entries certificate) (λ p e q h s k.
       subst (λ (xs : List Entry). first_place xs s ≡ Some e.at) h (first_at taken numbered certificate p e q s (subst (λ (xs : List Entry). times_in xs s ≤ 1) (sym h) (sound.once s)) k))))
 
-  behind : (s t : SightId) (a b : At) → s.iface ≡ t.iface → s.index ≡ t.index + 1 → first_of s ≡ Some a → first_of t ≡ Some b → at_cmp b a ≡ Less
-  behind s t a b i n h k =
+  comes_after : (s t : SightId) (a b : At) → s.iface ≡ t.iface → s.index ≡ t.index + 1 → first_of s ≡ Some a → first_of t ≡ Some b → at_cmp b a ≡ Less
+  comes_after s t a b i n h k =
       let h' : first_of (record { iface = t.iface; index = t.index + 1 }) ≡ Some a = subst (λ (m : ℕ). first_of (record { iface = t.iface; index = m }) ≡ Some a) n (subst (λ (m : ℕ). first_of (record { iface = m; index = s.index }) ≡ Some a) i h) in
       key_less b a (less_of b.key a.key (sound.order t.iface t.index b a k h'))
 
-  stand_behind : AllByRecursion (λ (d : Placed). AllByRecursion (StandsBehind d) (all_placed certificate)) (all_placed certificate)
-  stand_behind = all_weaker (λ (d : Placed). (s : SightId) → placed d.move ≡ Some s → first_of s ≡ Some d.at) (λ (d : Placed). AllByRecursion (StandsBehind d) (all_placed certificate))
-      (λ d f. all_weaker (λ (x : Placed). (s : SightId) → placed x.move ≡ Some s → first_of s ≡ Some x.at) (StandsBehind d) (λ x g s t ps pt i n. behind s t d.at x.at i n (f s ps) (g t pt)) (all_placed certificate) firsts)
+  all_come_after : AllByRecursion (λ (d : Placed). AllByRecursion (ComesAfter d) (all_placed certificate)) (all_placed certificate)
+  all_come_after = all_weaker (λ (d : Placed). (s : SightId) → placed d.move ≡ Some s → first_of s ≡ Some d.at) (λ (d : Placed). AllByRecursion (ComesAfter d) (all_placed certificate))
+      (λ d f. all_weaker (λ (x : Placed). (s : SightId) → placed x.move ≡ Some s → first_of s ≡ Some x.at) (ComesAfter d) (λ x g s t ps pt i n. comes_after s t d.at x.at i n (f s ps) (g t pt)) (all_placed certificate) firsts)
       (all_placed certificate) firsts
 
   pub order_sorted : Rises (sorted (all_placed certificate)) → NeighboursInOrder (map step_of (sorted (all_placed certificate)))
   order_sorted r = in_order (sorted (all_placed certificate)) r
-      (all_sorted (λ (d : Placed). AllByRecursion (StandsBehind d) (sorted (all_placed certificate))) (all_placed certificate)
-      (all_weaker (λ (d : Placed). AllByRecursion (StandsBehind d) (all_placed certificate)) (λ (d : Placed). AllByRecursion (StandsBehind d) (sorted (all_placed certificate))) (λ d h. all_sorted (StandsBehind d) (all_placed certificate) h) (all_placed certificate) stand_behind))
+      (all_sorted (λ (d : Placed). AllByRecursion (ComesAfter d) (sorted (all_placed certificate))) (all_placed certificate)
+      (all_weaker (λ (d : Placed). AllByRecursion (ComesAfter d) (all_placed certificate)) (λ (d : Placed). AllByRecursion (ComesAfter d) (sorted (all_placed certificate))) (λ d h. all_sorted (ComesAfter d) (all_placed certificate) h) (all_placed certificate) all_come_after))
 
   pub seen_so_far : AllByRecursion (λ (x : Placed). MayBePlaced taken x.at.key.moment x.move) (all_placed certificate)
   seen_so_far = all_map (λ (x : Placed). MayBePlaced taken x.at.key.moment x.move) (entries certificate)

@@ -27,11 +27,11 @@ use Rattle.audit_prefix.specs.Advance.{StandsByLast, OfMoments}
 use Rattle.audit_prefix.specs.Prefix.{EachGoes}
 use Rattle.audit_prefix.specs.Turn.{Turn, Covers, turns_from, turns_of}
 use Rattle.audit_prefix.specs.Walk.{Memory, nothing_yet, remembered, remembered_all, AllGoOn, Walks}
-use Rattle.audit_prefix.specs.Told.{LeastOf, ForEach, OutcomeSoFar, LiveBreach, ForEachTurn, TurnTells}
+use Rattle.audit_prefix.specs.Breaches.{LeastOf, ForEach, OutcomeSoFar, LiveBreach, ForEachTurn, IsBreachOfTurn}
 use Rattle.audit_prefix.proofs.Continuing.{befores, wholes, enough}
 use Rattle.audit_prefix.proofs.Extending.{new_lanes_are, turns_come, befores_are, lanes_by}
-use Rattle.audit_prefix.proofs.Covering.{IsNew, all_asked, enough_of}
-use Rattle.audit_prefix.proofs.Telling.{AllNone, none_told, going_of_walk, goes_all, rise_lanes, once_lanes, all_none}
+use Rattle.audit_prefix.proofs.Covering.{IsNew, all_checked, enough_of}
+use Rattle.audit_prefix.proofs.Passing.{AllNone, no_breach, going_of_walk, goes_all, rise_lanes, once_lanes, all_none}
 
 walk_join : (taken : Taken) (key_for : KeyFor) (p q : List Placed) (m : Memory) (found : Option Breach) → AllGoOn (rules_for taken key_for) m p → Walks taken key_for (remembered_all (rules_for taken key_for) m p) q found → Walks taken key_for m (p ++ q) found
 walk_join taken key_for [] q m found g h = h
@@ -73,44 +73,44 @@ all_new n (lane ∷ lanes) pairs es h = (none (map placed_of (lane_entries n lan
   none [] k = refl
   none (d ∷ ds) k = absurd k.0
 
-module _ (taken : Taken) (numbered : AreNumbered taken) (key_for : KeyFor) (old : Certificate) (extension : Extension) (new : Certificate) (asked : List Tenancy)
+module _ (taken : Taken) (numbered : AreNumbered taken) (key_for : KeyFor) (old : Certificate) (extension : Extension) (new : Certificate) (checked : List Tenancy)
     (extends : Extends old extension new) (none : LiveBreach taken key_for old None)
-    (no_others : (t : Tenancy) → Contains asked t → Contains (all_tenancies (rules_for taken key_for) (lanes_from 0 new.lanes)) t) where
+    (no_others : (t : Tenancy) → Contains checked t → Contains (all_tenancies (rules_for taken key_for) (lanes_from 0 new.lanes)) t) where
   abbrev w : Rules
   w = rules_for taken key_for
 
   old_lanes : AllByRecursion (GoesSoFar taken key_for) (turns_of old extension)
-  old_lanes = let t = none_told taken numbered key_for old none in old_go taken key_for 0 old.lanes extension.lanes extension.events t.outcomes t.walked t.none
+  old_lanes = let t = no_breach taken numbered key_for old none in old_go taken key_for 0 old.lanes extension.lanes extension.events t.outcomes t.walked t.none
 
   lanes_turn : (ps : List (Option Breach)) → ForEachTurn taken key_for (turns_of old extension) ps → ForEach (OutcomeSoFar taken key_for) (lanes_from 0 new.lanes) ps
   lanes_turn ps h = subst (λ (ls : List (List Placed)). ForEach (OutcomeSoFar taken key_for) ls ps) (sym (new_lanes_are old extension new extends)) (walks_all taken key_for (turns_of old extension) ps old_lanes h)
 
-  clashes : (last : Option ℕ) → StandsByLast last old → OfMoments (λ moment. IfSome last (λ before. before < moment)) extension → Covers w last (turns_of old extension) asked →
-      EachGoes w (lanes_from 0 new.lanes) → (b : Breach) → ShowsClash (all_tenancies w (lanes_from 0 new.lanes)) b ↔ ShowsClash asked b
+  clashes : (last : Option ℕ) → StandsByLast last old → OfMoments (λ moment. IfSome last (λ before. before < moment)) extension → Covers w last (turns_of old extension) checked →
+      EachGoes w (lanes_from 0 new.lanes) → (b : Breach) → ShowsClash (all_tenancies w (lanes_from 0 new.lanes)) b ↔ ShowsClash checked b
   clashes None by_last past covers goes b =
       let same : lanes_from 0 new.lanes ≡ wholes (turns_of old extension) = new_lanes_are old extension new extends in
       let news : AllByRecursion IsNew (turns_of old extension) = all_new 0 old.lanes extension.lanes extension.events (lanes_by (λ (e : Placed). ⊥) old by_last).0 in
-      let asks : (t : Tenancy) → Contains (all_tenancies w (lanes_from 0 new.lanes)) t → Contains asked t = λ t c. all_asked w None (turns_of old extension) asked news covers t (subst (λ (ls : List (List Placed)). Contains (all_tenancies w ls) t) same c) in (
-        λ s. (s.0, s.1, asks s.0 s.2, asks s.1 s.3, s.4, s.5),
+      let checks : (t : Tenancy) → Contains (all_tenancies w (lanes_from 0 new.lanes)) t → Contains checked t = λ t c. all_checked w None (turns_of old extension) checked news covers t (subst (λ (ls : List (List Placed)). Contains (all_tenancies w ls) t) same c) in (
+        λ s. (s.0, s.1, checks s.0 s.2, checks s.1 s.3, s.4, s.5),
         λ s. (s.0, s.1, no_others s.0 s.2, no_others s.1 s.3, s.4, s.5),
       )
   clashes (Some last) by_last past covers goes b =
       let same : lanes_from 0 new.lanes ≡ wholes (turns_of old extension) = new_lanes_are old extension new extends in
       let before : all_tenancies w (befores (turns_of old extension)) ≡ all_tenancies w (lanes_from 0 old.lanes) = befores_are w 0 old.lanes extension.lanes extension.events in
       let turns = turns_come old extension new extends w last by_last past goes in
-      let t = none_told taken numbered key_for old none in
-      subst (λ (ls : List (List Placed)). ShowsClash (all_tenancies w ls) b ↔ ShowsClash asked b) (sym same)
+      let t = no_breach taken numbered key_for old none in
+      subst (λ (ls : List (List Placed)). ShowsClash (all_tenancies w ls) b ↔ ShowsClash checked b) (sym same)
       (enough w (lawful taken.policy key_for (sighting_at taken)) last 0 (turns_of old extension) turns
-      (subst ClashNowhere (sym before) (nowhere_of (all_tenancies w (lanes_from 0 old.lanes)) t.clashes)) asked
-      (enough_of w last 0 (turns_of old extension) asked turns (subst (λ (ls : List (List Placed)). (t : Tenancy) → Contains asked t → Contains (all_tenancies w ls) t) same no_others) covers) b)
+      (subst ClashNowhere (sym before) (nowhere_of (all_tenancies w (lanes_from 0 old.lanes)) t.clashes)) checked
+      (enough_of w last 0 (turns_of old extension) checked turns (subst (λ (ls : List (List Placed)). (t : Tenancy) → Contains checked t → Contains (all_tenancies w ls) t) same no_others) covers) b)
 
   turned : (found : Option Breach) → LeastOf (ForEachTurn taken key_for (turns_of old extension)) found → LeastOf (ForEach (OutcomeSoFar taken key_for) (lanes_from 0 new.lanes)) found
   turned found e = record { outcomes = e.outcomes; each = lanes_turn e.outcomes e.each; least = e.least }
 
-  pub breach_of_turn : (last : Option ℕ) → StandsByLast last old → OfMoments (λ moment. IfSome last (λ before. before < moment)) extension → Covers w last (turns_of old extension) asked →
-      (found : Option Breach) → TurnTells taken key_for old extension new asked found → LiveBreach taken key_for new found
+  pub breach_of_turn : (last : Option ℕ) → StandsByLast last old → OfMoments (λ moment. IfSome last (λ before. before < moment)) extension → Covers w last (turns_of old extension) checked →
+      (found : Option Breach) → IsBreachOfTurn taken key_for old extension new checked found → LiveBreach taken key_for new found
   breach_of_turn last by_last past covers found (Some b, least, rest) = (Some b, least, rest)
   breach_of_turn last by_last past covers found (None, least, (Some b, each, rest)) = (None, least, (Some b, turned (Some b) each, rest))
   breach_of_turn last by_last past covers found (None, least, (None, each, rest)) =
       let goes : EachGoes w (lanes_from 0 new.lanes) = goes_all taken key_for 0 new.lanes (rise_lanes taken numbered key_for new least) (once_lanes taken numbered key_for new least) each.outcomes (lanes_turn each.outcomes each.each) (all_none taken key_for each.outcomes each.least) in
-      (None, least, (None, turned None each, least_by (ShowsClash asked) (ShowsClash (all_tenancies w (lanes_from 0 new.lanes))) (clashes last by_last past covers goes) found rest))
+      (None, least, (None, turned None each, least_by (ShowsClash checked) (ShowsClash (all_tenancies w (lanes_from 0 new.lanes))) (clashes last by_last past covers goes) found rest))

@@ -27,7 +27,7 @@ abbrev pub owes : SightId → List Owing → Bool
 owes t os = list_any (λ (o : Owing). same_sight t o.gives) os
 
 -- the state of the server is what the lane remembers, and `placed` tells how often each sighting was placed so far
-pub record Tells (w : Rules) (pair : Pair) (m : Memory) (placed : SightId → ℕ) (st : State) : Type 0 where
+pub record Matches (w : Rules) (pair : Pair) (m : Memory) (placed : SightId → ℕ) (st : State) : Type 0 where
   pub table : st.table pair ≡ m.allocation
   pub others : (c : Pair) → c ≢ pair → st.table c ≡ None
   pub waiting : (s : SightId) → st.waiting s ≡ cond (m.taken s) None (m.came s)
@@ -36,10 +36,10 @@ pub record Tells (w : Rules) (pair : Pair) (m : Memory) (placed : SightId → �
   pub came_once : (s : SightId) → is_some (m.came s) ≡ true → 1 ≤ placed s
   pub left_once : (t : SightId) → is_some (m.since t) ≡ true → owes t m.owing ≡ false → 1 ≤ placed t
   pub taken_came : (s : SightId) → m.taken s ≡ true → is_some (m.came s) ≡ true
-  pub owed_given : (t : SightId) → owes t m.owing ≡ true → is_some (m.since t) ≡ true
+  pub owed_sent : (t : SightId) → owes t m.owing ≡ true → is_some (m.since t) ≡ true
 
-pub tells_first : (w : Rules) (pair : Pair) → Tells w pair nothing_yet (λ _. 0) at_first
-tells_first w pair = record {
+pub matches_first : (w : Rules) (pair : Pair) → Matches w pair nothing_yet (λ _. 0) at_first
+matches_first w pair = record {
   table = refl;
   others = λ c ne. refl;
   waiting = λ s. refl;
@@ -48,7 +48,7 @@ tells_first w pair = record {
   came_once = λ s h. absurd (true≢false (sym h));
   left_once = λ t h k. absurd (true≢false (sym h));
   taken_came = λ s h. absurd (true≢false (sym h));
-  owed_given = λ t h. absurd (true≢false (sym h));
+  owed_sent = λ t h. absurd (true≢false (sym h));
 }
 
 abbrev pub counted : (SightId → ℕ) → Move → SightId → ℕ
@@ -103,7 +103,7 @@ owes_filter t y (o ∷ os) = elim (same_sight y o.gives) as (λ b. same_sight y 
 
 module _ (w : Rules) (pair : Pair) where
   -- what may come by the state may come by what is remembered
-  goes_of : (m : Memory) (placed : SightId → ℕ) (st : State) (moment : ℕ) (move : Move) → Tells w pair m placed st → OnlyOf pair move → MayMove w st moment move → GoesOn w m moment move
+  goes_of : (m : Memory) (placed : SightId → ℕ) (st : State) (moment : ℕ) (move : Move) → Matches w pair m placed st → OnlyOf pair move → MayMove w st moment move → GoesOn w m moment move
   goes_of m placed st moment (In s) k o h = tt
   goes_of m placed st moment (Act c s t) k o h =
       let waits : InTime w (cond (m.taken s) None (m.came s)) moment = subst (λ (x : Option ℕ). InTime w x moment) (k.waiting s) h.0 in
@@ -118,7 +118,7 @@ module _ (w : Rules) (pair : Pair) where
     by_owes false i = absurd i
 
   -- and back, where nothing is placed twice
-  may_of : (m : Memory) (placed : SightId → ℕ) (st : State) (moment : ℕ) (move : Move) → Tells w pair m placed st → OnlyOf pair move → ((s : SightId) → counted placed move s ≤ 1) → GoesOn w m moment move → MayMove w st moment move
+  may_of : (m : Memory) (placed : SightId → ℕ) (st : State) (moment : ℕ) (move : Move) → Matches w pair m placed st → OnlyOf pair move → ((s : SightId) → counted placed move s ≤ 1) → GoesOn w m moment move → MayMove w st moment move
   may_of m placed st moment (In s) k o n h = tt
   may_of m placed st moment (Act c s t) k o n h = (
     subst (λ (x : Option ℕ). InTime w x moment) (sym (k.waiting s ∙ cond-false (m.taken s) None (m.came s) h.1)) (in_time_of w (m.came s) moment h.0),
@@ -130,9 +130,9 @@ module _ (w : Rules) (pair : Pair) where
     by_owes true q = in_time_of w (m.since t) moment h
     by_owes false q = absurd (let l = k.left_once t (in_time_some w.hold (m.since t) moment h) q in let c = one_if (same_sight t t) (sight_same t t refl) in omega (arith, n t, l))
 
-  tells_step : (m : Memory) (placed : SightId → ℕ) (st : State) (e : Placed) (move : Move) → e.move ≡ move → Tells w pair m placed st → OnlyOf pair move → ((s : SightId) → counted placed move s ≤ 1) → GoesOn w m e.at.key.moment move →
-      Tells w pair (remembered w m (record { at = e.at; move = move })) (counted placed move) (after w st (record { moment = e.at.key.moment; move = move }))
-  tells_step m placed st e (In x) is k o n h =
+  matches_step : (m : Memory) (placed : SightId → ℕ) (st : State) (e : Placed) (move : Move) → e.move ≡ move → Matches w pair m placed st → OnlyOf pair move → ((s : SightId) → counted placed move s ≤ 1) → GoesOn w m e.at.key.moment move →
+      Matches w pair (remembered w m (record { at = e.at; move = move })) (counted placed move) (after w st (record { moment = e.at.key.moment; move = move }))
+  matches_step m placed st e (In x) is k o n h =
       let new : m.came x ≡ None = none_is (m.came x) (λ q. let c = one_if (same_sight x x) (sight_same x x refl) in omega (arith, n x, k.came_once x q)) in
       let untaken : m.taken x ≡ false = by_bool (m.taken x) refl new in
       let came : came_after m e.at.key.moment (In x) ≡ put same_sight m.came x (Some e.at.key.moment) = ap (λ (p : Option ℕ). cond (is_some p) m.came (put same_sight m.came x (Some e.at.key.moment))) new in
@@ -145,7 +145,7 @@ module _ (w : Rules) (pair : Pair) where
         came_once = λ s q. came_by s (subst (λ (f : SightId → Option ℕ). is_some (f s) ≡ true) came q);
         left_once = λ t q r. more_placed t placed (In x) (k.left_once t q r);
         taken_came = λ s q. subst (λ (f : SightId → Option ℕ). is_some (f s) ≡ true) (sym came) (taken_by s q);
-        owed_given = k.owed_given;
+        owed_sent = k.owed_sent;
       } where
         by_bool : (b : Bool) → m.taken x ≡ b → m.came x ≡ None → m.taken x ≡ false
         by_bool true q none = absurd (true≢false (sym (k.taken_came x q) ∙ ap is_some none))
@@ -165,7 +165,7 @@ module _ (w : Rules) (pair : Pair) where
 
         taken_by : (s : SightId) → m.taken s ≡ true → is_some (put same_sight m.came x (Some e.at.key.moment) s) ≡ true
         taken_by s q = elim (same_sight s x) as (λ b. is_some (cond b (Some e.at.key.moment) (m.came s)) ≡ true) [ true ↦ refl | false ↦ k.taken_came s q ]
-  tells_step m placed st e (Act c x y) is k o n h = record {
+  matches_step m placed st e (Act c x y) is k o n h = record {
     table = ap (λ p. put same_client st.table c (acted w e.at.key.moment (Act c x y) (st.table c)) p) (sym (o c x y refl)) ∙ cond-true (same_client c c) (acted w e.at.key.moment (Act c x y) (st.table c)) (st.table c) (client_same c c refl)
         ∙ ap (acted w e.at.key.moment (Act c x y)) (ap (λ p. st.table p) (o c x y refl) ∙ k.table);
     others = λ d ne. put_client st.table c (acted w e.at.key.moment (Act c x y) (st.table c)) d (λ i. ne (i ∙ o c x y refl)) ∙ k.others d ne;
@@ -180,9 +180,9 @@ module _ (w : Rules) (pair : Pair) where
       | true ↦ λ i r. ap (λ z. is_some (m.came z)) (sight_true s x i) ∙ in_time_some w.hold (m.came x) e.at.key.moment h.0
       | false ↦ λ i r. k.taken_came s r
     ] refl q;
-    owed_given = λ t q. elim (same_sight t y) as (λ b. (owes t m.owing || b) ≡ true → is_some (cond b (m.came x) (m.since t)) ≡ true) [
+    owed_sent = λ t q. elim (same_sight t y) as (λ b. (owes t m.owing || b) ≡ true → is_some (cond b (m.came x) (m.since t)) ≡ true) [
       | true ↦ λ r. in_time_some w.hold (m.came x) e.at.key.moment h.0
-      | false ↦ λ r. k.owed_given t (sym (or_none (owes t m.owing)) ∙ r)
+      | false ↦ λ r. k.owed_sent t (sym (or_none (owes t m.owing)) ∙ r)
     ] (sym (owes_push t m.owing (record { at = e.at; sight = x; gives = y })) ∙ q);
   } where
     or_none : (b : Bool) → (b || false) ≡ b
@@ -197,7 +197,7 @@ module _ (w : Rules) (pair : Pair) where
       or_true : (b : Bool) → (b || true) ≡ true
       or_true true = refl
       or_true false = refl
-  tells_step m placed st e (Out y) is k o n h = record {
+  matches_step m placed st e (Out y) is k o n h = record {
     table = k.table;
     others = k.others;
     waiting = k.waiting;
@@ -209,9 +209,9 @@ module _ (w : Rules) (pair : Pair) where
       | false ↦ λ i z. more_placed t placed (Out y) (k.left_once t q z)
     ] refl (sym (owes_filter t y m.owing) ∙ r);
     taken_came = k.taken_came;
-    owed_given = λ t q. elim (same_sight t y) as (λ b. cond b false (owes t m.owing) ≡ true → is_some (m.since t) ≡ true) [
+    owed_sent = λ t q. elim (same_sight t y) as (λ b. cond b false (owes t m.owing) ≡ true → is_some (m.since t) ≡ true) [
       | true ↦ λ z. absurd (true≢false (sym z))
-      | false ↦ λ z. k.owed_given t z
+      | false ↦ λ z. k.owed_sent t z
     ] (sym (owes_filter t y m.owing) ∙ q);
   }
 
@@ -241,7 +241,7 @@ module _ (w : Rules) (pair : Pair) where
   next_past : (e : Placed) (es : List Placed) → AllByRecursion (λ (d : Placed). at_cmp e.at d.at ≡ Less) es → AllByRecursion (λ (d : Placed). e.at.key.moment ≤ d.at.key.moment) es
   next_past e es h = all_weaker (λ (d : Placed). at_cmp e.at d.at ≡ Less) (λ (d : Placed). e.at.key.moment ≤ d.at.key.moment) (λ d l. moment_le e.at d.at l) es h
 
-  pub runs_of_going : (es : List Placed) (m : Memory) (placed : SightId → ℕ) (st : State) → Tells w pair m placed st → AllByRecursion (λ (e : Placed). OnlyOf pair e.move) es → ((s : SightId) → placed s + times_placed s (map step_of es) ≤ 1) →
+  pub runs_of_going : (es : List Placed) (m : Memory) (placed : SightId → ℕ) (st : State) → Matches w pair m placed st → AllByRecursion (λ (e : Placed). OnlyOf pair e.move) es → ((s : SightId) → placed s + times_placed s (map step_of es) ≤ 1) →
       Rises es → NotPast st es → AllGoOn w m es → Runs w st es
   unfolding IsStrictlySortedBy
   runs_of_going [] m placed st k o n r p h = tt
@@ -251,32 +251,32 @@ module _ (w : Rules) (pair : Pair) where
       may = may_of m placed st e.at.key.moment e.move k o.0 (up_to_one placed e es n) h.0;
       free = free_move st e.at.key.moment e.move o.0 k.others;
     },
-    runs_of_going es (remembered w m e) (counted placed e.move) (after w st (step_of e)) (tells_step m placed st e e.move refl k o.0 (up_to_one placed e es n) h.0) o.1 (one_more placed e es n) r.1 (next_past e es r.0) h.1,
+    runs_of_going es (remembered w m e) (counted placed e.move) (after w st (step_of e)) (matches_step m placed st e e.move refl k o.0 (up_to_one placed e es n) h.0) o.1 (one_more placed e es n) r.1 (next_past e es r.0) h.1,
   )
 
-  pub going_of_runs : (es : List Placed) (m : Memory) (placed : SightId → ℕ) (st : State) → Tells w pair m placed st → AllByRecursion (λ (e : Placed). OnlyOf pair e.move) es → ((s : SightId) → placed s + times_placed s (map step_of es) ≤ 1) →
+  pub going_of_runs : (es : List Placed) (m : Memory) (placed : SightId → ℕ) (st : State) → Matches w pair m placed st → AllByRecursion (λ (e : Placed). OnlyOf pair e.move) es → ((s : SightId) → placed s + times_placed s (map step_of es) ≤ 1) →
       Runs w st es → AllGoOn w m es
   going_of_runs [] m placed st k o n h = tt
   going_of_runs (e ∷ es) m placed st k o n h =
       let g : GoesOn w m e.at.key.moment e.move = goes_of m placed st e.at.key.moment e.move k o.0 h.0.may in
-      (g, going_of_runs es (remembered w m e) (counted placed e.move) (after w st (step_of e)) (tells_step m placed st e e.move refl k o.0 (up_to_one placed e es n) g) o.1 (one_more placed e es n) h.1)
+      (g, going_of_runs es (remembered w m e) (counted placed e.move) (after w st (step_of e)) (matches_step m placed st e e.move refl k o.0 (up_to_one placed e es n) g) o.1 (one_more placed e es n) h.1)
 
   -- where the events lead, what the lane remembers is the server's state
-  pub told_all : (es : List Placed) (m : Memory) (placed : SightId → ℕ) (st : State) → Tells w pair m placed st → AllByRecursion (λ (e : Placed). OnlyOf pair e.move) es → ((s : SightId) → placed s + times_placed s (map step_of es) ≤ 1) →
-      AllGoOn w m es → (now : SightId → ℕ) × Tells w pair (remembered_all w m es) now (led w st es)
-  told_all [] m placed st k o n h = (placed, k)
-  told_all (e ∷ es) m placed st k o n h = told_all es (remembered w m e) (counted placed e.move) (after w st (step_of e)) (tells_step m placed st e e.move refl k o.0 (up_to_one placed e es n) h.0) o.1 (one_more placed e es n) h.1
+  pub matches_all : (es : List Placed) (m : Memory) (placed : SightId → ℕ) (st : State) → Matches w pair m placed st → AllByRecursion (λ (e : Placed). OnlyOf pair e.move) es → ((s : SightId) → placed s + times_placed s (map step_of es) ≤ 1) →
+      AllGoOn w m es → (now : SightId → ℕ) × Matches w pair (remembered_all w m es) now (led w st es)
+  matches_all [] m placed st k o n h = (placed, k)
+  matches_all (e ∷ es) m placed st k o n h = matches_all es (remembered w m e) (counted placed e.move) (after w st (step_of e)) (matches_step m placed st e e.move refl k o.0 (up_to_one placed e es n) h.0) o.1 (one_more placed e es n) h.1
 
   -- the server owes nothing exactly where the lane has nothing that is owed
   none_owing : (os : List Owing) → ((t : SightId) → owes t os ≡ false) → os ≡ []
   none_owing [] f = refl
   none_owing (o ∷ os) f = absurd (true≢false (sym (ap (λ b. b || owes o.gives os) (sight_same o.gives o.gives refl)) ∙ f o.gives))
 
-  pub owing_of : (m : Memory) (placed : SightId → ℕ) (st : State) → Tells w pair m placed st → ((t : SightId) → st.owed t ≡ None) → m.owing ≡ []
+  pub owing_of : (m : Memory) (placed : SightId → ℕ) (st : State) → Matches w pair m placed st → ((t : SightId) → st.owed t ≡ None) → m.owing ≡ []
   owing_of m placed st k f = none_owing m.owing (λ t. by_owes t (owes t m.owing) refl) where
     by_owes : (t : SightId) (b : Bool) → owes t m.owing ≡ b → owes t m.owing ≡ false
-    by_owes t true q = absurd (true≢false (sym (k.owed_given t q) ∙ ap is_some (sym (cond-true (owes t m.owing) (m.since t) None q) ∙ sym (k.owed t) ∙ f t)))
+    by_owes t true q = absurd (true≢false (sym (k.owed_sent t q) ∙ ap is_some (sym (cond-true (owes t m.owing) (m.since t) None q) ∙ sym (k.owed t) ∙ f t)))
     by_owes t false q = q
 
-  pub nothing_owing : (m : Memory) (placed : SightId → ℕ) (st : State) → Tells w pair m placed st → m.owing ≡ [] → (t : SightId) → st.owed t ≡ None
+  pub nothing_owing : (m : Memory) (placed : SightId → ℕ) (st : State) → Matches w pair m placed st → m.owing ≡ [] → (t : SightId) → st.owed t ≡ None
   nothing_owing m placed st k e t = k.owed t ∙ ap (λ (os : List Owing). cond (owes t os) (m.since t) None) e

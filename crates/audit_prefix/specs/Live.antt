@@ -12,7 +12,7 @@ use Rattle.audit_server.specs.Placed.{Placed}
 use Rattle.audit_whole.specs.Glued.{lanes_from}
 use Rattle.audit_whole.specs.CaptureRun.{rules_for}
 use Rattle.audit_prefix.specs.Advance.{StandsByLast, IsInTurn}
-use Rattle.audit_prefix.specs.Told.{LiveBreach}
+use Rattle.audit_prefix.specs.Breaches.{LiveBreach}
 use Rattle.audit_prefix.specs.Walk.{nothing_yet, remembered_all}
 use Rattle.std.specs.Prelude.{◌+◌}
 

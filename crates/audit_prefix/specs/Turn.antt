@@ -71,17 +71,17 @@ pub record HoldsOn (horizon : ℕ) (t : Tenancy) : Type 0 where
 
 -- Tenancies that are enough to check: they are tenancies of the lanes, and include each pair that
 -- may clash of those that end in the turn or are current after it.
-pub record AreEnough (horizon : ℕ) (all now asked : List Tenancy) : Type 0 where
-  pub no_others : (t : Tenancy) → Contains asked t → Contains all t
-  pub each_two : (new held : Tenancy) → Contains now new → Contains now held → MayClash horizon new held → Contains asked new × Contains asked held
+pub record AreEnough (horizon : ℕ) (all now checked : List Tenancy) : Type 0 where
+  pub no_others : (t : Tenancy) → Contains checked t → Contains all t
+  pub each_two : (new held : Tenancy) → Contains now new → Contains now held → MayClash horizon new held → Contains checked new × Contains checked held
 
 -- The least that is checked: all fresh tenancies of the lanes that have events in the turn, and of
 -- the others the current one, if one with its address is born in the turn and it hasn't expired
 -- when the turn begins.
-pub record Covers (w : Rules) (last : Option ℕ) (turns : List Turn) (asked : List Tenancy) : Type 0 where
-  pub touched : (turn : Turn) → Contains turns turn → turn.more ≢ [] → (t : Tenancy) → Contains (fresh_in w turn) t → Contains asked t
+pub record Covers (w : Rules) (last : Option ℕ) (turns : List Turn) (checked : List Tenancy) : Type 0 where
+  pub touched : (turn : Turn) → Contains turns turn → turn.more ≢ [] → (t : Tenancy) → Contains (fresh_in w turn) t → Contains checked t
   pub others : (turn : Turn) → Contains turns turn → turn.more ≡ [] → (held new : Tenancy) → runs_after w None None turn.before ≡ Some held → Contains (fresh w turns) new →
-      IfSome last (λ horizon. MayClash horizon new held) → Contains asked held
+      IfSome last (λ horizon. MayClash horizon new held) → Contains checked held
 
 -- ---- of a certificate and its extension
 

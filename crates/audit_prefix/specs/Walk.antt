@@ -116,15 +116,15 @@ module _ (taken : Taken) (key_for : KeyFor) where
   BreaksArrived None again moment Other rule = rule ≡ ActBeforeArrival
   BreaksArrived (Some came) again moment Other rule = MatchBool again (rule ≡ ActedTwice) (BreaksInTime came moment Other rule)
 
-  abbrev pub BreaksGiven : Option ℕ → ℕ → Rule → Type 0
-  BreaksGiven None moment rule = rule ≡ LeftWithoutAct
-  BreaksGiven (Some came) moment rule = (later came rules.hold < moment) × (rule ≡ HeldTooLong)
+  abbrev pub BreaksSent : Option ℕ → ℕ → Rule → Type 0
+  BreaksSent None moment rule = rule ≡ LeftWithoutAct
+  BreaksSent (Some came) moment rule = (later came rules.hold < moment) × (rule ≡ HeldTooLong)
 
   -- the first rule that the event breaks
   abbrev pub Breaks : Memory → ℕ → Move → Rule → Type 0
   Breaks m moment (In s) rule = ⊥
   Breaks m moment (Act c s t) rule = BreaksArrived (m.came s) (m.taken s || is_some (m.since t)) moment (BreaksAnswer c moment m.allocation (sighting_at taken s) (sighting_at taken t)) rule
-  Breaks m moment (Out t) rule = BreaksGiven (m.since t) moment rule
+  Breaks m moment (Out t) rule = BreaksSent (m.since t) moment rule
 
   abbrev pub sight_named : Move → SightId
   sight_named (In s) = s

@@ -23,7 +23,7 @@ ghost use Rattle.audit_whole.specs.Passes.{Passes};
 ghost use Rattle.audit_prefix.specs.Advance.{StandsBy, StandsByLast, OfMoments};
 ghost use Rattle.audit_prefix.specs.Live.{Standing, IsGoing, MayAdvance, Advances, horizon_of};
 ghost use Rattle.audit_prefix.specs.Prefix.{IsPrefix, PassesSoFar, EachGoes};
-ghost use Rattle.audit_prefix.specs.Told.{LiveBreach, IsVerdict, LeftAtTheEnd, TurnTells};
+ghost use Rattle.audit_prefix.specs.Breaches.{LiveBreach, IsVerdict, LeftAtTheEnd, IsBreachOfTurn};
 ghost use Rattle.audit_prefix.specs.Turn.{turns_of, fresh, AreEnough, HoldsOn, Covers, Turn, whole, fresh_in, runs_after, KnowsHolders, NotesHolders};
 ghost use Rattle.audit_prefix.specs.Walk.{nothing_yet, remembered_all, Walks, HaveBytes};
 
@@ -48,12 +48,12 @@ pub fn sightings_to_come_change_nothing()
 /// After an extension that comes past the last horizon, it is enough to check for clashes the
 /// tenancies that end in it or are current after it: those that are born in it, and those with
 /// their address that have not expired at the last horizon.
-pub fn enough_are_asked()
-    ensures { (taken : Taken) (key_for : KeyFor) (old : Certificate) (extension : Extension) (new : Certificate) (last : ℕ) (asked : List Tenancy) →
+pub fn enough_are_checked()
+    ensures { (taken : Taken) (key_for : KeyFor) (old : Certificate) (extension : Extension) (new : Certificate) (last : ℕ) (checked : List Tenancy) →
         Extends old extension new → StandsBy last old → OfMoments (λ moment. last < moment) extension → EachGoes (rules_for taken key_for) (lanes_from 0 new.lanes) →
         ((breach : Breach) → ¬ ShowsClash (all_tenancies (rules_for taken key_for) (lanes_from 0 old.lanes)) breach) →
-        AreEnough last (all_tenancies (rules_for taken key_for) (lanes_from 0 new.lanes)) (fresh (rules_for taken key_for) (turns_of old extension)) asked →
-        (breach : Breach) → ShowsClash (all_tenancies (rules_for taken key_for) (lanes_from 0 new.lanes)) breach ↔ ShowsClash asked breach }
+        AreEnough last (all_tenancies (rules_for taken key_for) (lanes_from 0 new.lanes)) (fresh (rules_for taken key_for) (turns_of old extension)) checked →
+        (breach : Breach) → ShowsClash (all_tenancies (rules_for taken key_for) (lanes_from 0 new.lanes)) breach ↔ ShowsClash checked breach }
 {}
 
 /// And everything is at or before the new horizon.
@@ -63,7 +63,7 @@ pub fn stands_by_the_horizon()
 {}
 
 /// A certificate so far has no breach exactly if everything passes so far.
-pub fn none_told()
+pub fn no_breach()
     ensures { (taken : Taken) (key_for : KeyFor) (certificate : Certificate) → AreNumbered taken →
         LiveBreach taken key_for certificate None ↔ PassesSoFar taken (rules_for taken key_for) certificate }
 {}
@@ -82,7 +82,7 @@ pub fn conforming()
 {}
 
 /// If there is no breach, there is none as the intake grows.
-pub fn none_told_later()
+pub fn no_breach_later()
     ensures { (before now : Taken) (key_for : KeyFor) (certificate : Certificate) → AreNumbered before → AreNumbered now → Stays before now →
         LiveBreach before key_for certificate None → LiveBreach now key_for certificate None }
 {}
@@ -98,10 +98,10 @@ pub fn one_holder()
 /// horizon by itself: its placement, its events after the state of their lanes, and its tenancies
 /// with those that may clash with them. The result is the breach of the whole certificate.
 pub fn breach_of_a_turn()
-    ensures { (taken : Taken) (key_for : KeyFor) (old : Certificate) (extension : Extension) (new : Certificate) (last : Option ℕ) (asked : List Tenancy) (found : Option Breach) → AreNumbered taken →
+    ensures { (taken : Taken) (key_for : KeyFor) (old : Certificate) (extension : Extension) (new : Certificate) (last : Option ℕ) (checked : List Tenancy) (found : Option Breach) → AreNumbered taken →
         Extends old extension new → StandsByLast last old → OfMoments (λ moment. IfSome last (λ before. before < moment)) extension → LiveBreach taken key_for old None →
-        ((t : Tenancy) → Contains asked t → Contains (all_tenancies (rules_for taken key_for) (lanes_from 0 new.lanes)) t) → Covers (rules_for taken key_for) last (turns_of old extension) asked →
-        TurnTells taken key_for old extension new asked found → LiveBreach taken key_for new found }
+        ((t : Tenancy) → Contains checked t → Contains (all_tenancies (rules_for taken key_for) (lanes_from 0 new.lanes)) t) → Covers (rules_for taken key_for) last (turns_of old extension) checked →
+        IsBreachOfTurn taken key_for old extension new checked found → LiveBreach taken key_for new found }
 {}
 
 /// A lane's tenancies are the ended ones in its state and the current one; the fresh ones of a turn
@@ -146,12 +146,12 @@ pub fn holders_stay_known()
 /// Of lanes without events in a turn it is enough to check those that are noted for the address of
 /// a tenancy born in it.
 pub fn noted_holders_are_enough()
-    ensures { (taken : Taken) (key_for : KeyFor) (last : ℕ) (turns : List Turn) (noted : Addr → Option ℕ) (asked : List Tenancy) →
+    ensures { (taken : Taken) (key_for : KeyFor) (last : ℕ) (turns : List Turn) (noted : Addr → Option ℕ) (checked : List Tenancy) →
         AllByRecursion (λ (turn : Turn). KnowsHolders (rules_for taken key_for) last noted turn.before) turns →
-        ((turn : Turn) → Contains turns turn → turn.more ≢ [] → (t : Tenancy) → Contains (fresh_in (rules_for taken key_for) turn) t → Contains asked t) →
+        ((turn : Turn) → Contains turns turn → turn.more ≢ [] → (t : Tenancy) → Contains (fresh_in (rules_for taken key_for) turn) t → Contains checked t) →
         ((turn : Turn) → Contains turns turn → turn.more ≡ [] → (held new : Tenancy) → runs_after (rules_for taken key_for) None None turn.before ≡ Some held → Contains (fresh (rules_for taken key_for) turns) new →
-        last < new.born.key.moment → noted new.relayed ≡ Some held.born.lane → Contains asked held) →
-        Covers (rules_for taken key_for) (Some last) turns asked }
+        last < new.born.key.moment → noted new.relayed ≡ Some held.born.lane → Contains checked held) →
+        Covers (rules_for taken key_for) (Some last) turns checked }
 {}
 
 /// A walk has one outcome: an event that may come breaks no rule, and the first broken rule is

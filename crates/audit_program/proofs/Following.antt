@@ -16,7 +16,7 @@ use Rattle.audit_model.specs.declared.sighting.Sighting.{Sighting}
 use Rattle.audit_model.specs.declared.verdict.Breach.{Breach}
 use Rattle.audit_model.specs.declared.verdict.Verdict.{Verdict}
 use Rattle.audit_pcapng.specs.declared.packet.Packet.{Packet}
-use Rattle.audit_prefix.specs.Told.{LiveBreach}
+use Rattle.audit_prefix.specs.Breaches.{LiveBreach}
 use Rattle.audit_sightings.specs.declared.fault.IntakeFault.{IntakeFault}
 use Rattle.audit_sightings.specs.declared.fault.IntakeFaultKind.TheVariants.{Limit}
 use Rattle.audit_sightings.specs.declared.intake.Intake.{Intake}

@@ -6,7 +6,7 @@ use Rattle.audit_model.specs.PolicyText.{policy_of}
 use Rattle.audit_model.specs.declared.policy.Policy.{Policy}
 use Rattle.audit_model.specs.declared.sighting.Sighting.{Sighting}
 use Rattle.audit_model.specs.declared.verdict.Breach.{Breach}
-use Rattle.audit_prefix.specs.Told.{LiveBreach}
+use Rattle.audit_prefix.specs.Breaches.{LiveBreach}
 use Rattle.audit_sightings.specs.declared.fault.IntakeFault.{IntakeFault}
 use Rattle.audit_sightings.specs.declared.intake.Intake.{Intake}
 use Rattle.audit_sightings.specs.Files.{Fed, Refuses, StandsFor, fed_at, with_piece}

@@ -15,7 +15,7 @@ use Rattle.audit_model.specs.declared.verdict.Verdict.{Verdict}
 use Rattle.audit_model.specs.declared.verdict.Verdict.TheVariants.{NotShown}
 use Rattle.audit_model.specs.PolicyText.{policy_of}
 use Rattle.audit_model.specs.Sink.{followed_by}
-use Rattle.audit_prefix.specs.Told.{LiveBreach}
+use Rattle.audit_prefix.specs.Breaches.{LiveBreach}
 use Rattle.audit_report.specs.ReportText.{report_text}
 use Rattle.audit_rules.specs.Keys.{KeyFor}
 use Rattle.audit_sightings.specs.declared.fault.IntakeFault.{IntakeFault}

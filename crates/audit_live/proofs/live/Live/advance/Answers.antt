@@ -3,7 +3,7 @@ use Rattle.std.specs.Prelude.{IfNone}
 use Rattle.audit_keys.specs.KeyFor.{key_for}
 use Rattle.audit_model.specs.declared.verdict.Breach.{Breach}
 use Rattle.audit_prefix.specs.Live.{MayAdvance, Shows}
-use Rattle.audit_prefix.specs.Told.{LiveBreach}
+use Rattle.audit_prefix.specs.Breaches.{LiveBreach}
 use Rattle.audit_prefix.proofs.Living.{front as front_of_run}
 use Rattle.audit_sightings.specs.Intake.{taken}
 use Rattle.audit_live.specs.Audit.{Audit}

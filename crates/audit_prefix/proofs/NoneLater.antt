@@ -8,11 +8,11 @@ use Rattle.audit_rules.specs.Keys.{KeyFor}
 use Rattle.audit_sightings.specs.Intake.{AreNumbered, Taken}
 use Rattle.audit_whole.specs.CaptureRun.{rules_for}
 use Rattle.audit_whole.specs.Glued.{lanes_from}
-use Rattle.audit_prefix.specs.Told.{LiveBreach}
+use Rattle.audit_prefix.specs.Breaches.{LiveBreach}
 use Rattle.audit_prefix.proofs.Growth.{go_on}
 use Rattle.audit_prefix.proofs.Later.{goes_later, same_tenancies}
 use Rattle.audit_prefix.proofs.Staying.{shows_none_later}
-use Rattle.audit_prefix.proofs.Telling.{passes_of_none, none_of_passes}
+use Rattle.audit_prefix.proofs.Passing.{passes_of_none, none_of_passes}
 
 pub none_later : (before now : Taken) (key_for : KeyFor) (certificate : Certificate) → AreNumbered before → AreNumbered now → Stays before now → LiveBreach before key_for certificate None → LiveBreach now key_for certificate None
 none_later before now key_for certificate numbered later stays none =

@@ -81,5 +81,5 @@ module _ (taken : Taken) (key_for : KeyFor) where
 
   -- the breach of a turn: of the placement of the certificate with the extension, of each lane's
   -- new events, and of the tenancies that are checked
-  abbrev pub TurnTells : Certificate → Extension → Certificate → List Tenancy → Option Breach → Type 0
-  TurnTells old extension new asked found = InPhases (ShowsPlaced taken new) (ForEachTurn (turns_of old extension)) (ShowsClash asked) found
+  abbrev pub IsBreachOfTurn : Certificate → Extension → Certificate → List Tenancy → Option Breach → Type 0
+  IsBreachOfTurn old extension new checked found = InPhases (ShowsPlaced taken new) (ForEachTurn (turns_of old extension)) (ShowsClash checked) found

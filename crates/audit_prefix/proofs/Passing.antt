@@ -35,10 +35,10 @@ use Rattle.audit_whole.proofs.Listing.{joined_is}
 use Rattle.audit_whole.proofs.Conforming.{contained_all}
 use Rattle.audit_prefix.specs.Prefix.{PassesSoFar, EachGoes}
 use Rattle.audit_prefix.specs.Walk.{Owing, Memory, nothing_yet, remembered, remembered_all, AllGoOn, Walks, end_of, lane_breach}
-use Rattle.audit_prefix.specs.Told.{OrElse, LeastOf, ForEach, OutcomeSoFar, OutcomeOfEnd, Outcome, LiveBreach, IsVerdict, LeftAtTheEnd}
+use Rattle.audit_prefix.specs.Breaches.{OrElse, LeastOf, ForEach, OutcomeSoFar, OutcomeOfEnd, Outcome, LiveBreach, IsVerdict, LeftAtTheEnd}
 use Rattle.audit_prefix.proofs.Extending.{only_of}
 use Rattle.audit_prefix.proofs.Sound.{sound_so_far, rise_so_far, once_so_far}
-use Rattle.audit_prefix.proofs.Walking.{Tells, tells_first, runs_of_going, going_of_runs, told_all, owing_of, nothing_owing}
+use Rattle.audit_prefix.proofs.Walking.{Matches, matches_first, runs_of_going, going_of_runs, matches_all, owing_of, nothing_owing}
 
 not_some : {A : Type 0} (x : A) → None ≡ Some x → ⊥
 not_some x e = let k : None ≡ Some x = e in cc
@@ -78,14 +78,14 @@ module _ (taken : Taken) (key_for : KeyFor) where
   acts_of n lane = only_of (record { client = lane.client; listen = lane.listen }) n 0 None lane.events
 
   lane_runs : (n : ℕ) (lane : CertLane) → Rises (events_of n lane) → ((s : SightId) → times_placed s (map step_of (events_of n lane)) ≤ 1) → OutcomeSoFar taken key_for (events_of n lane) None → Runs w at_first (events_of n lane)
-  lane_runs n lane r once h = runs_of_going w (pair_of lane) (events_of n lane) nothing_yet (λ _. 0) at_first (tells_first w (pair_of lane)) (acts_of n lane) (λ s. omega (arith, once s)) r (from_first (events_of n lane)) (going_of_walk taken key_for (events_of n lane) nothing_yet h)
+  lane_runs n lane r once h = runs_of_going w (pair_of lane) (events_of n lane) nothing_yet (λ _. 0) at_first (matches_first w (pair_of lane)) (acts_of n lane) (λ s. omega (arith, once s)) r (from_first (events_of n lane)) (going_of_walk taken key_for (events_of n lane) nothing_yet h)
 
   lane_goes : (n : ℕ) (lane : CertLane) → ((s : SightId) → times_placed s (map step_of (events_of n lane)) ≤ 1) → Runs w at_first (events_of n lane) → OutcomeSoFar taken key_for (events_of n lane) None
-  lane_goes n lane once h = walk_of_going taken key_for (events_of n lane) nothing_yet (going_of_runs w (pair_of lane) (events_of n lane) nothing_yet (λ _. 0) at_first (tells_first w (pair_of lane)) (acts_of n lane) (λ s. omega (arith, once s)) h)
+  lane_goes n lane once h = walk_of_going taken key_for (events_of n lane) nothing_yet (going_of_runs w (pair_of lane) (events_of n lane) nothing_yet (λ _. 0) at_first (matches_first w (pair_of lane)) (acts_of n lane) (λ s. omega (arith, once s)) h)
 
-  lane_told : (n : ℕ) (lane : CertLane) → ((s : SightId) → times_placed s (map step_of (events_of n lane)) ≤ 1) → OutcomeSoFar taken key_for (events_of n lane) None →
-      (now : SightId → ℕ) × Tells w (pair_of lane) (remembered_all w nothing_yet (events_of n lane)) now (led w at_first (events_of n lane))
-  lane_told n lane once h = told_all w (pair_of lane) (events_of n lane) nothing_yet (λ _. 0) at_first (tells_first w (pair_of lane)) (acts_of n lane) (λ s. omega (arith, once s)) (going_of_walk taken key_for (events_of n lane) nothing_yet h)
+  lane_matches : (n : ℕ) (lane : CertLane) → ((s : SightId) → times_placed s (map step_of (events_of n lane)) ≤ 1) → OutcomeSoFar taken key_for (events_of n lane) None →
+      (now : SightId → ℕ) × Matches w (pair_of lane) (remembered_all w nothing_yet (events_of n lane)) now (led w at_first (events_of n lane))
+  lane_matches n lane once h = matches_all w (pair_of lane) (events_of n lane) nothing_yet (λ _. 0) at_first (matches_first w (pair_of lane)) (acts_of n lane) (λ s. omega (arith, once s)) (going_of_walk taken key_for (events_of n lane) nothing_yet h)
 
   none_of_end : (os : List Owing) → None ≡ end_of taken key_for os → os ≡ []
   none_of_end [] h = refl
@@ -162,10 +162,10 @@ module _ (taken : Taken) (key_for : KeyFor) where
     by_outcome (inl k) = absurd (not_some k.0 k.2)
     by_outcome (inr k) =
         let few = head_once (events_of n lane) (lanes_from (n + 1) lanes) once in
-        let told = lane_told n lane few k.0 in
+        let matches = lane_matches n lane few k.0 in
         record {
           runs = lane_runs n lane r.0 few k.0;
-          nothing_owed = nothing_owing w (pair_of lane) (remembered_all w nothing_yet (events_of n lane)) told.0 (led w at_first (events_of n lane)) told.1 (none_of_end (remembered_all w nothing_yet (events_of n lane)).owing k.1);
+          nothing_owed = nothing_owing w (pair_of lane) (remembered_all w nothing_yet (events_of n lane)) matches.0 (led w at_first (events_of n lane)) matches.1 (none_of_end (remembered_all w nothing_yet (events_of n lane)).owing k.1);
         }
 
   judged_all : (n : ℕ) (lanes : List CertLane) → OnceIn (lanes_from n lanes) → EachRuns w (lanes_from n lanes) → ForEach (Outcome taken key_for) (lanes_from n lanes) (nones lanes)
@@ -173,8 +173,8 @@ module _ (taken : Taken) (key_for : KeyFor) where
   judged_all n (lane ∷ lanes) once h =
       let few = head_once (events_of n lane) (lanes_from (n + 1) lanes) once in
       let goes : OutcomeSoFar taken key_for (events_of n lane) None = lane_goes n lane few h.0.runs in
-      let told = lane_told n lane few goes in
-      let none : (remembered_all w nothing_yet (events_of n lane)).owing ≡ [] = owing_of w (pair_of lane) (remembered_all w nothing_yet (events_of n lane)) told.0 (led w at_first (events_of n lane)) told.1 h.0.nothing_owed in (
+      let matches = lane_matches n lane few goes in
+      let none : (remembered_all w nothing_yet (events_of n lane)).owing ≡ [] = owing_of w (pair_of lane) (remembered_all w nothing_yet (events_of n lane)) matches.0 (led w at_first (events_of n lane)) matches.1 h.0.nothing_owed in (
         inr (goes, ap (end_of taken key_for) (sym none)),
         judged_all (n + 1) lanes (tail_once (events_of n lane) (lanes_from (n + 1) lanes) once) h.1,
       )
@@ -199,21 +199,21 @@ module _ (taken : Taken) (numbered : AreNumbered taken) (key_for : KeyFor) (cert
       omega (arith, all, ap (λ es. times_placed s (map step_of es)) (joined_append lanes (the_drops certificate)), times_append s (joined lanes) (joined (the_drops certificate ∷ [])))
 
   -- no breach is told exactly where all passes so far
-  pub record NoneTold : Type 0 where
+  pub record NoBreach : Type 0 where
     pub placement : (b : Breach) → ¬ ShowsPlaced taken certificate b
     pub outcomes : List (Option Breach)
     pub walked : ForEach (OutcomeSoFar taken key_for) lanes outcomes
     pub none : AllNone taken key_for outcomes
     pub clashes : (b : Breach) → ¬ tenancies b
 
-  pub none_told : LiveBreach taken key_for certificate None → NoneTold
-  none_told (Some b, least, rest) = absurd (not_some b rest)
-  none_told (None, least, (Some b, each, rest)) = absurd (not_some b rest)
-  none_told (None, least, (None, each, rest)) = record { placement = least; outcomes = each.outcomes; walked = each.each; none = all_none taken key_for each.outcomes each.least; clashes = rest }
+  pub no_breach : LiveBreach taken key_for certificate None → NoBreach
+  no_breach (Some b, least, rest) = absurd (not_some b rest)
+  no_breach (None, least, (Some b, each, rest)) = absurd (not_some b rest)
+  no_breach (None, least, (None, each, rest)) = record { placement = least; outcomes = each.outcomes; walked = each.each; none = all_none taken key_for each.outcomes each.least; clashes = rest }
 
   pub passes_of_none : LiveBreach taken key_for certificate None → PassesSoFar taken (rules_for taken key_for) certificate
   passes_of_none h =
-      let t : NoneTold = none_told h in
+      let t : NoBreach = no_breach h in
       record {
         placement = t.placement;
         lanes = goes_all taken key_for 0 certificate.lanes (rise_lanes t.placement) (once_lanes t.placement) t.outcomes t.walked t.none;
@@ -246,17 +246,17 @@ module _ (taken : Taken) (numbered : AreNumbered taken) (key_for : KeyFor) (cert
   least_of_both none skews None h = λ b k. h b (is_unplaced none (none_cut taken certificate skews) b k)
   least_of_both none skews (Some first) h = (inl (inr h.0), λ b k. h.1 b (is_unplaced none (none_cut taken certificate skews) b k))
 
-  ends_judged : NoneTold → (found : Option Breach) → LeastOf (ForEach (OutcomeOfEnd taken key_for) lanes) found → LeastOf (ForEach (Outcome taken key_for) lanes) found
+  ends_judged : NoBreach → (found : Option Breach) → LeastOf (ForEach (OutcomeOfEnd taken key_for) lanes) found → LeastOf (ForEach (Outcome taken key_for) lanes) found
   ends_judged t found e = record { outcomes = e.outcomes; each = ends_all taken key_for lanes t.outcomes e.outcomes t.walked t.none e.each; least = e.least }
 
-  last_phase : NoneTold → (found : Option Breach) → OrElse found (IsLeast tenancies) found
+  last_phase : NoBreach → (found : Option Breach) → OrElse found (IsLeast tenancies) found
   last_phase t None = t.clashes
   last_phase t (Some b) = refl
 
   pub verdict_at_the_end : certificate.skews ≡ [] → LiveBreach taken key_for certificate None → (found : Option Breach) → LeftAtTheEnd taken key_for certificate found → IsVerdict taken key_for certificate found
-  verdict_at_the_end skews h found (Some b, least, rest) = (Some b, least_of_both (none_told h).placement skews (Some b) least, rest)
+  verdict_at_the_end skews h found (Some b, least, rest) = (Some b, least_of_both (no_breach h).placement skews (Some b) least, rest)
   verdict_at_the_end skews h found (None, least, rest) =
-      let t : NoneTold = none_told h in
+      let t : NoBreach = no_breach h in
       (None, least_of_both t.placement skews None least, (found, ends_judged t found rest, last_phase t found))
 
   -- ---- a verdict without a breach
