@@ -11,13 +11,13 @@ use Rattle.audit_stun.specs.Parts.{parts_of}
 use Rattle.audit_stun.specs.Counted.{first_of}
 use Rattle.audit_stun.specs.ErrorCode.{error_code_of}
 use Rattle.audit_stun.specs.XorAddress.{address_of}
-use Rattle.audit_content.specs.declared.asked.Asked.{Asked}
-use Rattle.audit_content.specs.declared.asked.Asked.TheVariants as asked
+use Rattle.audit_content.specs.declared.from_client.FromClient.{FromClient}
+use Rattle.audit_content.specs.declared.from_client.FromClient.TheVariants as from_client
 use Rattle.audit_content.specs.declared.channels.Channel.{Channel}
-use Rattle.audit_content.specs.declared.given.Given.{Given}
-use Rattle.audit_content.specs.declared.given.Given.TheVariants as given
-use Rattle.audit_content.specs.declared.given.Success.{Success}
-use Rattle.audit_content.specs.declared.given.Success.TheVariants as success
+use Rattle.audit_content.specs.declared.to_client.ToClient.{ToClient}
+use Rattle.audit_content.specs.declared.to_client.ToClient.TheVariants as to_client
+use Rattle.audit_content.specs.declared.to_client.Success.{Success}
+use Rattle.audit_content.specs.declared.to_client.Success.TheVariants as success
 
 -- the first attribute of a type has that address
 abbrev pub HasAddress : ℕ → Parts → Addr → Type 0
@@ -28,10 +28,10 @@ abbrev pub HasData : Parts → Addr → List ℕ → Type 0
 HasData parts peer bytes = HasAddress attribute.XOR_PEER_ADDRESS parts peer × (first_of attribute.DATA parts.attributes ≡ Some bytes)
 
 -- the contents of a client's datagram
-abbrev pub IsAsked : List ℕ → Asked → Type 0
-IsAsked payload (asked.Request number id) = IsMessage payload (parts_of payload) × ((parts_of payload).class ≡ class.Request) × ((parts_of payload).method ≡ number) × ((parts_of payload).tid ≡ id)
-IsAsked payload (asked.Send peer bytes) = IsMessage payload (parts_of payload) × ((parts_of payload).class ≡ class.Indication) × ((parts_of payload).method ≡ method.SEND) × HasData (parts_of payload) peer bytes.now
-IsAsked payload (asked.Channel number bytes) = (after : List ℕ) × IsChannelData payload number bytes.now after
+abbrev pub IsFromClient : List ℕ → FromClient → Type 0
+IsFromClient payload (from_client.Request number id) = IsMessage payload (parts_of payload) × ((parts_of payload).class ≡ class.Request) × ((parts_of payload).method ≡ number) × ((parts_of payload).tid ≡ id)
+IsFromClient payload (from_client.Send peer bytes) = IsMessage payload (parts_of payload) × ((parts_of payload).class ≡ class.Indication) × ((parts_of payload).method ≡ method.SEND) × HasData (parts_of payload) peer bytes.now
+IsFromClient payload (from_client.Channel number bytes) = (after : List ℕ) × IsChannelData payload number bytes.now after
 
 -- the number in the value of a CHANNEL-NUMBER of four bytes
 unfoldable pub number_in : Option (List ℕ) → Option ℕ
@@ -62,9 +62,9 @@ IsSuccess parts success.Bound = parts.method ≡ method.CHANNEL_BIND
 IsSuccess parts success.Other = ⊤
 
 -- the contents of a datagram to a client
-abbrev pub IsGiven : List ℕ → Given → Type 0
-IsGiven payload (given.Success number id success) = IsMessage payload (parts_of payload) × ((parts_of payload).class ≡ class.Success) × ((parts_of payload).method ≡ number) × ((parts_of payload).tid ≡ id) × IsSuccess (parts_of payload) success
-IsGiven payload (given.Error number id code) = IsMessage payload (parts_of payload) × ((parts_of payload).class ≡ class.Error) × ((parts_of payload).method ≡ number) × ((parts_of payload).tid ≡ id)
+abbrev pub IsToClient : List ℕ → ToClient → Type 0
+IsToClient payload (to_client.Success number id success) = IsMessage payload (parts_of payload) × ((parts_of payload).class ≡ class.Success) × ((parts_of payload).method ≡ number) × ((parts_of payload).tid ≡ id) × IsSuccess (parts_of payload) success
+IsToClient payload (to_client.Error number id code) = IsMessage payload (parts_of payload) × ((parts_of payload).class ≡ class.Error) × ((parts_of payload).method ≡ number) × ((parts_of payload).tid ≡ id)
     × (code ≡ code_in (first_of attribute.ERROR_CODE (parts_of payload).attributes))
-IsGiven payload (given.Data peer bytes) = IsMessage payload (parts_of payload) × ((parts_of payload).class ≡ class.Indication) × ((parts_of payload).method ≡ method.DATA) × HasData (parts_of payload) peer bytes.now
-IsGiven payload (given.Channel number bytes) = (after : List ℕ) × IsChannelData payload number bytes.now after
+IsToClient payload (to_client.Data peer bytes) = IsMessage payload (parts_of payload) × ((parts_of payload).class ≡ class.Indication) × ((parts_of payload).method ≡ method.DATA) × HasData (parts_of payload) peer bytes.now
+IsToClient payload (to_client.Channel number bytes) = (after : List ℕ) × IsChannelData payload number bytes.now after

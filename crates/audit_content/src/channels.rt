@@ -38,7 +38,7 @@ impl Channel {
 }
 
 /// The channel that a ChannelBind requests.
-pub fn asked_channel(payload: &[u8]) -> Option<Channel>
+pub fn requested_channel(payload: &[u8]) -> Option<Channel>
     ensures method { IfSome result (λ _. (parts_of payload.now).method ≡ methods.CHANNEL_BIND) }
     ensures named { IfSome result (λ channel. HasChannel (parts_of payload.now) channel) }
 {

@@ -4,12 +4,12 @@
 //! takes memory.
 #![tactic(auto)]
 
-mod asked;
 mod channels;
-mod given;
+mod from_client;
 mod peers;
+mod to_client;
 
-pub use asked::{Asked, asked_by_client};
-pub use channels::{Channel, asked_channel, named_channel};
-pub use given::{Given, Success, given_to_client};
+pub use channels::{Channel, named_channel, requested_channel};
+pub use from_client::{FromClient, parse_from_client};
 pub use peers::names_peer;
+pub use to_client::{Success, ToClient, parse_to_client};

@@ -1,7 +1,7 @@
 //! The channels that clients requested.
 
 use audit_model::Addr;
-use audit_seen::{LaneNumber, Says, Sights, asked_channel};
+use audit_seen::{LaneNumber, Says, Sights, requested_channel};
 use audit_sightings::Intake;
 use std::alloc::{AllocError, Global};
 use std::collections::BTreeSet;
@@ -36,7 +36,7 @@ impl Bindings {
     }
 
     fn note(&mut self, lane: LaneNumber, payload: &[u8]) -> Result<(), AllocError> {
-        if let Some((number, peer)) = asked_channel(payload) {
+        if let Some((number, peer)) = requested_channel(payload) {
             self.by_peer.insert((lane, peer, number))?;
             self.by_number.insert((lane, number, peer))?;
         }

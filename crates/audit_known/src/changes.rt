@@ -9,13 +9,13 @@ use std::alloc::{AllocError, Global};
 
 /// A response about a lane's allocation. They are ordered by lane, then by time.
 #[derive(Clone, Copy, Debug, PartialEq, Eq, PartialOrd, Ord)]
-pub struct Told {
+pub struct LaneResponse {
     lane: LaneNumber,
     when: u64,
     number: SeenNumber,
 }
 
-impl Told {
+impl LaneResponse {
     /// The lane.
     pub fn lane(&self) -> LaneNumber
         ensures { result ≡ self.now.lane }
@@ -73,8 +73,8 @@ impl Made {
 #[derive(Drop)]
 pub struct Changes {
     made: Vec<Made>,
-    ended: Vec<Told>,
-    kept: Vec<Told>,
+    ended: Vec<LaneResponse>,
+    kept: Vec<LaneResponse>,
 }
 
 impl Changes {
@@ -107,8 +107,8 @@ impl Changes {
                 when,
                 number,
             })?,
-            Some(Gives::Deleted) => self.ended.push(Told { lane, when, number })?,
-            Some(Gives::Refreshed { .. }) => self.kept.push(Told { lane, when, number })?,
+            Some(Gives::Deleted) => self.ended.push(LaneResponse { lane, when, number })?,
+            Some(Gives::Refreshed { .. }) => self.kept.push(LaneResponse { lane, when, number })?,
             _ => {}
         }
         Ok(())
@@ -120,21 +120,21 @@ impl Changes {
     }
 
     /// The first response to a lane after a moment by which its allocation was deleted.
-    pub fn end_behind(&self, lane: LaneNumber, when: u64) -> Option<SeenNumber> {
+    pub fn end_after(&self, lane: LaneNumber, when: u64) -> Option<SeenNumber> {
         let place = self
             .ended
-            .partition_point(|told| (told.lane, told.when) <= (lane, when));
+            .partition_point(|response| (response.lane, response.when) <= (lane, when));
         match self.ended.get(place) {
-            Some(told) if told.lane == lane => Some(told.number),
+            Some(response) if response.lane == lane => Some(response.number),
             _ => None,
         }
     }
 
     /// The responses after a moment by which an allocation was refreshed, those of the lane first.
-    pub fn kept_behind(&self, lane: LaneNumber, when: u64) -> &[Told] {
+    pub fn refreshed_after(&self, lane: LaneNumber, when: u64) -> &[LaneResponse] {
         let place = self
             .kept
-            .partition_point(|told| (told.lane, told.when) <= (lane, when));
+            .partition_point(|response| (response.lane, response.when) <= (lane, when));
         self.kept.get(place..).unwrap_or(&[])
     }
 }

@@ -21,7 +21,7 @@ mod times;
 
 pub use bindings::Bindings;
 pub use candidates::Known;
-pub use changes::{Changes, Made, Told};
+pub use changes::{Changes, LaneResponse, Made};
 pub use contents::Contents;
 pub use handover::Handover;
 pub use matches::Matches;

@@ -69,11 +69,11 @@ impl Tenancies {
             let Some(seen) = sights.get(made.number()) else {
                 continue;
             };
-            let told = Some((made.relayed(), seen.lane(), seen.says()));
-            if last == told {
+            let response = Some((made.relayed(), seen.lane(), seen.says()));
+            if last == response {
                 continue;
             }
-            last = told;
+            last = response;
             let maker = made.number();
             if let Some(tenancy) = tenancy_of(sights, times, matches, &changes, maker, grace) {
                 by_address.push(tenancy)?;
@@ -108,9 +108,9 @@ impl Tenancies {
     /// Those of some tenancies, in the order of their starts, that overlap a span of time, the last
     /// one first; if none does, the nearest ones.
     pub fn meeting(&self, of: &[Tenancy], low: u64, high: u64) -> Result<Vec<Tenancy>, AllocError> {
-        let behind = of.partition_point(|one| one.start <= high);
+        let after = of.partition_point(|one| one.start <= high);
         let near = of
-            .get(behind.saturating_sub(NEIGHBOURS)..behind)
+            .get(after.saturating_sub(NEIGHBOURS)..after)
             .unwrap_or(&[]);
         let mut found = Vec::new(self.alloc);
         for one in near.iter().rev() {
@@ -122,7 +122,7 @@ impl Tenancies {
             for one in near.iter().rev().take(2) {
                 found.push(*one)?;
             }
-            if let Some(next) = of.get(behind) {
+            if let Some(next) = of.get(after) {
                 found.push(*next)?;
             }
         }
@@ -138,9 +138,9 @@ impl Tenancies {
         hold: u64,
     ) -> Result<Vec<LaneNumber>, AllocError> {
         let of = self.of_address(relayed);
-        let behind = of.partition_point(|one| one.start <= moment);
+        let after = of.partition_point(|one| one.start <= moment);
         let near = of
-            .get(behind.saturating_sub(NEIGHBOURS)..behind)
+            .get(after.saturating_sub(NEIGHBOURS)..after)
             .unwrap_or(&[]);
         let mut lanes = Vec::new(self.alloc);
         for one in near {
@@ -151,7 +151,7 @@ impl Tenancies {
         if let (true, Some(last)) = (lanes.is_empty(), near.last()) {
             lanes.push(last.lane)?;
         }
-        for one in of.get(behind..).unwrap_or(&[]).iter().take(2) {
+        for one in of.get(after..).unwrap_or(&[]).iter().take(2) {
             if one.start <= moment.saturating_add(hold) && !lanes.contains(&one.lane) {
                 lanes.push(one.lane)?;
             }
@@ -175,7 +175,7 @@ fn tenancy_of(
         return None;
     };
     let when = times.of(maker).when();
-    let end = match changes.end_behind(lane, when) {
+    let end = match changes.end_after(lane, when) {
         Some(number) => times
             .of(number)
             .when()
@@ -215,11 +215,11 @@ fn prolonged(
     grace: u64,
 ) -> u64 {
     let mut last = first;
-    for (place, told) in changes.kept_behind(lane, from).iter().enumerate() {
-        let Some(seen) = sights.get(told.number()) else {
+    for (place, response) in changes.refreshed_after(lane, from).iter().enumerate() {
+        let Some(seen) = sights.get(response.number()) else {
             return last;
         };
-        if told.lane() != lane || told.when() > end || seen.first_moment() > last {
+        if response.lane() != lane || response.when() > end || seen.first_moment() > last {
             return last;
         }
         if place >= PROLONGED {

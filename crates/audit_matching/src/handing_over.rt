@@ -85,7 +85,7 @@ fn holdings(alloc: Global, facts: Facts<'_>, times: &Times) -> Result<Vec<Holdin
             continue;
         };
         if last != Some((relayed, pool)) {
-            let ender = changes.end_behind(lane, made.when());
+            let ender = changes.end_after(lane, made.when());
             found.push(Holding {
                 relayed,
                 lane,
@@ -134,7 +134,7 @@ pub fn ask_handovers(
         };
         if let Some(request) = request {
             if let (Some(asks), Some(next)) = (sights.get(request), sights.get(handover.next())) {
-                if asks.first_moment() <= next.last_moment() && !asks.is_behind(next) {
+                if asks.first_moment() <= next.last_moment() && !asks.is_after(next) {
                     edges.ask(request, handover.next())?;
                 }
             }

@@ -156,7 +156,7 @@ impl Matching {
         let mut best: Option<Choice> = None;
         for number in known.pools().get(pool).get(head..)?.iter().take(COPIES) {
             let arrives = known.sights().get(*number)?;
-            let fits = arrives.first_moment() <= leaves.last_moment() && !arrives.is_behind(leaves);
+            let fits = arrives.first_moment() <= leaves.last_moment() && !arrives.is_after(leaves);
             if self.matches.of(*number).is_none() && fits {
                 let choice = Choice {
                     arrival: *number,

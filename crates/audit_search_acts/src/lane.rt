@@ -183,7 +183,7 @@ impl<'a> Lane<'a> {
         let moment = self.input.at(departure);
         let mut found = Vec::new(self.input.alloc());
         for one in all.get(place..).unwrap_or(&[]).iter().take(COPIES) {
-            if Slot::behind(one.rank()) > slot.next() {
+            if Slot::after(one.rank()) > slot.next() {
                 break;
             }
             let arrival = one.number();

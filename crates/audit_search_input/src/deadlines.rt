@@ -114,7 +114,7 @@ impl Deadlines {
         }
         let is_soon = constraints.contains(Constraint::AtRequest { answer });
         let (slot, last) = if is_soon {
-            (Slot::behind(placed.rank(request)), request)
+            (Slot::after(placed.rank(request)), request)
         } else {
             (Slot::first(next), by)
         };

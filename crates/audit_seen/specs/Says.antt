@@ -30,9 +30,9 @@ answered_pool says.Nothing = None
 answered_pool (says.Gives gives pool) = pool
 
 -- the content of a departure
-abbrev pub given_by : Says → Option Gives
-given_by (says.Request pool) = None
-given_by (says.Sent pool) = None
-given_by (says.Received pool) = None
-given_by says.Nothing = None
-given_by (says.Gives gives pool) = Some gives
+abbrev pub departure_content : Says → Option Gives
+departure_content (says.Request pool) = None
+departure_content (says.Sent pool) = None
+departure_content (says.Received pool) = None
+departure_content says.Nothing = None
+departure_content (says.Gives gives pool) = Some gives

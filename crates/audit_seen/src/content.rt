@@ -1,7 +1,7 @@
 //! The request or the data in a datagram.
 
 use crate::numbers::LaneNumber;
-use audit_content::{Given, Success};
+use audit_content::{Success, ToClient};
 use audit_model::{Addr, Sighting};
 use std::hash::{DefaultHasher, Hasher};
 
@@ -10,12 +10,12 @@ use std::hash::{DefaultHasher, Hasher};
 #[derive(Clone, Copy, Debug, PartialEq, Eq, PartialOrd, Ord)]
 pub struct PoolKey {
     digest: u64,
-    asked: Asked,
+    kind: ArrivalKind,
 }
 
 /// The kind of arrivals of one digest.
 #[derive(Clone, Copy, Debug, PartialEq, Eq, PartialOrd, Ord)]
-pub enum Asked {
+pub enum ArrivalKind {
     /// A request with this method and transaction id.
     Request {
         lane: LaneNumber,
@@ -89,7 +89,7 @@ impl PoolKey {
         let [a, b, c, d, e, f, g, h, _, _, _, _] = id;
         PoolKey {
             digest: u64::from_be_bytes([a, b, c, d, e, f, g, h]),
-            asked: Asked::Request { lane, method, id },
+            kind: ArrivalKind::Request { lane, method, id },
         }
     }
 
@@ -97,7 +97,7 @@ impl PoolKey {
     pub fn send(lane: LaneNumber, peer: Addr, digest: u64) -> PoolKey {
         PoolKey {
             digest,
-            asked: Asked::Send { lane, peer },
+            kind: ArrivalKind::Send { lane, peer },
         }
     }
 
@@ -105,7 +105,7 @@ impl PoolKey {
     pub fn channel(lane: LaneNumber, number: u16, digest: u64) -> PoolKey {
         PoolKey {
             digest,
-            asked: Asked::Channel { lane, number },
+            kind: ArrivalKind::Channel { lane, number },
         }
     }
 
@@ -113,7 +113,7 @@ impl PoolKey {
     pub fn peer(relayed: Addr, peer: Addr, digest: u64) -> PoolKey {
         PoolKey {
             digest,
-            asked: Asked::Peer { relayed, peer },
+            kind: ArrivalKind::Peer { relayed, peer },
         }
     }
 
@@ -124,14 +124,14 @@ impl PoolKey {
         self.digest
     }
 
-    pub fn asked(&self) -> Asked
-        ensures { result ≡ self.now.asked }
+    pub fn kind(&self) -> ArrivalKind
+        ensures { result ≡ self.now.kind }
     {
-        self.asked
+        self.kind
     }
 
     pub(crate) fn is_request(&self) -> bool {
-        matches!(self.asked, Asked::Request { .. })
+        matches!(self.kind, ArrivalKind::Request { .. })
     }
 }
 
@@ -158,32 +158,34 @@ pub(crate) fn digest_of(data: &[u8]) -> u64 {
 }
 
 /// The key of a client's datagram, if the server may answer or relay it.
-pub(crate) fn asked_by_client(lane: LaneNumber, payload: &[u8]) -> Option<PoolKey> {
-    match audit_content::asked_by_client(payload)? {
-        audit_content::Asked::Request { method, id } => Some(PoolKey::request(lane, method, id)),
-        audit_content::Asked::Send { peer, data } => {
+pub(crate) fn key_from_client(lane: LaneNumber, payload: &[u8]) -> Option<PoolKey> {
+    match audit_content::parse_from_client(payload)? {
+        audit_content::FromClient::Request { method, id } => Some(PoolKey::request(
+            lane, method, id,
+        )),
+        audit_content::FromClient::Send { peer, data } => {
             Some(PoolKey::send(lane, peer, digest_of(data)))
         }
-        audit_content::Asked::Channel { number, data } => {
+        audit_content::FromClient::Channel { number, data } => {
             Some(PoolKey::channel(lane, number, digest_of(data)))
         }
     }
 }
 
 /// The key of a peer's datagram.
-pub(crate) fn asked_by_peer(arrives: &Sighting) -> PoolKey {
+pub(crate) fn key_from_peer(arrives: &Sighting) -> PoolKey {
     let digest = digest_of(arrives.payload.as_slice());
     PoolKey::peer(arrives.to, arrives.from, digest)
 }
 
 /// The channel that a ChannelBind requests, and its peer.
-pub fn asked_channel(payload: &[u8]) -> Option<(u16, Addr)> {
-    let channel = audit_content::asked_channel(payload)?;
+pub fn requested_channel(payload: &[u8]) -> Option<(u16, Addr)> {
+    let channel = audit_content::requested_channel(payload)?;
     Some((channel.number(), channel.peer()))
 }
 
 /// The content of a departure from a relayed address.
-pub(crate) fn given_to_peer(leaves: &Sighting) -> Gives {
+pub(crate) fn content_to_peer(leaves: &Sighting) -> Gives {
     Gives::Relayed {
         relayed: leaves.from,
         peer: leaves.to,
@@ -192,26 +194,26 @@ pub(crate) fn given_to_peer(leaves: &Sighting) -> Gives {
 }
 
 /// The content of a departure to a client; of a response also the key of its requests.
-pub(crate) fn given_to_client(lane: LaneNumber, payload: &[u8]) -> (Gives, Option<PoolKey>) {
-    match audit_content::given_to_client(payload) {
+pub(crate) fn content_to_client(lane: LaneNumber, payload: &[u8]) -> (Gives, Option<PoolKey>) {
+    match audit_content::parse_to_client(payload) {
         Some(
-            Given::Success {
+            ToClient::Success {
                 method,
                 id,
                 success,
             },
         ) => {
-            let asked = PoolKey::request(lane, method, id);
-            (given_by_success(success), Some(asked))
+            let key = PoolKey::request(lane, method, id);
+            (content_of_success(success), Some(key))
         }
-        Some(Given::Error { method, id, .. }) => {
+        Some(ToClient::Error { method, id, .. }) => {
             (Gives::Error, Some(PoolKey::request(lane, method, id)))
         }
-        Some(Given::Data { peer, data }) => {
+        Some(ToClient::Data { peer, data }) => {
             let digest = digest_of(data);
             (Gives::Data { peer, digest }, None)
         }
-        Some(Given::Channel { number, data }) => {
+        Some(ToClient::Channel { number, data }) => {
             let digest = digest_of(data);
             (Gives::Channel { number, digest }, None)
         }
@@ -219,7 +221,7 @@ pub(crate) fn given_to_client(lane: LaneNumber, payload: &[u8]) -> (Gives, Optio
     }
 }
 
-fn given_by_success(success: Success) -> Gives {
+fn content_of_success(success: Success) -> Gives {
     match success {
         Success::Allocated { relayed, seconds } => Gives::Allocated {
             relayed,

@@ -8,11 +8,11 @@ mod content;
 mod lanes;
 mod numbers;
 mod pool_numbers;
-mod said;
+mod reading;
 mod seen;
 mod slot;
 
-pub use content::{Asked, Gives, PoolKey, asked_channel};
+pub use content::{ArrivalKind, Gives, PoolKey, requested_channel};
 pub use lanes::Lanes;
 pub use numbers::{LaneNumber, PoolNumber, SeenNumber};
 pub use pool_numbers::PoolNumbers;

@@ -1,6 +1,6 @@
 //! The number of each pool, by the key of its arrivals.
 
-use crate::content::{Asked, PoolKey};
+use crate::content::{ArrivalKind, PoolKey};
 use crate::numbers::{LaneNumber, PoolNumber, SeenNumber};
 use audit_model::Addr;
 use std::alloc::{AllocError, Global};
@@ -55,10 +55,9 @@ impl PoolNumbers {
         let least = PoolKey::send(LaneNumber::new(0), Addr { ip: 0, port: 0 }, digest);
         let first = self.keys.partition_point(|key| *key < least);
         let key = self.keys.get(first)?;
-        match key.asked() {
-            Asked::Send { lane, .. } | Asked::Channel { lane, .. } if key.digest() == digest => {
-                Some(lane)
-            }
+        match key.kind() {
+            ArrivalKind::Send { lane, .. } | ArrivalKind::Channel { lane, .. }
+                if key.digest() == digest => { Some(lane) }
             _ => None,
         }
     }

@@ -4,7 +4,7 @@ use crate::content::{Gives, PoolKey};
 use crate::lanes::Lanes;
 use crate::numbers::{LaneNumber, PoolNumber, SeenNumber};
 use crate::pool_numbers::PoolNumbers;
-use crate::said::said_by;
+use crate::reading::read_sighting;
 use audit_finding::Windows;
 use audit_model::{Policy, SightId, Sighting};
 use audit_sightings::Intake;
@@ -51,7 +51,7 @@ impl Says {
 
 impl Seen {
     ghost use Rattle.std.specs.Prelude.{◌≡◌};
-    ghost use Rattle.audit_seen.specs.Says.{is_arrival, pool_in, answered_pool, given_by};
+    ghost use Rattle.audit_seen.specs.Says.{is_arrival, pool_in, answered_pool, departure_content};
 
     /// The first moment at which it may be placed, in nanoseconds since 1970.
     pub fn first_moment(&self) -> u64
@@ -127,7 +127,7 @@ impl Seen {
 
     /// The content of a departure.
     pub fn gives(&self) -> Option<Gives>
-        ensures { result ≡ given_by self.now.says }
+        ensures { result ≡ departure_content self.now.says }
     {
         match self.says {
             Says::Gives(gives, _) => Some(gives),
@@ -136,7 +136,7 @@ impl Seen {
     }
 
     /// Whether the other one comes before it on the same interface.
-    pub fn is_behind(&self, other: &Seen) -> bool {
+    pub fn is_after(&self, other: &Seen) -> bool {
         self.id.iface == other.id.iface && self.id.index > other.id.index
     }
 }
@@ -177,13 +177,13 @@ impl Sights {
             list: Vec::new(alloc),
             starts: Vec::new(alloc),
         };
-        let mut asked = Vec::new(alloc);
+        let mut keys = Vec::new(alloc);
         for iface in 0..intake.interfaces() {
-            sights.read_row(reader, intake.interface(iface), &mut asked)?;
+            sights.read_row(reader, intake.interface(iface), &mut keys)?;
         }
-        asked.sort_unstable();
+        keys.sort_unstable();
         let mut numbers = PoolNumbers::new(alloc);
-        for (key, number) in &asked {
+        for (key, number) in &keys {
             let pool = numbers.take(*key)?;
             sights.set_pool(*number, pool);
         }
@@ -196,12 +196,12 @@ impl Sights {
         &mut self,
         reader: Reader<'_>,
         row: &[Sighting],
-        asked: &mut Vec<(PoolKey, SeenNumber)>,
+        keys: &mut Vec<(PoolKey, SeenNumber)>,
     ) -> Result<(), AllocError> {
         let start = u32::try_from(self.list.len()).map_err(|_| AllocError)?;
         self.starts.push(start)?;
         for sighting in row {
-            self.read_one(reader, sighting, asked)?;
+            self.read_one(reader, sighting, keys)?;
         }
         Ok(())
     }
@@ -210,19 +210,19 @@ impl Sights {
         &mut self,
         reader: Reader<'_>,
         sighting: &Sighting,
-        asked: &mut Vec<(PoolKey, SeenNumber)>,
+        keys: &mut Vec<(PoolKey, SeenNumber)>,
     ) -> Result<(), AllocError> {
         let number = u32::try_from(self.list.len()).map_err(|_| AllocError)?;
-        let said = said_by(reader.policy, sighting, reader.lanes);
-        if let Some(key) = said.key() {
-            asked.push((key, SeenNumber::new(number)))?;
+        let reading = read_sighting(reader.policy, sighting, reader.lanes);
+        if let Some(key) = reading.key() {
+            keys.push((key, SeenNumber::new(number)))?;
         }
         self.list.push(Seen {
             first_moment: reader.windows.first(sighting),
             last_moment: reader.windows.last(sighting),
             stamp: sighting.stamp,
-            says: said.says(),
-            lane: said.lane(),
+            says: reading.says(),
+            lane: reading.lane(),
             id: sighting.id,
         })?;
         Ok(())

@@ -42,7 +42,7 @@ impl Slot {
     }
 
     /// The slot right after the sighting of a rank.
-    pub fn behind(rank: u32) -> Slot {
+    pub fn after(rank: u32) -> Slot {
         Slot::part(rank, 3)
     }
 

@@ -1,6 +1,6 @@
 //! Causes: what an arriving datagram requests. A departure is matched to its arrival by the cause.
 
-use audit_content::{Asked, asked_by_client};
+use audit_content::{FromClient, parse_from_client};
 use audit_model::{Addr, Sighting};
 use audit_seen::LaneNumber;
 
@@ -96,14 +96,14 @@ fn mixed(digest: u64, word: u64) -> u64 {
 
 /// What a client's datagram requests, if the server sends anything for it.
 pub fn cause_of_client(lane: LaneNumber, payload: &[u8]) -> Option<Cause> {
-    match asked_by_client(payload)? {
-        Asked::Request { id, .. } => Some(Cause::Request { lane, id }),
-        Asked::Send { peer, data } => Some(Cause::Send {
+    match parse_from_client(payload)? {
+        FromClient::Request { id, .. } => Some(Cause::Request { lane, id }),
+        FromClient::Send { peer, data } => Some(Cause::Send {
             lane,
             peer,
             digest: digest_of(data),
         }),
-        Asked::Channel { number, data } => Some(Cause::Channel {
+        FromClient::Channel { number, data } => Some(Cause::Channel {
             lane,
             number,
             digest: digest_of(data),

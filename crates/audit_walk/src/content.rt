@@ -1,6 +1,6 @@
 //! The content of the messages that the walk depends on.
 
-use audit_content::{Given, Success};
+use audit_content::{Success, ToClient};
 use audit_model::Addr;
 use audit_stun::numbers::method;
 
@@ -33,11 +33,11 @@ impl Content {
 }
 
 /// The transaction id of a success or error response, and its content.
-pub fn answer_of(given: &Given<'_>) -> Option<([u8; 12], Content)> {
+pub fn answer_of(given: &ToClient<'_>) -> Option<([u8; 12], Content)> {
     match *given {
-        Given::Success { id, success, .. } => Some((id, success_content(success))),
-        Given::Error { method, id, code } => Some((id, error_content(method, code))),
-        Given::Data { .. } | Given::Channel { .. } => None,
+        ToClient::Success { id, success, .. } => Some((id, success_content(success))),
+        ToClient::Error { method, id, code } => Some((id, error_content(method, code))),
+        ToClient::Data { .. } | ToClient::Channel { .. } => None,
     }
 }
 

@@ -5,7 +5,7 @@ use crate::content::{Content, answer_of};
 use crate::datagrams::Transaction;
 use crate::interfaces::Data;
 use crate::judge::Judge;
-use audit_content::{Given, given_to_client};
+use audit_content::{ToClient, parse_to_client};
 use audit_model::{Side, Sighting};
 use audit_seen::LaneNumber;
 
@@ -64,7 +64,7 @@ fn leaving_kind(judge: &Judge<'_>, sighting: &Sighting) -> Kind {
         return Kind::Data(Data::new(None, digest_of(payload)));
     }
     let lane = judge.lane_of(sighting.to, sighting.from);
-    let Some(given) = given_to_client(payload) else {
+    let Some(given) = parse_to_client(payload) else {
         return Kind::Data(Data::new(lane, 0));
     };
     if let (Some(lane), Some(answer)) = (lane, answer_of(&given)) {
@@ -72,8 +72,8 @@ fn leaving_kind(judge: &Judge<'_>, sighting: &Sighting) -> Kind {
         return Kind::Answer(Transaction::new(lane, id), content);
     }
     let digest = match given {
-        Given::Data { data, .. } | Given::Channel { data, .. } => digest_of(data),
-        Given::Success { .. } | Given::Error { .. } => 0,
+        ToClient::Data { data, .. } | ToClient::Channel { data, .. } => digest_of(data),
+        ToClient::Success { .. } | ToClient::Error { .. } => 0,
     };
     Kind::Data(Data::new(lane, digest))
 }

@@ -20,7 +20,7 @@ impl Lane<'_> {
             self.oldest(departure, slot)?,
             self.state.last_previous(),
         ) {
-            if previous.end().slot() > Slot::behind(self.input.rank(request)) {
+            if previous.end().slot() > Slot::after(self.input.rank(request)) {
                 return Ok(true);
             }
         }

@@ -98,7 +98,7 @@ impl Lane<'_> {
         );
         for pool in input.pools_of(self.number, seen, relayed)? {
             if let Some(arrival) = self.unused(departure, pool, end)?.first().copied() {
-                let own = (Slot::behind(input.rank(arrival)), input.at(arrival));
+                let own = (Slot::after(input.rank(arrival)), input.at(arrival));
                 let (slot, moment) = own.max(changed);
                 if slot < end && self.judge_before_end(departure, arrival, which, slot, moment)? {
                     return Ok(None);

@@ -35,7 +35,7 @@ impl Lane<'_> {
             return Ok(false);
         };
         let own = (
-            Slot::behind(self.input.rank(arrival)),
+            Slot::after(self.input.rank(arrival)),
             self.input.at(arrival),
         );
         let late = match input.constraints().over_before(departure) {
@@ -129,7 +129,7 @@ impl Lane<'_> {
         arrival: SeenNumber,
     ) -> Result<bool, AllocError> {
         let own = (
-            Slot::behind(self.input.rank(arrival)),
+            Slot::after(self.input.rank(arrival)),
             self.input.at(arrival),
         );
         let does = self.does(self.state.table(), seen, own.1);

@@ -177,7 +177,7 @@ impl Lane<'_> {
             return Ok(false);
         }
         let rank = input.rank(newest);
-        Ok(Slot::behind(rank) < end && rank < input.rank(by))
+        Ok(Slot::after(rank) < end && rank < input.rank(by))
     }
 
     /// Whether the requests of pending responses come before the request of a refused response.

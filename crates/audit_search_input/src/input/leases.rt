@@ -29,7 +29,7 @@ impl SearchInput<'_> {
         let order = self.in_order();
         let count = order.partition_point(|one| self.at(*one) <= latest);
         let last = *order.get(count.checked_sub(1)?)?;
-        Some((Slot::behind(self.rank(last)), self.at(last)))
+        Some((Slot::after(self.rank(last)), self.at(last)))
     }
 }
 

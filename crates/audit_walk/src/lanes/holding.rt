@@ -3,7 +3,7 @@
 use crate::causes::Cause;
 use crate::clock::after;
 use crate::judge::Judge;
-use audit_content::{Channel, Given};
+use audit_content::{Channel, ToClient};
 use audit_model::{Addr, Key, Sighting, Tenancy};
 use audit_rules::LaneTable;
 use audit_seen::LaneNumber;
@@ -88,11 +88,11 @@ impl Holding {
     }
 
     /// The cause of data with this digest that a client with this allocation receives.
-    pub fn cause_of(&self, given: &Given<'_>, digest: u64) -> Option<Cause> {
+    pub fn cause_of(&self, given: &ToClient<'_>, digest: u64) -> Option<Cause> {
         let peer = match *given {
-            Given::Data { peer, .. } => peer,
-            Given::Channel { number, .. } => self.peers.get(&number).copied()?,
-            Given::Success { .. } | Given::Error { .. } => return None,
+            ToClient::Data { peer, .. } => peer,
+            ToClient::Channel { number, .. } => self.peers.get(&number).copied()?,
+            ToClient::Success { .. } | ToClient::Error { .. } => return None,
         };
         Some(Cause::Peer {
             relayed: self.relayed?,

@@ -8,7 +8,7 @@ use crate::content::Content;
 use crate::datagrams::{Answer, Datagrams};
 use crate::judge::Judge;
 use crate::numbers::AnswerNumber;
-use audit_content::{Given, named_channel};
+use audit_content::{ToClient, named_channel};
 use audit_model::{Addr, Key, SightId, Sighting, Tenancy};
 use audit_rules::LaneTable;
 use audit_seen::LaneNumber;
@@ -208,7 +208,7 @@ impl FoundLane {
     }
 
     /// The cause of data with this digest that the client receives.
-    pub fn cause_of(&self, given: &Given<'_>, digest: u64) -> Option<Cause> {
+    pub fn cause_of(&self, given: &ToClient<'_>, digest: u64) -> Option<Cause> {
         self.current.cause_of(given, digest)
     }
 
@@ -216,7 +216,7 @@ impl FoundLane {
     /// such a peer, unless it is this one.
     pub fn cause_before(
         &self,
-        given: &Given<'_>,
+        given: &ToClient<'_>,
         digest: u64,
         current: Option<Cause>,
     ) -> Option<Cause> {

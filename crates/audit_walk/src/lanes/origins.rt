@@ -4,7 +4,7 @@ use super::Lanes;
 use crate::causes::Cause;
 use crate::interfaces::Data;
 use crate::judge::Judge;
-use audit_content::given_to_client;
+use audit_content::parse_to_client;
 use audit_model::Sighting;
 use audit_seen::LaneNumber;
 
@@ -116,7 +116,7 @@ impl Lanes {
     fn asked_by_peer(&self, lane: LaneNumber, leaves: &Sighting, digest: u64) -> Origins {
         let mut list = [None; 6];
         if let Some(client) = self.get(lane) {
-            if let Some(given) = given_to_client(leaves.payload.as_slice()) {
+            if let Some(given) = parse_to_client(leaves.payload.as_slice()) {
                 let current = client.cause_of(&given, digest);
                 let before = client.cause_before(&given, digest, current);
                 list[0] = current.map(|cause| Origin { lane, cause });

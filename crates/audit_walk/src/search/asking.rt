@@ -9,7 +9,7 @@ use crate::content::Content;
 use crate::datagrams::{Answer, Transaction};
 use crate::judge::Judge;
 use crate::numbers::{AnswerNumber, ArrivalNumber};
-use audit_content::{Asked, asked_by_client};
+use audit_content::{FromClient, parse_from_client};
 use audit_model::Sighting;
 use audit_seen::LaneNumber;
 use std::alloc::AllocError;
@@ -131,8 +131,8 @@ impl Search {
 
 /// The transaction of a client's datagram, if it is a request.
 fn transaction_of(lane: LaneNumber, arrives: &Sighting) -> Option<Transaction> {
-    match asked_by_client(arrives.payload.as_slice())? {
-        Asked::Request { id, .. } => Some(Transaction::new(lane, id)),
-        Asked::Send { .. } | Asked::Channel { .. } => None,
+    match parse_from_client(arrives.payload.as_slice())? {
+        FromClient::Request { id, .. } => Some(Transaction::new(lane, id)),
+        FromClient::Send { .. } | FromClient::Channel { .. } => None,
     }
 }

@@ -6,7 +6,7 @@ use crate::datagrams::{Answer, Transaction};
 use crate::interfaces::Wait;
 use crate::judge::Judge;
 use crate::numbers::{AnswerNumber, ArrivalNumber};
-use audit_content::given_to_client;
+use audit_content::parse_to_client;
 use audit_model::{Addr, Event, Sighting};
 use audit_seen::LaneNumber;
 use std::alloc::AllocError;
@@ -74,7 +74,7 @@ impl Search {
         lane: LaneNumber,
         leaves: &Sighting,
     ) -> Result<Option<ArrivalNumber>, AllocError> {
-        let given = given_to_client(leaves.payload.as_slice());
+        let given = parse_to_client(leaves.payload.as_slice());
         let Some(answer) = given.and_then(|given| answer_of(&given)) else {
             return Ok(None);
         };

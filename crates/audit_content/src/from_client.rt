@@ -1,7 +1,7 @@
 //! The request or the data in a client's datagram.
 
 ghost use Rattle.std.specs.Prelude.{IfSome};
-ghost use Rattle.audit_content.specs.Says.{IsAsked};
+ghost use Rattle.audit_content.specs.Says.{IsFromClient};
 
 use crate::peers::peer_in;
 use audit_model::Addr;
@@ -11,7 +11,7 @@ use audit_stun::{Class, channel_data, message};
 
 /// The request or the data in a client's datagram.
 #[derive(Clone, Copy, Debug)]
-pub enum Asked<'a> {
+pub enum FromClient<'a> {
     /// A request with this method and transaction id (RFC 8489, section 5).
     Request { method: u16, id: [u8; 12] },
     /// A Send indication (RFC 8656, section 11).
@@ -21,22 +21,22 @@ pub enum Asked<'a> {
 }
 
 /// The request or the data in a client's datagram, if the server may answer or relay it.
-pub fn asked_by_client(payload: &[u8]) -> Option<Asked<'_>>
-    ensures { IfSome result (λ asked. IsAsked payload.now asked) }
+pub fn parse_from_client(payload: &[u8]) -> Option<FromClient<'_>>
+    ensures { IfSome result (λ from_client. IsFromClient payload.now from_client) }
 {
     if let Some((number, data, _)) = channel_data(payload) {
-        return Some(Asked::Channel { number, data });
+        return Some(FromClient::Channel { number, data });
     }
     let message = message(payload)?;
     match message.class() {
-        Class::Request => Some(Asked::Request {
+        Class::Request => Some(FromClient::Request {
             method: message.method(),
             id: message.tid(),
         }),
         Class::Indication if message.method() == method::SEND => {
             let peer = peer_in(&message)?;
             let data = message.first(DATA)?;
-            Some(Asked::Send { peer, data })
+            Some(FromClient::Send { peer, data })
         }
         Class::Indication | Class::Success | Class::Error => None,
     }

@@ -1,7 +1,7 @@
 //! The content of a sighting, before pools have numbers.
 
 use crate::content::{
-    Gives, PoolKey, asked_by_client, asked_by_peer, given_to_client, given_to_peer,
+    Gives, PoolKey, content_to_client, content_to_peer, key_from_client, key_from_peer,
 };
 use crate::lanes::Lanes;
 use crate::numbers::{LaneNumber, PoolNumber};
@@ -10,13 +10,13 @@ use audit_model::{Policy, Side, Sighting};
 
 /// The content of a sighting, while pools have no numbers yet.
 #[derive(Clone, Copy)]
-pub(crate) struct Said {
+pub(crate) struct Reading {
     says: Says,
     lane: Option<LaneNumber>,
     key: Option<PoolKey>,
 }
 
-impl Said {
+impl Reading {
     ghost use Rattle.std.specs.Prelude.{◌≡◌};
 
     pub(crate) fn says(&self) -> Says
@@ -44,29 +44,29 @@ impl Said {
 const NO_POOL: PoolNumber = PoolNumber::FIRST;
 
 /// The content of a sighting.
-pub(crate) fn said_by(policy: &Policy, sighting: &Sighting, lanes: &Lanes) -> Said {
+pub(crate) fn read_sighting(policy: &Policy, sighting: &Sighting, lanes: &Lanes) -> Reading {
     match sighting.side {
-        Side::Arrives if !policy.listens(sighting.to) => Said {
+        Side::Arrives if !policy.listens(sighting.to) => Reading {
             says: Says::Received(NO_POOL),
             lane: None,
-            key: Some(asked_by_peer(sighting)),
+            key: Some(key_from_peer(sighting)),
         },
         Side::Arrives => match lanes.get(sighting.from, sighting.to) {
-            Some(lane) => asked(lane, sighting),
-            None => Said {
+            Some(lane) => read_from_client(lane, sighting),
+            None => Reading {
                 says: Says::Nothing,
                 lane: None,
                 key: None,
             },
         },
-        Side::Leaves if !policy.listens(sighting.from) => Said {
-            says: Says::Gives(given_to_peer(sighting), None),
+        Side::Leaves if !policy.listens(sighting.from) => Reading {
+            says: Says::Gives(content_to_peer(sighting), None),
             lane: None,
             key: None,
         },
         Side::Leaves => match lanes.get(sighting.to, sighting.from) {
-            Some(lane) => given(lane, sighting),
-            None => Said {
+            Some(lane) => read_to_client(lane, sighting),
+            None => Reading {
                 says: Says::Gives(Gives::Other, None),
                 lane: None,
                 key: None,
@@ -76,14 +76,14 @@ pub(crate) fn said_by(policy: &Policy, sighting: &Sighting, lanes: &Lanes) -> Sa
 }
 
 /// The content of a client's datagram.
-fn asked(lane: LaneNumber, sighting: &Sighting) -> Said {
-    let key = asked_by_client(lane, sighting.payload.as_slice());
+fn read_from_client(lane: LaneNumber, sighting: &Sighting) -> Reading {
+    let key = key_from_client(lane, sighting.payload.as_slice());
     let says = match &key {
         Some(key) if key.is_request() => Says::Request(NO_POOL),
         Some(_) => Says::Sent(NO_POOL),
         None => Says::Nothing,
     };
-    Said {
+    Reading {
         says,
         lane: Some(lane),
         key,
@@ -91,9 +91,9 @@ fn asked(lane: LaneNumber, sighting: &Sighting) -> Said {
 }
 
 /// The content of a datagram to a client.
-fn given(lane: LaneNumber, sighting: &Sighting) -> Said {
-    let (gives, key) = given_to_client(lane, sighting.payload.as_slice());
-    Said {
+fn read_to_client(lane: LaneNumber, sighting: &Sighting) -> Reading {
+    let (gives, key) = content_to_client(lane, sighting.payload.as_slice());
+    Reading {
         says: Says::Gives(gives, key.map(|_| NO_POOL)),
         lane: Some(lane),
         key,

@@ -3,7 +3,7 @@
 ghost use Rattle.std.specs.Prelude.{◌≡◌, IfSome};
 ghost use Rattle.audit_stun.specs.Parts.{parts_of};
 ghost use Rattle.audit_stun.specs.Counted.{first_of};
-ghost use Rattle.audit_content.specs.Says.{HasAddress, IsGiven, IsSuccess, code_in, seconds_in};
+ghost use Rattle.audit_content.specs.Says.{HasAddress, IsToClient, IsSuccess, code_in, seconds_in};
 
 use crate::peers::peer_in;
 use audit_model::Addr;
@@ -13,7 +13,7 @@ use audit_stun::{Class, Message, address, channel_data, error_code, message};
 
 /// The response or the data in a datagram to a client.
 #[derive(Clone, Copy, Debug)]
-pub enum Given<'a> {
+pub enum ToClient<'a> {
     /// A success response to a request with this method and transaction id (RFC 8489, section 5).
     Success {
         method: u16,
@@ -58,20 +58,20 @@ pub enum Success {
 }
 
 /// The response or the data in a datagram to a client, if it can be parsed.
-pub fn given_to_client(payload: &[u8]) -> Option<Given<'_>>
-    ensures { IfSome result (λ given. IsGiven payload.now given) }
+pub fn parse_to_client(payload: &[u8]) -> Option<ToClient<'_>>
+    ensures { IfSome result (λ to_client. IsToClient payload.now to_client) }
 {
     if let Some((number, data, _)) = channel_data(payload) {
-        return Some(Given::Channel { number, data });
+        return Some(ToClient::Channel { number, data });
     }
     let message = message(payload)?;
     match message.class() {
-        Class::Success => Some(Given::Success {
+        Class::Success => Some(ToClient::Success {
             method: message.method(),
             id: message.tid(),
-            success: said_by_success(&message),
+            success: content_of_success(&message),
         }),
-        Class::Error => Some(Given::Error {
+        Class::Error => Some(ToClient::Error {
             method: message.method(),
             id: message.tid(),
             code: code_of(&message),
@@ -79,13 +79,13 @@ pub fn given_to_client(payload: &[u8]) -> Option<Given<'_>>
         Class::Indication if message.method() == method::DATA => {
             let peer = peer_in(&message)?;
             let data = message.first(DATA)?;
-            Some(Given::Data { peer, data })
+            Some(ToClient::Data { peer, data })
         }
         Class::Request | Class::Indication => None,
     }
 }
 
-fn said_by_success(message: &Message<'_>) -> Success
+fn content_of_success(message: &Message<'_>) -> Success
     ensures { IsSuccess (parts_of message.now) result }
 {
     match message.method() {
