@@ -14,7 +14,7 @@ use Rattle.audit_pcapng.specs.declared.reader.BlockReader.{BlockReader}
 use Rattle.audit_pcapng.specs.Captures.{BeginsWith}
 use Rattle.audit_pcapng.specs.Sections.{no_blocks}
 use Rattle.audit_sightings.proofs.FilesSteps.{packets_of-piece}
-use Rattle.audit_sightings.proofs.TakingSteps.{AreSightings-same}
+use Rattle.audit_sightings.proofs.AddPacketsSteps.{AreSightings-same}
 use Rattle.audit_sightings.specs.declared.fault.IntakeFault.{IntakeFault}
 use Rattle.audit_sightings.specs.declared.fault.IntakeFaultKind.{IntakeFaultKind}
 use Rattle.audit_sightings.specs.declared.fault.IntakeFaultKind.TheVariants as faults

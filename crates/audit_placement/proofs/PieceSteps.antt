@@ -70,9 +70,9 @@ module _ (taken : Taken) (pair : Option Pair) where
       subst (CleanTurn taken old now pair (take (i + 1) events)) more.last_key more
 
 -- what holds of each that is asked holds of all, where each flag is set
-pub all_asked : {X : Type 0} (P : X → Type 0) (flags : List Bool) (xs : List X) → length flags ≡ length xs → All IsTrue flags
+pub all_checked : {X : Type 0} (P : X → Type 0) (flags : List Bool) (xs : List X) → length flags ≡ length xs → All IsTrue flags
     → ((i : ℕ) (d : Bool) → i < length flags → OnTrue (get_or flags i d) (IsSomeAnd (slice_get xs i) P)) → All P xs
-all_asked P flags xs as_many set asked = λ i d within.
+all_checked P flags xs as_many set asked = λ i d within.
     let there : i < length flags = omega (arith, as_many, within) in
     let some = subst (λ b. OnTrue b (IsSomeAnd (slice_get xs i) P)) (set i true there) (asked i true there) in
     subst (λ o. IsSomeAnd o P) (slice_get-get_or xs i d within) some

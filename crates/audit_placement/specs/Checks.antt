@@ -28,8 +28,8 @@ pub record Check : Type 0 where
   pub sight : SightId
   pub broken : Bool
 
-abbrev pub ask : SightId → Rule → Bool → Check
-ask sight rule broken = record { rule = rule; sight = sight; broken = broken }
+abbrev pub check_by : SightId → Rule → Bool → Check
+check_by sight rule broken = record { rule = rule; sight = sight; broken = broken }
 
 -- the sighting exists, and the test holds
 abbrev pub is_so : Option Sighting → (Sighting → Bool) → Bool
@@ -65,22 +65,22 @@ is_of_another policy (Some pair) Leaves sighting = listens policy sighting.from 
 abbrev pub placing_checks : Taken → Bool → Option Pair → Option Key → Side → SightId → Key → List Check
 placing_checks taken placed pair last side sight key =
     let sighting = sighting_at taken sight in
-    ask sight PlacedTwice placed
-    ∷ ask sight Stranger (not (is_some sighting))
-    ∷ ask sight OutOfWindow (is_so sighting (is_outside key))
-    ∷ ask sight LaneOrder (is_late last key)
-    ∷ ask sight WrongSide (is_so sighting (goes_against side))
-    ∷ ask sight OtherEndpoint (is_so sighting (is_of_another taken.policy pair side))
+    check_by sight PlacedTwice placed
+    ∷ check_by sight Stranger (not (is_some sighting))
+    ∷ check_by sight OutOfWindow (is_so sighting (is_outside key))
+    ∷ check_by sight LaneOrder (is_late last key)
+    ∷ check_by sight WrongSide (is_so sighting (goes_against side))
+    ∷ check_by sight OtherEndpoint (is_so sighting (is_of_another taken.policy pair side))
     ∷ []
 
 -- an act: the breach of a stranger names the first of the two that doesn't exist, all others the
 -- arrival
 abbrev pub act_checks : Taken → Option Key → SightId → SightId → Key → List Check
 act_checks taken last arrival departure key =
-    ask (if is_some (sighting_at taken arrival) then departure else arrival) Stranger
+    check_by (if is_some (sighting_at taken arrival) then departure else arrival) Stranger
     (not (is_some (sighting_at taken arrival)) || not (is_some (sighting_at taken departure)))
-    ∷ ask arrival LaneOrder (is_late last key)
-    ∷ ask arrival WrongSide (is_so (sighting_at taken arrival) (goes_against Arrives) || is_so (sighting_at taken departure) (goes_against Leaves))
+    ∷ check_by arrival LaneOrder (is_late last key)
+    ∷ check_by arrival WrongSide (is_so (sighting_at taken arrival) (goes_against Arrives) || is_so (sighting_at taken departure) (goes_against Leaves))
     ∷ []
 
 abbrev pub event_checks : Taken → Bool → Option Pair → Option Key → Event → List Check

@@ -10,10 +10,10 @@ ghost use Rattle.audit_placement.specs.Keys.{key_at};
 ghost use Rattle.audit_placement.specs.Pieces.{LaneBreaksNoRule};
 
 use crate::ahead::Placed;
-use crate::asking::lanes_break_no_rule;
 use crate::entry::LaneEnd;
 use crate::keys::PlacedKeys;
-use crate::taking::{note_event, place_event};
+use crate::lane_rules::lanes_break_no_rule;
+use crate::next_event::{note_event, place_event};
 use audit_model::{CertDrop, CertLane, Certificate, Event, Key, Pair};
 use audit_sightings::{EventsAhead, Intake};
 use std::alloc::{AllocError, Global};

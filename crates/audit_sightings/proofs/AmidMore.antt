@@ -21,7 +21,7 @@ use Rattle.audit_sightings.specs.ServiceDatagram.{service_datagram_of}
 use Rattle.audit_sightings.specs.Sightings.{AreSound, more_of, TakesIn, Stops}
 use Rattle.audit_sightings.specs.Files.{Fed, fed_at, packets_of, with_piece, GoesOn, IsNext, Refuses}
 use Rattle.audit_sightings.specs.Amid.{Amid}
-use Rattle.audit_sightings.proofs.TakingSteps.{AreSightings-same}
+use Rattle.audit_sightings.proofs.AddPacketsSteps.{AreSightings-same}
 use Rattle.audit_sightings.proofs.FilesSteps.{read_as, packets_of-piece, begins_first, next_by_packet}
 use Rattle.audit_sightings.proofs.AmidSteps.{fed_with, at_file, at_other, more_at, sound_more}
 

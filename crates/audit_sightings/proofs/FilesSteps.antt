@@ -23,7 +23,7 @@ use Rattle.audit_sightings.specs.declared.intake.Intake.{Intake}
 use Rattle.audit_sightings.specs.ServiceDatagram.{service_datagram_of}
 use Rattle.audit_sightings.specs.Sightings.{sightings_of, AreSound, more_of, IsRefused, TakesIn, Stops}
 use Rattle.audit_sightings.specs.Files.{Fed, not_fed, fed_at, packets_of, StandsFor, with_piece, Refuses, IsNext}
-use Rattle.audit_sightings.proofs.TakingSteps.{AreSightings-same}
+use Rattle.audit_sightings.proofs.AddPacketsSteps.{AreSightings-same}
 
 pub none_given : (policy : Policy) (iface : ℕ) → [] ≡ sightings_of policy iface []
 unfolding sightings_of

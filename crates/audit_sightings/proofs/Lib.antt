@@ -1,7 +1,7 @@
 pub mod RowSteps
 pub mod JoinSteps
 pub mod NewestSteps
-pub mod TakingSteps
+pub mod AddPacketsSteps
 pub mod Refusing
 pub mod FilesSteps
 pub mod JoinFiles

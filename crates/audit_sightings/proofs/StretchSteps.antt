@@ -17,7 +17,7 @@ use Rattle.audit_sightings.specs.declared.fault.IntakeFaultKind.{IntakeFaultKind
 use Rattle.audit_sightings.specs.ServiceDatagram.{ServiceDatagram, service_datagram_of}
 use Rattle.audit_sightings.specs.Stretch.{found_in, read_of, stretch_at, LiesWithin}
 use Rattle.audit_sightings.specs.Sightings.{TakesIn, Stops}
-use Rattle.audit_sightings.proofs.TakingSteps.{TakesIn-then}
+use Rattle.audit_sightings.proofs.AddPacketsSteps.{TakesIn-then}
 use Rattle.audit_sightings.proofs.Zipped.{zip_at}
 
 take-within : {X : Type 0} (a b : List X) (s n : ℕ) → s + n ≤ length a → take n (drop s (a ++ b)) ≡ take n (drop s a)

@@ -9,7 +9,7 @@ use Rattle.audit_sightings.specs.declared.fault.IntakeFaultKind.TheVariants.{Mem
 use Rattle.audit_sightings.specs.declared.fault.IntakeFaultKind.{IntakeFaultKind}
 use Rattle.audit_pcapng.specs.declared.packet.Packet.{Packet}
 use Rattle.audit_sightings.specs.Sightings.{TakesIn, Stops}
-use Rattle.audit_sightings.proofs.TakingSteps.{TakesIn-none, TakesIn-then}
+use Rattle.audit_sightings.proofs.AddPacketsSteps.{TakesIn-none, TakesIn-then}
 
 pub zip_at : {X Y : Type 0} (R : X → Y → Type 0) (xs : List X) (ys : List Y) (i : ℕ) (d : X) (e : Y) → AllZip R xs ys → i < length xs → R (get_or xs i d) (get_or ys i e)
 zip_at R [] ys i d e h lt = absurd (omega arith)

@@ -4,10 +4,10 @@ mod joining;
 
 ghost use Rattle.std.specs.Prelude.{◌≤◌, vec_len};
 
+use crate::add_packets::{take_in_turn, take_packets};
 use crate::by_interface::ByInterface;
 use crate::fault::{IntakeFault, IntakeFaultKind};
 use crate::parallel::{gather, take_by_threads};
-use crate::taking::{take_in_turn, take_packets};
 use audit_model::{Policy, SightId, Sighting};
 use audit_pcapng::BlockReader;
 use std::alloc::Global;

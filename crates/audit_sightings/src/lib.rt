@@ -1,6 +1,7 @@
 //! The intake: the datagrams of the service in the captures, interface by interface.
 #![tactic(auto)]
 
+mod add_packets;
 mod ahead;
 mod by_interface;
 mod fault;
@@ -10,7 +11,6 @@ mod owned_datagram;
 mod parallel;
 mod service_datagram;
 mod stretch;
-mod taking;
 
 pub use ahead::{EventsAhead, ReadsAhead, read_payload, read_sighting};
 pub use audit_model::{Side, SightId, Sighting};

@@ -11,10 +11,10 @@ ghost use Rattle.audit_sightings.specs.Sightings.{TakesIn, Stops};
 ghost use Rattle.audit_sightings.specs.Stretch.{read_of, stretch_at};
 ghost use Rattle.rayon.specs.Numbers.{nat_range};
 
+use crate::add_packets::take_stretch;
 use crate::by_interface::ByInterface;
 use crate::fault::IntakeFaultKind;
 use crate::stretch::{STRETCH, Stretch, part_of, read_stretch};
-use crate::taking::take_stretch;
 use audit_model::Policy;
 use audit_pcapng::{BlockReader, CaptureFault, PacketSlice};
 use rayon::prelude::*;

@@ -1,4 +1,4 @@
-use Rattle.audit_sightings.proofs.TakingSteps.{Grows-then}
+use Rattle.audit_sightings.proofs.AddPacketsSteps.{Grows-then}
 use Rattle.audit_sightings.proofs.intake.Intake.take_large_piece.Goals as goal
 
 pub returns-in-Ok-clause-grows : goal.returns-in-Ok-clause-grows

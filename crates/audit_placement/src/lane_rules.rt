@@ -36,7 +36,7 @@ fn break_no_rule(intake: &Intake, start: LaneEnd, events: &[Event]) -> bool
 }
 
 /// Sets the flag if the piece of that number breaks no rule, and clears it if it breaks one.
-fn ask_piece(intake: &Intake, pieces: &[Piece<'_>], number: usize, flag: &mut bool)
+fn check_piece(intake: &Intake, pieces: &[Piece<'_>], number: usize, flag: &mut bool)
     requires { number < length pieces.now }
     ensures { OnTrue flag.new (IsSomeAnd (slice_get pieces.now number) (PieceBreaksNoRule (taken intake.now))) }
 {
@@ -45,7 +45,7 @@ fn ask_piece(intake: &Intake, pieces: &[Piece<'_>], number: usize, flag: &mut bo
 }
 
 /// Sets or clears the flag of each piece so, by at most `workers` threads.
-fn ask_pieces<R: Threads + Sync>(
+fn check_pieces<R: Threads + Sync>(
     rt: &R,
     intake: &Intake,
     pieces: &[Piece<'_>],
@@ -60,7 +60,7 @@ fn ask_pieces<R: Threads + Sync>(
         rt,
         flags,
         workers as usize,
-        &|number, flag| ask_piece(intake, pieces, number, flag),
+        &|number, flag| check_piece(intake, pieces, number, flag),
     );
 }
 
@@ -89,7 +89,7 @@ fn pieces_break_no_rule<R: Threads + Sync>(
     requires there { length flags.old ≡ length pieces.now }
     ensures { OnTrue result (All (PieceBreaksNoRule (taken intake.now)) pieces.now) }
 {
-    ask_pieces(rt, intake, pieces, workers, flags);
+    check_pieces(rt, intake, pieces, workers, flags);
     all_set(flags)
 }
 

@@ -2,7 +2,7 @@ use Rattle.std.proofs.Common.{All, subst}
 use Rattle.audit_sightings.specs.Intake.{taken}
 use Rattle.audit_placement.specs.Pieces.{LaneBreaksNoRule, PieceBreaksNoRule}
 use Rattle.audit_placement.proofs.PieceSteps.{on_true}
-use Rattle.audit_placement.proofs.asking.lanes_break_no_rule.Goals as goal
+use Rattle.audit_placement.proofs.lane_rules.lanes_break_no_rule.Goals as goal
 
 pub returns : goal.returns
 returns g c =

@@ -3,7 +3,7 @@ use Rattle.std.proofs.lemmas.List.{take_all}
 use Rattle.audit_sightings.specs.Intake.{taken}
 use Rattle.audit_placement.specs.Pieces.{BreakNoRule}
 use Rattle.audit_placement.proofs.PieceSteps.{last_more, no_rule_more}
-use Rattle.audit_placement.proofs.asking.break_no_rule.Goals as goal
+use Rattle.audit_placement.proofs.lane_rules.break_no_rule.Goals as goal
 
 pub events-preserved : goal.events-preserved
 events-preserved c =

@@ -1,7 +1,7 @@
 use Rattle.std.proofs.Common.{◌≡◌, take}
 use Rattle.audit_sightings.specs.Intake.{taken}
 use Rattle.audit_placement.specs.Pieces.{last_of, BreakNoRule}
-use Rattle.audit_placement.proofs.asking.break_no_rule.Given as goal
+use Rattle.audit_placement.proofs.lane_rules.break_no_rule.Given as goal
 
 -- the events so far break no rule
 abbrev pub invariant-events : goal.invariant-events

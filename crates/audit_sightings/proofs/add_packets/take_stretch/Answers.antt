@@ -7,9 +7,9 @@ use Rattle.audit_pcapng.specs.Packets.{packet_of}
 use Rattle.audit_sightings.specs.ServiceDatagram.{service_datagram_of}
 use Rattle.audit_sightings.specs.Sightings.{TakesIn}
 use Rattle.audit_sightings.specs.Stretch.{IsOwned}
-use Rattle.audit_sightings.proofs.TakingSteps.{TakesIn-then, parts_or}
+use Rattle.audit_sightings.proofs.AddPacketsSteps.{TakesIn-then, parts_or}
 use Rattle.audit_sightings.proofs.Zipped.{no_packet}
-use Rattle.audit_sightings.proofs.taking.take_stretch.Goals as goal
+use Rattle.audit_sightings.proofs.add_packets.take_stretch.Goals as goal
 
 pub found-requires : goal.found-requires
 found-requires c = omega (arith, ap length c.requires.read, length-map c.args.packets.now (λ (packet : PacketSlice). service_datagram_of c.args.policy.now (packet_of packet)), c.loop-i-test.true)

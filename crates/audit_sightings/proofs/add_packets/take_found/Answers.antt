@@ -5,9 +5,9 @@ use Rattle.audit_sightings.specs.Sightings.{sighting_of}
 use Rattle.audit_sightings.specs.Stretch.{owned}
 use Rattle.std.proofs.lemmas.Result.{on_ok_weaker}
 use Rattle.audit_pcapng.specs.Packets.{packet_of}
-use Rattle.audit_sightings.proofs.TakingSteps.{TakesIn-other, TakesIn-kept}
+use Rattle.audit_sightings.proofs.AddPacketsSteps.{TakesIn-other, TakesIn-kept}
 use Rattle.audit_sightings.proofs.Refusing.{refused_unowned, refused_by_limit, found_as}
-use Rattle.audit_sightings.proofs.taking.take_found.Goals as goal
+use Rattle.audit_sightings.proofs.add_packets.take_found.Goals as goal
 
 pub returns-in-Err-clause-err : goal.returns-in-Err-clause-err
 returns-in-Err-clause-err c =

@@ -1,6 +1,6 @@
 use Rattle.std.proofs.lemmas.Result.{err_from_is_err_and}
 use Rattle.audit_sightings.proofs.StretchSteps.{stretch_stops, stretch_taken}
-use Rattle.audit_sightings.proofs.taking.take_in_turn.Goals as goal
+use Rattle.audit_sightings.proofs.add_packets.take_in_turn.Goals as goal
 
 pub returns-in_err-take_together-clause-err : goal.returns-in_err-take_together-clause-err
 returns-in_err-take_together-clause-err c =
