@@ -5,7 +5,7 @@ use Rattle.audit_model.specs.declared.address.Addr.{Addr}
 use Rattle.audit_model.specs.declared.policy.PortRange.{PortRange}
 use Rattle.prep_coturn.specs.declared.conf.Conf.{Conf}
 use Rattle.prep_coturn.specs.declared.conf.External.{External}
-use Rattle.prep_coturn.specs.declared.plan.Asked.{Asked}
+use Rattle.prep_coturn.specs.declared.plan.Options.{Options}
 use Rattle.prep_coturn.specs.declared.plan.Plan.{Plan}
 use Rattle.prep_coturn.specs.declared.fault.ConfFault.{ConfFault}
 use Rattle.prep_coturn.specs.declared.fault.ConfFault.TheVariants as faults
@@ -14,14 +14,14 @@ abbrev pub is_new : List ℕ → ℕ → Bool
 is_new said ip = not (list_any (λ one. one == ip) said)
 
 -- the addresses of the configuration, and those of the options that it doesn't have
-abbrev pub with_asked : List ℕ → List ℕ → List ℕ
-with_asked said besides = said ++ filter (is_new said) besides
+abbrev pub with_options : List ℕ → List ℕ → List ℕ
+with_options said added = said ++ filter (is_new said) added
 
-abbrev pub listening_of : Conf → Asked → List ℕ
-listening_of conf asked = with_asked conf.listening asked.listening.now
+abbrev pub listening_of : Conf → Options → List ℕ
+listening_of conf options = with_options conf.listening options.listening.now
 
-abbrev pub relaying_of : Conf → Asked → List ℕ
-relaying_of conf asked = with_asked conf.relaying asked.relaying.now
+abbrev pub relaying_of : Conf → Options → List ℕ
+relaying_of conf options = with_options conf.relaying options.relaying.now
 
 -- the port plus one, unless another one is set
 abbrev pub alternative_of : ℕ → ℕ → ℕ
@@ -55,31 +55,31 @@ abbrev pub wire_of : List ℕ → External → ℕ
 wire_of relaying external = wire_at external.wire relaying
 
 -- the last line for a relay address has the address that clients are granted
-abbrev pub told_of : List ℕ → List External → ℕ → ℕ
-told_of relaying external wire = fold (λ told one. if wire_of relaying one == wire then one.told else told) wire external
+abbrev pub public_of : List ℕ → List External → ℕ → ℕ
+public_of relaying external wire = fold (λ public one. if wire_of relaying one == wire then one.public else public) wire external
 
 abbrev pub is_apart : List ℕ → List External → ℕ → Bool
-is_apart relaying external wire = not (told_of relaying external wire == wire)
+is_apart relaying external wire = not (public_of relaying external wire == wire)
 
 -- clients are granted another address for some relay address
 abbrev pub is_renamed : List ℕ → List External → Bool
 is_renamed relaying external = list_any (is_apart relaying external) relaying
 
 -- and this is refused, unless the captures are translated
-abbrev pub IsMistold : ConfFault → List ℕ → List External → Bool → Type 0
-IsMistold (faults.Told line renamed) relaying external is_translated = (is_translated ≡ false) × (is_renamed relaying external ≡ true)
-IsMistold (faults.OneForMany line count) relaying external is_translated = (count ≡ length relaying) × (length relaying ≢ 1)
-IsMistold faults.Memory relaying external is_translated = Unit {0}
-IsMistold other relaying external is_translated = ⊥
+abbrev pub IsAddressFault : ConfFault → List ℕ → List External → Bool → Type 0
+IsAddressFault (faults.NotTranslated line renamed) relaying external is_translated = (is_translated ≡ false) × (is_renamed relaying external ≡ true)
+IsAddressFault (faults.OneForMany line count) relaying external is_translated = (count ≡ length relaying) × (length relaying ≢ 1)
+IsAddressFault faults.Memory relaying external is_translated = Unit {0}
+IsAddressFault other relaying external is_translated = ⊥
 
 abbrev pub range_at : Conf → List ℕ → ℕ → PortRange
-range_at conf relaying wire = record { ip = told_of relaying conf.external wire; low = conf.min_port; high = conf.max_port }
+range_at conf relaying wire = record { ip = public_of relaying conf.external wire; low = conf.min_port; high = conf.max_port }
 
 abbrev pub ranges_of : Conf → List ℕ → List PortRange
 ranges_of conf relaying = map (range_at conf relaying) relaying
 
-abbrev pub listens_of : Conf → Asked → List Addr
-listens_of conf asked = listens_at (listening_of conf asked) (ports_of conf (nat_lt 1 (length (listening_of conf asked)))) ++ conf.aux
+abbrev pub listens_of : Conf → Options → List Addr
+listens_of conf options = listens_at (listening_of conf options) (ports_of conf (nat_lt 1 (length (listening_of conf options)))) ++ conf.aux
 
 -- a listening port is inside the relay range
 abbrev pub is_inside_at : Conf → List ℕ → Addr → Bool
@@ -89,20 +89,20 @@ abbrev pub is_inside : Conf → List ℕ → List Addr → Bool
 is_inside conf relaying listens = list_any (is_inside_at conf relaying) listens
 
 -- the lines of the policy
-pub record IsPlanned (plan : Plan) (conf : Conf) (asked : Asked) : Type 0 where
-  pub listens : plan.listens ≡ listens_of conf asked
-  pub relays : plan.relays ≡ ranges_of conf (relaying_of conf asked)
-  pub told : asked.is_translated ≡ false → is_renamed (relaying_of conf asked) conf.external ≡ false
-  pub apart : is_inside conf (relaying_of conf asked) (listens_of conf asked) ≡ false
+pub record IsPlanned (plan : Plan) (conf : Conf) (options : Options) : Type 0 where
+  pub listens : plan.listens ≡ listens_of conf options
+  pub relays : plan.relays ≡ ranges_of conf (relaying_of conf options)
+  pub not_renamed : options.is_translated ≡ false → is_renamed (relaying_of conf options) conf.external ≡ false
+  pub apart : is_inside conf (relaying_of conf options) (listens_of conf options) ≡ false
 
 -- the reasons of refusals
-abbrev pub IsRefused : ConfFault → Conf → Asked → Type 0
-IsRefused faults.NoListening conf asked = listening_of conf asked ≡ []
-IsRefused (faults.NoRelaying listening) conf asked = relaying_of conf asked ≡ []
-IsRefused faults.Range conf asked = (conf.max_port < conf.min_port) ⊎ (conf.min_port ≡ 0)
-IsRefused faults.Inside conf asked = is_inside conf (relaying_of conf asked) (listens_of conf asked) ≡ true
-IsRefused (faults.Told line renamed) conf asked = IsMistold (faults.Told line renamed) (relaying_of conf asked) conf.external asked.is_translated
-IsRefused (faults.OneForMany line count) conf asked = IsMistold (faults.OneForMany line count) (relaying_of conf asked) conf.external asked.is_translated
-IsRefused (faults.Unjudged line setting) conf asked = ⊥
-IsRefused (faults.Value line setting) conf asked = ⊥
-IsRefused faults.Memory conf asked = Unit {0}
+abbrev pub IsRefused : ConfFault → Conf → Options → Type 0
+IsRefused faults.NoListening conf options = listening_of conf options ≡ []
+IsRefused (faults.NoRelaying listening) conf options = relaying_of conf options ≡ []
+IsRefused faults.Range conf options = (conf.max_port < conf.min_port) ⊎ (conf.min_port ≡ 0)
+IsRefused faults.Inside conf options = is_inside conf (relaying_of conf options) (listens_of conf options) ≡ true
+IsRefused (faults.NotTranslated line renamed) conf options = IsAddressFault (faults.NotTranslated line renamed) (relaying_of conf options) conf.external options.is_translated
+IsRefused (faults.OneForMany line count) conf options = IsAddressFault (faults.OneForMany line count) (relaying_of conf options) conf.external options.is_translated
+IsRefused (faults.Unjudged line setting) conf options = ⊥
+IsRefused (faults.Value line setting) conf options = ⊥
+IsRefused faults.Memory conf options = Unit {0}

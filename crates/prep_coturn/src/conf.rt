@@ -13,7 +13,7 @@ use std::alloc::Global;
 /// A relay address on the wire, and the one that clients are granted.
 #[derive(Clone, Copy, Debug, PartialEq, Eq)]
 pub struct Renamed {
-    pub told: u32,
+    pub public: u32,
     pub wire: u32,
 }
 
@@ -21,7 +21,7 @@ pub struct Renamed {
 #[derive(Clone, Copy, Debug, PartialEq, Eq)]
 pub struct External {
     pub line: u64,
-    pub told: u32,
+    pub public: u32,
     /// The relay address that it is for; `None` if it is for the only one.
     pub wire: Option<u32>,
 }
@@ -161,24 +161,24 @@ fn external_in(row: &Row<'_>) -> Result<External, ConfFault> {
         line: row.line,
         setting: Setting::ExternalIp,
     };
-    let (told, wire) = match cut(row.value, b'/') {
-        Some((told, wire)) => (told, wire),
+    let (public, wire) = match cut(row.value, b'/') {
+        Some((public, wire)) => (public, wire),
         None => (row.value, b"".as_slice()),
     };
-    let Ok(told) = read_ip(told) else {
+    let Ok(public) = read_ip(public) else {
         return Err(fault);
     };
     if wire.is_empty() {
         return Ok(External {
             line: row.line,
-            told,
+            public,
             wire: None,
         });
     }
     match read_ip(wire) {
         Ok(wire) => Ok(External {
             line: row.line,
-            told,
+            public,
             wire: Some(wire),
         }),
         Err(_) => Err(fault),

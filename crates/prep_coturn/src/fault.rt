@@ -23,7 +23,7 @@ pub enum ConfFault {
     /// No `relay-ip`; the listening addresses.
     NoRelaying { listening: Listed<u32> },
     /// Clients are granted another address for a relay address.
-    Told { line: u64, renamed: Listed<Renamed> },
+    NotTranslated { line: u64, renamed: Listed<Renamed> },
     /// `min-port` is greater than `max-port`, or 0.
     Range,
     /// A listening port is inside the relay range.
@@ -85,7 +85,7 @@ fn write_relaying<W: fmt::Write>(
 }
 
 /// Writes the options for translation.
-fn write_told<W: fmt::Write>(
+fn write_not_translated<W: fmt::Write>(
     f: &mut fmt::Formatter<W>,
     line: u64,
     renamed: &Listed<Renamed>,
@@ -95,9 +95,9 @@ fn write_told<W: fmt::Write>(
         "turnserver-conf line {line} external-ip: the told address is not the one on the wire (R14): say --translated, and pass the captures through translate"
     )?;
     for one in renamed.as_slice() {
-        let told = Ip(one.told);
+        let public = Ip(one.public);
         let wire = Ip(one.wire);
-        write!(f, " --external-ip {told}/{wire}")?;
+        write!(f, " --external-ip {public}/{wire}")?;
     }
     Ok(())
 }
@@ -124,7 +124,7 @@ impl fmt::Display for ConfFault {
                 "turnserver-conf: no listening-ip: coturn takes all addresses of its host: say each by --listening-ip",
             ),
             ConfFault::NoRelaying { listening } => write_relaying(f, listening),
-            ConfFault::Told { line, renamed } => write_told(f, *line, renamed),
+            ConfFault::NotTranslated { line, renamed } => write_not_translated(f, *line, renamed),
             ConfFault::Range => f.write_str("turnserver-conf: min-port over max-port"),
             ConfFault::Inside => {
                 f.write_str("turnserver-conf: a listening port is inside the relay range")

@@ -13,7 +13,7 @@ mod writing;
 
 pub use conf::{Conf, External, Renamed};
 pub use fault::ConfFault;
-pub use plan::{Asked, Plan, plan_of};
+pub use plan::{Options, Plan, plan_of};
 pub use reading::{Prepared, prepare};
 pub use rows::{Row, rows_of};
 pub use setting::{Setting, Unjudged};

@@ -2,7 +2,7 @@
 
 ghost use Rattle.std.specs.Prelude.{◌≡◌, ◌==◌, false, [], ◌∷◌, ◌++◌, map, if◌then◌else◌, IfOk, IfErr, OnOk};
 ghost use Rattle.std.specs.List.{list_any};
-ghost use Rattle.prep_coturn.specs.Plans.{IsPlanned, IsRefused, alternative_of, has_tls, ports_of, with_asked, is_new, addr_at, listens_at, wire_of, told_of, ranges_of, is_inside, is_inside_at, is_renamed, is_apart, IsMistold};
+ghost use Rattle.prep_coturn.specs.Plans.{IsPlanned, IsRefused, alternative_of, has_tls, ports_of, with_options, is_new, addr_at, listens_at, wire_of, public_of, ranges_of, is_inside, is_inside_at, is_renamed, is_apart, IsAddressFault};
 
 use crate::conf::{Conf, External, Renamed};
 use crate::fault::ConfFault;
@@ -11,7 +11,7 @@ use std::alloc::{AllocError, Global};
 
 /// The operator's options, in addition to the configuration.
 #[derive(Clone, Copy, Debug)]
-pub struct Asked<'a> {
+pub struct Options<'a> {
     pub listening: &'a [u32],
     pub relaying: &'a [u32],
     /// Whether the captures go through `translate`.
@@ -27,21 +27,21 @@ pub struct Plan {
 
 /// The policy of a configuration, or why there is none. The cost is the number of listen lines, and
 /// of relay addresses times `external-ip` lines.
-pub fn plan_of(alloc: Global, conf: &Conf, asked: &Asked<'_>) -> Result<Plan, ConfFault>
-    ensures ok { IfOk result (λ plan. IsPlanned plan conf.now asked.now) }
-    ensures err { IfErr result (λ fault. IsRefused fault conf.now asked.now) }
+pub fn plan_of(alloc: Global, conf: &Conf, options: &Options<'_>) -> Result<Plan, ConfFault>
+    ensures ok { IfOk result (λ plan. IsPlanned plan conf.now options.now) }
+    ensures err { IfErr result (λ fault. IsRefused fault conf.now options.now) }
 {
-    let listening = with_those(alloc, conf.listening.as_slice(), asked.listening)?;
+    let listening = with_those(alloc, conf.listening.as_slice(), options.listening)?;
     if listening.is_empty() {
         return Err(ConfFault::NoListening);
     }
-    let relaying = with_those(alloc, conf.relaying.as_slice(), asked.relaying)?;
+    let relaying = with_those(alloc, conf.relaying.as_slice(), options.relaying)?;
     if relaying.is_empty() {
         return Err(ConfFault::NoRelaying {
             listening: Listed::from(listening),
         });
     }
-    check_told(alloc, conf, &relaying, asked.is_translated)?;
+    check_external(alloc, conf, &relaying, options.is_translated)?;
     let ports = ports(alloc, conf, listening.len() > 1)?;
     let listens = listens(alloc, &listening, &ports, conf.aux.as_slice())?;
     if conf.min_port > conf.max_port || conf.min_port == 0 {
@@ -58,11 +58,11 @@ pub fn plan_of(alloc: Global, conf: &Conf, asked: &Asked<'_>) -> Result<Plan, Co
 }
 
 /// The addresses of the configuration, and those of the options that it doesn't have.
-fn with_those(alloc: Global, said: &[u32], besides: &[u32]) -> Result<Vec<u32>, AllocError>
-    ensures { IfOk result (λ all. all.items ≡ with_asked said.now besides.now) }
+fn with_those(alloc: Global, said: &[u32], added: &[u32]) -> Result<Vec<u32>, AllocError>
+    ensures { IfOk result (λ all. all.items ≡ with_options said.now added.now) }
 {
     let mut all = Vec::from_slice(alloc, said)?;
-    for ip in besides {
+    for ip in added {
         push_new(&mut all, said, *ip)?;
     }
     Ok(all)
@@ -86,14 +86,14 @@ fn is_among(ips: &[u32], ip: u32) -> bool
 
 /// Checks that clients are granted the relay addresses on the wire, unless the captures are
 /// translated.
-fn check_told(
+fn check_external(
     alloc: Global,
     conf: &Conf,
     relaying: &[u32],
     is_translated: bool,
 ) -> Result<(), ConfFault>
     ensures ok { OnOk result (is_translated ≡ false → is_renamed relaying.now conf.now.external ≡ false) }
-    ensures err { IfErr result (λ fault. IsMistold fault relaying.now conf.now.external is_translated) }
+    ensures err { IfErr result (λ fault. IsAddressFault fault relaying.now conf.now.external is_translated) }
 {
     let external = conf.external.as_slice();
     if relaying.len() != 1 {
@@ -106,7 +106,7 @@ fn check_told(
     }
     if !is_translated && is_any_renamed(external, relaying) {
         let renamed = renamed(alloc, external, relaying)?;
-        return Err(ConfFault::Told {
+        return Err(ConfFault::NotTranslated {
             line: first_line(renamed.as_slice(), external, relaying),
             renamed,
         });
@@ -130,13 +130,13 @@ fn is_any_renamed(external: &[External], relaying: &[u32]) -> bool
 {
     relaying
         .iter()
-        .any(|wire| is_told_apart(external, relaying, *wire))
+        .any(|wire| has_other_public(external, relaying, *wire))
 }
 
-fn is_told_apart(external: &[External], relaying: &[u32], wire: u32) -> bool
+fn has_other_public(external: &[External], relaying: &[u32], wire: u32) -> bool
     ensures { result ≡ is_apart relaying.now external.now wire }
 {
-    told_as(wire, external, relaying) != wire
+    public_address(wire, external, relaying) != wire
 }
 
 /// The relay addresses for which clients are granted others.
@@ -147,9 +147,12 @@ fn renamed(
 ) -> Result<Listed<Renamed>, AllocError> {
     let mut renamed = Vec::new(alloc);
     for wire in relaying {
-        let told = told_as(*wire, external, relaying);
-        if told != *wire {
-            renamed.push(Renamed { told, wire: *wire })?;
+        let public = public_address(*wire, external, relaying);
+        if public != *wire {
+            renamed.push(Renamed {
+                public,
+                wire: *wire,
+            })?;
         }
     }
     Ok(Listed::from(renamed))
@@ -187,16 +190,16 @@ fn on_wire(external: &External, relaying: &[u32]) -> u32
 
 /// The address that clients are granted for a relay address: by the last line for it, or else the
 /// same.
-fn told_as(wire: u32, external: &[External], relaying: &[u32]) -> u32
-    ensures { result ≡ told_of relaying.now external.now wire }
+fn public_address(wire: u32, external: &[External], relaying: &[u32]) -> u32
+    ensures { result ≡ public_of relaying.now external.now wire }
 {
-    let mut told = wire;
+    let mut public = wire;
     for one in external {
         if on_wire(one, relaying) == wire {
-            told = one.told;
+            public = one.public;
         }
     }
-    told
+    public
 }
 
 /// The port plus one, or the port that is set.
@@ -276,7 +279,7 @@ fn ranges(alloc: Global, conf: &Conf, relaying: &[u32]) -> Result<Vec<PortRange>
     let mut ranges = Vec::new(alloc);
     for wire in relaying {
         ranges.push(PortRange {
-            ip: told_as(*wire, conf.external.as_slice(), relaying),
+            ip: public_address(*wire, conf.external.as_slice(), relaying),
             low: conf.min_port,
             high: conf.max_port,
         })?;

@@ -10,7 +10,7 @@ use Rattle.audit_model.specs.Addr.{addr_text}
 use Rattle.audit_model.specs.LanePairs.{addr_cmp}
 use Rattle.audit_model.specs.Policy.{listens, relays, is_of_service}
 use Rattle.prep_look.specs.declared.survey.Answers.{Answers}
-use Rattle.prep_look.specs.declared.told.ToldAddress.{ToldAddress}
+use Rattle.prep_look.specs.declared.granted_address.GrantedAddress.{GrantedAddress}
 
 -- `not-in-policy` if the policy doesn't listen
 abbrev pub ending : Bool → List ℕ
@@ -36,7 +36,7 @@ silent_line entries addr = if is_some (lookup (is_at (addr_cmp addr)) entries) t
 abbrev pub answers_text : Policy → List (Addr × Answers) → List ℕ
 answers_text policy entries = flat_map (λ entry. answer_line policy entry.0 entry.1) entries ++ flat_map (silent_line entries) policy.listen
 
-abbrev pub is_of_ip : ℕ → ToldAddress → Bool
+abbrev pub is_of_ip : ℕ → GrantedAddress → Bool
 is_of_ip ip one = one.relayed.ip == ip
 
 -- four numbers joined by dots
@@ -46,26 +46,26 @@ ip_text ip =
     decimal (slice_index octets 0) ++ (codes "." ++ (decimal (slice_index octets 1) ++ (codes "." ++ (decimal (slice_index octets 2) ++ (codes "." ++ decimal (slice_index octets 3))))))
 
 -- the port of the last one
-abbrev pub last_port : ℕ → List ToldAddress → ℕ
+abbrev pub last_port : ℕ → List GrantedAddress → ℕ
 last_port port [] = port
 last_port port (one ∷ granted) = last_port one.relayed.port granted
 
 -- an IP address, and its granted ports
-abbrev pub ports_text : ToldAddress → List ToldAddress → List ℕ
+abbrev pub ports_text : GrantedAddress → List GrantedAddress → List ℕ
 ports_text first granted =
     codes "told " ++ (ip_text first.relayed.ip ++ (codes " ports " ++ (decimal (length granted)
     ++ (codes " from " ++ (decimal first.relayed.port ++ (codes " to " ++ decimal (last_port first.relayed.port granted)))))))
 
 -- how many of them are on the wire, and how many the policy has
-abbrev pub counts_text : Policy → List ToldAddress → List ℕ
+abbrev pub counts_text : Policy → List GrantedAddress → List ℕ
 counts_text policy granted =
     codes " on-wire " ++ (decimal (count_by (λ one. one.is_on_wire) granted) ++ (codes " in-policy " ++ (decimal (count_by (λ one. relays policy one.relayed) granted) ++ codes "\n")))
 
-abbrev pub granted_line : Policy → ToldAddress → List ToldAddress → List ℕ
+abbrev pub granted_line : Policy → GrantedAddress → List GrantedAddress → List ℕ
 granted_line policy first granted = ports_text first granted ++ counts_text policy granted
 
 -- a line for each IP address whose relayed addresses are adjacent, at most `n` lines
-abbrev pub granted_lines : ℕ → Policy → List ToldAddress → List ℕ
+abbrev pub granted_lines : ℕ → Policy → List GrantedAddress → List ℕ
 granted_lines zero policy granted = []
 granted_lines (suc n) policy [] = []
 granted_lines (suc n) policy (first ∷ granted) =
@@ -73,5 +73,5 @@ granted_lines (suc n) policy (first ∷ granted) =
     ++ granted_lines n policy (drop (prefix_len (is_of_ip first.relayed.ip) (first ∷ granted)) (first ∷ granted))
 
 -- the lines of all addresses
-abbrev pub granted_text : Policy → List ToldAddress → List ℕ
+abbrev pub granted_text : Policy → List GrantedAddress → List ℕ
 granted_text policy granted = granted_lines (length granted) policy granted

@@ -1,8 +1,8 @@
 //! The advice of the page.
 
+use crate::granted_address::Alias;
 use crate::losses::Losses;
 use crate::survey::Closed;
-use crate::told::Alias;
 use prep_cut::ReasonKind;
 use std::fmt;
 

@@ -1,11 +1,11 @@
 //! Lines of advice as text.
 
 use crate::advice::{Advice, Ended, Relaying};
+use crate::granted_address::Alias;
 use crate::interface_name::InterfaceName;
 use crate::ip::Ip;
 use crate::losses::Losses;
 use crate::survey::Closed;
-use crate::told::Alias;
 use prep_cut::ReasonKind;
 use std::fmt;
 

@@ -92,8 +92,8 @@ pub(crate) fn lines_of_answers(
     ensures { IfOk result (λ text. string_bytes text ≡ answers_text policy.now answers.now.entries) }
 {
     let mut text = String::new(alloc);
-    for (addr, given) in answers.iter() {
-        push_answers(alloc, &mut text, *addr, given, policy)?;
+    for (addr, responses) in answers.iter() {
+        push_answers(alloc, &mut text, *addr, responses, policy)?;
     }
     push_all_silent(alloc, &mut text, answers, policy.listen.as_slice())?;
     Ok(text)

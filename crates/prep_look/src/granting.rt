@@ -5,13 +5,13 @@ ghost use Rattle.std.specs.List.{count_by};
 ghost use Rattle.audit_model.specs.Policy.{relays};
 ghost use Rattle.prep_look.specs.PolicyLines.{counts_text, granted_line, granted_text, last_port, ports_text};
 
+use crate::granted_address::{GrantedAddress, split_ip};
 use crate::ip::Ip;
-use crate::told::{ToldAddress, split_ip};
 use audit_model::Policy;
 use std::alloc::{AllocError, Global};
 
 /// How many of these addresses are on the wire.
-fn count_on_wire(granted: &[ToldAddress]) -> u64
+fn count_on_wire(granted: &[GrantedAddress]) -> u64
     ensures { result ≡ count_by (λ one. one.is_on_wire) granted.now }
 {
     let mut count = 0u64;
@@ -24,7 +24,7 @@ fn count_on_wire(granted: &[ToldAddress]) -> u64
 }
 
 /// How many of these addresses the policy has.
-fn count_in_policy(granted: &[ToldAddress], policy: &Policy) -> u64
+fn count_in_policy(granted: &[GrantedAddress], policy: &Policy) -> u64
     ensures { result ≡ count_by (λ one. relays policy.now one.relayed) granted.now }
 {
     let mut count = 0u64;
@@ -37,7 +37,7 @@ fn count_in_policy(granted: &[ToldAddress], policy: &Policy) -> u64
 }
 
 /// The port of the last address, or this port.
-fn last_port(granted: &[ToldAddress], port: u16) -> u16
+fn last_port(granted: &[GrantedAddress], port: u16) -> u16
     ensures { result ≡ last_port port granted.now }
 {
     let mut last = port;
@@ -50,8 +50,8 @@ fn last_port(granted: &[ToldAddress], port: u16) -> u16
 /// The text of an IP address and its granted ports.
 fn text_of_ports(
     alloc: Global,
-    first: &ToldAddress,
-    granted: &[ToldAddress],
+    first: &GrantedAddress,
+    granted: &[GrantedAddress],
 ) -> Result<String, AllocError>
     ensures { IfOk result (λ text. string_bytes text ≡ ports_text first.now granted.now) }
 {
@@ -65,7 +65,7 @@ fn text_of_ports(
 /// The text of how many of them are on the wire, and how many the policy has.
 fn text_of_counts(
     alloc: Global,
-    granted: &[ToldAddress],
+    granted: &[GrantedAddress],
     policy: &Policy,
 ) -> Result<String, AllocError>
     ensures { IfOk result (λ text. string_bytes text ≡ counts_text policy.now granted.now) }
@@ -78,8 +78,8 @@ fn text_of_counts(
 /// The line of an IP address with these relayed addresses, in the order of ports.
 fn line_of(
     alloc: Global,
-    first: &ToldAddress,
-    granted: &[ToldAddress],
+    first: &GrantedAddress,
+    granted: &[GrantedAddress],
     policy: &Policy,
 ) -> Result<String, AllocError>
     ensures { IfOk result (λ line. string_bytes line ≡ granted_line policy.now first.now granted.now) }
@@ -92,7 +92,7 @@ fn line_of(
 /// The lines of all IP addresses.
 pub(crate) fn lines_of_granted(
     alloc: Global,
-    granted: &[ToldAddress],
+    granted: &[GrantedAddress],
     policy: &Policy,
 ) -> Result<String, AllocError>
     ensures { IfOk result (λ text. string_bytes text ≡ granted_text policy.now granted.now) }

@@ -66,7 +66,7 @@ const LEAST_PORT: u16 = 49_152;
 #[derive(Clone, Copy)]
 struct Range {
     wire: u32,
-    told: u32,
+    granted: u32,
     low: u16,
 }
 
@@ -83,7 +83,7 @@ pub fn guess_policy(alloc: Global, survey: &Survey) -> Result<Guess, GuessFault>
     let mut suggested = head_of(alloc, &listen)?;
     for range in &ranges {
         write_range(&mut on_wire, range.wire, range.low)?;
-        write_range(&mut suggested, range.told, range.low)?;
+        write_range(&mut suggested, range.granted, range.low)?;
     }
     let policy = read_policy(alloc, on_wire.as_bytes())?;
     Ok(Guess { policy, suggested })
@@ -115,27 +115,31 @@ fn listening(alloc: Global, survey: &Survey) -> Result<Vec<Addr>, AllocError> {
 /// The ranges by their addresses on the wire.
 fn ranges_of(alloc: Global, survey: &Survey) -> Result<Vec<Range>, AllocError> {
     let mut ranges: BTreeMap<u32, Range> = BTreeMap::new(alloc);
-    for one in &survey.told {
-        let told = one.relayed.ip;
+    for one in &survey.granted {
+        let granted = one.relayed.ip;
         let place = survey
             .aliases
-            .binary_search_by_key(&told, |alias| alias.public);
+            .binary_search_by_key(&granted, |alias| alias.public);
         let wire = match place {
             Ok(place) => match survey.aliases.get(place) {
                 Some(alias) => alias.private,
-                None => told,
+                None => granted,
             },
-            Err(_) => told,
+            Err(_) => granted,
         };
         let range = match ranges.get(&wire) {
             Some(range) => Range {
                 wire,
-                told: if told == wire { range.told } else { told },
+                granted: if granted == wire {
+                    range.granted
+                } else {
+                    granted
+                },
                 low: range.low.min(one.relayed.port),
             },
             None => Range {
                 wire,
-                told,
+                granted,
                 low: LEAST_PORT.min(one.relayed.port),
             },
         };

@@ -44,7 +44,7 @@ pub(crate) fn find_losses(alloc: Global, sheet: &Sheet<'_>) -> Result<Option<Los
                 None => Some(request.record.stamp),
             };
         }
-        *lease = lease_behind(*lease, &answer);
+        *lease = lease_after(*lease, &answer);
     }
     Ok(match first {
         Some(first) => Some(before(sheet, count, first)),
@@ -60,16 +60,16 @@ fn is_lost(lease: Option<Lease>, answer: &Exchanged) -> bool {
     if answer.record.stamp >= lease.end {
         return false;
     }
-    let asked = answer.stun.method;
-    let needs = asked == method::REFRESH
-        || asked == method::CREATE_PERMISSION
-        || asked == method::CHANNEL_BIND;
+    let answered_method = answer.stun.method;
+    let needs = answered_method == method::REFRESH
+        || answered_method == method::CREATE_PERMISSION
+        || answered_method == method::CHANNEL_BIND;
     let is_new = answer.succeeds(method::ALLOCATE) && answer.stun.tid != lease.tid;
     is_new || (needs && answer.fails(437))
 }
 
 /// The allocation after a response.
-fn lease_behind(lease: Option<Lease>, answer: &Exchanged) -> Option<Lease> {
+fn lease_after(lease: Option<Lease>, answer: &Exchanged) -> Option<Lease> {
     let end = answer.lease_end();
     if answer.succeeds(method::ALLOCATE) {
         let tid = answer.stun.tid;

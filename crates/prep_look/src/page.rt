@@ -72,13 +72,13 @@ pub fn page_of(
     policy: &Policy,
     sheet: &Sheet<'_>,
 ) -> Result<String, AllocError>
-    ensures { IfOk result (λ page. (before after : List ℕ) × (string_bytes page ≡ before ++ (answers_text policy.now survey.answers.entries ++ (granted_text policy.now survey.told.items ++ after)))) }
+    ensures { IfOk result (λ page. (before after : List ℕ) × (string_bytes page ≡ before ++ (answers_text policy.now survey.answers.entries ++ (granted_text policy.now survey.granted.items ++ after)))) }
 {
     let mut survey = survey;
     let mut page = head_of(alloc, &mut survey.interfaces, sheet)?;
     let rest = rest_of(alloc, &survey, policy, sheet)?;
     page.push_str(lines_of_answers(alloc, &survey.answers, policy)?.as_str())?;
-    page.push_str(lines_of_granted(alloc, &survey.told, policy)?.as_str())?;
+    page.push_str(lines_of_granted(alloc, &survey.granted, policy)?.as_str())?;
     page.push_str(rest.as_str())?;
     Ok(page)
 }

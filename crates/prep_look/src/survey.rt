@@ -1,7 +1,7 @@
 //! The contents of captures, independent of the policy.
 
+use crate::granted_address::{Alias, GrantedAddress};
 use crate::interface::Interface;
-use crate::told::{Alias, ToldAddress};
 use audit_model::{Addr, Policy};
 use std::alloc::Global;
 use std::collections::BTreeMap;
@@ -63,7 +63,7 @@ pub struct Survey {
     pub(crate) interfaces: Vec<Interface>,
     pub(crate) answers: BTreeMap<Addr, Answers>,
     /// By address.
-    pub(crate) told: Vec<ToldAddress>,
+    pub(crate) granted: Vec<GrantedAddress>,
     /// At most one for each address that was granted and isn't on the wire.
     pub(crate) aliases: Vec<Alias>,
     /// By source and destination.
@@ -84,7 +84,7 @@ impl Survey {
         Survey {
             interfaces: Vec::new(alloc),
             answers: BTreeMap::new(alloc),
-            told: Vec::new(alloc),
+            granted: Vec::new(alloc),
             aliases: Vec::new(alloc),
             fragments: BTreeMap::new(alloc),
             cuts: BTreeMap::new(alloc),

@@ -1,10 +1,10 @@
 //! Surveys captures that come in pieces.
 
 use crate::clock::{closing_time, nanoseconds_of_tick};
+use crate::granted_address::{aliases_of, granted_on_wire};
 use crate::interface::Interface;
 use crate::passed::{Passed, closed_in, passed_as};
 use crate::survey::{Answers, Closed, Survey};
-use crate::told::{aliases_of, told_on_wire};
 use audit_model::Addr;
 use audit_packets::Seen;
 use audit_pcapng::{BlockKind, CaptureFault};
@@ -32,7 +32,7 @@ const MOST_PADDING: usize = 3;
 pub struct Surveyor {
     splitter: BlockSplitter,
     all: Survey,
-    told: BTreeSet<Addr>,
+    granted: BTreeSet<Addr>,
     /// The addresses at the ends of datagrams.
     wire: BTreeSet<Addr>,
     capture: u32,
@@ -48,7 +48,7 @@ impl Surveyor {
         Surveyor {
             splitter: BlockSplitter::new(alloc),
             all: Survey::new(alloc),
-            told: BTreeSet::new(alloc),
+            granted: BTreeSet::new(alloc),
             wire: BTreeSet::new(alloc),
             capture: 0,
             before_capture: 0,
@@ -61,11 +61,11 @@ impl Surveyor {
     pub fn feed(&mut self, piece: &[u8]) -> Result<(), CaptureFault> {
         let mut rest = piece;
         for _ in 0..piece.len() {
-            let Some((block, behind)) = self.splitter.next(rest)? else {
+            let Some((block, remaining)) = self.splitter.next(rest)? else {
                 return Ok(());
             };
             self.take(&block)?;
-            rest = behind;
+            rest = remaining;
         }
         Ok(())
     }
@@ -84,13 +84,13 @@ impl Surveyor {
     pub fn finish(self) -> Result<Survey, AllocError> {
         let Surveyor {
             mut all,
-            told,
+            granted,
             wire,
             alloc,
             ..
         } = self;
-        all.told = told_on_wire(alloc, &told, &wire)?;
-        all.aliases = aliases_of(alloc, all.told.as_slice(), &all.answers, &wire)?;
+        all.granted = granted_on_wire(alloc, &granted, &wire)?;
+        all.aliases = aliases_of(alloc, all.granted.as_slice(), &all.answers, &wire)?;
         Ok(all)
     }
 
@@ -199,8 +199,8 @@ impl Surveyor {
     }
 
     fn take_payload(&mut self, from: Addr, to: Addr, payload: &[u8]) -> Result<(), AllocError> {
-        if let Some((_, _, behind)) = channel_data(payload) {
-            if behind > MOST_PADDING {
+        if let Some((_, _, remaining)) = channel_data(payload) {
+            if remaining > MOST_PADDING {
                 let count = match self.all.merged.get(&(from, to)) {
                     Some(count) => *count,
                     None => 0,
@@ -217,7 +217,7 @@ impl Surveyor {
         if is_granted {
             if let Some(value) = message.first(XOR_RELAYED_ADDRESS) {
                 if let Some(relayed) = address(value) {
-                    self.told.insert(relayed)?;
+                    self.granted.insert(relayed)?;
                 }
             }
         }

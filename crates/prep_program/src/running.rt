@@ -22,7 +22,7 @@ use crate::translating::run_translate;
 use crate::users::run_users;
 use audit_model::{Sink, put_all};
 use explain_text::Escaped;
-use prep_coturn::Asked;
+use prep_coturn::Options;
 use std::alloc::{AllocError, Global};
 use std::convert::AsStr;
 use std::thread::Threads;
@@ -162,12 +162,12 @@ fn run_request<R: Threads + AllocGlobal, S: Source, M: Maker, F: Folders, O: Sin
             relaying,
             is_translated,
         } => {
-            let asked = Asked {
+            let options = Options {
                 listening,
                 relaying,
                 is_translated: *is_translated,
             };
-            run_policy(alloc, file, &asked, source, out, err)
+            run_policy(alloc, file, &options, source, out, err)
         }
         Request::Look(request) => look(alloc, request, source, out),
         Request::Cut(words) => cut_and_publish(rt, words, source, maker, out, err),

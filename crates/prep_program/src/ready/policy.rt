@@ -8,7 +8,7 @@ use crate::stop::Stop;
 use crate::surveying::survey_captures;
 use crate::text::{read_conf_text, read_policy_text};
 use audit_model::{Policy, Sink, put_all, read_policy};
-use prep_coturn::{Asked, ConfFault, Prepared, Renamed, prepare};
+use prep_coturn::{ConfFault, Options, Prepared, Renamed, prepare};
 use prep_look::Survey;
 use prep_translate::Translation;
 use std::alloc::{AllocError, Global};
@@ -200,12 +200,12 @@ fn prepare_with(
 
 /// Prepares a configuration with the added options.
 fn prepare_once(alloc: Global, text: &[u8], added: &Added) -> Result<Prepared, ConfFault> {
-    let asked = Asked {
+    let options = Options {
         listening: &added.listening,
         relaying: &added.relaying,
         is_translated: added.is_translated,
     };
-    prepare(alloc, text, &asked)
+    prepare(alloc, text, &options)
 }
 
 /// Adds an option that a configuration lacks, or returns its fault.
@@ -220,7 +220,7 @@ fn add(alloc: Global, survey: &Survey, fault: ConfFault, added: &mut Added) -> R
         ConfFault::NoRelaying { listening } => {
             added.relaying = Vec::from_slice(alloc, listening.as_slice())?;
         }
-        ConfFault::Told { renamed, .. } => {
+        ConfFault::NotTranslated { renamed, .. } => {
             added.is_translated = true;
             added.renamed = Vec::from_slice(alloc, renamed.as_slice())?;
         }
@@ -236,7 +236,7 @@ fn translated(alloc: Global, survey: &Survey, added: &Added) -> Result<Vec<Trans
     for one in &added.renamed {
         if answering.contains(&one.wire) {
             translations.push(Translation {
-                public: one.told,
+                public: one.public,
                 inner: one.wire,
             })?;
         }

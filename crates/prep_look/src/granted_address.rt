@@ -11,7 +11,7 @@ use std::collections::{BTreeMap, BTreeSet};
 
 /// A relayed address that was granted over UDP and IPv4.
 #[derive(Clone, Copy, Debug)]
-pub(crate) struct ToldAddress {
+pub(crate) struct GrantedAddress {
     pub(crate) relayed: Addr,
     /// Whether a datagram leaves it or arrives there.
     pub(crate) is_on_wire: bool,
@@ -38,17 +38,17 @@ impl Alias {
 
 /// At most this number of addresses with responses is checked for ports that were granted for
 /// another address, so that the cost is bounded.
-const MOST_ASKED: usize = 8;
+const MOST_CANDIDATES: usize = 8;
 
 /// The addresses that were granted, in order.
-pub(crate) fn told_on_wire(
+pub(crate) fn granted_on_wire(
     alloc: Global,
-    told: &BTreeSet<Addr>,
+    granted: &BTreeSet<Addr>,
     wire: &BTreeSet<Addr>,
-) -> Result<Vec<ToldAddress>, AllocError> {
+) -> Result<Vec<GrantedAddress>, AllocError> {
     let mut all = Vec::new(alloc);
-    for relayed in told.iter() {
-        all.push(ToldAddress {
+    for relayed in granted.iter() {
+        all.push(GrantedAddress {
             relayed: *relayed,
             is_on_wire: wire.contains(relayed),
         })?;
@@ -60,25 +60,25 @@ pub(crate) fn told_on_wire(
 /// most of its ports.
 pub(crate) fn aliases_of(
     alloc: Global,
-    told: &[ToldAddress],
+    granted: &[GrantedAddress],
     answers: &BTreeMap<Addr, Answers>,
     wire: &BTreeSet<Addr>,
 ) -> Result<Vec<Alias>, AllocError> {
-    let asked = ips_of(alloc, answers)?;
+    let candidates = ips_of(alloc, answers)?;
     let on_wire = ips_on_wire(alloc, wire)?;
     let mut aliases = Vec::new(alloc);
-    let mut rest = told;
-    for _ in 0..told.len() {
+    let mut rest = granted;
+    for _ in 0..granted.len() {
         let Some((first, _)) = rest.split_first() else {
             return Ok(aliases);
         };
-        let (of_ip, behind) = split_ip(rest, first.relayed.ip);
+        let (of_ip, remaining) = split_ip(rest, first.relayed.ip);
         if on_wire.binary_search(&first.relayed.ip).is_err() {
-            if let Some(alias) = alias_of(of_ip, &asked, wire) {
+            if let Some(alias) = alias_of(of_ip, &candidates, wire) {
                 aliases.push(alias)?;
             }
         }
-        rest = behind;
+        rest = remaining;
     }
     Ok(aliases)
 }
@@ -87,7 +87,7 @@ pub(crate) fn aliases_of(
 fn ips_of(alloc: Global, answers: &BTreeMap<Addr, Answers>) -> Result<Vec<u32>, AllocError> {
     let mut ips = Vec::new(alloc);
     for addr in answers.keys() {
-        if ips.len() < MOST_ASKED && ips.last().copied() != Some(addr.ip) {
+        if ips.len() < MOST_CANDIDATES && ips.last().copied() != Some(addr.ip) {
             ips.push(addr.ip)?;
         }
     }
@@ -106,34 +106,41 @@ fn ips_on_wire(alloc: Global, wire: &BTreeSet<Addr>) -> Result<Vec<u32>, AllocEr
 }
 
 /// How many addresses at the front are of one IP address.
-fn length_at(told: &[ToldAddress], ip: u32) -> usize
-    ensures count { result ≡ prefix_len (is_of_ip ip) told.now }
-    ensures within { result ≤ length told.now }
+fn length_at(granted: &[GrantedAddress], ip: u32) -> usize
+    ensures count { result ≡ prefix_len (is_of_ip ip) granted.now }
+    ensures within { result ≤ length granted.now }
 {
-    for (at, one) in told.iter().enumerate() {
+    for (at, one) in granted.iter().enumerate() {
         if one.relayed.ip != ip {
             return at;
         }
     }
-    told.len()
+    granted.len()
 }
 
 /// The addresses of one IP address at the front, and the others. The cost is the number of those at
 /// the front.
-pub(crate) fn split_ip(told: &[ToldAddress], ip: u32) -> (&[ToldAddress], &[ToldAddress])
-    ensures front { result.0.now ≡ take (prefix_len (is_of_ip ip) told.now) told.now }
-    ensures others { result.1.now ≡ drop (prefix_len (is_of_ip ip) told.now) told.now }
+pub(crate) fn split_ip(
+    granted: &[GrantedAddress],
+    ip: u32,
+) -> (&[GrantedAddress], &[GrantedAddress])
+    ensures front { result.0.now ≡ take (prefix_len (is_of_ip ip) granted.now) granted.now }
+    ensures others { result.1.now ≡ drop (prefix_len (is_of_ip ip) granted.now) granted.now }
 {
-    told.split_at(length_at(told, ip))
+    granted.split_at(length_at(granted, ip))
 }
 
 /// The candidate that has most of the ports.
-fn alias_of(told: &[ToldAddress], asked: &[u32], wire: &BTreeSet<Addr>) -> Option<Alias> {
+fn alias_of(
+    granted: &[GrantedAddress],
+    candidates: &[u32],
+    wire: &BTreeSet<Addr>,
+) -> Option<Alias> {
     let mut best: Option<Alias> = None;
-    for private in asked {
+    for private in candidates {
         let mut ports = 0u64;
         let mut public = 0;
-        for one in told {
+        for one in granted {
             public = one.relayed.ip;
             let here = Addr {
                 ip: *private,
@@ -152,7 +159,7 @@ fn alias_of(told: &[ToldAddress], asked: &[u32], wire: &BTreeSet<Addr>) -> Optio
                 public,
                 private: *private,
                 ports,
-                of: told.len() as u64,
+                of: granted.len() as u64,
             });
         }
     }
