@@ -9,7 +9,7 @@ use crate::tenancies::{Tenancies, Tenancy};
 use crate::times::Times;
 use audit_model::Addr;
 use audit_seen::{
-    Gives, LaneNumber, PoolKey, PoolNumber, PoolNumbers, Says, Seen, SeenNumber, Sights,
+    Content, LaneNumber, PoolKey, PoolNumber, PoolNumbers, Says, Seen, SeenNumber, Sights,
 };
 use std::alloc::{AllocError, Global};
 
@@ -99,9 +99,9 @@ impl<'a> Known<'a> {
     ) -> Result<Vec<PoolNumber>, AllocError> {
         let mut found = Vec::new(self.alloc);
         match seen.says() {
-            Says::Gives(_, Some(pool)) => found.push(pool)?,
-            Says::Gives(
-                Gives::Relayed {
+            Says::Departure(_, Some(pool)) => found.push(pool)?,
+            Says::Departure(
+                Content::Relayed {
                     relayed,
                     peer,
                     digest,
@@ -112,13 +112,13 @@ impl<'a> Known<'a> {
                     self.add_sent(lane, peer, digest, &mut found)?;
                 }
             }
-            Says::Gives(Gives::Data { peer, digest }, _) => {
+            Says::Departure(Content::Data { peer, digest }, _) => {
                 for tenancy in self.owned(number, seen)? {
                     self.add_received(&tenancy, peer, digest, &mut found)?;
                 }
             }
-            Says::Gives(
-                Gives::Channel {
+            Says::Departure(
+                Content::Channel {
                     number: channel,
                     digest,
                 },

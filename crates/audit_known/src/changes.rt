@@ -4,7 +4,7 @@ ghost use Rattle.std.specs.Prelude.{◌≡◌};
 
 use crate::times::Times;
 use audit_model::Addr;
-use audit_seen::{Gives, LaneNumber, Seen, SeenNumber, Sights};
+use audit_seen::{Content, LaneNumber, Seen, SeenNumber, Sights};
 use std::alloc::{AllocError, Global};
 
 /// A response about a lane's allocation. They are ordered by lane, then by time.
@@ -101,14 +101,14 @@ impl Changes {
         let Some(lane) = seen.lane() else {
             return Ok(());
         };
-        match seen.gives() {
-            Some(Gives::Allocated { relayed, .. }) => self.made.push(Made {
+        match seen.content() {
+            Some(Content::Allocated { relayed, .. }) => self.made.push(Made {
                 relayed,
                 when,
                 number,
             })?,
-            Some(Gives::Deleted) => self.ended.push(LaneResponse { lane, when, number })?,
-            Some(Gives::Refreshed { .. }) => self.kept.push(LaneResponse { lane, when, number })?,
+            Some(Content::Deleted) => self.ended.push(LaneResponse { lane, when, number })?,
+            Some(Content::Refreshed { .. }) => self.kept.push(LaneResponse { lane, when, number })?,
             _ => {}
         }
         Ok(())

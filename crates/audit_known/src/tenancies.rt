@@ -5,7 +5,7 @@ ghost use Rattle.std.specs.Prelude.{◌≡◌};
 use crate::changes::Changes;
 use crate::times::Times;
 use audit_model::Addr;
-use audit_seen::{Gives, LaneNumber, Says, Seen, SeenNumber, Sights};
+use audit_seen::{Content, LaneNumber, Says, Seen, SeenNumber, Sights};
 use std::alloc::{AllocError, Global};
 
 const NANOSECONDS: u64 = 1_000_000_000;
@@ -171,7 +171,7 @@ fn tenancy_of(
 ) -> Option<Tenancy> {
     let seen = sights.get(maker)?;
     let lane = seen.lane()?;
-    let Gives::Allocated { relayed, seconds } = seen.gives()? else {
+    let Content::Allocated { relayed, seconds } = seen.content()? else {
         return None;
     };
     let when = times.of(maker).when();
@@ -225,7 +225,7 @@ fn prolonged(
         if place >= PROLONGED {
             return u64::MAX;
         }
-        if let Says::Gives(Gives::Refreshed { seconds }, _) = seen.says() {
+        if let Says::Departure(Content::Refreshed { seconds }, _) = seen.says() {
             last = over(seen, seconds, grace);
         }
     }

@@ -3,7 +3,7 @@
 use crate::edges::Edges;
 use audit_known::{Changes, Handover, Matches, Times};
 use audit_model::Addr;
-use audit_seen::{Gives, LaneNumber, Says, SeenNumber, Sights};
+use audit_seen::{Content, LaneNumber, Says, SeenNumber, Sights};
 use std::alloc::{AllocError, Global};
 
 /// The most swaps of an allocation with others that can't have ended before it.
@@ -80,8 +80,10 @@ fn holdings(alloc: Global, facts: Facts<'_>, times: &Times) -> Result<Vec<Holdin
         let Some(seen) = facts.sights.get(maker) else {
             continue;
         };
-        let (Some(lane), Says::Gives(Gives::Allocated { .. }, pool)) = (seen.lane(), seen.says())
-        else {
+        let (Some(lane), Says::Departure(Content::Allocated { .. }, pool)) = (
+            seen.lane(),
+            seen.says(),
+        ) else {
             continue;
         };
         if last != Some((relayed, pool)) {

@@ -3,7 +3,7 @@
 use crate::matching::{COPIES, departures};
 use audit_known::{Known, Tenancy};
 use audit_model::Addr;
-use audit_seen::{Gives, LaneNumber, PoolNumber, Says, SeenNumber};
+use audit_seen::{Content, LaneNumber, PoolNumber, Says, SeenNumber};
 use std::alloc::{AllocError, Global};
 use std::collections::BTreeSet;
 
@@ -156,8 +156,8 @@ impl RelayedLanes {
 /// The content of a departure from a relayed address.
 fn relayed_of(known: &Known<'_>, number: SeenNumber) -> Option<Relayed> {
     match known.sights().get(number)?.says() {
-        Says::Gives(
-            Gives::Relayed {
+        Says::Departure(
+            Content::Relayed {
                 relayed,
                 peer,
                 digest,

@@ -19,7 +19,7 @@ mod plans;
 use audit_rules::LaneTable;
 use audit_search_input::{Ranked, SearchInput};
 use audit_search_state::{PoolRef, Refused, State, relayed_of};
-use audit_seen::{Gives, LaneNumber, Seen, SeenNumber, Slot};
+use audit_seen::{Content, LaneNumber, Seen, SeenNumber, Slot};
 pub use drawing::Draw;
 pub use plans::{PREVIOUS, Plan};
 use std::alloc::AllocError;
@@ -69,8 +69,8 @@ impl<'a> Lane<'a> {
         let mut changes = Vec::new(input.alloc());
         for one in departures {
             if input
-                .gives(one.number())
-                .is_some_and(|gives| gives.is_change())
+                .content(one.number())
+                .is_some_and(|content| content.is_change())
             {
                 changes.push((one.rank(), one.number()))?;
             }
@@ -274,8 +274,10 @@ impl<'a> Lane<'a> {
 
     /// Whether a departure repeats the response for the allocation that a table has.
     fn is_repeated(&self, table: &LaneTable, departure: &Seen, moment: u64) -> bool {
-        let (Some(Gives::Allocated { .. }), Some(tenancy)) = (departure.gives(), table.running())
-        else {
+        let (Some(Content::Allocated { .. }), Some(tenancy)) = (
+            departure.content(),
+            table.running(),
+        ) else {
             return false;
         };
         let made_by = self.input.number_of(tenancy.sight);

@@ -10,7 +10,7 @@ use audit_keys::Credentials;
 use audit_known::{Known, Matches, Placed};
 use audit_model::{Addr, Policy, SightId, Sighting};
 use audit_search_state::{Constraints, PoolRef};
-use audit_seen::{Gives, LaneNumber, PoolKey, Says, Seen, SeenNumber};
+use audit_seen::{Content, LaneNumber, PoolKey, Says, Seen, SeenNumber};
 use audit_sightings::Intake;
 pub use needs::{AHEAD, helps, names, peer_of};
 use std::alloc::{AllocError, Global};
@@ -172,8 +172,8 @@ impl<'a> SearchInput<'a> {
     }
 
     /// The content of a departure.
-    pub fn gives(&self, number: SeenNumber) -> Option<Gives> {
-        self.seen(number)?.gives()
+    pub fn content(&self, number: SeenNumber) -> Option<Content> {
+        self.seen(number)?.content()
     }
 
     /// The client and the listen address of a lane.
@@ -206,18 +206,18 @@ impl<'a> SearchInput<'a> {
     ) -> Result<Vec<PoolRef>, AllocError> {
         let mut found = Vec::new(self.alloc());
         match (departure.says(), relayed) {
-            (Says::Gives(_, Some(pool)), _) => found.push(PoolRef::own(pool))?,
-            (Says::Gives(Gives::Relayed { peer, digest, .. }, _), _) => {
+            (Says::Departure(_, Some(pool)), _) => found.push(PoolRef::own(pool))?,
+            (Says::Departure(Content::Relayed { peer, digest, .. }, _), _) => {
                 let mut pools = Vec::new(self.alloc());
                 self.known.add_sent(lane, peer, digest, &mut pools)?;
                 for pool in pools {
                     found.push(PoolRef::own(pool))?;
                 }
             }
-            (Says::Gives(Gives::Data { peer, digest }, _), Some(relayed)) => {
+            (Says::Departure(Content::Data { peer, digest }, _), Some(relayed)) => {
                 self.add_received(relayed, peer, digest, &mut found)?;
             }
-            (Says::Gives(Gives::Channel { number, digest }, _), Some(relayed)) => {
+            (Says::Departure(Content::Channel { number, digest }, _), Some(relayed)) => {
                 for peer in self.known.bindings().peers_of(lane, number)? {
                     self.add_received(relayed, peer, digest, &mut found)?;
                 }

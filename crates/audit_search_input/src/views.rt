@@ -130,7 +130,7 @@ impl Views {
         }
         match seen.says() {
             Says::Received(pool) => self.add_received(viewed, seen, pool, rank, number),
-            Says::Gives(..) => {
+            Says::Departure(..) => {
                 let relayed = viewed.relayed.get(number.index()).copied().flatten();
                 if let Some(lane) = seen.lane().or(relayed) {
                     self.departures.push(Ranked::new(lane, rank, number))?;

@@ -41,7 +41,7 @@ pub enum ArrivalKind {
 
 /// The content of a departure.
 #[derive(Clone, Copy, Debug, PartialEq, Eq)]
-pub enum Gives {
+pub enum Content {
     /// An error response.
     Error,
     /// An Allocate success response, with its lifetime in seconds.
@@ -135,16 +135,16 @@ impl PoolKey {
     }
 }
 
-impl Gives {
+impl Content {
     /// Whether it changes the client's leases: the others leave the table unchanged.
     pub fn is_change(&self) -> bool {
         matches!(
             self,
-            Gives::Allocated { .. }
-                | Gives::Refreshed { .. }
-                | Gives::Deleted
-                | Gives::Permitted
-                | Gives::Bound
+            Content::Allocated { .. }
+                | Content::Refreshed { .. }
+                | Content::Deleted
+                | Content::Permitted
+                | Content::Bound
         )
     }
 }
@@ -185,8 +185,8 @@ pub fn requested_channel(payload: &[u8]) -> Option<(u16, Addr)> {
 }
 
 /// The content of a departure from a relayed address.
-pub(crate) fn content_to_peer(leaves: &Sighting) -> Gives {
-    Gives::Relayed {
+pub(crate) fn content_to_peer(leaves: &Sighting) -> Content {
+    Content::Relayed {
         relayed: leaves.from,
         peer: leaves.to,
         digest: digest_of(leaves.payload.as_slice()),
@@ -194,7 +194,7 @@ pub(crate) fn content_to_peer(leaves: &Sighting) -> Gives {
 }
 
 /// The content of a departure to a client; of a response also the key of its requests.
-pub(crate) fn content_to_client(lane: LaneNumber, payload: &[u8]) -> (Gives, Option<PoolKey>) {
+pub(crate) fn content_to_client(lane: LaneNumber, payload: &[u8]) -> (Content, Option<PoolKey>) {
     match audit_content::parse_to_client(payload) {
         Some(
             ToClient::Success {
@@ -207,32 +207,32 @@ pub(crate) fn content_to_client(lane: LaneNumber, payload: &[u8]) -> (Gives, Opt
             (content_of_success(success), Some(key))
         }
         Some(ToClient::Error { method, id, .. }) => {
-            (Gives::Error, Some(PoolKey::request(lane, method, id)))
+            (Content::Error, Some(PoolKey::request(lane, method, id)))
         }
         Some(ToClient::Data { peer, data }) => {
             let digest = digest_of(data);
-            (Gives::Data { peer, digest }, None)
+            (Content::Data { peer, digest }, None)
         }
         Some(ToClient::Channel { number, data }) => {
             let digest = digest_of(data);
-            (Gives::Channel { number, digest }, None)
+            (Content::Channel { number, digest }, None)
         }
-        None => (Gives::Other, None),
+        None => (Content::Other, None),
     }
 }
 
-fn content_of_success(success: Success) -> Gives {
+fn content_of_success(success: Success) -> Content {
     match success {
-        Success::Allocated { relayed, seconds } => Gives::Allocated {
+        Success::Allocated { relayed, seconds } => Content::Allocated {
             relayed,
             seconds: seconds.unwrap_or(0),
         },
-        Success::Refreshed { seconds } => Gives::Refreshed {
+        Success::Refreshed { seconds } => Content::Refreshed {
             seconds: seconds.unwrap_or(0),
         },
-        Success::Deleted => Gives::Deleted,
-        Success::Permitted => Gives::Permitted,
-        Success::Bound => Gives::Bound,
-        Success::Other => Gives::Answered,
+        Success::Deleted => Content::Deleted,
+        Success::Permitted => Content::Permitted,
+        Success::Bound => Content::Bound,
+        Success::Other => Content::Answered,
     }
 }

@@ -12,7 +12,7 @@ mod reading;
 mod seen;
 mod slot;
 
-pub use content::{ArrivalKind, Gives, PoolKey, requested_channel};
+pub use content::{ArrivalKind, Content, PoolKey, requested_channel};
 pub use lanes::Lanes;
 pub use numbers::{LaneNumber, PoolNumber, SeenNumber};
 pub use pool_numbers::PoolNumbers;

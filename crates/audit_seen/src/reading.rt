@@ -1,7 +1,7 @@
 //! The content of a sighting, before pools have numbers.
 
 use crate::content::{
-    Gives, PoolKey, content_to_client, content_to_peer, key_from_client, key_from_peer,
+    Content, PoolKey, content_to_client, content_to_peer, key_from_client, key_from_peer,
 };
 use crate::lanes::Lanes;
 use crate::numbers::{LaneNumber, PoolNumber};
@@ -60,14 +60,14 @@ pub(crate) fn read_sighting(policy: &Policy, sighting: &Sighting, lanes: &Lanes)
             },
         },
         Side::Leaves if !policy.listens(sighting.from) => Reading {
-            says: Says::Gives(content_to_peer(sighting), None),
+            says: Says::Departure(content_to_peer(sighting), None),
             lane: None,
             key: None,
         },
         Side::Leaves => match lanes.get(sighting.to, sighting.from) {
             Some(lane) => read_to_client(lane, sighting),
             None => Reading {
-                says: Says::Gives(Gives::Other, None),
+                says: Says::Departure(Content::Other, None),
                 lane: None,
                 key: None,
             },
@@ -92,9 +92,9 @@ fn read_from_client(lane: LaneNumber, sighting: &Sighting) -> Reading {
 
 /// The content of a datagram to a client.
 fn read_to_client(lane: LaneNumber, sighting: &Sighting) -> Reading {
-    let (gives, key) = content_to_client(lane, sighting.payload.as_slice());
+    let (content, key) = content_to_client(lane, sighting.payload.as_slice());
     Reading {
-        says: Says::Gives(gives, key.map(|_| NO_POOL)),
+        says: Says::Departure(content, key.map(|_| NO_POOL)),
         lane: Some(lane),
         key,
     }

@@ -1,6 +1,6 @@
 //! The sightings, each read once.
 
-use crate::content::{Gives, PoolKey};
+use crate::content::{Content, PoolKey};
 use crate::lanes::Lanes;
 use crate::numbers::{LaneNumber, PoolNumber, SeenNumber};
 use crate::pool_numbers::PoolNumbers;
@@ -22,7 +22,7 @@ pub enum Says {
     /// An arrival that no departure answers.
     Nothing,
     /// A departure; a response with the pool of its requests.
-    Gives(Gives, Option<PoolNumber>),
+    Departure(Content, Option<PoolNumber>),
 }
 
 /// The facts of a sighting that its order depends on.
@@ -43,8 +43,8 @@ impl Says {
             Says::Request(_) => Says::Request(pool),
             Says::Sent(_) => Says::Sent(pool),
             Says::Received(_) => Says::Received(pool),
-            Says::Gives(gives, Some(_)) => Says::Gives(gives, Some(pool)),
-            Says::Nothing | Says::Gives(_, None) => self,
+            Says::Departure(content, Some(_)) => Says::Departure(content, Some(pool)),
+            Says::Nothing | Says::Departure(_, None) => self,
         }
     }
 }
@@ -101,7 +101,7 @@ impl Seen {
     {
         match self.says {
             Says::Request(_) | Says::Sent(_) | Says::Received(_) | Says::Nothing => true,
-            Says::Gives(..) => false,
+            Says::Departure(..) => false,
         }
     }
 
@@ -111,7 +111,7 @@ impl Seen {
     {
         match self.says {
             Says::Request(pool) | Says::Sent(pool) | Says::Received(pool) => Some(pool),
-            Says::Nothing | Says::Gives(..) => None,
+            Says::Nothing | Says::Departure(..) => None,
         }
     }
 
@@ -120,17 +120,17 @@ impl Seen {
         ensures { result ≡ answered_pool self.now.says }
     {
         match self.says {
-            Says::Gives(_, pool) => pool,
+            Says::Departure(_, pool) => pool,
             Says::Request(_) | Says::Sent(_) | Says::Received(_) | Says::Nothing => None,
         }
     }
 
     /// The content of a departure.
-    pub fn gives(&self) -> Option<Gives>
+    pub fn content(&self) -> Option<Content>
         ensures { result ≡ departure_content self.now.says }
     {
         match self.says {
-            Says::Gives(gives, _) => Some(gives),
+            Says::Departure(content, _) => Some(content),
             Says::Request(_) | Says::Sent(_) | Says::Received(_) | Says::Nothing => None,
         }
     }

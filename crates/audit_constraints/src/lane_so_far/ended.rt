@@ -3,7 +3,7 @@
 use super::LaneSoFar;
 use audit_search_input::AHEAD;
 use audit_search_state::Constraint;
-use audit_seen::{Gives, SeenNumber};
+use audit_seen::{Content, SeenNumber};
 use std::alloc::AllocError;
 
 impl LaneSoFar<'_> {
@@ -13,7 +13,7 @@ impl LaneSoFar<'_> {
         let moment = self.input.at(departure);
         let mut found = Vec::new(self.input.alloc());
         for (_, answer) in self.changes_before(departure).iter().rev().take(AHEAD) {
-            let is_end = self.input.gives(*answer) == Some(Gives::Deleted);
+            let is_end = self.input.content(*answer) == Some(Content::Deleted);
             if is_end && self.input.held_until(*answer) >= moment {
                 found.push(*answer)?;
             }
@@ -44,7 +44,7 @@ impl LaneSoFar<'_> {
         constraints: &mut Vec<Constraint>,
     ) -> Result<(), AllocError> {
         for (_, answer) in self.changes_before(departure).iter().rev().take(AHEAD) {
-            let is_bound = self.input.gives(*answer) == Some(Gives::Bound);
+            let is_bound = self.input.content(*answer) == Some(Content::Bound);
             let constraint = Constraint::Earlier { answer: *answer };
             if is_bound
                 && !constraints.contains(&constraint)

@@ -4,7 +4,7 @@ use super::{EACH, LaneSoFar};
 use audit_model::Rule;
 use audit_search_input::AHEAD;
 use audit_search_state::{Constraint, Refused};
-use audit_seen::{Gives, SeenNumber};
+use audit_seen::{Content, SeenNumber};
 use std::alloc::AllocError;
 
 impl LaneSoFar<'_> {
@@ -36,9 +36,9 @@ impl LaneSoFar<'_> {
         departure: SeenNumber,
         constraints: &mut Vec<Constraint>,
     ) -> Result<(), AllocError> {
-        if let Some(Gives::Refreshed { .. } | Gives::Bound | Gives::Permitted) = self
+        if let Some(Content::Refreshed { .. } | Content::Bound | Content::Permitted) = self
             .input
-            .gives(departure)
+            .content(departure)
         {
             constraints.push(Constraint::AtRequest { answer: departure })?;
         }
@@ -56,8 +56,8 @@ impl LaneSoFar<'_> {
         for is_of_allocation in [true, false] {
             let most = constraints.len().saturating_add(EACH.saturating_mul(2));
             for (_, answer) in before.iter().rev().take(AHEAD) {
-                let gives = self.input.gives(*answer);
-                let is_one = gives.is_some_and(|gives| is_lease(gives, is_of_allocation));
+                let content = self.input.content(*answer);
+                let is_one = content.is_some_and(|content| is_lease(content, is_of_allocation));
                 if is_one && self.state.is_acted(*answer) && constraints.len() < most {
                     let may_be_over = self.may_be_over(*answer, departure);
                     if may_be_over {
@@ -89,10 +89,10 @@ impl LaneSoFar<'_> {
 }
 
 /// Whether a response grants an allocation for a time, or else a lease within an allocation.
-fn is_lease(gives: Gives, is_of_allocation: bool) -> bool {
-    match gives {
-        Gives::Allocated { .. } | Gives::Refreshed { .. } => is_of_allocation,
-        Gives::Bound | Gives::Permitted => !is_of_allocation,
+fn is_lease(content: Content, is_of_allocation: bool) -> bool {
+    match content {
+        Content::Allocated { .. } | Content::Refreshed { .. } => is_of_allocation,
+        Content::Bound | Content::Permitted => !is_of_allocation,
         _ => false,
     }
 }

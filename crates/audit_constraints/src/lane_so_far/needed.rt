@@ -6,7 +6,7 @@ use super::{EACH, LaneSoFar};
 use audit_model::Rule;
 use audit_search_input::{AHEAD, helps};
 use audit_search_state::{Constraint, PoolRef, Refused};
-use audit_seen::{Gives, SeenNumber};
+use audit_seen::{Content, SeenNumber};
 use std::alloc::AllocError;
 
 impl LaneSoFar<'_> {
@@ -106,8 +106,8 @@ impl LaneSoFar<'_> {
         for (_, answer) in near.iter().take(AHEAD.saturating_mul(3)) {
             let may_help = self
                 .input
-                .gives(*answer)
-                .is_some_and(|gives| helps(reason, gives));
+                .content(*answer)
+                .is_some_and(|content| helps(reason, content));
             if may_help && !self.state.is_acted(*answer) && self.input.low(*answer) <= until {
                 if let Some(pool) = self.input.response_ref(*answer) {
                     self.ask_behind(departure, pool, 1, constraints)?;
@@ -147,7 +147,7 @@ impl LaneSoFar<'_> {
     /// Whether a departure leaves from a relayed address that another lane had.
     fn has_other_holders(&self, departure: SeenNumber) -> Result<bool, AllocError> {
         let input = self.input;
-        let Some(Gives::Relayed { relayed, .. }) = input.gives(departure) else {
+        let Some(Content::Relayed { relayed, .. }) = input.content(departure) else {
             return Ok(false);
         };
         let tenancies = input.known().tenancies();

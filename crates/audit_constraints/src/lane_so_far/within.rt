@@ -4,7 +4,7 @@ use super::{EACH, LaneSoFar};
 use audit_model::{Addr, Rule};
 use audit_search_input::{AHEAD, names, peer_of};
 use audit_search_state::{Constraint, Previous, Refused};
-use audit_seen::{Gives, SeenNumber};
+use audit_seen::{Content, SeenNumber};
 use std::alloc::AllocError;
 
 impl LaneSoFar<'_> {
@@ -41,7 +41,7 @@ impl LaneSoFar<'_> {
     /// among the changes.
     fn maker_by(&self, previous: &Previous) -> Option<(usize, SeenNumber)> {
         for (place, (_, answer)) in self.changes.iter().enumerate().rev() {
-            let is_maker = matches!(self.input.gives(*answer), Some(Gives::Allocated { .. }));
+            let is_maker = matches!(self.input.content(*answer), Some(Content::Allocated { .. }));
             let acted = self.state.acts().get(answer);
             if is_maker && acted.is_some_and(|acted| acted.arrival() == previous.end().arrival()) {
                 return Some((place, *answer));
@@ -61,7 +61,7 @@ impl LaneSoFar<'_> {
         let Some(acted) = self.state.acts().get(&answer) else {
             return false;
         };
-        let peer = peer_of(self.input.gives(departure));
+        let peer = peer_of(self.input.content(departure));
         acted.is_before(previous.end())
             && self.input.rank(answer) > self.input.rank(previous.end().arrival())
             && self.grants(answer, acted.arrival(), peer)
@@ -70,12 +70,12 @@ impl LaneSoFar<'_> {
     /// Whether a response to a request grants a permission or a channel for a peer. If the peer
     /// isn't known, whether it grants a channel.
     fn grants(&self, answer: SeenNumber, request: SeenNumber, peer: Option<Addr>) -> bool {
-        let gives = self.input.gives(answer);
-        let is_channel = matches!(gives, Some(Gives::Bound));
+        let content = self.input.content(answer);
+        let is_channel = matches!(content, Some(Content::Bound));
         let Some(peer) = peer else {
             return is_channel;
         };
-        let is_one = is_channel || matches!(gives, Some(Gives::Permitted));
+        let is_one = is_channel || matches!(content, Some(Content::Permitted));
         match self.input.sighting(request) {
             Some(request) => is_one && names(request.payload.as_slice(), peer.ip),
             None => false,

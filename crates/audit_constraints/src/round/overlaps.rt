@@ -6,7 +6,7 @@ use super::Round;
 use crate::act::Act;
 use crate::reading::Reading;
 use audit_model::Addr;
-use audit_seen::{Gives, LaneNumber, SeenNumber, Slot};
+use audit_seen::{Content, LaneNumber, SeenNumber, Slot};
 use std::alloc::AllocError;
 
 /// The nanoseconds of a second.
@@ -106,10 +106,10 @@ impl Holding {
     }
 
     /// Records the effect of an act at a moment.
-    fn note(&mut self, act: &Act, gives: Gives, moment: u64) -> Result<(), AllocError> {
+    fn note(&mut self, act: &Act, content: Content, moment: u64) -> Result<(), AllocError> {
         let (slot, lane, answer) = (act.slot(), act.lane(), act.departure());
-        match gives {
-            Gives::Allocated { relayed, seconds } => self.begin(Held {
+        match content {
+            Content::Allocated { relayed, seconds } => self.begin(Held {
                 relayed,
                 born: slot,
                 since: moment,
@@ -119,7 +119,7 @@ impl Holding {
                 last: self.last(moment, seconds),
                 ended: None,
             }),
-            Gives::Refreshed { seconds } => {
+            Content::Refreshed { seconds } => {
                 let last = self.last(moment, seconds);
                 if let Some(Some(held)) = self.now.get_mut(lane.index()) {
                     held.last = last;
@@ -127,7 +127,7 @@ impl Holding {
                 }
                 Ok(())
             }
-            Gives::Deleted => self.end(lane, slot),
+            Content::Deleted => self.end(lane, slot),
             _ => Ok(()),
         }
     }
@@ -181,12 +181,12 @@ impl Round {
             over: Vec::new(alloc),
         };
         for act in &self.acts {
-            let gives = reading
+            let content = reading
                 .sights()
                 .get(act.departure())
-                .and_then(|seen| seen.gives());
-            if let Some(gives) = gives {
-                holding.note(act, gives, self.moment_of(act.slot()))?;
+                .and_then(|seen| seen.content());
+            if let Some(content) = content {
+                holding.note(act, content, self.moment_of(act.slot()))?;
             }
         }
         let over = holding.all()?;

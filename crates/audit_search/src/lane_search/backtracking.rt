@@ -6,7 +6,7 @@ use audit_model::Rule;
 use audit_search_acts::Lane;
 use audit_search_input::AHEAD;
 use audit_search_state::{Constraint, Fault, Refused};
-use audit_seen::{Gives, SeenNumber};
+use audit_seen::{Content, SeenNumber};
 use std::alloc::AllocError;
 use std::collections::BTreeMap;
 
@@ -146,8 +146,8 @@ impl LaneSearch<'_> {
             return false;
         };
         if matches!(
-            input.gives(other),
-            Some(Gives::Allocated { .. } | Gives::Deleted)
+            input.content(other),
+            Some(Content::Allocated { .. } | Content::Deleted)
         ) {
             return true;
         }

@@ -4,7 +4,7 @@ use super::{Attempt, Lane};
 use audit_model::Rule;
 use audit_rules::LaneTable;
 use audit_search_state::{Acted, End, Previous, Refused, Turn};
-use audit_seen::{Gives, Seen, SeenNumber, Slot};
+use audit_seen::{Content, Seen, SeenNumber, Slot};
 use std::alloc::AllocError;
 
 /// The effect of an act on the table.
@@ -18,12 +18,12 @@ pub(crate) enum Does {
 
 impl Lane<'_> {
     pub(crate) fn does(&self, table: &LaneTable, departure: &Seen, moment: u64) -> Does {
-        match departure.gives() {
-            Some(Gives::Allocated { .. }) if self.is_repeated(table, departure, moment) => {
+        match departure.content() {
+            Some(Content::Allocated { .. }) if self.is_repeated(table, departure, moment) => {
                 Does::Nothing
             }
-            Some(Gives::Allocated { .. } | Gives::Deleted) => Does::Ends,
-            Some(gives) if gives.is_change() => Does::Changes,
+            Some(Content::Allocated { .. } | Content::Deleted) => Does::Ends,
+            Some(content) if content.is_change() => Does::Changes,
             _ => Does::Nothing,
         }
     }

@@ -2,17 +2,17 @@
 
 use super::Lane;
 use super::plans::Plan;
-use audit_seen::{Gives, SeenNumber, Slot};
+use audit_seen::{Content, SeenNumber, Slot};
 use std::alloc::AllocError;
 
 impl Lane<'_> {
     /// Whether a departure that changes the table may have been sent before the last table ended,
     /// or after another response that makes or ends an allocation.
     pub fn is_ambiguous(&mut self, departure: SeenNumber) -> Result<bool, AllocError> {
-        let Some(gives) = self.input.gives(departure) else {
+        let Some(content) = self.input.content(departure) else {
             return Ok(false);
         };
-        if !gives.is_change() {
+        if !content.is_change() {
             return Ok(false);
         }
         let slot = Slot::before(self.input.rank(departure));
@@ -26,8 +26,8 @@ impl Lane<'_> {
         }
         for answer in self.pending_behind(departure)?.iter() {
             let is_end = matches!(
-                self.input.gives(*answer),
-                Some(Gives::Allocated { .. } | Gives::Deleted)
+                self.input.content(*answer),
+                Some(Content::Allocated { .. } | Content::Deleted)
             );
             if is_end && self.oldest(*answer, slot)?.is_some() {
                 return Ok(true);
@@ -39,8 +39,8 @@ impl Lane<'_> {
     /// Whether such a departure more likely answers a request before the one that ended the last
     /// table.
     pub fn is_rather_earlier(&mut self, departure: SeenNumber) -> Result<bool, AllocError> {
-        match self.input.gives(departure) {
-            Some(gives) => self.is_earlier(departure, gives),
+        match self.input.content(departure) {
+            Some(content) => self.is_earlier(departure, content),
             None => Ok(false),
         }
     }
@@ -48,8 +48,8 @@ impl Lane<'_> {
     /// Whether a departure makes or ends an allocation.
     fn is_end(&self, departure: SeenNumber) -> bool {
         matches!(
-            self.input.gives(departure),
-            Some(Gives::Allocated { .. } | Gives::Deleted)
+            self.input.content(departure),
+            Some(Content::Allocated { .. } | Content::Deleted)
         )
     }
 

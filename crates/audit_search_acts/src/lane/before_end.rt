@@ -5,14 +5,14 @@ use super::{Attempt, Lane};
 use audit_model::Rule;
 use audit_rules::LaneTable;
 use audit_search_state::{Acted, End, Refused, Turn, relayed_of};
-use audit_seen::{Gives, Seen, SeenNumber, Slot};
+use audit_seen::{Content, Seen, SeenNumber, Slot};
 use std::alloc::AllocError;
 
 /// Why a response can't be sent before a table ended, whichever request it answers.
-fn refused_before_end(gives: Option<Gives>, does: Does, is_usable: bool) -> Option<Refused> {
-    match gives {
-        Some(Gives::Deleted) if is_usable => Some(Refused::Rule(Rule::NoAllocation)),
-        Some(Gives::Allocated { .. }) if does == Does::Ends => {
+fn refused_before_end(content: Option<Content>, does: Does, is_usable: bool) -> Option<Refused> {
+    match content {
+        Some(Content::Deleted) if is_usable => Some(Refused::Rule(Rule::NoAllocation)),
+        Some(Content::Allocated { .. }) if does == Does::Ends => {
             Some(Refused::Rule(Rule::AllocationPresent))
         }
         _ => None,
@@ -68,7 +68,7 @@ impl Lane<'_> {
             .running()
             .is_some_and(|tenancy| moment <= tenancy.last);
         let does = self.does(table, seen, moment);
-        if let Some(refused) = refused_before_end(seen.gives(), does, is_usable) {
+        if let Some(refused) = refused_before_end(seen.content(), does, is_usable) {
             return Ok(Err(refused));
         }
         let kept = self.kept(table, does)?;

@@ -5,7 +5,7 @@ use super::acting::Does;
 use audit_model::Rule;
 use audit_rules::LaneTable;
 use audit_search_state::{Acted, Refused, Turn, relayed_of};
-use audit_seen::{Gives, Seen, SeenNumber, Slot};
+use audit_seen::{Content, Seen, SeenNumber, Slot};
 use std::alloc::AllocError;
 
 impl Lane<'_> {
@@ -18,9 +18,12 @@ impl Lane<'_> {
         before: Slot,
     ) -> Result<bool, AllocError> {
         let is_one = matches!(
-            seen.gives(),
+            seen.content(),
             Some(
-                Gives::Allocated { .. } | Gives::Refreshed { .. } | Gives::Bound | Gives::Permitted
+                Content::Allocated { .. }
+                    | Content::Refreshed { .. }
+                    | Content::Bound
+                    | Content::Permitted
             )
         );
         let input = self.input;

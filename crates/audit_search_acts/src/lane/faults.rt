@@ -3,7 +3,7 @@
 use super::Lane;
 use audit_model::Rule;
 use audit_search_state::{Acted, PoolRef, Refused, Turn, relayed_of};
-use audit_seen::{Gives, SeenNumber, Slot};
+use audit_seen::{Content, SeenNumber, Slot};
 use std::alloc::AllocError;
 
 /// How many arrivals of a pool are looked at.
@@ -77,7 +77,7 @@ impl Lane<'_> {
 
     /// The last data of the client, for a departure from a relayed address.
     fn last_sent(&self, departure: SeenNumber) -> Option<SeenNumber> {
-        if !matches!(self.input.gives(departure), Some(Gives::Relayed { .. })) {
+        if !matches!(self.input.content(departure), Some(Content::Relayed { .. })) {
             return None;
         }
         let all = self.input.views().sent(self.number);

@@ -5,7 +5,7 @@ use super::drawing::Draw;
 use super::plans::Plan;
 use audit_model::Rule;
 use audit_search_state::Refused;
-use audit_seen::{Gives, SeenNumber};
+use audit_seen::{Content, SeenNumber};
 use std::alloc::AllocError;
 
 impl Lane<'_> {
@@ -59,8 +59,8 @@ impl Lane<'_> {
         let mut is_found = false;
         for answer in self.pending(departure, Refused::Rule(Rule::NoPermission))? {
             let is_grant = matches!(
-                self.input.gives(answer),
-                Some(Gives::Permitted | Gives::Bound)
+                self.input.content(answer),
+                Some(Content::Permitted | Content::Bound)
             );
             if is_grant && !is_found && self.act_before_end(answer, which)?.is_none() {
                 draw.push(answer)?;

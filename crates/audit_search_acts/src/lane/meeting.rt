@@ -3,7 +3,7 @@
 use super::Lane;
 use audit_search_input::{AHEAD, Deadline};
 use audit_search_state::relayed_of;
-use audit_seen::Gives;
+use audit_seen::Content;
 use std::alloc::AllocError;
 
 impl Lane<'_> {
@@ -13,7 +13,7 @@ impl Lane<'_> {
         if !self.state.is_acted(maker) && self.state.table().running().is_none() {
             let _refused = self.act_now(maker, slot, moment)?;
         }
-        let Some(Gives::Allocated { relayed, .. }) = self.input.gives(maker) else {
+        let Some(Content::Allocated { relayed, .. }) = self.input.content(maker) else {
             return Ok(());
         };
         let is_over = self
@@ -31,7 +31,7 @@ impl Lane<'_> {
             let Some((_, answer)) = change else {
                 return Ok(());
             };
-            let is_end = self.input.gives(answer) == Some(Gives::Deleted);
+            let is_end = self.input.content(answer) == Some(Content::Deleted);
             if is_end && !self.state.is_acted(answer) {
                 if self.act_now(answer, slot, moment)?.is_none() {
                     return Ok(());

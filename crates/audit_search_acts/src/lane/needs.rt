@@ -3,7 +3,7 @@
 use super::Lane;
 use audit_search_input::{helps, names, peer_of};
 use audit_search_state::Refused;
-use audit_seen::{Gives, SeenNumber, Slot};
+use audit_seen::{Content, SeenNumber, Slot};
 use std::alloc::AllocError;
 
 impl Lane<'_> {
@@ -23,17 +23,17 @@ impl Lane<'_> {
         departure: SeenNumber,
         refused: Refused,
     ) -> Result<Vec<SeenNumber>, AllocError> {
-        let peer = peer_of(self.input.gives(departure));
+        let peer = peer_of(self.input.content(departure));
         let slot = Slot::before(self.input.rank(departure));
         let mut found = Vec::new(self.input.alloc());
         for answer in self.pending_behind(departure)? {
-            let Some(gives) = self.input.gives(answer) else {
+            let Some(content) = self.input.content(answer) else {
                 continue;
             };
-            if !helps(refused, gives) {
+            if !helps(refused, content) {
                 continue;
             }
-            let is_grant = matches!(gives, Gives::Permitted | Gives::Bound);
+            let is_grant = matches!(content, Content::Permitted | Content::Bound);
             if let (true, Some(peer)) = (is_grant, peer) {
                 let request = self.oldest(answer, slot)?;
                 let request = request.and_then(|request| self.input.sighting(request));

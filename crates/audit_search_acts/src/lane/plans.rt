@@ -5,7 +5,7 @@ use super::drawing::Draw;
 use super::grants::is_of_grants;
 use audit_model::Rule;
 use audit_search_state::{Constraint, Refused};
-use audit_seen::{Gives, SeenNumber, Slot};
+use audit_seen::{Content, SeenNumber, Slot};
 use std::alloc::AllocError;
 
 /// How many tables that ended are looked at.
@@ -43,20 +43,20 @@ impl Lane<'_> {
     /// The ways to act on a departure, the best first.
     pub fn plans(&mut self, departure: SeenNumber, limit: u64) -> Result<Vec<Plan>, AllocError> {
         let mut plans = Vec::new(self.input.alloc());
-        let gives = self.input.gives(departure).unwrap_or(Gives::Other);
+        let content = self.input.content(departure).unwrap_or(Content::Other);
         let refused = self.refused_now(departure)?;
-        let is_earlier = refused.is_none() && self.is_earlier(departure, gives)?;
+        let is_earlier = refused.is_none() && self.is_earlier(departure, content)?;
         if refused.is_none() && !is_earlier {
             plans.push(Plan::Now)?;
-            if !gives.is_change() {
+            if !content.is_change() {
                 return Ok(plans);
             }
         }
-        let draws_first = self.draws_first(departure, gives, refused)?;
+        let draws_first = self.draws_first(departure, content, refused)?;
         if draws_first {
             self.add_draws(departure, refused, limit, &mut plans)?;
         }
-        if refused.is_some_and(|refused| !gives.is_change() || is_over(refused)) {
+        if refused.is_some_and(|refused| !content.is_change() || is_over(refused)) {
             let mark = self.state.mark();
             let is_late = self.act_at_arrival(departure)?.is_some();
             self.state.undo(mark);
@@ -66,7 +66,7 @@ impl Lane<'_> {
                 self.add_at_arrivals(departure, &mut plans)?;
             }
         }
-        self.add_previous(departure, gives, &mut plans)?;
+        self.add_previous(departure, content, &mut plans)?;
         if refused.is_none() && is_earlier {
             plans.push(Plan::Now)?;
         }
@@ -80,7 +80,7 @@ impl Lane<'_> {
     fn add_previous(
         &mut self,
         departure: SeenNumber,
-        gives: Gives,
+        content: Content,
         plans: &mut Vec<Plan>,
     ) -> Result<(), AllocError> {
         for which in self.recent()? {
@@ -91,7 +91,7 @@ impl Lane<'_> {
             match refused {
                 None => {
                     plans.push(Plan::BeforeEnd(which))?;
-                    if !gives.is_change() {
+                    if !content.is_change() {
                         return Ok(());
                     }
                 }
@@ -144,13 +144,13 @@ impl Lane<'_> {
     pub(crate) fn is_earlier(
         &mut self,
         departure: SeenNumber,
-        gives: Gives,
+        content: Content,
     ) -> Result<bool, AllocError> {
         let earlier = Constraint::Earlier { answer: departure };
         if self.input.constraints().contains(earlier) {
             return Ok(true);
         }
-        if !matches!(gives, Gives::Allocated { .. } | Gives::Deleted) {
+        if !matches!(content, Content::Allocated { .. } | Content::Deleted) {
             return Ok(false);
         }
         let Some(pool) = self.input.response_ref(departure) else {
@@ -173,7 +173,7 @@ impl Lane<'_> {
             Some(answer) => input.constraints().is_early_itself(answer),
             None => false,
         };
-        if is_asked && gives == Gives::Deleted {
+        if is_asked && content == Content::Deleted {
             return Ok(false);
         }
         let rank = input.rank(newest);
@@ -184,12 +184,12 @@ impl Lane<'_> {
     fn draws_first(
         &mut self,
         departure: SeenNumber,
-        gives: Gives,
+        content: Content,
         refused: Option<Refused>,
     ) -> Result<bool, AllocError> {
         let is_one = matches!(
-            gives,
-            Gives::Permitted | Gives::Bound | Gives::Refreshed { .. }
+            content,
+            Content::Permitted | Content::Bound | Content::Refreshed { .. }
         );
         let slot = Slot::before(self.input.rank(departure));
         let (true, Some(refused)) = (is_one, refused) else {

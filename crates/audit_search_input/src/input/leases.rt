@@ -1,7 +1,7 @@
 //! The last moments of responses whose leases must expire before a departure.
 
 use super::SearchInput;
-use audit_seen::{Gives, SeenNumber, Slot};
+use audit_seen::{Content, SeenNumber, Slot};
 
 /// The nanoseconds of a second.
 const SECOND: u64 = 1_000_000_000;
@@ -16,7 +16,7 @@ impl SearchInput<'_> {
     /// The last moment at which a response may be sent so that its lease expires before a
     /// departure.
     pub fn latest_before(&self, answer: SeenNumber, departure: SeenNumber) -> Option<u64> {
-        let lease = lease_of(self.gives(answer)?)?;
+        let lease = lease_of(self.content(answer)?)?;
         let grace = self.policy().grace;
         let until = self.at(departure).checked_sub(lease)?;
         until.checked_sub(grace)?.checked_sub(1)
@@ -35,11 +35,11 @@ impl SearchInput<'_> {
 
 /// The length of the lease that a response grants, in nanoseconds (RFC 8656, sections 7.2, 9 and
 /// 12).
-fn lease_of(gives: Gives) -> Option<u64> {
-    let seconds = match gives {
-        Gives::Allocated { seconds, .. } | Gives::Refreshed { seconds } => u64::from(seconds),
-        Gives::Bound => CHANNEL,
-        Gives::Permitted => PERMISSION,
+fn lease_of(content: Content) -> Option<u64> {
+    let seconds = match content {
+        Content::Allocated { seconds, .. } | Content::Refreshed { seconds } => u64::from(seconds),
+        Content::Bound => CHANNEL,
+        Content::Permitted => PERMISSION,
         _ => return None,
     };
     Some(seconds.saturating_mul(SECOND))

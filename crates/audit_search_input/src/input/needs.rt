@@ -4,22 +4,22 @@ use super::SearchInput;
 use audit_content::names_peer;
 use audit_model::{Addr, Rule};
 use audit_search_state::{Refused, State};
-use audit_seen::{Gives, SeenNumber};
+use audit_seen::{Content, SeenNumber};
 use std::alloc::AllocError;
 
 /// How many pending responses are looked at.
 pub const AHEAD: usize = 16;
 
 /// Whether a response that changes the table may help if an act was refused.
-pub fn helps(refused: Refused, gives: Gives) -> bool {
-    let is_made = matches!(gives, Gives::Allocated { .. });
-    let is_ended = matches!(gives, Gives::Deleted);
-    let is_bound = matches!(gives, Gives::Bound);
-    let is_permitted = matches!(gives, Gives::Permitted);
+pub fn helps(refused: Refused, content: Content) -> bool {
+    let is_made = matches!(content, Content::Allocated { .. });
+    let is_ended = matches!(content, Content::Deleted);
+    let is_bound = matches!(content, Content::Bound);
+    let is_permitted = matches!(content, Content::Permitted);
     match refused {
         Refused::Rule(Rule::NoAllocation) => is_made,
         Refused::Rule(Rule::AllocationOver) => {
-            is_made || matches!(gives, Gives::Refreshed { .. })
+            is_made || matches!(content, Content::Refreshed { .. })
         }
         Refused::Rule(Rule::NoPermission | Rule::PermissionOver) => {
             is_made || is_ended || is_bound || is_permitted
@@ -35,9 +35,9 @@ pub fn helps(refused: Refused, gives: Gives) -> bool {
 }
 
 /// The peer to which data goes or from which it comes, if the departure names one.
-pub fn peer_of(gives: Option<Gives>) -> Option<Addr> {
-    match gives {
-        Some(Gives::Data { peer, .. } | Gives::Relayed { peer, .. }) => Some(peer),
+pub fn peer_of(content: Option<Content>) -> Option<Addr> {
+    match content {
+        Some(Content::Data { peer, .. } | Content::Relayed { peer, .. }) => Some(peer),
         _ => None,
     }
 }

@@ -3,7 +3,7 @@
 use super::SearchInput;
 use audit_model::Addr;
 use audit_search_state::PoolRef;
-use audit_seen::{Gives, LaneNumber, SeenNumber};
+use audit_seen::{Content, LaneNumber, SeenNumber};
 use std::alloc::AllocError;
 
 impl SearchInput<'_> {
@@ -25,8 +25,8 @@ impl SearchInput<'_> {
         };
         let mut pools = self.pools_of(lane, seen, now)?;
         if matches!(
-            seen.gives(),
-            Some(Gives::Data { .. } | Gives::Channel { .. })
+            seen.content(),
+            Some(Content::Data { .. } | Content::Channel { .. })
         ) {
             let known = &self.known;
             let time = known.times().of(departure);
