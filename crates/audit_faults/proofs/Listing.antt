@@ -47,7 +47,7 @@ within taken iface index sight s far (inl h) there = elim (cases_lt sight.iface 
       inr (e, omega (arith, inside, same, far))
 ]
 
--- all that was captured stands before the interface behind the last one
+-- all that was captured comes before the interface after the last one
 pub all_before : (taken : Taken) (n : ℕ) (sight : SightId) (s : Sighting) → length taken.interfaces ≤ n → sighting_at taken sight ≡ Some s → IsBefore sight (record { iface = n; index = 0 })
 all_before taken n sight s far there = inl (let lt : sight.iface < length taken.interfaces = (in_interfaces taken sight s there).0 in omega (arith, lt, far))
 

@@ -171,7 +171,7 @@ explained_by_same taken key_for fault earlier later departure le same near e =
     subst (λ (s : Sighting). Explains taken key_for fault s departure) (sym same)
     (as_earlier taken key_for fault later departure earlier.stamp earlier.lo earlier.hi earlier.id le (subst (λ (s : Sighting). InReach taken.policy.hold s departure) same near) e)
 
--- a Send indication has the data and the peer of another, and asks for nothing else
+-- a Send indication has the data and the peer of another, and requests nothing else
 module _ (taken : Taken) (earlier later departure : Sighting) (again : IsSentAgain taken.policy earlier later) where
   sent_before : SentOn taken.policy later departure → SentOn taken.policy earlier departure
   sent_before sent = record {
@@ -235,7 +235,7 @@ explained_by_repeated taken key_for fault earlier later departure repeats near e
   | inr again ↦ explained_by_sent taken earlier later departure again key_for fault repeats.first near e
 ]
 
--- ---- and what asked for a departure at the later one asked for it at the earlier one
+-- ---- and what caused a departure at the later one caused it at the earlier one
 
 module _ (taken : Taken) (fault : Fault) (until : ℕ) (later departure : Sighting) (stamp lo hi : ℕ) (id : SightId) where
   abbrev sooner : Sighting

@@ -35,7 +35,7 @@ of_response payload (is, inr e) = by_class payload (parts_of payload).tid Error 
 of_indication : (payload bytes : List ℕ) (method : ℕ) → IsOf payload Indication method → Has DATA (parts_of payload) bytes → HasMessageKey payload (digest_of bytes)
 of_indication payload bytes method of has = by_class payload bytes Indication of.0 of.1 has
 
--- the ways in which what asked may have the key that the departure has
+-- the ways in which the arrival may have the key that the departure has
 abbrev pub Keys : Policy → Sighting → Sighting → Type 0
 Keys policy arrival departure =
     (IsTrue (relays policy departure.from) × IsArrivalBy policy (digest_of departure.payload) arrival) ⊎ ((key : ℕ) × HasMessageKey departure.payload key × IsArrivalBy policy key arrival)
@@ -78,7 +78,7 @@ module _ (taken : Taken) (key_for : KeyFor) (fault : Fault) (arrival departure :
   pub has_key : Explains taken key_for fault arrival departure → Keys taken.policy arrival departure
   has_key e = by_reasons e.arrives e.reasons
 
--- what asked for it for a client that was granted the leases has one too
+-- an arrival for a client that was granted the leases has one too
 pub begun_has_key : (taken : Taken) (fault : Fault) (until : ℕ) (arrival departure : Sighting) → Begins taken fault until departure arrival → Keys taken.policy arrival departure
 begun_has_key taken fault until arrival departure (arrives, near, inl h) = by_sent taken.policy arrival departure arrives h.0
 begun_has_key taken fault until arrival departure (arrives, near, inr (inl h)) = by_channel taken.policy arrival departure arrives h.0 h.1
@@ -93,7 +93,7 @@ same_content Success said a b h k = sym h ∙ k
 same_content Error said a b h k = sym h ∙ k
 same_content Indication said a b h k = same_Some a b (sym h ∙ k)
 
--- from what a message tells to its key
+-- from a message's content to its key
 pub key_of_content : (payload said : List ℕ) (result : Option ℕ) → said ≡ payload → IsMessage payload (parts_of payload) →
     MatchOption result ((bytes : List ℕ) → HasContent (parts_of said).class (parts_of said) bytes → ⊥) (λ key. (bytes : List ℕ) × HasContent (parts_of said).class (parts_of said) bytes × (key ≡ digest_of bytes)) →
     MatchOption result ((key : ℕ) → HasMessageKey payload key → ⊥) (λ key. HasMessageKey payload key × ((other : ℕ) → HasMessageKey payload other → other ≡ key))

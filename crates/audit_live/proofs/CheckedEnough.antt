@@ -1,4 +1,4 @@
--- The tenancies that are asked in a turn are enough.
+-- The tenancies that are checked in a turn are enough.
 use Rattle.std.proofs.Common.{◌≡◌, ◌≢◌, ◌≤◌, ◌<◌, ◌++◌, inl, inr, ℕ, Bool, true, false, List, [], ◌∷◌, length, min, drop, Option, Some, None, refl, sym, ap, ◌∙◌, subst, arith}
 use Rattle.std.specs.Prelude.{Contains, IfSome, if◌then◌else◌, option_to_list, slice_get}
 use Rattle.std.specs.List.{AllByRecursion, flat_map}
@@ -114,7 +114,7 @@ module _ (taken : Taken) (key_for : KeyFor) (lanes : List CertLane) (events : Li
         option_and_then_some (running_at lives) (holder_of holders one.0.relayed) t (held_some (is_past_last last one.0.born.key.moment) (held_in lives holders one.0.relayed) t one.2)
         (λ number noted runs. running_all number t runs)
 
-    -- all that is asked is a tenancy of a lane
+    -- all that is checked is a tenancy of a lane
     pub no_others : (t : Tenancy) → Contains (checked_of lives holders last touched) t → Contains (all_tenancies (w taken key_for) (wholes turns)) t
     no_others t c = elim (Contains-append_cases frees (flat_map (held_by lives holders last) frees) t c) [ inl own ↦ frees_all t own | inr held ↦ held_all t held ]
 
@@ -163,7 +163,7 @@ module _ (taken : Taken) (key_for : KeyFor) (lanes : List CertLane) (events : Li
           ap (λ (b : Bool). if b then option_to_list (held_in lives holders new.relayed) else []) past ∙ ap option_to_list held_is in
           to_flat (held_by lives holders last) frees new held (born_checked horizon is new c may.new_born) (subst (λ (ts : List Tenancy). Contains ts held) (sym has) (some_in (Some held) held refl))
 
-      -- what is asked covers what may clash
+      -- what is checked covers what may clash
       pub covers : Covers (w taken key_for) last turns (checked_of lives holders last touched)
       covers = record {
         touched = λ turn c some t k.

@@ -1,4 +1,4 @@
--- What ended in the lanes that were asked is noted, and nothing else of lanes changes.
+-- What ended in the lanes that were checked is noted, and nothing else of lanes changes.
 use Rattle.std.proofs.Common.{◌≡◌, ◌⊎◌, inl, inr, ℕ, Bool, true, false, cond, ◌==◌, List, [], ◌∷◌, length, Some, refl, sym, ap, ◌∙◌, length-set}
 use Rattle.std.specs.Prelude.{Contains, slice_get}
 use Rattle.std.proofs.lemmas.Bool.{eqb-true, eq-eqb, true≢false}

@@ -1,4 +1,4 @@
--- Where both keys agree on what a request names, the first rule that an act breaks is the same by either: an arrival that is no request is told before any key is asked.
+-- Where both keys agree on what a request names, the first rule that an act breaks is the same by either: an arrival that is no request is reported before any key is looked up.
 use Rattle.std.proofs.Common.{◌⊎◌, inl, inr, Option, Some, None}
 use Rattle.audit_model.specs.declared.rule.Rule.{Rule}
 use Rattle.audit_rules.specs.declared.path.Path.{Path}
@@ -11,7 +11,7 @@ use Rattle.audit_rules.proofs.KeyChecks.{first_keyed}
 use Rattle.audit_verdict.proofs.KeysTold.{AgreeInRequest}
 
 module _ (key_for : KeyFor) (x : Situation) where
-  -- it is a request, or no key was asked
+  -- it is a request, or no key was looked up
   abbrev IsByRequest : Option Path → Option Path → Rule → Type 0
   IsByRequest arrival departure rule = IsRequest x ⊎ FirstFails (path_checks (with_keys key_for x) arrival departure) rule
 

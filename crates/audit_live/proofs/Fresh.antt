@@ -24,7 +24,7 @@ flat_map_next f xs i d so_far more within is step =
 pub fresh_there : (lanes : List LiveLane) (number : ℕ) (lane : LiveLane) → slice_get lanes number ≡ Some lane → fresh_at lanes number ≡ fresh_of lane
 fresh_there lanes number lane is = ap (λ (o : Option LiveLane). flat_map fresh_of (option_to_list o)) is ∙ append-nil (fresh_of lane)
 
--- the same behind others
+-- the same after others
 pub flat_map_append : {X A : Type 0} (f : X → List A) (base : List A) (xs : List X) (i : ℕ) (d : X) (so_far more : List A) → i < length xs → so_far ≡ base ++ flat_map f (take i xs)
     → more ≡ so_far ++ f (get_or xs i d) → more ≡ base ++ flat_map f (take (i + 1) xs)
 flat_map_append f base xs i d so_far more within is step =

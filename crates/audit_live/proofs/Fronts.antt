@@ -71,7 +71,7 @@ module _ (taken : Taken) (key_for : KeyFor) (last : Option ℕ) (old new : Front
   lanes_there before grown (Err fault) count = tt
 
 module _ (taken : Taken) (key_for : KeyFor) (last : Option ℕ) (old new : Front) (extension : Extension) (knows : Knows taken key_for last old) (horizon : ℕ) (may : MayAdvance (stands_for taken old last) horizon extension) where
-  -- what is told is the breach of the whole
+  -- what is reported is the breach of the whole
   pub shows_whole : (result : Result (Option Breach) AllocError) → IfOk result (TakesExtension taken key_for last old extension new) → IfOk result (LiveBreach taken key_for new.placing.certificate)
   shows_whole (Ok found) takes_extension = breach_of_whole taken key_for last old new extension knows may.fits (come_past taken key_for last horizon old new extension knows may) found takes_extension
   shows_whole (Err fault) takes_extension = tt

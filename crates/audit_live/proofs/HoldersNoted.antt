@@ -44,7 +44,7 @@ less_is Equal h = absurd (true≢false (sym h))
 less_is Greater h = absurd (true≢false (sym h))
 
 module _ (lanes : List LiveLane) where
-  -- another lane's tenancy that runs was given its address later
+  -- another lane's current tenancy was granted its address later
   pub record IsLater (t : Tenancy) : Type 0 where
     pub number : ℕ
     pub next : Tenancy

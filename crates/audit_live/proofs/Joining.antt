@@ -1,4 +1,4 @@
--- What a turn tells is the breach of the whole, and what is known goes on.
+-- What a turn reports is the breach of the whole, and what is known goes on.
 use Rattle.std.proofs.Common.{◌≡◌, ◌+◌, ◌≤◌, ◌<◌, ◌++◌, inl, inr, ℕ, List, length, map, Option, Some, None, refl, sym, ap, ◌∙◌, subst, arith, length-append}
 use Rattle.std.specs.Prelude.{Contains, IfSome, slice_get, vec_len}
 use Rattle.std.proofs.lemmas.List.{length-map}
@@ -78,7 +78,7 @@ module _ (taken : Taken) (key_for : KeyFor) (last : Option ℕ) (old new : Front
       subst (λ (ls : List (List Placed)). Contains (all_tenancies (rules_for taken key_for) ls) t) (sym same)
       (in_turns (rules_for taken key_for) (turns_of old.placing.certificate extension) turn t c (fresh_in_whole (rules_for taken key_for) turn t k))
 
-  -- all tenancies are enough to be asked
+  -- all tenancies are enough to check
   covers_all : Covers (rules_for taken key_for) last (turns_of old.placing.certificate extension) all_of
   covers_all = record {
     touched = λ turn c some t k. in_all turn c t k;
@@ -125,11 +125,11 @@ module _ (taken : Taken) (key_for : KeyFor) (last : Option ℕ) (old new : Front
   by_placement (Some b) least reports = (Some b, least, reports)
   by_placement None least (with_new, adds, owed, holders, takes) = by_lanes with_new adds holders takes least takes.of_lanes refl takes.reports
 
-  -- what is told is the breach of the whole
+  -- what is reported is the breach of the whole
   pub breach_of_whole : LiveBreach taken key_for new.placing.certificate found
   breach_of_whole = by_placement takes_extension.of_placement takes_extension.least takes_extension.reports
 
--- ---- where nothing is told
+-- ---- if nothing is reported
 
 not_before : (last : Option ℕ) (horizon : ℕ) → ((IfSome last (λ before. horizon ≤ before) × ((last ≡ None) → ⊥)) → ⊥) → IfSome last (λ before. before ≤ horizon)
 not_before None horizon later = tt

@@ -101,7 +101,7 @@ pub is_none : {A : Type 0} (o : Option A) → is_some o ≡ false → o ≡ None
 is_none None is = refl
 is_none (Some x) is = absurd (true≢false is)
 
--- whether an advance may come, by what was asked
+-- whether an advance may come, by what was checked
 module _ (audit : Audit) (horizon : ℕ) (extension : Extension) (none : audit.ended ≡ None) (later : ¬ IsNotLater (standing_of audit) horizon) where
   pub refused_by_lanes : ¬ Fits audit.front.placing.certificate extension → IsRefusal audit horizon extension faults.Lane
   refused_by_lanes not_fit = (none, later, not_fit)

@@ -42,7 +42,7 @@ in_some (Some y) x c = elim (contains_cases y x [] c) [ inl is ↦ ap Some is | 
 pub some_in : {X : Type 0} (o : Option X) (x : X) → o ≡ Some x → Contains (option_to_list o) x
 some_in {X} o x is = subst (λ (p : Option X). Contains (option_to_list p) x) (sym is) (contains_head x [])
 
--- what stands behind as many as there are
+-- what comes after as many as there are
 pub drop_append : {X : Type 0} (xs ys : List X) (n : ℕ) → n ≡ length xs → drop (min n (length (xs ++ ys))) (xs ++ ys) ≡ ys
 drop_append xs ys n is =
     let few : min n (length (xs ++ ys)) ≡ length xs = omega (arith, is, length-append xs ys) in

@@ -70,7 +70,7 @@ module _ (taken : Taken) (key_for : KeyFor) where
       let rest = owed_exactly (n + 1) lanes lives (omega (arith, same)) (omega (arith, events, few)) (λ i number one other is there other_there. each (suc i) number one other (omega (arith, is)) there other_there) in
       (omega (arith, sum, here, least, events, few, rest.0), omega (arith, least, events, rest.1))
 
-  -- what is told of what is owed
+  -- the reported number of owed departures
   pub owed_of_lanes : (last : Option ℕ) (front : Front) → Knows taken key_for last front → min front.lanes.owed 4294967295 ≡ owed_in taken key_for (lanes_from 0 front.placing.certificate.lanes)
   owed_of_lanes last front knows =
       let many = knows.lanes in

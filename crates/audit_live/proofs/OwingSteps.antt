@@ -63,7 +63,7 @@ owes_same place next old new owing later owed gave owes = record {
 }
 
 module _ (place : ℕ) (old : Kept) (owing : List Owing) (owes : Owes place old owing) where
-  -- one that is owing was given its departure at its place
+  -- an owing act sent its departure at its place
   its_gift : (one : Owing) → Contains owing one → (sent : Option Departure) → old.gave one.gives ≡ sent → (d : Departure) × (old.gave one.gives ≡ Some d) × (d.place ≡ one.at.place)
   its_gift one c None is = absurd (none-some one.at.place (sym (ap (option_map (λ (d : Departure). d.place)) is) ∙ owes.gives one c))
   its_gift one c (Some d) is = (d, is, same_Some d.place one.at.place (sym (ap (option_map (λ (d : Departure). d.place)) is) ∙ owes.gives one c))

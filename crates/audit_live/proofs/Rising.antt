@@ -26,7 +26,7 @@ pub all_from : {X : Type 0} (P : X → Type 0) (xs : List X) → ((x : X) → Co
 all_from P [] each = tt
 all_from P (x ∷ xs) each = (each x (contains_head x xs), all_from P xs (λ y c. each y (contains_tail x y xs c)))
 
--- one more behind them, above all
+-- one more after them, above all
 pub rise_push : (xs : List ℕ) (n : ℕ) → Rise xs → ((x : ℕ) → Contains xs x → x < n) → Rise (xs ++ n ∷ [])
 rise_push [] n rise below = (tt, tt)
 rise_push (x ∷ xs) n rise below = (push_all xs rise.0, rise_push xs n rise.1 (λ y c. below y (contains_tail x y xs c))) where

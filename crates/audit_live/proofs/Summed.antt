@@ -83,7 +83,7 @@ adds_none (pair ∷ pairs) old new chain few =
     let one : sum_by owes_of (lane ∷ []) ≡ lane.owes + sum_by owes_of [] = sum_by-cons owes_of lane [] in
     (rest.0, rest.1 ∙ (let same : sum_by owes_of chain.0 ≡ sum_by owes_of old = omega (arith, more, one, nothing) in same))
 
--- what is asked of a lane changes nothing that it owes
+-- what is checked of a lane changes nothing that it owes
 pub notes_none : (touched : List ℕ) (old new : List LiveLane) → Chain NotesChecked old touched new → AreFew old → AreFew new × (sum_by owes_of new ≡ sum_by owes_of old)
 notes_none [] old new chain few = subst (λ (ls : List LiveLane). AreFew ls × (sum_by owes_of ls ≡ sum_by owes_of old)) (sym chain) (few, refl)
 notes_none (number ∷ touched) old new chain few =

@@ -1,4 +1,4 @@
--- What is asked covers what may clash; and what a lane remembers of its tenancies.
+-- What is checked covers what may clash; and what a lane remembers of its tenancies.
 use Rattle.std.proofs.Common.{◌≡◌, ◌≢◌, ◌≤◌, ◌+◌, ◌⊎◌, inl, inr, ℕ, Option, Some, None, List, [], ◌∷◌, ◌++◌, refl, sym, ◌∙◌, ap, subst, arith, append_assoc}
 use Rattle.std.specs.Prelude.{Contains}
 use Rattle.std.specs.List.{AllByRecursion}
@@ -60,7 +60,7 @@ fresh_are w turn since h =
       same_left [] xs ys e = e
       same_left (z ∷ zs) xs ys e = same_left zs xs ys (same_tail z (zs ++ xs) (zs ++ ys) e)
 
--- ---- what is asked
+-- ---- what is checked
 
 pub found_in : (w : Rules) (turns : List Turn) (t : Tenancy) → Contains (fresh w turns) t → (turn : Turn) × Contains turns turn × Contains (fresh_in w turn) t
 found_in w [] t c = absurd (omega (arith, c.1))
@@ -114,7 +114,7 @@ enough_of w horizon n turns checked l no_others covers = record {
 abbrev pub IsNew : Turn → Type 0
 IsNew turn = turn.before ≡ []
 
--- where no lane had events before, all tenancies are asked
+-- if no lane had events before, all tenancies are checked
 pub all_checked : (w : Rules) (last : Option ℕ) (turns : List Turn) (checked : List Tenancy) → AllByRecursion IsNew turns → Covers w last turns checked → (t : Tenancy) → Contains (all_tenancies w (wholes turns)) t → Contains checked t
 all_checked w last turns checked new covers = from turns (λ t k. k) new where
   by_turn : (turn : Turn) → Contains turns turn → turn.before ≡ [] → (t : Tenancy) → Contains (tenancies_in w (whole turn)) t → Contains checked t

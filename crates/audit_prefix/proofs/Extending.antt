@@ -30,7 +30,7 @@ use Rattle.audit_prefix.specs.Prefix.{EachGoes}
 use Rattle.audit_prefix.specs.Turn.{Turn, whole, more_of, turns_from, turns_of}
 use Rattle.audit_prefix.proofs.Continuing.{LaneTurns, befores, wholes}
 
--- ---- events behind events
+-- ---- events after events
 
 any_last : (pair : Option Pair) (n k : ℕ) (last other : Option Key) (es : List Event) → map placed_of (entries_from pair n k last es) ≡ map placed_of (entries_from pair n k other es)
 any_last pair n k last other [] = refl

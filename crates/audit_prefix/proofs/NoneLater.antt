@@ -1,4 +1,4 @@
--- Where no breach is told, none is told as the intake grows.
+-- If no breach is reported, none is reported as the intake grows.
 use Rattle.std.proofs.Common.{List, None, sym, subst}
 use Rattle.audit_model.specs.declared.certificate.Certificate.{Certificate}
 use Rattle.audit_model.specs.declared.verdict.Tenancy.{Tenancy}

@@ -1,4 +1,4 @@
--- Where no breach is told, all passes; and at the end what is left to be asked gives the verdict.
+-- If no breach is reported, all passes; and at the end what is left to be checked is the verdict.
 use Rattle.std.proofs.Common.{◌≡◌, ◌≤◌, ◌+◌, inl, inr, ℕ, Option, Some, None, List, [], ◌∷◌, ◌++◌, map, refl, sym, ◌∙◌, ap, subst, arith, append_assoc}
 use Rattle.std.specs.Prelude.{Contains}
 use Rattle.std.specs.List.{AllByRecursion}
@@ -198,7 +198,7 @@ module _ (taken : Taken) (numbered : AreNumbered taken) (key_for : KeyFor) (cert
       let all : times_placed s (map step_of (joined (by_lane certificate))) ≤ 1 = subst (λ (es : List Placed). times_placed s (map step_of es) ≤ 1) (sym (joined_is certificate)) (once_so_far taken numbered certificate (sound_so_far taken certificate none) s) in
       omega (arith, all, ap (λ es. times_placed s (map step_of es)) (joined_append lanes (the_drops certificate)), times_append s (joined lanes) (joined (the_drops certificate ∷ [])))
 
-  -- no breach is told exactly where all passes so far
+  -- no breach is reported exactly if all passes so far
   pub record NoBreach : Type 0 where
     pub placement : (b : Breach) → ¬ ShowsPlaced taken certificate b
     pub outcomes : List (Option Breach)

@@ -71,7 +71,7 @@ sound_so_far taken certificate f =
       ] refl;
     }
 
--- what places the sighting behind another's stands behind it
+-- what places the sighting after another's comes after it
 abbrev pub ComesAfter : Placed → Placed → Type 0
 ComesAfter d e = (s t : SightId) → placed d.move ≡ Some s → placed e.move ≡ Some t → s.iface ≡ t.iface → s.index ≡ t.index + 1 → at_cmp e.at d.at ≡ Less
 

@@ -26,7 +26,7 @@ use Rattle.audit_prefix.specs.Walk.{Owing, Memory, nothing_yet, came_after, reme
 abbrev pub owes : SightId → List Owing → Bool
 owes t os = list_any (λ (o : Owing). same_sight t o.gives) os
 
--- the state of the server is what the lane remembers, and `placed` tells how often each sighting was placed so far
+-- the state of the server is what the lane remembers, and `placed` is how often each sighting was placed so far
 pub record Matches (w : Rules) (pair : Pair) (m : Memory) (placed : SightId → ℕ) (st : State) : Type 0 where
   pub table : st.table pair ≡ m.allocation
   pub others : (c : Pair) → c ≢ pair → st.table c ≡ None

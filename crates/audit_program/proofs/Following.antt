@@ -84,17 +84,17 @@ fault_of other None = other
 
 -- ---- bytes
 
--- what was fed of a file is what was given
+-- what was fed of a file is what was read
 known : (o : Option (List ℕ)) (text : List ℕ) → text ≡ [] → IfSome o (λ bytes. bytes ≡ []) → IfSome o (λ bytes. text ≡ bytes)
 known None text is none = tt
 known (Some bytes) text is none = is ∙ sym none
 
--- nothing was fed where nothing was given
+-- nothing was fed if nothing was read
 none_fed : (bytes_read : ℕ → Option (List ℕ)) (count : ℕ) → ((capture : ℕ) → IfSome (bytes_read capture) (λ bytes. bytes ≡ [])) → WereFed bytes_read (replicate count not_fed)
 none_fed bytes_read count none = λ file within.
     known (bytes_read file) _ (ap (λ (f : Fed). f.text) (get_or-replicate count file not_fed not_fed (omega (arith, within, length-replicate count not_fed)))) (none file)
 
--- the bytes, and a piece behind them
+-- the bytes, and a piece after them
 known_more : (before after : Option (List ℕ)) (text piece now : List ℕ) → after ≡ followed_by before piece → now ≡ text ++ piece → IfSome before (λ bytes. text ≡ bytes) → IfSome after (λ bytes. now ≡ bytes)
 known_more None after text piece now is then were = subst (λ (o : Option (List ℕ)). IfSome o (λ bytes. now ≡ bytes)) (sym is) tt
 known_more (Some bytes) after text piece now is then were =
@@ -126,7 +126,7 @@ module _ (bytes_read now : ℕ → Option (List ℕ)) (file : ℕ) (piece : List
       (subst (λ (f : Fed). IfSome (bytes_read other) (λ bytes. f.text ≡ bytes)) (sym (get_or-set_other files file other new not_fed apart))
       (were other within))
 
-  -- as a piece is taken, what was fed stays what was given
+  -- as a piece is taken, what was fed stays what was read
   pub took_more : (intake : Intake) (took : TookIn bytes_read intake) (new : Intake) → GoesOn new took.files file piece → TookIn now new
   took_more intake took new on = record {
     files = with_piece took.files file piece on.more;
@@ -134,7 +134,7 @@ module _ (bytes_read now : ℕ → Option (List ℕ)) (file : ℕ) (piece : List
     were_fed = λ other within. at_file took.files on.more other (omega (arith, within, length-set took.files file (record { text = (fed_at took.files file).text ++ piece; packets = packets_of took.files file ++ on.more }))) took.were_fed (same_or_apart other file);
   }
 
-  -- a piece that is refused was given behind what was fed
+  -- a piece that is refused was read after what was fed
   pub refused_piece : (intake : Intake) (took : TookIn bytes_read intake) (policy : Policy) (interfaces : List (List Sighting)) (fault : IntakeFault) → fault.file ≡ file → Refuses policy interfaces took.files file piece fault.kind
       → WereRefused now policy fault
   refused_piece intake took policy interfaces fault at refuses = record {
@@ -250,7 +250,7 @@ left_following turns.Fed policy users count bytes_read live goes = goes.1
 left_following turns.Quiet policy users count bytes_read live goes = goes.1
 left_following turns.Refused policy users count bytes_read live follows = follows
 
--- so many captures were added, of which nothing was given
+-- this number of captures was added, of which nothing was read
 pub files_opened : (intake : Intake) (count : ℕ) → StandsFor intake (replicate count not_fed) → vec_len intake.files ≡ count
 files_opened intake count stands = sym stands.count ∙ length-replicate count not_fed
 

@@ -12,7 +12,7 @@ use Rattle.audit_program.specs.declared.command_line.Request.{Request}
 use Rattle.audit_program.specs.declared.command_line.Request.TheVariants.{Check, Audit, Find, Live, Help, Release, Usage}
 use Rattle.audit_program.specs.Words.{AreNamed, IsRequested, HasNumber, Names, NamesNothing}
 
--- what names a command asks for it
+-- what names a command requests it
 pub named_is_requested : (subcommand : Option (Text × List Row)) (kinds : Kinds) (request : Request) → Names subcommand request → IsRequested subcommand kinds request
 named_is_requested subcommand kinds (Check inputs certificate workers) named = named
 named_is_requested subcommand kinds (Audit inputs workers) named = named

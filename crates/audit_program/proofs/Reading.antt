@@ -81,7 +81,7 @@ module _ (before now next : ℕ → Option (List ℕ)) (file size : ℕ) (others
   pub read_next : (turn new : Turn) → AreReadOnce turn file before now → (new ≡ turns.Quiet → (turn ≡ turns.Quiet) × (size ≡ 0)) → AreReadOnce new (file + 1) before next
   read_next turn new once quiet = λ other within. at_other turn new once quiet other within (same_or_apart other file)
 
-  -- and those behind it were not
+  -- and those after it were not
   pub rest_next : (other : ℕ) → file + 1 ≤ other → next other ≡ before other
   rest_next other within = others other (λ same. absurd (omega (arith, within, same))) ∙ rest other (omega (arith, within))
 

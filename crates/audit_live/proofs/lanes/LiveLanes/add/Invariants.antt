@@ -4,7 +4,7 @@ use Rattle.audit_live.specs.Chain.{Chain}
 use Rattle.audit_live.specs.Turn.{AddsLane}
 use Rattle.audit_live.proofs.lanes.LiveLanes.add.Given as goal
 
--- the lanes so far stand behind the others
+-- the lanes so far come after the others
 abbrev pub invariant-pairs : goal.invariant-pairs
 invariant-pairs l = record {
   lanes : Chain AddsLane l.fn.self.lanes.items (take l.pair-index l.pairs) l.self.lanes.items;

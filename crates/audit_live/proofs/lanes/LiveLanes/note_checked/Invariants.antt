@@ -4,7 +4,7 @@ use Rattle.audit_live.specs.Chain.{Chain}
 use Rattle.audit_live.specs.Turn.{NotesChecked}
 use Rattle.audit_live.proofs.lanes.LiveLanes.note_checked.Given as goal
 
--- what ended in the lanes so far is asked
+-- what ended in the lanes so far is checked
 abbrev pub invariant-touched : goal.invariant-touched
 invariant-touched l = record {
   lanes : Chain NotesChecked l.fn.self.lanes.items (take l.number-index l.touched) l.self.lanes.items;
