@@ -27,12 +27,12 @@ arrives Arrives here = here
 arrives Leaves here = false
 
 -- the datagram arrives at a listen address
-abbrev pub asks : Policy → Sighting → Bool
-asks policy sighting = arrives sighting.side (listens policy sighting.to)
+abbrev pub is_from_client : Policy → Sighting → Bool
+is_from_client policy sighting = arrives sighting.side (listens policy sighting.to)
 
 -- the ends of the datagrams that arrive at a listen address
 abbrev pub pairs_of : Policy → List Sighting → List Pair
-pairs_of policy row = map (λ sighting. (sighting.from, sighting.to)) (filter (asks policy) row)
+pairs_of policy row = map (λ sighting. (sighting.from, sighting.to)) (filter (is_from_client policy) row)
 
 -- the sightings that weren't read yet, interface by interface from this one on
 abbrev pub unseen : List ℕ → ℕ → List (List Sighting) → List Sighting

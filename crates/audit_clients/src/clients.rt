@@ -3,7 +3,7 @@
 ghost use Rattle.std.specs.Prelude.{◌≡◌, ◌<◌, ◌≤◌, [], drop, take, length, slice_index_or, IfOk, IfSome, OnOk};
 ghost use Rattle.std.specs.List.{IsDistinct};
 ghost use Rattle.audit_model.specs.declared.certificate.TheConstants.{MAX_LANES};
-ghost use Rattle.audit_clients.specs.Clients.{same, asks, joined, pairs_of, unseen, with_new, row_lengths, lane_in};
+ghost use Rattle.audit_clients.specs.Clients.{same, is_from_client, joined, pairs_of, unseen, with_new, row_lengths, lane_in};
 ghost use Rattle.audit_sightings.specs.Intake.{taken, interface_at};
 
 use crate::pairs::Pairs;
@@ -22,7 +22,7 @@ pub struct Clients {
 
 /// Whether the sighting arrives at a listen address.
 fn arrives_at_listen(policy: &Policy, sighting: &Sighting) -> bool
-    ensures { result ≡ asks policy.now sighting.now }
+    ensures { result ≡ is_from_client policy.now sighting.now }
 {
     match sighting.side {
         Side::Arrives => policy.listens(sighting.to),

@@ -6,7 +6,7 @@ use crate::round::Round;
 use crate::searched::AllSearched;
 use audit_known::{Known, Placed, Tenancies};
 use audit_matching::{
-    Edges, RelayedLanes, ask_handovers, handovers, lows, match_up, places, ranked,
+    Edges, RelayedLanes, handovers, lows, match_up, places, ranked, require_handovers,
 };
 use audit_search_input::{Deadlines, SearchInput, Shared, Viewed, Views};
 use audit_search_state::{Constraint, Constraints};
@@ -38,7 +38,7 @@ impl Prepared {
         let known = first.known(reading, &tenancies);
         let relayed = RelayedLanes::of(&known, &constraints.banned(alloc)?)?;
         let mut edges = edges_of(&known, &relayed, constraints)?;
-        ask_handovers(sights, &handovers, first.matches(), &mut edges)?;
+        require_handovers(sights, &handovers, first.matches(), &mut edges)?;
         let low = lows(alloc, sights, &mut edges, constraints.shifts(), hold)?;
         let at = places(alloc, sights, &edges, &low, hold)?;
         let placed = Placed::new(ranked(alloc, sights, &edges, &low, &at)?, low, at);
@@ -109,7 +109,7 @@ fn edges_of(
             Constraint::Answers { departure, arrival } => {
                 edges.join_anew(*departure, *arrival);
             }
-            Constraint::Before { arrival, departure } => edges.ask(*arrival, *departure)?,
+            Constraint::Before { arrival, departure } => edges.require(*arrival, *departure)?,
             _ => {}
         }
     }

@@ -105,17 +105,17 @@ impl<'a> Settling<'a> {
     }
 
     /// Adds the constraints that the lanes need; returns whether any of them is new.
-    pub fn ask(&mut self, round: &Round) -> Result<bool, AllocError> {
+    pub fn add_constraints(&mut self, round: &Round) -> Result<bool, AllocError> {
         self.faulty.clear();
         for failed in round.faults() {
             self.faulty.insert(failed.lane())?;
         }
-        let mut is_more = self.ask_doubles(round)?;
-        if self.ask_overlaps(round)? {
+        let mut is_more = self.require_single_use(round)?;
+        if self.require_no_overlaps(round)? {
             is_more = true;
         }
         for failed in round.faults() {
-            if self.ask_lane(failed)? {
+            if self.require_for_lane(failed)? {
                 is_more = true;
             }
         }
@@ -124,7 +124,7 @@ impl<'a> Settling<'a> {
 
     /// Adds, for two lanes that act on one arrival, a constraint by which the later lane doesn't
     /// act on it, or else the earlier one.
-    fn ask_doubles(&mut self, round: &Round) -> Result<bool, AllocError> {
+    fn require_single_use(&mut self, round: &Round) -> Result<bool, AllocError> {
         let mut is_more = false;
         for double in round.doubles(self.reading.alloc())? {
             let (later, earlier) = (double.later(), double.earlier());
@@ -137,7 +137,7 @@ impl<'a> Settling<'a> {
                 if self.tried.insert((lane, constraint, 0))? {
                     self.constraints.take_back(not_of(later));
                     self.constraints.take_back(not_of(earlier));
-                    self.constraints.ask(constraint)?;
+                    self.constraints.add(constraint)?;
                     is_more = true;
                     break;
                 }
@@ -149,7 +149,7 @@ impl<'a> Settling<'a> {
     /// Adds, for two lanes that have an address at the same time, a constraint by which the lease
     /// of the first one begins and ends as early as possible, or else by which one had it before
     /// the other; returns whether any of them is new.
-    fn ask_overlaps(&mut self, round: &Round) -> Result<bool, AllocError> {
+    fn require_no_overlaps(&mut self, round: &Round) -> Result<bool, AllocError> {
         let mut is_more = false;
         for overlap in round.overlaps(self.reading)? {
             let first = Constraint::AtRequest {
@@ -164,15 +164,15 @@ impl<'a> Settling<'a> {
                 next: overlap.maker(),
             };
             if self.tried.insert((overlap.lane(), first, 0))? {
-                self.constraints.ask(first)?;
+                self.constraints.add(first)?;
                 is_more = true;
             } else if self.tried.insert((overlap.lane(), over, 0))? {
-                self.constraints.ask(over)?;
+                self.constraints.add(over)?;
                 is_more = true;
             } else if self.tried.insert((overlap.next_lane(), second, 0))? {
                 self.constraints.take_back(first);
                 self.constraints.take_back(over);
-                self.constraints.ask(second)?;
+                self.constraints.add(second)?;
                 is_more = true;
             }
         }
@@ -180,7 +180,7 @@ impl<'a> Settling<'a> {
     }
 
     /// Adds the next constraint of a lane; returns whether there was one.
-    fn ask_lane(&mut self, failed: &LaneFault) -> Result<bool, AllocError> {
+    fn require_for_lane(&mut self, failed: &LaneFault) -> Result<bool, AllocError> {
         let alloc = self.reading.alloc();
         let lane = failed.lane();
         if !self.lanes.contains_key(&lane) {
@@ -195,7 +195,7 @@ impl<'a> Settling<'a> {
                 return Ok(false);
             };
             if self.tried.insert((lane, constraint, of_lane.digest()))? {
-                self.constraints.ask(constraint)?;
+                self.constraints.add(constraint)?;
                 of_lane.set_current(constraint);
                 return Ok(true);
             }

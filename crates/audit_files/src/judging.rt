@@ -127,7 +127,7 @@ pub fn verdict_of<R: Threads + Wait + Sync>(
 
 /// Writes the report of a verdict on the captures. It returns 0 if they conform, and 1 if that
 /// isn't shown.
-pub fn tell<O: Sink>(
+pub fn write_verdict<O: Sink>(
     alloc: Global,
     verdict: &Verdict,
     intake: &Intake,
@@ -158,7 +158,7 @@ pub fn judge<R: Threads + Wait + Sync, O: Sink>(
     ensures unwritten { IfErr result (EndsWriting (O.failures out.old) (O.failures out.new)) }
 {
     let verdict = verdict_of(rt, alloc, intake, users, certificate, workers)?;
-    tell(alloc, &verdict, intake, out)
+    write_verdict(alloc, &verdict, intake, out)
 }
 
 /// The certificate of a file, and the captures. One worker reads them in this order, and checks the

@@ -13,7 +13,7 @@ mod workers;
 
 pub use captures::take_in;
 pub use judging::{
-    Files, check_files, judge, read_files, read_policy, read_users, tell, verdict_of,
+    Files, check_files, judge, read_files, read_policy, read_users, verdict_of, write_verdict,
 };
 pub use laws::{all_that_left_was_relayed, no_listen_address_is_a_relay};
 pub use source::{ReadFailed, Source};

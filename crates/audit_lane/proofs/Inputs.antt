@@ -10,7 +10,7 @@ use Rattle.audit_rules.specs.Named.{Names}
 use Rattle.audit_lane.specs.declared.input.LaneEvent.{LaneEvent}
 use Rattle.audit_lane.specs.declared.input.LaneEvent.TheVariants.{In, Act, Out}
 use Rattle.audit_lane.specs.Content.{user_of, happening}
-use Rattle.audit_lane.specs.Told.{IsOfUser, Tells}
+use Rattle.audit_lane.specs.UserRows.{IsOfUser, Tells}
 use Rattle.audit_lane.specs.Users.{IsItsUser, TellsItsUser}
 
 zip_push : {A B : Type 0} (R : A → B → Type 0) (xs : List A) (ys : List B) (x : A) (y : B) → AllZip R xs ys → R x y → AllZip R (xs ++ x ∷ []) (ys ++ y ∷ [])

@@ -28,8 +28,8 @@ abbrev pub taken_up : Option Arrival → Option Arrival
 taken_up arrival = option_map (λ a. record { moment = a.moment; user = a.user; acted = true }) arrival
 
 -- the departure for an arrival, sent by the act at a place
-abbrev pub given_for : Option Arrival → ℕ → Option Departure
-given_for arrival place = option_map (λ a. record { arrived = a.moment; place = place }) arrival
+abbrev pub departure_for : Option Arrival → ℕ → Option Departure
+departure_for arrival place = option_map (λ a. record { arrived = a.moment; place = place }) arrival
 
 abbrev pub came_after : Kept → Happening → SightId → Option Arrival
 came_after kept (Came sighting user key) = came_first kept.came sighting.id (new_arrival user key.moment) (kept.came sighting.id)
@@ -38,12 +38,12 @@ came_after kept (Went sighting key) = kept.came
 
 abbrev pub gave_after : Kept → ℕ → Happening → SightId → Option Departure
 gave_after kept place (Came sighting user key) = kept.gave
-gave_after kept place (Acted arrives leaves key) = put same_sight kept.gave leaves.id (given_for (kept.came arrives.id) place)
+gave_after kept place (Acted arrives leaves key) = put same_sight kept.gave leaves.id (departure_for (kept.came arrives.id) place)
 gave_after kept place (Went sighting key) = kept.gave
 
 abbrev pub owed_without : (ℕ → Option Owed) → Option Departure → ℕ → Option Owed
 owed_without owed None = owed
-owed_without owed (Some given) = put nat_eq owed given.place None
+owed_without owed (Some sent) = put nat_eq owed sent.place None
 
 abbrev pub owed_after : Terms → Kept → ℕ → Happening → ℕ → Option Owed
 owed_after terms kept place (Came sighting user key) = kept.owed

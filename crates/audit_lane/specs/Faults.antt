@@ -21,15 +21,15 @@ is_past hold arrived moment = nat_lt (later arrived hold) moment
 -- S9, S10 and S12 for an act: by this arrival, if it came, with a departure that was sent so
 -- before, if it was
 abbrev pub act_fault : ℕ → Option Arrival → Option Departure → ℕ → Option Rule
-act_fault hold None given moment = Some ActBeforeArrival
-act_fault hold (Some arrival) given moment =
-    if arrival.acted || is_some given then Some ActedTwice
+act_fault hold None sent moment = Some ActBeforeArrival
+act_fault hold (Some arrival) sent moment =
+    if arrival.acted || is_some sent then Some ActedTwice
     else (if is_past hold arrival.moment moment then Some HeldTooLong else None)
 
 -- S11 and S12 for a departure that leaves, sent so, if it was
 abbrev pub out_fault : ℕ → Option Departure → ℕ → Option Rule
 out_fault hold None moment = Some LeftWithoutAct
-out_fault hold (Some given) moment = if is_past hold given.arrived moment then Some HeldTooLong else None
+out_fault hold (Some sent) moment = if is_past hold sent.arrived moment then Some HeldTooLong else None
 
 abbrev pub fault_at : Terms → Kept → Sighting → Sighting → ℕ → Option Rule
 fault_at terms kept arrives leaves moment = act_fault terms.policy.hold (kept.came arrives.id) (kept.gave leaves.id) moment

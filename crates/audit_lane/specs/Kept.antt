@@ -39,8 +39,8 @@ abbrev pub place_at : Terms → Key → ℕ → At
 place_at terms key place = record { key = key; lane = terms.number; place = place }
 
 -- the number of the user that an arrival names, if it came
-abbrev pub told_by : Option Arrival → Option ℕ
-told_by arrival = option_and_then (λ a. a.user) arrival
+abbrev pub user_by : Option Arrival → Option ℕ
+user_by arrival = option_and_then (λ a. a.user) arrival
 
 -- the server sends a departure for an arrival at a moment
 abbrev pub situation_in : Terms → Kept → Sighting → Sighting → ℕ → Situation
@@ -48,7 +48,7 @@ situation_in terms kept arrives leaves moment = record {
   client = kept.standing.client;
   listen = kept.standing.listen;
   policy = terms.policy;
-  key_for = terms.keys (told_by (kept.came arrives.id));
+  key_for = terms.keys (user_by (kept.came arrives.id));
   allocation = kept.standing.allocation;
   arrives = arrives;
   leaves = leaves;

@@ -5,7 +5,7 @@ pub mod Faults
 pub mod After
 pub mod Walk
 pub mod Judged
-pub mod Told
+pub mod UserRows
 pub mod Named
 pub mod Concluded
 pub mod Seen

@@ -6,7 +6,7 @@ ghost use Rattle.audit_model.specs.declared.certificate.TheConstants.{MAX_EVENTS
 ghost use Rattle.audit_sightings.specs.Intake.{NamesWhatIsThere, taken};
 ghost use Rattle.audit_lane.specs.Content.{happening, user_of};
 ghost use Rattle.audit_lane.specs.Named.{IsFrom, IsInputOf};
-ghost use Rattle.audit_lane.specs.Told.{Tells};
+ghost use Rattle.audit_lane.specs.UserRows.{Tells};
 ghost use Rattle.audit_lane.specs.Users.{GrowsByOne, TellsItsUser};
 
 use crate::ahead::Arrivals;

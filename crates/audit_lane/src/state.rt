@@ -96,7 +96,7 @@ impl LaneState {
     }
 
     /// Notes that the arrival is acted on, and the departure that is owed for it.
-    fn give(
+    fn note_act(
         &mut self,
         at: At,
         arrives: SightId,
@@ -157,23 +157,23 @@ impl LaneState {
             Err(ActFault::Broken(rule)) => return Err(broken(at, arrives.id, rule)),
             Err(ActFault::Memory) => return Err(LaneFault::Memory),
         }
-        self.give(at, arrives.id, leaves.id, arrival)?;
+        self.note_act(at, arrives.id, leaves.id, arrival)?;
         Ok(())
     }
 
     /// The act that sent the departure, which may leave now.
     fn leavable(&self, hold: u64, moment: u64, leaves: SightId) -> Result<Departure, Rule>
         ensures { MatchResult result
-            (λ given. (out_fault hold (found self.now.departures leaves) moment ≡ None) × (found self.now.departures leaves ≡ Some given))
+            (λ sent. (out_fault hold (found self.now.departures leaves) moment ≡ None) × (found self.now.departures leaves ≡ Some sent))
             (λ rule. out_fault hold (found self.now.departures leaves) moment ≡ Some rule) }
     {
-        let Some(given) = self.departures.get(leaves) else {
+        let Some(sent) = self.departures.get(leaves) else {
             return Err(Rule::LeftWithoutAct);
         };
-        if is_past(hold, given.arrived, moment) {
+        if is_past(hold, sent.arrived, moment) {
             return Err(Rule::HeldTooLong);
         }
-        Ok(given)
+        Ok(sent)
     }
 
     fn leave(&mut self, policy: &Policy, at: At, sighting: &Sighting) -> Result<(), Breach>
@@ -181,11 +181,11 @@ impl LaneState {
         ensures after { OnOk result ((users : List Row) → SameKept (kept_of self.new) (after (terms_by at.lane policy.now users) at.place (kept_of self.old) (Went sighting.now at.key))) }
         ensures shows { IfErr result (λ breach. (users : List Row) → Shows (terms_by at.lane policy.now users) at.place (kept_of self.old) (Went sighting.now at.key) breach) }
     {
-        let given = match self.leavable(policy.hold, at.key.moment, sighting.id) {
-            Ok(given) => given,
+        let sent = match self.leavable(policy.hold, at.key.moment, sighting.id) {
+            Ok(sent) => sent,
             Err(rule) => return Err(breach(at, sighting.id, rule)),
         };
-        forget_owed(&mut self.owed, given.place);
+        forget_owed(&mut self.owed, sent.place);
         Ok(())
     }
 

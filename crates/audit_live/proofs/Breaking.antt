@@ -8,7 +8,7 @@ use Rattle.audit_lane.specs.declared.noted.Arrival.{Arrival}
 use Rattle.audit_lane.specs.declared.noted.Departure.{Departure}
 use Rattle.audit_lane.specs.Content.{Happening, Came, Acted, Went}
 use Rattle.audit_lane.specs.Faults.{act_fault, is_past, out_fault}
-use Rattle.audit_lane.specs.Kept.{Kept, Terms, situation_in, told_by}
+use Rattle.audit_lane.specs.Kept.{Kept, Terms, situation_in, user_by}
 use Rattle.audit_lane.specs.Seen.{terms_by}
 use Rattle.audit_model.specs.declared.event.Key.{Key}
 use Rattle.audit_model.specs.declared.pair.Pair.{Pair}
@@ -72,7 +72,7 @@ module _ (taken : Taken) (key_for : KeyFor) (pair : Pair) (number place : ℕ) (
         → FirstRule (situation_in terms old a l key.moment) rule → ByWalk (m.came a.id) (m.taken a.id || is_some (m.since l.id))
     unfolding request_situation
     by_answer may_be named there first =
-        let keys : KeyFor = terms.keys (told_by (old.came a.id)) in
+        let keys : KeyFor = terms.keys (user_by (old.came a.id)) in
         let x : Situation = request_situation taken key_for pair number place rows old m known a l key may_be keys in
         let moved : FirstRule x rule = subst (λ (y : Situation). FirstRule y rule) (request_situation_is taken key_for pair number place rows old m known a l key may_be) first in
         let by_all : FirstRule (with_keys key_for x) rule = first_said key_for x (agrees taken key_for pair number place rows old m known a l key may_be named.0 named.1 named.2) rule moved in

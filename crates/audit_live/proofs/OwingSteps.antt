@@ -8,7 +8,7 @@ use Rattle.std.proofs.lemmas.Option.{none-some, same_Some}
 use Rattle.audit_lane.specs.declared.noted.Arrival.{Arrival}
 use Rattle.audit_lane.specs.declared.noted.Departure.{Departure}
 use Rattle.audit_lane.specs.declared.noted.Owed.{Owed}
-use Rattle.audit_lane.specs.After.{after, given_for}
+use Rattle.audit_lane.specs.After.{after, departure_for}
 use Rattle.audit_lane.specs.Content.{Happening, Came, Acted, Went}
 use Rattle.audit_lane.specs.Faults.{IsRight, out_fault}
 use Rattle.audit_lane.specs.Kept.{Kept, Terms, place_at}
@@ -204,7 +204,7 @@ module _ (w : Rules) (terms : Terms) (pair : Pair) (place : ℕ) (old new : Kept
       let may_be = open_to terms.policy.hold key.moment (old.came a.id) (old.gave l.id) right.0 in
       owes_more place old m.owing owes (record { at = place_at terms key place; sight = a.id; gives = l.id }) refl may_be.came may_be.not_given new
       (record { at = place_at terms key place; sight = a.id }) same.owed
-      (λ t. same.gave t ∙ ap (λ (sent : Option Departure). cond (same_sight t l.id) sent (old.gave t)) (ap (λ (o : Option Arrival). given_for o place) may_be.is))
+      (λ t. same.gave t ∙ ap (λ (sent : Option Departure). cond (same_sight t l.id) sent (old.gave t)) (ap (λ (o : Option Arrival). departure_for o place) may_be.is))
   owes_on (Went s key) right same =
       let was = was_sent terms.policy.hold key.moment (old.gave s.id) right in
       owes_left place old m.owing owes s.id was.0 was.1 new (λ p. same.owed p ∙ without p (old.gave s.id) was.0 was.1) same.gave where

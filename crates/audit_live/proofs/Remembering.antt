@@ -6,10 +6,10 @@ use Rattle.std.proofs.lemmas.Bool.{ltb-false}
 use Rattle.std.proofs.lemmas.Option.{none-some, same_Some}
 use Rattle.audit_lane.specs.declared.noted.Arrival.{Arrival}
 use Rattle.audit_lane.specs.declared.noted.Departure.{Departure}
-use Rattle.audit_lane.specs.After.{after, came_first, new_arrival, taken_up, given_for}
+use Rattle.audit_lane.specs.After.{after, came_first, new_arrival, taken_up, departure_for}
 use Rattle.audit_lane.specs.Content.{Happening, Came, Acted, Went, User, user_of}
 use Rattle.audit_lane.specs.Faults.{IsRight, out_fault, is_past}
-use Rattle.audit_lane.specs.Kept.{Kept, Terms, place_at, told_by, situation_in}
+use Rattle.audit_lane.specs.Kept.{Kept, Terms, place_at, user_by, situation_in}
 use Rattle.audit_lane.specs.Seen.{SameKept, terms_by}
 use Rattle.audit_lane.specs.Walk.{key_at}
 use Rattle.audit_model.specs.declared.event.Key.{Key}
@@ -77,11 +77,11 @@ module _ (taken : Taken) (key_for : KeyFor) (pair : Pair) (number place : ℕ) (
     pub not_since : is_some (m.since l.id) ≡ false
     not_since = ap is_some (sym (known.since l.id) ∙ ap (option_map (λ (d : Departure). d.arrived)) may_be.not_given)
 
-    first_user_is : told_by (old.came a.id) ≡ Some 0
-    first_user_is = ap told_by may_be.is ∙ known.first_user a.id arrived may_be.is
+    first_user_is : user_by (old.came a.id) ≡ Some 0
+    first_user_is = ap user_by may_be.is ∙ known.first_user a.id arrived may_be.is
 
     -- the key of whom the arrival names
-    pub agrees : (named : Option CredRow) → rows ≡ option_to_list named → IsRowOf key_for a.payload named → AgreeInRequest (terms.keys (told_by (old.came a.id))) key_for a.payload
+    pub agrees : (named : Option CredRow) → rows ≡ option_to_list named → IsRowOf key_for a.payload named → AgreeInRequest (terms.keys (user_by (old.came a.id))) key_for a.payload
     agrees named rows_are is =
         subst (λ (first_user : Option ℕ). AgreeInRequest (terms.keys first_user) key_for a.payload) (sym first_user_is)
         (subst (λ (rs : List CredRow). AgreeInRequest ((terms_by number taken.policy rs).keys (Some 0)) key_for a.payload) (sym rows_are) (first_row named is))
@@ -93,24 +93,24 @@ module _ (taken : Taken) (key_for : KeyFor) (pair : Pair) (number place : ℕ) (
     unfoldable pub request_situation : KeyFor → Situation
     request_situation keys = record { client = pair.client; listen = pair.listen; policy = taken.policy; key_for = keys; allocation = m.allocation; arrives = a; leaves = l; moment = key.moment }
 
-    pub request_situation_is : situation_in terms old a l key.moment ≡ request_situation (terms.keys (told_by (old.came a.id)))
+    pub request_situation_is : situation_in terms old a l key.moment ≡ request_situation (terms.keys (user_by (old.came a.id)))
     unfolding request_situation
     request_situation_is = λ i. record {
       client = known.client i;
       listen = known.listen i;
       policy = taken.policy;
-      key_for = terms.keys (told_by (old.came a.id));
+      key_for = terms.keys (user_by (old.came a.id));
       allocation = known.allocation i;
       arrives = a;
       leaves = l;
       moment = key.moment;
     }
 
-    may_answer : AgreeInRequest (terms.keys (told_by (old.came a.id))) key_for a.payload → MayAnswer (situation_in terms old a l key.moment) (change_in (situation_in terms old a l key.moment))
+    may_answer : AgreeInRequest (terms.keys (user_by (old.came a.id))) key_for a.payload → MayAnswer (situation_in terms old a l key.moment) (change_in (situation_in terms old a l key.moment))
         → sighting_at taken a.id ≡ Some a → sighting_at taken l.id ≡ Some l → (rules_for taken key_for).MayAnswer pair a.id l.id key.moment m.allocation
     unfolding request_situation
     may_answer agree right there gives_there =
-        let by_all = may_said key_for (request_situation (terms.keys (told_by (old.came a.id)))) agree (subst (λ (x : Situation). MayAnswer x (change_in x)) request_situation_is right) in
+        let by_all = may_said key_for (request_situation (terms.keys (user_by (old.came a.id)))) agree (subst (λ (x : Situation). MayAnswer x (change_in x)) request_situation_is right) in
         subst (λ o. MayBetween taken.policy key_for pair key.moment m.allocation o (sighting_at taken l.id)) (sym there)
         (subst (λ o. MayBetween taken.policy key_for pair key.moment m.allocation (Some a) o) (sym gives_there) by_all)
 
@@ -219,8 +219,8 @@ module _ (taken : Taken) (key_for : KeyFor) (pair : Pair) (number place : ℕ) (
     fresh_act q true is = absurd (none-some (record { moment = may_be.came; user = may_be.user; acted = true }) (sym is ∙ ap taken_up may_be.is))
     fresh_act q false is = known.fresh q is
 
-    since_act : (q : SightId) (b : Bool) → option_map (λ (d : Departure). d.arrived) (cond b (given_for (old.came a.id) place) (old.gave q)) ≡ cond b (m.came a.id) (m.since q)
-    since_act q true = ap (λ (o : Option Arrival). option_map (λ (d : Departure). d.arrived) (given_for o place)) may_be.is ∙ sym (sym (known.came a.id) ∙ ap (option_map (λ (x : Arrival). x.moment)) may_be.is)
+    since_act : (q : SightId) (b : Bool) → option_map (λ (d : Departure). d.arrived) (cond b (departure_for (old.came a.id) place) (old.gave q)) ≡ cond b (m.came a.id) (m.since q)
+    since_act q true = ap (λ (o : Option Arrival). option_map (λ (d : Departure). d.arrived) (departure_for o place)) may_be.is ∙ sym (sym (known.came a.id) ∙ ap (option_map (λ (x : Arrival). x.moment)) may_be.is)
     since_act q false = known.since q
 
     change_is : (rules_for taken key_for).change pair a.id l.id key.moment m.allocation ≡ change_in (situation_in terms old a l key.moment)

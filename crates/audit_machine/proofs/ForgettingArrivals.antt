@@ -20,7 +20,7 @@ too_old_of hold now (Some came) h = h
 
 -- the state with other waiting arrivals
 abbrev pub with_waiting : State → (SightId → Option ℕ) → State
-with_waiting st waiting = record { table = st.table; waiting = waiting; owed = st.owed; given = st.given; now = st.now }
+with_waiting st waiting = record { table = st.table; waiting = waiting; owed = st.owed; sent = st.sent; now = st.now }
 
 pub forgets_arrival : (policy : Policy) (key_for : KeyFor) (view : View) (cut : Cut) (s : SightId) (waiting : SightId → Option ℕ) → ((q : SightId) → waiting q ≡ put same_sight cut.state.waiting s None q) →
     IsSomeAnd (cut.state.waiting s) (λ came. later came policy.hold < cut.state.now) →
@@ -32,7 +32,7 @@ forgets_arrival policy key_for view cut s waiting is over = excludes_more policy
       table = λ c. entry_refl policy.grace cut.state.now (cut.state.table c);
       waiting = λ q h. subst (λ (o : Option ℕ). AreAlikeTimes policy.hold cut.state.now (cut.state.waiting q) o) (sym (is q)) (at q);
       owed = λ q h. refl;
-      given = λ q h p. refl;
+      sent = λ q h p. refl;
     }) where
       at : (q : SightId) → AreAlikeTimes policy.hold cut.state.now (cut.state.waiting q) (put same_sight cut.state.waiting s None q)
       at q = elim (same_sight q s) as (λ b. same_sight q s ≡ b → AreAlikeTimes policy.hold cut.state.now (cut.state.waiting q) (cond b None (cut.state.waiting q))) [

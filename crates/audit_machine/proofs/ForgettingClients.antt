@@ -23,7 +23,7 @@ use Rattle.audit_machine.proofs.Pairs.{by_client}
 
 -- the state with another table
 abbrev pub with_table : State → (Pair → Option Allocation) → State
-with_table st table = record { table = table; waiting = st.waiting; owed = st.owed; given = st.given; now = st.now }
+with_table st table = record { table = table; waiting = st.waiting; owed = st.owed; sent = st.sent; now = st.now }
 
 module _ (old new : Tables) (pair : Pair) (removed : (c : Pair) → table_of new c ≡ put same_client (table_of old) pair None c) where
   gone_then : table_of new pair ≡ None
@@ -49,4 +49,4 @@ pub forgets_client : (policy : Policy) (key_for : KeyFor) (view : View) (cut : C
     IsSegment policy key_for view cut [] (record { state = with_table cut.state table; placed = cut.placed; excluded = cut.excluded })
 forgets_client policy key_for view cut table alike = excludes_more policy key_for view cut cut.excluded (with_table cut.state table)
     (record { placed = λ iface. omega arith; excluded = λ q e. e; settled = λ q e. refl })
-    (record { now = refl; table = alike; waiting = λ q h. inl refl; owed = λ q h. refl; given = λ q h p. refl })
+    (record { now = refl; table = alike; waiting = λ q h. inl refl; owed = λ q h. refl; sent = λ q h p. refl })

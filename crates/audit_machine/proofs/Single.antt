@@ -111,9 +111,9 @@ module _ (policy : Policy) (key_for : KeyFor) (view : View) (old new : Cut) (mom
 
   pub arrival_is_segment : (s : SightId) (x : Sighting) → view s ≡ Some x → (x.side ≡ Arrives) × (x.lo ≤ moment) × (moment ≤ x.hi) → old.excluded s ≡ false → PlacesNext old new s →
       new.state.now ≡ moment → ((c : Pair) → new.state.table c ≡ old.state.table c) → ((q : SightId) → new.state.waiting q ≡ put same_sight old.state.waiting s (Some moment) q) →
-      ((q : SightId) → new.state.owed q ≡ old.state.owed q) → ((q : SightId) → new.state.given q ≡ old.state.given q) →
+      ((q : SightId) → new.state.owed q ≡ old.state.owed q) → ((q : SightId) → new.state.sent q ≡ old.state.sent q) →
       IsSegment policy key_for view old (step_at moment (In s) ∷ []) new
-  arrival_is_segment s x there seen free_name next now table waiting owed given = record {
+  arrival_is_segment s x there seen free_name next now table waiting owed sent = record {
     placed = λ q. one_time q (step_at moment (In s)) ∙ due_next old new s next view x there free_name q;
     seen = (seen_at view Arrives s x moment there seen, tt);
     order = (tt, tt);
@@ -124,7 +124,7 @@ module _ (policy : Policy) (key_for : KeyFor) (view : View) (old new : Cut) (mom
       table = λ c. subst (λ (o : Option Allocation). AreAlikeEntries policy.grace moment (old.state.table c) o) (sym (table c)) (entry_refl policy.grace moment (old.state.table c));
       waiting = λ q h. inl (sym (waiting q));
       owed = λ q h. sym (owed q);
-      given = λ q h p. sym (given q);
+      sent = λ q h p. sym (sent q);
     };
     extends = next_proceeds old new s next;
   }
@@ -132,9 +132,9 @@ module _ (policy : Policy) (key_for : KeyFor) (view : View) (old new : Cut) (mom
   pub departure_is_segment : (t : SightId) (x : Sighting) → view t ≡ Some x → (x.side ≡ Leaves) × (x.lo ≤ moment) × (moment ≤ x.hi) → old.excluded t ≡ false → PlacesNext old new t →
       InTime W (old.state.owed t) moment →
       new.state.now ≡ moment → ((c : Pair) → new.state.table c ≡ old.state.table c) → ((q : SightId) → new.state.waiting q ≡ old.state.waiting q) →
-      ((q : SightId) → new.state.owed q ≡ put same_sight old.state.owed t None q) → ((q : SightId) → q ≢ t → new.state.given q ≡ old.state.given q) →
+      ((q : SightId) → new.state.owed q ≡ put same_sight old.state.owed t None q) → ((q : SightId) → q ≢ t → new.state.sent q ≡ old.state.sent q) →
       IsSegment policy key_for view old (step_at moment (Out t) ∷ []) new
-  departure_is_segment t x there seen free_name next due_now now table waiting owed given = record {
+  departure_is_segment t x there seen free_name next due_now now table waiting owed sent = record {
     placed = λ q. one_time q (step_at moment (Out t)) ∙ due_next old new t next view x there free_name q;
     seen = (seen_at view Leaves t x moment there seen, tt);
     order = (tt, tt);
@@ -145,19 +145,19 @@ module _ (policy : Policy) (key_for : KeyFor) (view : View) (old new : Cut) (mom
       table = λ c. subst (λ (o : Option Allocation). AreAlikeEntries policy.grace moment (old.state.table c) o) (sym (table c)) (entry_refl policy.grace moment (old.state.table c));
       waiting = λ q h. inl (sym (waiting q));
       owed = λ q h. sym (owed q);
-      given = λ q h p. sym (given q (λ e. true≢false (sym (ap (is_placed new.placed) e ∙ now_placed old new t next) ∙ p)));
+      sent = λ q h p. sym (sent q (λ e. true≢false (sym (ap (is_placed new.placed) e ∙ now_placed old new t next) ∙ p)));
     };
     extends = next_proceeds old new t next;
   }
 
-  pub act_is_segment : (c : Pair) (s t : SightId) → old.excluded s ≡ false → old.excluded t ≡ false → is_placed old.placed t ≡ false → InTime W (old.state.waiting s) moment → old.state.given t ≡ false →
+  pub act_is_segment : (c : Pair) (s t : SightId) → old.excluded s ≡ false → old.excluded t ≡ false → is_placed old.placed t ≡ false → InTime W (old.state.waiting s) moment → old.state.sent t ≡ false →
       W.MayAnswer c s t moment (old.state.table c) → IsFree W old.state moment c (W.change c s t moment (old.state.table c)) →
       ((iface : ℕ) → new.placed iface ≡ old.placed iface) → ((q : SightId) → new.excluded q ≡ old.excluded q) →
       new.state.now ≡ moment → ((d : Pair) → new.state.table d ≡ put same_client old.state.table c (acted W moment (Act c s t) (old.state.table c)) d) →
       ((q : SightId) → new.state.waiting q ≡ put same_sight old.state.waiting s None q) → ((q : SightId) → new.state.owed q ≡ put same_sight old.state.owed t (old.state.waiting s) q) →
-      ((q : SightId) → new.state.given q ≡ put same_sight old.state.given t true q) →
+      ((q : SightId) → new.state.sent q ≡ put same_sight old.state.sent t true q) →
       IsSegment policy key_for view old (step_at moment (Act c s t) ∷ []) new
-  act_is_segment c s t open_one open_other unplaced in_time fresh may free same excluded now table waiting owed given = record {
+  act_is_segment c s t open_one open_other unplaced in_time fresh may free same excluded now table waiting owed sent = record {
     placed = λ q. one_time q (step_at moment (Act c s t)) ∙ sym (none_due q);
     seen = (tt, tt);
     order = (tt, tt);
@@ -169,7 +169,7 @@ module _ (policy : Policy) (key_for : KeyFor) (view : View) (old new : Cut) (mom
           (entry_refl policy.grace moment (put same_client old.state.table c (acted W moment (Act c s t) (old.state.table c)) d));
       waiting = λ q h. inl (sym (waiting q));
       owed = λ q h. sym (owed q);
-      given = λ q h p. sym (given q);
+      sent = λ q h p. sym (sent q);
     };
     extends = record { placed = λ iface. let k = same iface in omega (arith, k); excluded = λ q e. excluded q ∙ e; settled = λ q e. excluded q };
   } where

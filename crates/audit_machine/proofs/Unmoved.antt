@@ -61,7 +61,7 @@ module _ (old new : Machine) (mid : Tables) (table : LaneTable) (pair : Pair) (r
         table = λ c. same_tables c i;
         waiting = λ s. ap (λ (m : Machine). time_of m.waiting s) rest i;
         owed = λ s. ap (λ (m : Machine). time_of m.owed s) rest i;
-        given = λ s. ap (λ (m : Machine). is_some (time_of m.owed s)) rest i;
+        sent = λ s. ap (λ (m : Machine). is_some (time_of m.owed s)) rest i;
         now = ap (λ (m : Machine). m.last) rest i;
       };
       placed = λ iface. ap (λ (m : Machine). count_of m.placed iface) rest i;

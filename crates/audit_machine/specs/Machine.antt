@@ -28,7 +28,7 @@ use Rattle.audit_machine.specs.Times.{time_of}
 
 -- the server's state; of the departures that were sent it has those that are owed
 abbrev pub state_of : Machine → State
-state_of m = record { table = allocation_of m.tables; waiting = time_of m.waiting; owed = time_of m.owed; given = λ t. is_some (time_of m.owed t); now = m.last }
+state_of m = record { table = allocation_of m.tables; waiting = time_of m.waiting; owed = time_of m.owed; sent = λ t. is_some (time_of m.owed t); now = m.last }
 
 -- the cut of the machine, if these sightings are excluded
 abbrev pub cut_of : Machine → (SightId → Bool) → Cut

@@ -43,18 +43,22 @@ impl Edges {
     }
 
     /// Adds the requirement that an arrival comes before a departure.
-    pub fn ask(&mut self, arrival: SeenNumber, departure: SeenNumber) -> Result<(), AllocError> {
+    pub fn require(
+        &mut self,
+        arrival: SeenNumber,
+        departure: SeenNumber,
+    ) -> Result<(), AllocError> {
         self.asked.insert((departure, arrival))?;
         Ok(())
     }
 
     /// The number of added requirements.
-    pub fn asked(&self) -> usize {
+    pub fn required(&self) -> usize {
         self.asked.len()
     }
 
     /// The arrivals that were added for a departure.
-    pub fn asked_of(&self, departure: SeenNumber) -> Result<Vec<SeenNumber>, AllocError> {
+    pub fn required_of(&self, departure: SeenNumber) -> Result<Vec<SeenNumber>, AllocError> {
         let mut arrivals = Vec::new(self.alloc);
         if self.asked.is_empty() {
             return Ok(arrivals);
@@ -73,7 +77,7 @@ impl Edges {
 
     /// The arrivals that must come before a departure, its match first.
     pub fn of_departure(&self, departure: SeenNumber) -> Result<Vec<SeenNumber>, AllocError> {
-        let mut arrivals = self.asked_of(departure)?;
+        let mut arrivals = self.required_of(departure)?;
         if let Some(matched) = self.matches.of(departure) {
             arrivals.insert(0, matched)?;
         }
@@ -81,7 +85,7 @@ impl Edges {
     }
 
     /// Drops a departure's match if the match wasn't placed, or else an added arrival that wasn't.
-    pub fn give_up(&mut self, departure: SeenNumber, placed: &[bool]) {
+    pub fn drop_match(&mut self, departure: SeenNumber, placed: &[bool]) {
         let is_placed = |number: SeenNumber| placed.get(number.index()).copied().unwrap_or(false);
         if self
             .matches

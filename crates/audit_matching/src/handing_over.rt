@@ -123,7 +123,7 @@ fn settle(facts: Facts<'_>, holdings: &mut [Holding], place: usize) {
 
 /// Adds the requirement that the Refresh that deletes an allocation comes before the next client
 /// gets the address.
-pub fn ask_handovers(
+pub fn require_handovers(
     sights: &Sights,
     handovers: &[Handover],
     matches: &Matches,
@@ -137,7 +137,7 @@ pub fn ask_handovers(
         if let Some(request) = request {
             if let (Some(asks), Some(next)) = (sights.get(request), sights.get(handover.next())) {
                 if asks.first_moment() <= next.last_moment() && !asks.is_after(next) {
-                    edges.ask(request, handover.next())?;
+                    edges.require(request, handover.next())?;
                 }
             }
         }

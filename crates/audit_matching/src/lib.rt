@@ -15,7 +15,7 @@ mod rank;
 mod relayed;
 
 pub use edges::Edges;
-pub use handing_over::{ask_handovers, handovers};
+pub use handing_over::{handovers, require_handovers};
 pub use late::places;
 pub use low::lows;
 pub use matching::match_up;

@@ -56,7 +56,7 @@ fn least(
     let count = sights.as_slice().len();
     let turns = count
         .saturating_mul(2)
-        .saturating_add(edges.asked())
+        .saturating_add(edges.required())
         .saturating_add(sights.interfaces());
     let mut pass = LowPass {
         sights,
@@ -120,7 +120,7 @@ impl LowPass<'_> {
             return Ok(false);
         };
         if let Some(number) = self.merge.next(self.sights, iface) {
-            self.edges.give_up(number, &self.placed);
+            self.edges.drop_match(number, &self.placed);
         }
         self.queue(iface)?;
         Ok(true)
@@ -190,7 +190,7 @@ impl LowPass<'_> {
                 }
                 low = low.max(self.bound(matched, seen));
             }
-            for arrival in self.edges.asked_of(number)? {
+            for arrival in self.edges.required_of(number)? {
                 if self.has_to_wait(arrival, seen) {
                     return self
                         .merge

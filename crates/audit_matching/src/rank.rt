@@ -109,7 +109,7 @@ impl RankPass<'_> {
                     return self.merge.park(iface, matched, (at, false, 0));
                 }
             }
-            for arrival in self.edges.asked_of(number)? {
+            for arrival in self.edges.required_of(number)? {
                 if self.has_to_wait(arrival, at) {
                     return self.merge.park(iface, arrival, (at, false, 0));
                 }

@@ -15,7 +15,7 @@ use Rattle.audit_model.specs.declared.verdict.Breach.{Breach}
 use Rattle.audit_model.specs.Least.{IsLeast}
 use Rattle.audit_sightings.specs.Intake.{Taken}
 use Rattle.audit_placement.specs.declared.entry.Entry.{Entry}
-use Rattle.audit_placement.specs.Checks.{IsOneOf, event_checks, told}
+use Rattle.audit_placement.specs.Checks.{IsOneOf, event_checks, breach_of}
 use Rattle.audit_placement.specs.Clean.{IsFine, IsClean, times_placed, one_if}
 use Rattle.audit_placement.specs.Entries.{entries}
 use Rattle.audit_placement.specs.FirstPlace.{places, first_place, is_placed}
@@ -67,7 +67,7 @@ module _ (taken : Taken) (noted : SightId → Option Key) where
   none_broken : (e : Entry) (b : Breach) → IsFine taken noted e → ¬ IsOneOf (event_checks taken false e.pair e.last e.event) e.at b
   none_broken e b fine =
       let asked = event_checks taken false e.pair e.last e.event in
-      subst (λ o. IsLeast (IsOneOf asked e.at) (told e.at o)) fine.own (first_least asked e.at (ascending taken false e.pair e.last e.event)) b
+      subst (λ o. IsLeast (IsOneOf asked e.at) (breach_of e.at o)) fine.own (first_least asked e.at (ascending taken false e.pair e.last e.event)) b
 
   shows_not : (earlier : List Entry) (e : Entry) (b : Breach) (placed : Bool) → is_placed earlier e.event ≡ placed → IsFine taken noted e → ¬ (is_placed earlier e.event ≡ true)
       → ¬ IsOneOf (event_checks taken placed e.pair e.last e.event) e.at b

@@ -21,7 +21,7 @@ use Rattle.audit_model.proofs.Orders.{key_total, breach_total}
 use Rattle.audit_model.proofs.LeastBreach.{least_same}
 use Rattle.audit_sightings.specs.Intake.{Taken}
 use Rattle.audit_model.specs.declared.pair.Pair.{Pair}
-use Rattle.audit_placement.specs.Checks.{Check, IsOneOf, breach_at, first_broken, told, event_checks, placing_checks}
+use Rattle.audit_placement.specs.Checks.{Check, IsOneOf, breach_at, first_broken, breach_of, event_checks, placing_checks}
 
 -- each of the checks ranks behind the rule
 abbrev pub IsBefore : Rule → List Check → Type 0
@@ -48,9 +48,9 @@ pub same_breach : (one other : Breach) → other ≡ one → is_gt (breach_cmp o
 same_breach one other same = rw same (ap is_gt (tied_itself breach_total one))
 
 -- by whether the first check is broken
-by_first : (check : Check) (checks : List Check) (at : At) → IsBefore check.rule checks → IsLeast (IsOneOf checks at) (told at (first_broken checks))
+by_first : (check : Check) (checks : List Check) (at : At) → IsBefore check.rule checks → IsLeast (IsOneOf checks at) (breach_of at (first_broken checks))
     → (broken : Bool) → check.broken ≡ broken
-    → IsLeast (IsOneOf (check ∷ checks) at) (told at (cond broken (Some (check.rule, check.sight)) (first_broken checks)))
+    → IsLeast (IsOneOf (check ∷ checks) at) (breach_of at (cond broken (Some (check.rule, check.sight)) (first_broken checks)))
 by_first check checks at before rest true is = (
   inl (is, refl),
   λ b shown. elim shown [
@@ -61,9 +61,9 @@ by_first check checks at before rest true is = (
 by_first check checks at before rest false is =
     least_same (IsOneOf checks at) (IsOneOf (check ∷ checks) at) (λ b shown. inr shown)
     (λ b shown. elim shown [ inl h ↦ absurd (true≢false (sym h.0 ∙ is)) | inr h ↦ h ])
-    (told at (first_broken checks)) rest
+    (breach_of at (first_broken checks)) rest
 
-pub first_least : (checks : List Check) (at : At) → Ascend checks → IsLeast (IsOneOf checks at) (told at (first_broken checks))
+pub first_least : (checks : List Check) (at : At) → Ascend checks → IsLeast (IsOneOf checks at) (breach_of at (first_broken checks))
 first_least [] at ascend = λ b shown. shown
 first_least (check ∷ checks) at ascend = by_first check checks at ascend.0 (first_least checks at ascend.1) check.broken refl
 

@@ -106,6 +106,6 @@ first_broken [] = None
 first_broken (check ∷ checks) = if check.broken then Some (check.rule, check.sight) else first_broken checks
 
 -- a broken rule as a breach
-abbrev pub told : At → Option (Rule × SightId) → Option Breach
-told at None = None
-told at (Some found) = Some (breach_at at found.0 found.1)
+abbrev pub breach_of : At → Option (Rule × SightId) → Option Breach
+breach_of at None = None
+breach_of at (Some found) = Some (breach_at at found.0 found.1)

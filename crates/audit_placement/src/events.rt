@@ -4,7 +4,7 @@ ghost use Rattle.std.specs.Prelude.{◌≡◌, ◌++◌, ◌∷◌, [], All, Lis
 ghost use Rattle.audit_model.specs.Least.{IsLeast};
 ghost use Rattle.audit_sightings.specs.Intake.{NamesWhatIsThere, taken};
 ghost use Rattle.audit_placement.specs.declared.entry.Entry.{Entry};
-ghost use Rattle.audit_placement.specs.Checks.{first_broken, event_checks, told};
+ghost use Rattle.audit_placement.specs.Checks.{first_broken, event_checks, breach_of};
 ghost use Rattle.audit_placement.specs.Entries.{lane_entries, drop_entries, at_of};
 ghost use Rattle.audit_placement.specs.FirstPlace.{Notes};
 ghost use Rattle.audit_placement.specs.Shows.{ShowsAt, ShowsFrom};
@@ -18,7 +18,7 @@ use std::alloc::AllocError;
 
 /// The breach that an entry shows. `placed` is whether an earlier entry places the same sighting.
 fn breach_of(intake: &Intake, entry: &Entry, placed: bool) -> Option<Breach>
-    ensures exact { result ≡ told entry.now.at (first_broken (event_checks (taken intake.now) placed entry.now.pair entry.now.last entry.now.event)) }
+    ensures exact { result ≡ breach_of entry.now.at (first_broken (event_checks (taken intake.now) placed entry.now.pair entry.now.last entry.now.event)) }
     ensures named { IfNone result (NamesWhatIsThere (taken intake.now) entry.now.event) }
 {
     let end = LaneEnd {

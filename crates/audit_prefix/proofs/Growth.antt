@@ -107,7 +107,7 @@ module _ (w v : Rules) (g : GoOn w v) where
     table = put same_client st.table c (applied ch (st.table c));
     waiting = (after w st (record { moment = moment; move = Act c s t })).waiting;
     owed = (after w st (record { moment = moment; move = Act c s t })).owed;
-    given = (after w st (record { moment = moment; move = Act c s t })).given;
+    sent = (after w st (record { moment = moment; move = Act c s t })).sent;
     now = moment;
   }) (g.change c s t moment (st.table c) m.2)
   after_by st moment (Out t) m = refl

@@ -57,7 +57,7 @@ pub record Finds (home : SightId → ℕ) (lane : ℕ) (pair : Option Pair) (st 
   pub table : (c : Pair) → pair ≡ Some c → st.table c ≡ own.table c
   pub waiting : (s : SightId) → home s ≡ lane → st.waiting s ≡ own.waiting s
   pub owed : (t : SightId) → st.owed lane t ≡ own.owed t
-  pub given : (t : SightId) → st.given lane t ≡ own.given t
+  pub sent : (t : SightId) → st.sent lane t ≡ own.sent t
 
 module _ (w : Rules) (home : SightId → ℕ) (lane : ℕ) (pair : Option Pair) where
   own_step : (st : Shared) (own : State) (moment : ℕ) (move : Move) → Finds home lane pair st own → TakesAtHome home lane move → ActsOn pair move →
@@ -66,19 +66,19 @@ module _ (w : Rules) (home : SightId → ℕ) (lane : ℕ) (pair : Option Pair) 
     table = f.table;
     waiting = λ q h. ap (λ y. cond (same_sight q s) (Some moment) y) (f.waiting q h);
     owed = λ q. ap (λ (g : SightId → Option ℕ). g q) (put_own st.owed lane (st.owed lane) lane refl) ∙ f.owed q;
-    given = λ q. ap (λ (g : SightId → Bool). g q) (put_own st.given lane (st.given lane) lane refl) ∙ f.given q;
+    sent = λ q. ap (λ (g : SightId → Bool). g q) (put_own st.sent lane (st.sent lane) lane refl) ∙ f.sent q;
   }
   own_step st own moment (Act d s t) f n p = record {
     table = λ c h. ap (λ y. cond (same_client c d) (acted w moment (Act d s t) y) (st.table c)) (f.table d (p d s t refl)) ∙ ap (λ y. cond (same_client c d) (acted w moment (Act d s t) (own.table d)) y) (f.table c h);
     waiting = λ q h. ap (λ y. cond (same_sight q s) None y) (f.waiting q h);
     owed = λ q. ap (λ (g : SightId → Option ℕ). g q) (put_own st.owed lane (put same_sight (st.owed lane) t (st.waiting s)) lane refl) ∙ ap (λ y. cond (same_sight q t) y (st.owed lane q)) (f.waiting s n) ∙ ap (λ y. cond (same_sight q t) (own.waiting s) y) (f.owed q);
-    given = λ q. ap (λ (g : SightId → Bool). g q) (put_own st.given lane (put same_sight (st.given lane) t true) lane refl) ∙ ap (λ y. cond (same_sight q t) true y) (f.given q);
+    sent = λ q. ap (λ (g : SightId → Bool). g q) (put_own st.sent lane (put same_sight (st.sent lane) t true) lane refl) ∙ ap (λ y. cond (same_sight q t) true y) (f.sent q);
   }
   own_step st own moment (Out t) f n p = record {
     table = f.table;
     waiting = f.waiting;
     owed = λ q. ap (λ (g : SightId → Option ℕ). g q) (put_own st.owed lane (put same_sight (st.owed lane) t None) lane refl) ∙ ap (λ y. cond (same_sight q t) None y) (f.owed q);
-    given = λ q. ap (λ (g : SightId → Bool). g q) (put_own st.given lane (st.given lane) lane refl) ∙ f.given q;
+    sent = λ q. ap (λ (g : SightId → Bool). g q) (put_own st.sent lane (st.sent lane) lane refl) ∙ f.sent q;
   }
 
   away : (other : ℕ) (s q : SightId) → other ≢ lane → home s ≡ other → home q ≡ lane → q ≢ s
@@ -91,26 +91,26 @@ module _ (w : Rules) (home : SightId → ℕ) (lane : ℕ) (pair : Option Pair) 
     table = f.table;
     waiting = λ q h. put_sight st.waiting s (Some moment) q (away other s q ne n h) ∙ f.waiting q h;
     owed = λ q. ap (λ (g : SightId → Option ℕ). g q) (put_lane st.owed other (st.owed other) lane (λ e. ne (sym e))) ∙ f.owed q;
-    given = λ q. ap (λ (g : SightId → Bool). g q) (put_lane st.given other (st.given other) lane (λ e. ne (sym e))) ∙ f.given q;
+    sent = λ q. ap (λ (g : SightId → Bool). g q) (put_lane st.sent other (st.sent other) lane (λ e. ne (sym e))) ∙ f.sent q;
   }
   others_step st own other moment (Act d s t) f ne n p = record {
     table = λ c h. put_client st.table d (acted w moment (Act d s t) (st.table d)) c (λ e. p d s t refl (h ∙ ap Some e)) ∙ f.table c h;
     waiting = λ q h. put_sight st.waiting s None q (away other s q ne n h) ∙ f.waiting q h;
     owed = λ q. ap (λ (g : SightId → Option ℕ). g q) (put_lane st.owed other (put same_sight (st.owed other) t (st.waiting s)) lane (λ e. ne (sym e))) ∙ f.owed q;
-    given = λ q. ap (λ (g : SightId → Bool). g q) (put_lane st.given other (put same_sight (st.given other) t true) lane (λ e. ne (sym e))) ∙ f.given q;
+    sent = λ q. ap (λ (g : SightId → Bool). g q) (put_lane st.sent other (put same_sight (st.sent other) t true) lane (λ e. ne (sym e))) ∙ f.sent q;
   }
   others_step st own other moment (Out t) f ne n p = record {
     table = f.table;
     waiting = f.waiting;
     owed = λ q. ap (λ (g : SightId → Option ℕ). g q) (put_lane st.owed other (put same_sight (st.owed other) t None) lane (λ e. ne (sym e))) ∙ f.owed q;
-    given = λ q. ap (λ (g : SightId → Bool). g q) (put_lane st.given other (st.given other) lane (λ e. ne (sym e))) ∙ f.given q;
+    sent = λ q. ap (λ (g : SightId → Bool). g q) (put_lane st.sent other (st.sent other) lane (λ e. ne (sym e))) ∙ f.sent q;
   }
 
 abbrev pub TakeAtHome : (SightId → ℕ) → List Placed → Type 0
 TakeAtHome home steps = AllByRecursion (λ (e : Placed). TakesAtHome home e.at.lane e.move) steps
 
 pub finds_first : (home : SightId → ℕ) (lane : ℕ) (pair : Option Pair) → Finds home lane pair none_yet at_first
-finds_first home lane pair = record { table = λ _ _. refl; waiting = λ _ _. refl; owed = λ _. refl; given = λ _. refl }
+finds_first home lane pair = record { table = λ _ _. refl; waiting = λ _ _. refl; owed = λ _. refl; sent = λ _. refl }
 
 pub finds_all : (w : Rules) (home : SightId → ℕ) (pairs : ℕ → Option Pair) (lane : ℕ) → AreDistinct pairs →
     (steps : List Placed) (st : Shared) (own : State) → TakeAtHome home steps → AreOfPairs pairs steps → Finds home lane (pairs lane) st own →
@@ -177,7 +177,7 @@ may_from : (w : Rules) (home : SightId → ℕ) (lane : ℕ) (pair : Option Pair
 may_from w home lane pair st own moment (In s) f n p m = tt
 may_from w home lane pair st own moment (Act c s t) f n p m = (
   subst (λ (x : Option ℕ). InTime w x moment) (sym (f.waiting s n)) m.0,
-  f.given t ∙ m.1,
+  f.sent t ∙ m.1,
   subst (λ (x : Option Allocation). w.MayAnswer c s t moment x) (sym (f.table c (p c s t refl))) m.2,
 )
 may_from w home lane pair st own moment (Out t) f n p m = subst (λ (x : Option ℕ). InTime w x moment) (sym (f.owed t)) m

@@ -32,7 +32,7 @@ pub record Matches (w : Rules) (pair : Pair) (m : Memory) (placed : SightId → 
   pub others : (c : Pair) → c ≢ pair → st.table c ≡ None
   pub waiting : (s : SightId) → st.waiting s ≡ cond (m.taken s) None (m.came s)
   pub owed : (t : SightId) → st.owed t ≡ cond (owes t m.owing) (m.since t) None
-  pub given : (t : SightId) → st.given t ≡ is_some (m.since t)
+  pub sent : (t : SightId) → st.sent t ≡ is_some (m.since t)
   pub came_once : (s : SightId) → is_some (m.came s) ≡ true → 1 ≤ placed s
   pub left_once : (t : SightId) → is_some (m.since t) ≡ true → owes t m.owing ≡ false → 1 ≤ placed t
   pub taken_came : (s : SightId) → m.taken s ≡ true → is_some (m.came s) ≡ true
@@ -44,7 +44,7 @@ matches_first w pair = record {
   others = λ c ne. refl;
   waiting = λ s. refl;
   owed = λ t. refl;
-  given = λ t. refl;
+  sent = λ t. refl;
   came_once = λ s h. absurd (true≢false (sym h));
   left_once = λ t h k. absurd (true≢false (sym h));
   taken_came = λ s h. absurd (true≢false (sym h));
@@ -108,7 +108,7 @@ module _ (w : Rules) (pair : Pair) where
   goes_of m placed st moment (Act c s t) k o h =
       let waits : InTime w (cond (m.taken s) None (m.came s)) moment = subst (λ (x : Option ℕ). InTime w x moment) (k.waiting s) h.0 in
       let both = by_taken (m.taken s) refl waits in
-      (both.0, both.1, sym (k.given t) ∙ h.1, subst (λ (x : Option Allocation). w.MayAnswer c s t moment x) (ap (λ p. st.table p) (o c s t refl) ∙ k.table) h.2) where
+      (both.0, both.1, sym (k.sent t) ∙ h.1, subst (λ (x : Option Allocation). w.MayAnswer c s t moment x) (ap (λ p. st.table p) (o c s t refl) ∙ k.table) h.2) where
         by_taken : (b : Bool) → m.taken s ≡ b → InTime w (cond b None (m.came s)) moment → IsInTime w.hold (m.came s) moment × (m.taken s ≡ false)
         by_taken true q i = absurd i
         by_taken false q i = (in_time_to w (m.came s) moment i, q)
@@ -122,7 +122,7 @@ module _ (w : Rules) (pair : Pair) where
   may_of m placed st moment (In s) k o n h = tt
   may_of m placed st moment (Act c s t) k o n h = (
     subst (λ (x : Option ℕ). InTime w x moment) (sym (k.waiting s ∙ cond-false (m.taken s) None (m.came s) h.1)) (in_time_of w (m.came s) moment h.0),
-    k.given t ∙ h.2,
+    k.sent t ∙ h.2,
     subst (λ (x : Option Allocation). w.MayAnswer c s t moment x) (sym (ap (λ p. st.table p) (o c s t refl) ∙ k.table)) h.3,
   )
   may_of m placed st moment (Out t) k o n h = subst (λ (x : Option ℕ). InTime w x moment) (sym (k.owed t)) (by_owes (owes t m.owing) refl) where
@@ -141,7 +141,7 @@ module _ (w : Rules) (pair : Pair) where
         others = k.others;
         waiting = λ s. wait s untaken ∙ ap (λ (f : SightId → Option ℕ). cond (m.taken s) None (f s)) (sym came);
         owed = k.owed;
-        given = k.given;
+        sent = k.sent;
         came_once = λ s q. came_by s (subst (λ (f : SightId → Option ℕ). is_some (f s) ≡ true) came q);
         left_once = λ t q r. more_placed t placed (In x) (k.left_once t q r);
         taken_came = λ s q. subst (λ (f : SightId → Option ℕ). is_some (f s) ≡ true) (sym came) (taken_by s q);
@@ -171,7 +171,7 @@ module _ (w : Rules) (pair : Pair) where
     others = λ d ne. put_client st.table c (acted w e.at.key.moment (Act c x y) (st.table c)) d (λ i. ne (i ∙ o c x y refl)) ∙ k.others d ne;
     waiting = λ s. elim (same_sight s x) as (λ b. cond b None (st.waiting s) ≡ cond (cond b true (m.taken s)) None (m.came s)) [ true ↦ refl | false ↦ k.waiting s ];
     owed = λ t. owe t ∙ ap (λ b. cond b (put same_sight m.since y (m.came x) t) None) (sym (owes_push t m.owing (record { at = e.at; sight = x; gives = y })));
-    given = λ t. elim (same_sight t y) as (λ b. cond b true (st.given t) ≡ is_some (cond b (m.came x) (m.since t))) [ true ↦ sym (in_time_some w.hold (m.came x) e.at.key.moment h.0) | false ↦ k.given t ];
+    sent = λ t. elim (same_sight t y) as (λ b. cond b true (st.sent t) ≡ is_some (cond b (m.came x) (m.since t))) [ true ↦ sym (in_time_some w.hold (m.came x) e.at.key.moment h.0) | false ↦ k.sent t ];
     came_once = λ s q. more_placed s placed (Act c x y) (k.came_once s q);
     left_once = λ t q r.
         let both = or_cases (owes t m.owing) (same_sight t y) (sym (owes_push t m.owing (record { at = e.at; sight = x; gives = y })) ∙ r) in
@@ -202,7 +202,7 @@ module _ (w : Rules) (pair : Pair) where
     others = k.others;
     waiting = k.waiting;
     owed = λ t. elim (same_sight t y) as (λ b. cond b None (st.owed t) ≡ cond (cond b false (owes t m.owing)) (m.since t) None) [ true ↦ refl | false ↦ k.owed t ] ∙ ap (λ b. cond b (m.since t) None) (sym (owes_filter t y m.owing));
-    given = k.given;
+    sent = k.sent;
     came_once = λ s q. more_placed s placed (Out y) (k.came_once s q);
     left_once = λ t q r. elim (same_sight t y) as (λ b. same_sight t y ≡ b → cond b false (owes t m.owing) ≡ false → 1 ≤ counted placed (Out y) t) [
       | true ↦ λ i z. here_placed t placed (Out y) (sight_same y t (sym (sight_true t y i)))

@@ -13,15 +13,15 @@ pub record Shared : Type 0 where
   pub table : Pair → Option Allocation
   pub waiting : SightId → Option ℕ
   pub owed : ℕ → SightId → Option ℕ
-  pub given : ℕ → SightId → Bool
+  pub sent : ℕ → SightId → Bool
   pub now : ℕ
 
 abbrev pub none_yet : Shared
-none_yet = record { table = λ _. None; waiting = λ _. None; owed = λ _ _. None; given = λ _ _. false; now = 0 }
+none_yet = record { table = λ _. None; waiting = λ _. None; owed = λ _ _. None; sent = λ _ _. false; now = 0 }
 
 -- the server as a lane finds it
 abbrev pub found_by : ℕ → Shared → State
-found_by lane st = record { table = st.table; waiting = st.waiting; owed = st.owed lane; given = st.given lane; now = st.now }
+found_by lane st = record { table = st.table; waiting = st.waiting; owed = st.owed lane; sent = st.sent lane; now = st.now }
 
 abbrev pub same_lane : ℕ → ℕ → Bool
 same_lane one other = one == other
@@ -32,7 +32,7 @@ with_lane st lane own = record {
   table = own.table;
   waiting = own.waiting;
   owed = put same_lane st.owed lane own.owed;
-  given = put same_lane st.given lane own.given;
+  sent = put same_lane st.sent lane own.sent;
   now = own.now;
 }
 

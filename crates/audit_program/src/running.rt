@@ -14,7 +14,7 @@ use crate::live::run_live;
 use crate::pages::release;
 use crate::writing::{put_line, put_text};
 use audit_cert::write_parallel;
-use audit_files::{Source, Stop, Workers, check_files, read_files, tell};
+use audit_files::{Source, Stop, Workers, check_files, read_files, write_verdict};
 use audit_finding::CertificateFinder;
 use audit_model::Sink;
 use std::alloc::{AllocError, Global};
@@ -50,7 +50,7 @@ pub fn audit_captures<R: Threads + Wait + Sync, F: CertificateFinder, S: Source,
 {
     let files = read_files(rt, alloc, source, policy, users, captures, workers)?;
     let found = found_either_way(rt, alloc, finder, &files, workers)?;
-    let status = tell(alloc, &found.verdict, &files.intake, out)?;
+    let status = write_verdict(alloc, &found.verdict, &files.intake, out)?;
     // The program ends: to free each payload by itself would take a tenth of its time.
     std::mem::forget(files);
     Ok(status)

@@ -179,7 +179,7 @@ impl<'a> Climb<'a> {
             self.settling.settle(&round)?;
         }
         self.is_first = false;
-        let is_more = self.settling.ask(&round)?;
+        let is_more = self.settling.add_constraints(&round)?;
         let best = BestRound::of(round, self.reading)?.or_older(self.best.take());
         self.go_on(&best, is_more)?;
         self.best = Some(best);
@@ -203,7 +203,7 @@ impl<'a> Climb<'a> {
     fn turn_on(&mut self, best: &Round) -> Result<(), AllocError> {
         for turn in self.turn.saturating_add(1)..=TURNS {
             self.turn = turn;
-            let is_new = self.settling.tell_clocks(best)?;
+            let is_new = self.settling.shift_clocks(best)?;
             let is_early = turn == TURNS;
             self.settling.set_early(is_early);
             if is_new || is_early {

@@ -47,7 +47,7 @@ impl Constraints {
     }
 
     /// Adds a constraint.
-    pub fn ask(&mut self, constraint: Constraint) -> Result<(), AllocError> {
+    pub fn add(&mut self, constraint: Constraint) -> Result<(), AllocError> {
         self.all.insert(constraint)?;
         Ok(())
     }

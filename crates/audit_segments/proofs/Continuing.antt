@@ -38,7 +38,7 @@ module _ (w : Rules) (ignore_past_grace : IgnorePastGrace w) (cut : Cut) where
   may_too a b moment k le (In s) n h = tt
   may_too a b moment k le (Act c s t) n h = (
     subst (λ (x : Option ℕ). InTime w x moment) (in_time a.now moment le (a.waiting s) (b.waiting s) (k.waiting s n.0) h.0) h.0,
-    sym (k.given t n.1 n.2) ∙ h.1,
+    sym (k.sent t n.1 n.2) ∙ h.1,
     ignore_past_grace.may c s t moment (a.table c) (b.table c) (entry_later w.grace a.now moment le (a.table c) (b.table c) (k.table c)) h.2,
   )
   may_too a b moment k le (Out t) n h = subst (λ (x : Option ℕ). InTime w x moment) (k.owed t n) h
@@ -76,7 +76,7 @@ module _ (w : Rules) (ignore_past_grace : IgnorePastGrace w) (cut : Cut) where
       | false ↦ times_later w.hold a.now moment le (a.waiting q) (b.waiting q) (k.waiting q i)
     ];
     owed = k.owed;
-    given = k.given;
+    sent = k.sent;
   }
   after_too a b moment k le (Act c s t) n h =
       let x : Option Allocation = a.table c in
@@ -96,14 +96,14 @@ module _ (w : Rules) (ignore_past_grace : IgnorePastGrace w) (cut : Cut) where
           | false ↦ times_later w.hold a.now moment le (a.waiting q) (b.waiting q) (k.waiting q i)
         ];
         owed = λ q i. ap (λ y. cond (same_sight q t) y (a.owed q)) came ∙ ap (λ y. cond (same_sight q t) (b.waiting s) y) (k.owed q i);
-        given = λ q i p. ap (λ y. cond (same_sight q t) true y) (k.given q i p);
+        sent = λ q i p. ap (λ y. cond (same_sight q t) true y) (k.sent q i p);
       }
   after_too a b moment k le (Out t) n h = record {
     now = refl;
     table = λ c. entry_later w.grace a.now moment le (a.table c) (b.table c) (k.table c);
     waiting = λ q i. times_later w.hold a.now moment le (a.waiting q) (b.waiting q) (k.waiting q i);
     owed = λ q i. ap (λ y. cond (same_sight q t) None y) (k.owed q i);
-    given = k.given;
+    sent = k.sent;
   }
 
   -- a run from one is a run from the other, and leads to a state that is alike

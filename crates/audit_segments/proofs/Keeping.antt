@@ -16,7 +16,7 @@ use Rattle.audit_server.specs.Captured.{rules_of}
 use Rattle.audit_server.specs.Placing.{places, times_placed}
 use Rattle.audit_server.specs.Rules.{Rules}
 use Rattle.audit_server.specs.Run.{InTime, MayMove, RunFrom}
-use Rattle.audit_server.specs.State.{State, after, given_after, owed_after}
+use Rattle.audit_server.specs.State.{State, after, sent_after, owed_after}
 use Rattle.audit_server.specs.Step.{Step, Move, In, Act, Out}
 use Rattle.audit_server.proofs.Placing.{one_if}
 use Rattle.audit_server.proofs.Sorting.{count_cons}
@@ -71,7 +71,7 @@ kept_alike hold grace placed excluded st sent_owed = record {
   table = λ c. entry_alike grace st.now (st.table c);
   waiting = λ s h. time_alike hold st.now (st.waiting s);
   owed = λ t h. refl;
-  given = λ t h p. sent_owed t p;
+  sent = λ t h p. sent_owed t p;
 }
 
 -- ---- a departure that is not placed was sent exactly if it is owed
@@ -80,13 +80,13 @@ in_time_some : (w : Rules) (o : Option ℕ) (moment : ℕ) → InTime w o moment
 in_time_some w None moment h = absurd h
 in_time_some w (Some n) moment h = refl
 
-sent_owed_move : (w : Rules) (t : SightId) (st : State) (moment : ℕ) (m : Move) → MayMove w st moment m → m ≢ Out t → st.given t ≡ is_some (st.owed t) → given_after st m t ≡ is_some (owed_after st moment m t)
+sent_owed_move : (w : Rules) (t : SightId) (st : State) (moment : ℕ) (m : Move) → MayMove w st moment m → m ≢ Out t → st.sent t ≡ is_some (st.owed t) → sent_after st m t ≡ is_some (owed_after st moment m t)
 sent_owed_move w t st moment (In s) h n k = k
-sent_owed_move w t st moment (Act c s u) h n k = elim (same_sight t u) as (λ b. cond b true (st.given t) ≡ is_some (cond b (st.waiting s) (st.owed t))) [
+sent_owed_move w t st moment (Act c s u) h n k = elim (same_sight t u) as (λ b. cond b true (st.sent t) ≡ is_some (cond b (st.waiting s) (st.owed t))) [
   | true ↦ sym (in_time_some w (st.waiting s) moment h.0)
   | false ↦ k
 ]
-sent_owed_move w t st moment (Out u) h n k = elim (same_sight t u) as (λ b. same_sight t u ≡ b → st.given t ≡ is_some (cond b None (st.owed t))) [
+sent_owed_move w t st moment (Out u) h n k = elim (same_sight t u) as (λ b. same_sight t u ≡ b → st.sent t ≡ is_some (cond b None (st.owed t))) [
   | true ↦ λ q. absurd (n (ap Out (sym (sight_true t u q))))
   | false ↦ λ q. k
 ] refl
@@ -96,7 +96,7 @@ not_out t e es z h =
     let one = one_if (places t e.move) (ap (places t) h ∙ sight_same t t refl) in
     absurd (omega (arith, z, one, count_cons (λ (d : Step). places t d.move) e es))
 
-pub sent_owed_run : (w : Rules) (t : SightId) (es : List Step) (st : State) → RunFrom w st es → times_placed t es ≡ 0 → st.given t ≡ is_some (st.owed t) → (fold (after w) st es).given t ≡ is_some ((fold (after w) st es).owed t)
+pub sent_owed_run : (w : Rules) (t : SightId) (es : List Step) (st : State) → RunFrom w st es → times_placed t es ≡ 0 → st.sent t ≡ is_some (st.owed t) → (fold (after w) st es).sent t ≡ is_some ((fold (after w) st es).owed t)
 sent_owed_run w t [] st r z k = k
 sent_owed_run w t (e ∷ es) st r z k =
     sent_owed_run w t es (after w st e) r.1 (omega (arith, z, count_cons (λ (d : Step). places t d.move) e es)) (sent_owed_move w t st e.moment e.move r.0.may (not_out t e es z) k)

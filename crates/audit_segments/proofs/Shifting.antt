@@ -107,7 +107,7 @@ module _ (base : ℕ → ℕ) where
       table = st.table;
       waiting = λ q. put_shifted None st.waiting s (Some moment) q i;
       owed = from_base base None st.owed;
-      given = from_base base false st.given;
+      sent = from_base base false st.sent;
       now = moment;
     }
     after_shifted st moment (Act c s t) =
@@ -117,14 +117,14 @@ module _ (base : ℕ → ℕ) where
           table = put same_client st.table c (applied (ch i) (st.table c));
           waiting = λ q. put_shifted None st.waiting s None q i;
           owed = λ q. (ap (λ x. put same_sight (from_base base None st.owed) (shifted base t) x q) came ∙ put_shifted None st.owed t (st.waiting s) q) i;
-          given = λ q. put_shifted false st.given t true q i;
+          sent = λ q. put_shifted false st.sent t true q i;
           now = moment;
         }
     after_shifted st moment (Out t) = λ i. record {
       table = st.table;
       waiting = from_base base None st.waiting;
       owed = λ q. put_shifted None st.owed t None q i;
-      given = from_base base false st.given;
+      sent = from_base base false st.sent;
       now = moment;
     }
 
@@ -132,7 +132,7 @@ module _ (base : ℕ → ℕ) where
     may_too st moment (In s) h = tt
     may_too st moment (Act c s t) h = (
       subst (λ (o : Option ℕ). InTime V o moment) (sym (at_shifted None st.waiting s)) h.0,
-      at_shifted false st.given t ∙ h.1,
+      at_shifted false st.sent t ∙ h.1,
       may_shifted c s t moment (st.table c) h.2,
     )
     may_too st moment (Out t) h = subst (λ (o : Option ℕ). InTime V o moment) (sym (at_shifted None st.owed t)) h
@@ -277,9 +277,9 @@ module _ (base : ℕ → ℕ) where
         owed = by_cases (λ s. (shifted_cut base earlier cut).excluded s ≡ false → (shifted_state base a).owed s ≡ (shifted_state base b).owed s)
             (λ s h e. at_below None a.owed s h ∙ sym (at_below None b.owed s h))
             (λ s e. at_shifted None a.owed s ∙ k.owed s (sym (excluded_shifted cut s) ∙ e) ∙ sym (at_shifted None b.owed s));
-        given = by_cases (λ s. (shifted_cut base earlier cut).excluded s ≡ false → is_placed (shifted_cut base earlier cut).placed s ≡ false → (shifted_state base a).given s ≡ (shifted_state base b).given s)
-            (λ s h e p. at_below false a.given s h ∙ sym (at_below false b.given s h))
-            (λ s e p. at_shifted false a.given s ∙ k.given s (sym (excluded_shifted cut s) ∙ e) (sym (is_placed_shifted cut s) ∙ p) ∙ sym (at_shifted false b.given s));
+        sent = by_cases (λ s. (shifted_cut base earlier cut).excluded s ≡ false → is_placed (shifted_cut base earlier cut).placed s ≡ false → (shifted_state base a).sent s ≡ (shifted_state base b).sent s)
+            (λ s h e p. at_below false a.sent s h ∙ sym (at_below false b.sent s h))
+            (λ s e p. at_shifted false a.sent s ∙ k.sent s (sym (excluded_shifted cut s) ∙ e) (sym (is_placed_shifted cut s) ∙ p) ∙ sym (at_shifted false b.sent s));
       }
 
       some_shifted : (s : SightId) → is_some (shifted_view base view (shifted base s)) ≡ is_some (view s)

@@ -40,7 +40,7 @@ excluded_fewer few more f s h = not_true (few s) (λ e. true≢false (sym (f s e
 
 module _ (hold grace : ℕ) (placed : ℕ → ℕ) (excluded : SightId → Bool) where
   pub alike_refl : (a : State) → AreAlike hold grace placed excluded a a
-  alike_refl a = record { now = refl; table = λ c. entry_refl grace a.now (a.table c); waiting = λ s h. inl refl; owed = λ t h. refl; given = λ t h p. refl }
+  alike_refl a = record { now = refl; table = λ c. entry_refl grace a.now (a.table c); waiting = λ s h. inl refl; owed = λ t h. refl; sent = λ t h p. refl }
 
   pub alike_sym : (a b : State) → AreAlike hold grace placed excluded a b → AreAlike hold grace placed excluded b a
   alike_sym a b k = record {
@@ -48,7 +48,7 @@ module _ (hold grace : ℕ) (placed : ℕ → ℕ) (excluded : SightId → Bool)
     table = λ c. subst (λ (n : ℕ). AreAlikeEntries grace n (b.table c) (a.table c)) k.now (entry_sym grace a.now (a.table c) (b.table c) (k.table c));
     waiting = λ s h. subst (λ (n : ℕ). AreAlikeTimes hold n (b.waiting s) (a.waiting s)) k.now (either_sym (IsTooOld hold a.now) (a.waiting s) (b.waiting s) (k.waiting s h));
     owed = λ t h. sym (k.owed t h);
-    given = λ t h p. sym (k.given t h p);
+    sent = λ t h p. sym (k.sent t h p);
   }
 
   pub alike_trans : (a b c : State) → AreAlike hold grace placed excluded a b → AreAlike hold grace placed excluded b c → AreAlike hold grace placed excluded a c
@@ -57,7 +57,7 @@ module _ (hold grace : ℕ) (placed : ℕ → ℕ) (excluded : SightId → Bool)
     table = λ d. entry_trans grace a.now (a.table d) (b.table d) (c.table d) (k.table d) (subst (λ (n : ℕ). AreAlikeEntries grace n (b.table d) (c.table d)) (sym k.now) (l.table d));
     waiting = λ s h. either_trans (IsTooOld hold a.now) (a.waiting s) (b.waiting s) (c.waiting s) (k.waiting s h) (subst (λ (n : ℕ). AreAlikeTimes hold n (b.waiting s) (c.waiting s)) (sym k.now) (l.waiting s h));
     owed = λ t h. k.owed t h ∙ l.owed t h;
-    given = λ t h p. k.given t h p ∙ l.given t h p;
+    sent = λ t h p. k.sent t h p ∙ l.sent t h p;
   }
 
 pub alike_more : (hold grace : ℕ) (few more : ℕ → ℕ) (fewer excluded : SightId → Bool) → ((iface : ℕ) → few iface ≤ more iface) → ((s : SightId) → fewer s ≡ true → excluded s ≡ true) →
@@ -67,5 +67,5 @@ alike_more hold grace few more fewer excluded le f a b k = record {
   table = k.table;
   waiting = λ s h. k.waiting s (excluded_fewer fewer excluded f s h);
   owed = λ t h. k.owed t (excluded_fewer fewer excluded f t h);
-  given = λ t h p. k.given t (excluded_fewer fewer excluded f t h) (unplaced_fewer few more le t p);
+  sent = λ t h p. k.sent t (excluded_fewer fewer excluded f t h) (unplaced_fewer few more le t p);
 }

@@ -62,7 +62,7 @@ module _ (policy : Policy) (key_for : KeyFor) (all view : View) (there : (s : Si
     table = put same_client st.table c (applied ch (st.table c));
     waiting = (after W st (record { moment = moment; move = Act c s t })).waiting;
     owed = (after W st (record { moment = moment; move = Act c s t })).owed;
-    given = (after W st (record { moment = moment; move = Act c s t })).given;
+    sent = (after W st (record { moment = moment; move = Act c s t })).sent;
     now = moment;
   }) (both c moment (st.table c) s t h.2).1
   after_still st moment (Out t) h = refl

@@ -27,4 +27,4 @@ pub record AreAlike (hold grace : ℕ) (placed : ℕ → ℕ) (excluded : SightI
   pub table : (c : Pair) → AreAlikeEntries grace one.now (one.table c) (other.table c)
   pub waiting : (s : SightId) → excluded s ≡ false → AreAlikeTimes hold one.now (one.waiting s) (other.waiting s)
   pub owed : (t : SightId) → excluded t ≡ false → one.owed t ≡ other.owed t
-  pub given : (t : SightId) → excluded t ≡ false → is_placed placed t ≡ false → one.given t ≡ other.given t
+  pub sent : (t : SightId) → excluded t ≡ false → is_placed placed t ≡ false → one.sent t ≡ other.sent t

@@ -40,10 +40,10 @@ kept_state hold grace st = record {
   table = λ c. kept_allocation grace st.now (st.table c);
   waiting = λ s. kept_time hold st.now (st.waiting s);
   owed = st.owed;
-  given = λ t. is_some (st.owed t);
+  sent = λ t. is_some (st.owed t);
   now = st.now;
 }
 
 -- a departure that is not placed was sent exactly if it is owed
 abbrev pub SentAreOwed : (ℕ → ℕ) → State → Type 0
-SentAreOwed placed st = (t : SightId) → is_placed placed t ≡ false → st.given t ≡ is_some (st.owed t)
+SentAreOwed placed st = (t : SightId) → is_placed placed t ≡ false → st.sent t ≡ is_some (st.owed t)

@@ -41,7 +41,7 @@ module _ (base : ℕ → ℕ) where
   shifted_steps steps = map shifted_step steps
 
   abbrev pub shifted_state : State → State
-  shifted_state st = record { table = st.table; waiting = from_base None st.waiting; owed = from_base None st.owed; given = from_base false st.given; now = st.now }
+  shifted_state st = record { table = st.table; waiting = from_base None st.waiting; owed = from_base None st.owed; sent = from_base false st.sent; now = st.now }
 
   -- all sightings below the base are placed, and those of them that are excluded are the ones that
   -- were excluded earlier

@@ -34,7 +34,7 @@ pub may_to : (w : Rules) (home : SightId → ℕ) (lane : ℕ) (pair : Option Pa
 may_to w home lane pair st own moment (In s) a n p m = tt
 may_to w home lane pair st own moment (Act c s t) a n p m = (
   subst (λ (x : Option ℕ). InTime w x moment) (a.waiting s n.0) m.0,
-  sym (a.given t n.1) ∙ m.1,
+  sym (a.sent t n.1) ∙ m.1,
   subst (λ (x : Option Allocation). w.MayAnswer c s t moment x) (a.table c (p c s t refl)) m.2,
 )
 may_to w home lane pair st own moment (Out t) a n p m = subst (λ (x : Option ℕ). InTime w x moment) (a.owed t n) m
@@ -44,11 +44,11 @@ back home lane pair st own a = record {
   table = λ c h. sym (a.table c h);
   waiting = λ s h. sym (a.waiting s h);
   owed = λ s h. sym (a.owed s h);
-  given = λ s h. sym (a.given s h);
+  sent = λ s h. sym (a.sent s h);
 }
 
 pub agree_first : (home : SightId → ℕ) (lane : ℕ) (pair : Option Pair) → Agree home lane pair at_first at_first
-agree_first home lane pair = record { table = λ _ _. refl; waiting = λ _ _. refl; owed = λ _ _. refl; given = λ _ _. refl }
+agree_first home lane pair = record { table = λ _ _. refl; waiting = λ _ _. refl; owed = λ _ _. refl; sent = λ _ _. refl }
 
 -- ---- a table has allocations only at pairs of lanes
 

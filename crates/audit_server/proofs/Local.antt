@@ -23,7 +23,7 @@ pub record Agree (home : SightId → ℕ) (lane : ℕ) (pair : Option Pair) (st 
   pub table : (c : Pair) → pair ≡ Some c → st.table c ≡ own.table c
   pub waiting : (s : SightId) → home s ≡ lane → st.waiting s ≡ own.waiting s
   pub owed : (t : SightId) → home t ≡ lane → st.owed t ≡ own.owed t
-  pub given : (t : SightId) → home t ≡ lane → st.given t ≡ own.given t
+  pub sent : (t : SightId) → home t ≡ lane → st.sent t ≡ own.sent t
 
 -- an act is of this pair
 abbrev pub ActsOn : Option Pair → Move → Type 0
@@ -36,19 +36,19 @@ module _ (w : Rules) (home : SightId → ℕ) (lane : ℕ) (pair : Option Pair) 
     table = a.table;
     waiting = λ q h. ap (λ y. cond (same_sight q s) (Some moment) y) (a.waiting q h);
     owed = a.owed;
-    given = a.given;
+    sent = a.sent;
   }
   same_step st own moment (Act d s t) a n p = record {
     table = λ c h. ap (λ y. cond (same_client c d) (acted w moment (Act d s t) y) (st.table c)) (a.table d (p d s t refl)) ∙ ap (λ y. cond (same_client c d) (acted w moment (Act d s t) (own.table d)) y) (a.table c h);
     waiting = λ q h. ap (λ y. cond (same_sight q s) None y) (a.waiting q h);
     owed = λ q h. ap (λ y. cond (same_sight q t) y (st.owed q)) (a.waiting s n.0) ∙ ap (λ y. cond (same_sight q t) (own.waiting s) y) (a.owed q h);
-    given = λ q h. ap (λ y. cond (same_sight q t) true y) (a.given q h);
+    sent = λ q h. ap (λ y. cond (same_sight q t) true y) (a.sent q h);
   }
   same_step st own moment (Out t) a n p = record {
     table = a.table;
     waiting = a.waiting;
     owed = λ q h. ap (λ y. cond (same_sight q t) None y) (a.owed q h);
-    given = a.given;
+    sent = a.sent;
   }
 
   apart : (other : ℕ) (s q : SightId) → other ≢ lane → home s ≡ other → home q ≡ lane → q ≢ s
@@ -61,19 +61,19 @@ module _ (w : Rules) (home : SightId → ℕ) (lane : ℕ) (pair : Option Pair) 
     table = a.table;
     waiting = λ q h. put_sight st.waiting s (Some moment) q (apart other s q ne n h) ∙ a.waiting q h;
     owed = a.owed;
-    given = a.given;
+    sent = a.sent;
   }
   other_step st own other moment (Act d s t) a ne n p = record {
     table = λ c h. put_client st.table d (acted w moment (Act d s t) (st.table d)) c (λ e. p d s t refl (h ∙ ap Some e)) ∙ a.table c h;
     waiting = λ q h. put_sight st.waiting s None q (apart other s q ne n.0 h) ∙ a.waiting q h;
     owed = λ q h. put_sight st.owed t (st.waiting s) q (apart other t q ne n.1 h) ∙ a.owed q h;
-    given = λ q h. put_sight st.given t true q (apart other t q ne n.1 h) ∙ a.given q h;
+    sent = λ q h. put_sight st.sent t true q (apart other t q ne n.1 h) ∙ a.sent q h;
   }
   other_step st own other moment (Out t) a ne n p = record {
     table = a.table;
     waiting = a.waiting;
     owed = λ q h. put_sight st.owed t None q (apart other t q ne n h) ∙ a.owed q h;
-    given = a.given;
+    sent = a.sent;
   }
 
 pub act_pair : (pairs : ℕ → Option Pair) (lane : ℕ) (move : Move) → IsOfPair pairs lane move → ActsOn (pairs lane) move

@@ -13,7 +13,7 @@ use Rattle.audit_server.specs.Holding.{AnyOf}
 use Rattle.audit_server.specs.Placing.{places, times_placed}
 use Rattle.audit_server.specs.Rules.{Rules}
 use Rattle.audit_server.specs.Run.{InTime, Allowed, RunFrom, IsRun}
-use Rattle.audit_server.specs.State.{State, at_first, after, waiting_after, owed_after, given_after}
+use Rattle.audit_server.specs.State.{State, at_first, after, waiting_after, owed_after, sent_after}
 use Rattle.audit_server.specs.Step.{Step, Move, In, Act, Out}
 use Rattle.audit_server.proofs.Orders.{all_right}
 use Rattle.audit_server.proofs.Sorting.{count_cons}
@@ -124,17 +124,17 @@ taken_not w s (e ∷ es) st r n a = (
   taken_not w s es (after w st e) r.1 (elim (came_move s st e.moment e.move n) [ inl k ↦ absurd (a.0 k) | inr k ↦ k ]) a.1,
 )
 
-given_stays : (t : SightId) (st : State) (move : Move) → st.given t ≡ true → given_after st move t ≡ true
-given_stays t st (In x) h = h
-given_stays t st (Act c x y) h = elim (same_sight t y) as (λ b. cond b true (st.given t) ≡ true) [ true ↦ refl | false ↦ h ]
-given_stays t st (Out y) h = h
+sent_stays : (t : SightId) (st : State) (move : Move) → st.sent t ≡ true → sent_after st move t ≡ true
+sent_stays t st (In x) h = h
+sent_stays t st (Act c x y) h = elim (same_sight t y) as (λ b. cond b true (st.sent t) ≡ true) [ true ↦ refl | false ↦ h ]
+sent_stays t st (Out y) h = h
 
 -- what was given isn't given again
-given_not : (w : Rules) (t : SightId) (es : List Step) (st : State) → RunFrom w st es → st.given t ≡ true → AllByRecursion (λ (e : Step). (c : Pair) (s : SightId) → e.move ≢ Act c s t) es
+given_not : (w : Rules) (t : SightId) (es : List Step) (st : State) → RunFrom w st es → st.sent t ≡ true → AllByRecursion (λ (e : Step). (c : Pair) (s : SightId) → e.move ≢ Act c s t) es
 given_not w t [] st r g = tt
 given_not w t (e ∷ es) st r g = (
-  λ c s is. let f : st.given t ≡ false = (rw is at r.0.may).1 in let k : true ≡ false = sym g ∙ f in cc,
-  given_not w t es (after w st e) r.1 (given_stays t st e.move g),
+  λ c s is. let f : st.sent t ≡ false = (rw is at r.0.may).1 in let k : true ≡ false = sym g ∙ f in cc,
+  given_not w t es (after w st e) r.1 (sent_stays t st e.move g),
 )
 
 -- ---- one act alone names a sighting
@@ -162,8 +162,8 @@ taken_waits st moment c u v m is = subst (λ (k : Move). waiting_after st moment
 pub given_owes : (w : Rules) (st : State) (e : Step) (c : Pair) (u v : SightId) → Allowed w st e → e.move ≡ Act c u v → owed_after st e.moment e.move v ≢ None
 given_owes w st e c u v a is = subst (λ (k : Move). owed_after st e.moment k v ≢ None) (sym is) (λ h. not_none w (st.waiting u) e.moment ((rw is at a.may).0) (sym (cond-true (same_sight v v) (st.waiting u) (st.owed v) (sight_same v v refl)) ∙ h))
 
-given_given : (st : State) (c : Pair) (u v : SightId) (m : Move) → m ≡ Act c u v → given_after st m v ≡ true
-given_given st c u v m is = subst (λ (k : Move). given_after st k v ≡ true) (sym is) (cond-true (same_sight v v) true (st.given v) (sight_same v v refl))
+sent_sent : (st : State) (c : Pair) (u v : SightId) (m : Move) → m ≡ Act c u v → sent_after st m v ≡ true
+sent_sent st c u v m is = subst (λ (k : Move). sent_after st k v ≡ true) (sym is) (cond-true (same_sight v v) true (st.sent v) (sight_same v v refl))
 
 module _ (w : Rules) (p1 : List Step) (d : Step) (p2 : List Step) (a : Step) (q : List Step)
     (run : RunFrom w at_first (p1 ++ d ∷ (p2 ++ a ∷ q))) (none : (t : SightId) → (fold (after w) at_first (p1 ++ d ∷ (p2 ++ a ∷ q))).owed t ≡ None)
@@ -239,7 +239,7 @@ module _ (w : Rules) (p1 : List Step) (d : Step) (p2 : List Step) (a : Step) (q 
   t_not_v : t ≢ v
   t_not_v e =
       (all_right (λ (x : Step). (d : Pair) (y : SightId) → x.move ≢ Act d y v) p2 (a ∷ q)
-      (given_not w v (p2 ++ a ∷ q) (after w (fold (after w) at_first p1) d) from_d.1 (given_given (fold (after w) at_first p1) b u v d.move d_is))).0 c s (a_is ∙ ap (Act c s) e)
+      (given_not w v (p2 ++ a ∷ q) (after w (fold (after w) at_first p1) d) from_d.1 (sent_sent (fold (after w) at_first p1) b u v d.move d_is))).0 c s (a_is ∙ ap (Act c s) e)
 
 -- each act that names a sighting is the first that does
 pub named : (w : Rules) (p : List Step) (a : Step) (q : List Step) → IsRun w (p ++ a ∷ q) → ((s : SightId) → times_placed s (p ++ a ∷ q) ≤ 1) → (c : Pair) (s t x : SightId) → a.move ≡ Act c s t → (x ≡ s) ⊎ (x ≡ t) → acting x (p ++ a ∷ q) ≡ Some (c)

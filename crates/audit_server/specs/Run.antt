@@ -20,7 +20,7 @@ InTime w (Some came) moment = moment ≤ later came w.hold
 -- before, and an act that the rules allow
 abbrev pub MayMove : Rules → State → ℕ → Move → Type 0
 MayMove w st moment (In s) = Unit {0}
-MayMove w st moment (Act c s t) = InTime w (st.waiting s) moment × (st.given t ≡ false) × w.MayAnswer c s t moment (st.table c)
+MayMove w st moment (Act c s t) = InTime w (st.waiting s) moment × (st.sent t ≡ false) × w.MayAnswer c s t moment (st.table c)
 MayMove w st moment (Out t) = InTime w (st.owed t) moment
 
 -- an allocation with this relayed address is usable at the moment

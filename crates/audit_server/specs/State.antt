@@ -19,12 +19,12 @@ pub record State : Type 0 where
   pub table : Pair → Option Allocation
   pub waiting : SightId → Option ℕ
   pub owed : SightId → Option ℕ
-  pub given : SightId → Bool
+  pub sent : SightId → Bool
   pub now : ℕ
 
 -- nobody has anything
 abbrev pub at_first : State
-at_first = record { table = λ _. None; waiting = λ _. None; owed = λ _. None; given = λ _. false; now = 0 }
+at_first = record { table = λ _. None; waiting = λ _. None; owed = λ _. None; sent = λ _. false; now = 0 }
 
 -- a client's allocation after a move for the client
 abbrev pub acted : Rules → ℕ → Move → Option Allocation → Option Allocation
@@ -51,16 +51,16 @@ owed_after st moment (Act c s t) = put same_sight st.owed t (st.waiting s)
 owed_after st moment (Out t) = put same_sight st.owed t None
 
 -- and was sent from then on
-abbrev pub given_after : State → Move → SightId → Bool
-given_after st (In s) = st.given
-given_after st (Act c s t) = put same_sight st.given t true
-given_after st (Out t) = st.given
+abbrev pub sent_after : State → Move → SightId → Bool
+sent_after st (In s) = st.sent
+sent_after st (Act c s t) = put same_sight st.sent t true
+sent_after st (Out t) = st.sent
 
 abbrev pub after : Rules → State → Step → State
 after w st e = record {
   table = table_after w st e.moment e.move;
   waiting = waiting_after st e.moment e.move;
   owed = owed_after st e.moment e.move;
-  given = given_after st e.move;
+  sent = sent_after st e.move;
   now = e.moment;
 }

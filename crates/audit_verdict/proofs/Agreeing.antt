@@ -13,7 +13,7 @@ use Rattle.audit_rules.specs.Keys.{KeyFor, AgreeOn}
 use Rattle.audit_rules.specs.Named.{Names, NamesNobody}
 use Rattle.audit_lane.specs.Content.{User, numbered}
 use Rattle.audit_lane.specs.Judged.{key_by}
-use Rattle.audit_lane.specs.Told.{IsOfUser}
+use Rattle.audit_lane.specs.UserRows.{IsOfUser}
 use Rattle.audit_verdict.proofs.KeysTold.{AgreeInRequest}
 
 same_some : {X : Type 0} (x y : X) → Some x ≡ Some y → x ≡ y

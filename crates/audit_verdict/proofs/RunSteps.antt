@@ -11,7 +11,7 @@ use Rattle.audit_model.proofs.Sames.{sight_true, sight_same, sight_apart, sight_
 use Rattle.audit_lane.specs.declared.noted.Arrival.{Arrival}
 use Rattle.audit_lane.specs.declared.noted.Departure.{Departure}
 use Rattle.audit_lane.specs.declared.noted.Owed.{Owed}
-use Rattle.audit_lane.specs.After.{came_first, taken_up, given_for, owed_without, new_arrival}
+use Rattle.audit_lane.specs.After.{came_first, taken_up, departure_for, owed_without, new_arrival}
 use Rattle.audit_lane.specs.After.{after as after_it}
 use Rattle.audit_lane.specs.Content.{Happening, Came, Acted, Went}
 use Rattle.audit_lane.specs.Kept.{Terms, Kept, place_at}
@@ -50,7 +50,7 @@ module _ (terms : Terms) (pair : Pair) (place : ℕ) (kept : Kept) (tidy : IsTid
     open_arrival = record { moment = ready.came; user = ready.user; acted = false }
 
     gave_is : (q : SightId) → (after_it terms place kept (Acted a l key)).gave q ≡ cond (same_sight q l.id) (Some given_now) (kept.gave q)
-    gave_is q = ap (λ (m : Option Arrival). cond (same_sight q l.id) (given_for m place) (kept.gave q)) ready.is
+    gave_is q = ap (λ (m : Option Arrival). cond (same_sight q l.id) (departure_for m place) (kept.gave q)) ready.is
 
     -- what was owed at another act's place is still
     owed_kept : (q : SightId) → owes (after_it terms place kept (Acted a l key)).owed (kept.gave q) ≡ owes kept.owed (kept.gave q)

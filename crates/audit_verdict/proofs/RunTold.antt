@@ -10,7 +10,7 @@ use Rattle.audit_rules.specs.Keys.{KeyFor}
 use Rattle.audit_lane.specs.declared.noted.Arrival.{Arrival}
 use Rattle.audit_lane.specs.After.{after as after_it, new_arrival, taken_up}
 use Rattle.audit_lane.specs.Content.{Happening, Came, Acted, Went}
-use Rattle.audit_lane.specs.Kept.{Terms, Kept, told_by}
+use Rattle.audit_lane.specs.Kept.{Terms, Kept, user_by}
 use Rattle.audit_verdict.proofs.KeysTold.{AgreeInRequest}
 use Rattle.audit_verdict.proofs.Running.{IsOpen}
 use Rattle.audit_verdict.proofs.RunSteps.{IsTidy, by_bool, same_some, came_now}
@@ -26,8 +26,8 @@ module _ (terms : Terms) (key_for : KeyFor) (sighting : SightId → Option Sight
   TellsUser (Went s key) = Unit {0}
 
   module _ (pair : Pair) (place : ℕ) (kept : Kept) (tidy : IsTidy pair place kept) (told : IsTold kept) where
-    pub agrees_on : (a : Sighting) (one : Arrival) → sighting a.id ≡ Some a → kept.came a.id ≡ Some one → AgreeInRequest (terms.keys (told_by (kept.came a.id))) key_for a.payload
-    agrees_on a one known is = subst (λ (o : Option Arrival). AgreeInRequest (terms.keys (told_by o)) key_for a.payload) (sym is) (told a.id a one known is)
+    pub agrees_on : (a : Sighting) (one : Arrival) → sighting a.id ≡ Some a → kept.came a.id ≡ Some one → AgreeInRequest (terms.keys (user_by (kept.came a.id))) key_for a.payload
+    agrees_on a one known is = subst (λ (o : Option Arrival). AgreeInRequest (terms.keys (user_by o)) key_for a.payload) (sym is) (told a.id a one known is)
 
     pub told_came : (s : Sighting) (user : Option ℕ) (key : Key) (fresh : kept.came s.id ≡ None) → sighting s.id ≡ Some s → AgreeInRequest (terms.keys user) key_for s.payload →
         IsTold (after_it terms place kept (Came s user key))

@@ -27,7 +27,7 @@ use Rattle.audit_lane.specs.Faults.{IsRight, out_fault}
 use Rattle.audit_lane.specs.Judged.{IsJudged, terms_of, at_start}
 use Rattle.audit_lane.specs.Kept.{Terms, Kept, place_at, situation_in}
 use Rattle.audit_verdict.specs.Run.{IsKnown, PlaceApart, PlacedOnce, MomentsRise, placed_at, placed_from, pair_in, move_of, steps_in, PassesAsRun}
-use Rattle.audit_lane.specs.Told.{Tells}
+use Rattle.audit_lane.specs.UserRows.{Tells}
 use Rattle.audit_lane.specs.Walk.{EndsIn, WalksTo, key_at}
 use Rattle.audit_verdict.proofs.Agreeing.{user_agrees}
 use Rattle.audit_verdict.proofs.Running.{waits, owes, owes_by, state_of, IsFresh, open_to, w_of, own, came_in, change_same, AgreesOnAct, allowed_from, right_from}
@@ -73,7 +73,7 @@ module _ (terms : Terms) (key_for : KeyFor) (pair : Pair) (sighting : SightId �
       table = put same_client (λ _. None) pair kept.standing.allocation;
       waiting = λ q. came_waits terms pair place kept tidy s user key f q i;
       owed = λ t. owes kept.owed (kept.gave t);
-      given = λ t. is_some (kept.gave t);
+      sent = λ t. is_some (kept.gave t);
       now = key.moment;
     }
     after_is now (Acted a l key) k f r =
@@ -81,7 +81,7 @@ module _ (terms : Terms) (key_for : KeyFor) (pair : Pair) (sighting : SightId �
           table = λ c. table_is a l key.moment k.0 k.1 c i;
           waiting = λ q. act_waits terms pair place kept tidy a l key ready q i;
           owed = λ t. act_owed terms pair place kept tidy a l key ready t i;
-          given = λ t. act_given terms pair place kept tidy a l key ready t i;
+          sent = λ t. act_given terms pair place kept tidy a l key ready t i;
           now = key.moment;
         }
     after_is now (Went s key) k f r =
@@ -89,7 +89,7 @@ module _ (terms : Terms) (key_for : KeyFor) (pair : Pair) (sighting : SightId �
           table = put same_client (λ _. None) pair kept.standing.allocation;
           waiting = λ q. waits (kept.came q);
           owed = λ t. went_owes terms pair place kept tidy s key there.0 there.1 t i;
-          given = λ t. is_some (kept.gave t);
+          sent = λ t. is_some (kept.gave t);
           now = key.moment;
         }
 
@@ -205,7 +205,7 @@ state_first content = λ i. record {
   table = λ c. by_bool (λ b. cond {A = Option Allocation} b None None ≡ None) (same_client c (pair_in content)) (λ e. refl) (λ e. refl) i;
   waiting = λ s. None;
   owed = λ t. None;
-  given = λ t. false;
+  sent = λ t. false;
   now = 0;
 }
 

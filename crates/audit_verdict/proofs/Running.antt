@@ -26,7 +26,7 @@ use Rattle.audit_lane.specs.declared.noted.Departure.{Departure}
 use Rattle.audit_lane.specs.declared.noted.Owed.{Owed}
 use Rattle.audit_lane.specs.Content.{Happening, Came, Acted, Went}
 use Rattle.audit_lane.specs.Faults.{IsRight, act_fault, out_fault, is_past}
-use Rattle.audit_lane.specs.Kept.{Terms, Kept, told_by, situation_in}
+use Rattle.audit_lane.specs.Kept.{Terms, Kept, user_by, situation_in}
 use Rattle.audit_verdict.specs.Run.{IsKnown, placed_at, move_of}
 use Rattle.audit_lane.specs.Walk.{key_at}
 use Rattle.audit_verdict.proofs.KeysTold.{AgreeInRequest, may_said}
@@ -49,7 +49,7 @@ state_of pair kept now = record {
   table = put same_client (λ _. None) pair kept.standing.allocation;
   waiting = λ s. waits (kept.came s);
   owed = λ t. owes kept.owed (kept.gave t);
-  given = λ t. is_some (kept.gave t);
+  sent = λ t. is_some (kept.gave t);
   now = now;
 }
 
@@ -133,7 +133,7 @@ module _ (terms : Terms) (key_for : KeyFor) (pair : Pair) (sighting : SightId �
     asked_by keys a l moment = record { client = pair.client; listen = pair.listen; policy = terms.policy; key_for = keys; allocation = kept.standing.allocation; arrives = a; leaves = l; moment = moment }
 
     abbrev told : Sighting → KeyFor
-    told a = terms.keys (told_by (kept.came a.id))
+    told a = terms.keys (user_by (kept.came a.id))
 
     situation_is : (a l : Sighting) (moment : ℕ) → situation_in terms kept a l moment ≡ asked_by (told a) a l moment
     situation_is a l moment = λ i. record { client = at.0 i; listen = at.1 i; policy = terms.policy; key_for = told a; allocation = kept.standing.allocation; arrives = a; leaves = l; moment = moment }

@@ -15,7 +15,7 @@ use Rattle.audit_server.specs.Tenancies.{tenancies_in}
 use Rattle.audit_lane.specs.Content.{Content, Happening, Came, Acted, Went, Passes}
 use Rattle.audit_lane.specs.Judged.{IsJudged, terms_of}
 use Rattle.audit_lane.specs.Kept.{Terms, place_at}
-use Rattle.audit_lane.specs.Told.{Tells}
+use Rattle.audit_lane.specs.UserRows.{Tells}
 use Rattle.audit_lane.specs.Walk.{key_at}
 
 abbrev pub pair_in : Content → Pair

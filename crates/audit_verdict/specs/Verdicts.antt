@@ -9,7 +9,7 @@ use Rattle.audit_model.specs.declared.verdict.Verdict.TheVariants.{Conforming, N
 use Rattle.audit_lane.specs.Content.{Content}
 use Rattle.audit_lane.specs.Concluded.{IsConcluded}
 use Rattle.audit_lane.specs.Named.{IsInputOf}
-use Rattle.audit_lane.specs.Told.{Tells}
+use Rattle.audit_lane.specs.UserRows.{Tells}
 use Rattle.audit_placement.specs.Shows.{Shows}
 use Rattle.audit_rules.specs.Keys.{KeyFor}
 use Rattle.audit_sightings.specs.ByInterface.{count_of}

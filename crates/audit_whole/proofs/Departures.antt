@@ -52,7 +52,7 @@ module _ (taken : Taken) (key_for : KeyFor) (apart : AreApart taken.policy) wher
     pub relayed_up : (before : List Step) (e : Step) (rest : List Step) → before ++ e ∷ rest ≡ list → (t : SightId) → e.move ≡ Out t → (leaves : Sighting) → sighting_at taken t ≡ Some leaves → IsTrue (relays taken.policy leaves.from) →
         IsRelayedUp taken key_for t leaves before
     relayed_up before e rest h t is leaves there relay =
-        let g : IsGivenBy taken key_for t before = all.given before e rest h t is in
+        let g : IsGivenBy taken key_for t before = all.sent before e rest h t is in
         let same : g.leaves ≡ leaves = same_Some g.leaves leaves (sym g.is_act.left ∙ ap (sighting_at taken) g.this ∙ there) in
         let whole : g.earlier ++ g.act ∷ (g.more ++ e ∷ rest) ≡ list = sym (append_assoc g.earlier (g.act ∷ g.more) (e ∷ rest)) ∙ ap (λ l. l ++ e ∷ rest) g.whole ∙ h in
         let path = from_relay g.client g.act.moment _ g.arrives g.leaves (may_here taken key_for list run g.earlier g.act (g.more ++ e ∷ rest) whole g.client g.arrives g.leaves g.is_act)

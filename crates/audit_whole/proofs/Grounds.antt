@@ -68,7 +68,7 @@ module _ (taken : Taken) (key_for : KeyFor) (c : Pair) (moment : ℕ) (arrives l
     id = a.id;
     end = a.until;
     since = kept.since;
-    given = subst (λ (r : Addr). Given taken key_for c a.user a.id r a.until before kept.since) (sym h.1.0) kept.given;
+    sent = subst (λ (r : Addr). Given taken key_for c a.user a.id r a.until before kept.since) (sym h.1.0) kept.sent;
     in_time = h.0;
     fact = f a kept h.1.1;
   }
@@ -215,5 +215,5 @@ module _ (taken : Taken) (key_for : KeyFor) (list : List Step) (run : RunFrom (r
   grounded = record {
     up = λ before e c arrives leaves at d. let rest = at.0.0 in let h = at.0.1 in let a = at.1 in up_may taken key_for c e.moment arrives leaves before ((fold (after W) at_first before).table c) (kept_here before e rest h c) (may_here before e rest h c arrives leaves a) d;
     down = λ before e c arrives leaves at d. let rest = at.0.0 in let h = at.0.1 in let a = at.1 in down_may taken key_for c e.moment arrives leaves before ((fold (after W) at_first before).table c) (kept_here before e rest h c) (may_here before e rest h c arrives leaves a) d;
-    given = given_by;
+    sent = given_by;
   }

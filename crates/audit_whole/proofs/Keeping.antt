@@ -124,7 +124,7 @@ module _ (taken : Taken) (key_for : KeyFor) (c : Pair) where
 
   pub record Kept (before : List Step) (a : Allocation) : Type 0 where
     pub since : List Step
-    pub given : Given taken key_for c a.user a.id a.relayed a.until before since
+    pub sent : Given taken key_for c a.user a.id a.relayed a.until before since
     pub permissions : (ip : ℕ) (lease : Lease) → a.permissions ip ≡ Some lease → Permitted taken key_for c a.user ip lease.until since
     pub channels : (number : ℕ) (channel : Channel) → a.channels number ≡ Some channel → BoundTo taken key_for c a.user number channel.peer channel.lease.until since
 
@@ -137,7 +137,7 @@ module _ (taken : Taken) (key_for : KeyFor) (c : Pair) where
   kept_same before e None f l k = tt
   kept_same before e (Some a) f l k = record {
     since = k.since ++ e ∷ [];
-    given = given_more a.user a.id a.relayed a.until a.until before k.since e k.given (f a refl);
+    sent = given_more a.user a.id a.relayed a.until a.until before k.since e k.sent (f a refl);
     permissions = λ ip lease h. permitted_more a.user ip lease.until k.since e (k.permissions ip lease h);
     channels = λ number channel h. bound_more a.user number channel.lease.until channel.peer k.since e (k.channels number channel h) (l number);
   }
@@ -219,7 +219,7 @@ module _ (taken : Taken) (key_for : KeyFor) (c : Pair) where
           let is : says (situation_of taken key_for c moment arrives leaves) ≡ said = said_here said (said_success X ALLOCATE r.response ∙ ap (λ o. Allocates (arrival_parts X).tid o (lifetime_of (answered X))) r.names_relayed ∙ ap (Allocates (arrival_parts X).tid (Some r.relayed)) r.lasts.0) in
           subst After (sym r.changes) (record {
             since = [];
-            given = record {
+            sent = record {
               first = before;
               act = record { moment = moment; move = Act c s t };
               whole = refl;
@@ -250,7 +250,7 @@ module _ (taken : Taken) (key_for : KeyFor) (c : Pair) where
                       let by : r.user ≡ a.user = same_Some r.user a.user (sym r.authentic.names_user ∙ own.1) in
                       record {
                         since = k.since ++ record { moment = moment; move = Act c s t } ∷ [];
-                        given = given_more a.user a.id a.relayed a.until (seconds_after moment r.seconds) before k.since (record { moment = moment; move = Act c s t }) k.given
+                        sent = given_more a.user a.id a.relayed a.until (seconds_after moment r.seconds) before k.since (record { moment = moment; move = Act c s t }) k.sent
                             (goes_on a.user a.id a.relayed said a.until (λ v. v ≡ seconds_after moment r.seconds) is (omega arith, subst (IsAuthentic key_for arrives.payload) by r.authentic, own.0, refl));
                         permissions = λ ip lease h. permitted_more a.user ip lease.until k.since (record { moment = moment; move = Act c s t }) (k.permissions ip lease h);
                         channels = λ number channel h. bound_more a.user number channel.lease.until channel.peer k.since (record { moment = moment; move = Act c s t }) (k.channels number channel h) (leaves_channel said is number tt);
@@ -296,7 +296,7 @@ module _ (taken : Taken) (key_for : KeyFor) (c : Pair) where
           let by : r.user ≡ a.user = same_Some r.user a.user (sym r.authentic.names_user ∙ own.1) in
           record {
             since = k.since ++ record { moment = moment; move = Act c s t } ∷ [];
-            given = given_more a.user a.id a.relayed a.until a.until before k.since (record { moment = moment; move = Act c s t }) k.given (goes_on a.user a.id a.relayed said a.until (λ v. v ≡ a.until) is refl);
+            sent = given_more a.user a.id a.relayed a.until a.until before k.since (record { moment = moment; move = Act c s t }) k.sent (goes_on a.user a.id a.relayed said a.until (λ v. v ≡ a.until) is refl);
             permissions = grant_by a r.ips said is (subst (IsAuthentic key_for arrives.payload) by r.authentic) k (λ ip q. q);
             channels = λ number channel h. bound_more a.user number channel.lease.until channel.peer k.since (record { moment = moment; move = Act c s t }) (k.channels number channel h) (leaves_channel said is number tt);
           }
@@ -322,7 +322,7 @@ module _ (taken : Taken) (key_for : KeyFor) (c : Pair) where
           let by : r.user ≡ a.user = same_Some r.user a.user (sym r.authentic.names_user ∙ own.1.0) in
           record {
             since = k.since ++ record { moment = moment; move = Act c s t } ∷ [];
-            given = given_more a.user a.id a.relayed a.until a.until before k.since (record { moment = moment; move = Act c s t }) k.given (goes_on a.user a.id a.relayed said a.until (λ v. v ≡ a.until) is refl);
+            sent = given_more a.user a.id a.relayed a.until a.until before k.since (record { moment = moment; move = Act c s t }) k.sent (goes_on a.user a.id a.relayed said a.until (λ v. v ≡ a.until) is refl);
             permissions = grant_by a (r.peer.ip ∷ []) said is (subst (IsAuthentic key_for arrives.payload) by r.authentic) k (λ ip q. any_one r.peer.ip ip q);
             channels = λ number channel h.
                 elim (r.number == number) as (λ b. (r.number == number) ≡ b → cond b (Some (record { peer = r.peer; lease = record { until = seconds_after moment 600 } })) (a.channels number) ≡ Some channel → BoundTo taken key_for c a.user number channel.peer channel.lease.until (k.since ++ record { moment = moment; move = Act c s t } ∷ [])) [

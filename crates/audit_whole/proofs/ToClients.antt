@@ -73,7 +73,7 @@ module _ (taken : Taken) (key_for : KeyFor) (apart : AreApart taken.policy) (lis
   relayed_down : (before : List Step) (e : Step) (rest : List Step) → before ++ e ∷ rest ≡ list → (t : SightId) → e.move ≡ Out t → (leaves : Sighting) → sighting_at taken t ≡ Some leaves → IsTrue (listens taken.policy leaves.from) →
       CarriesData leaves.payload → IsRelayedDown taken key_for t leaves before
   relayed_down before e rest h t is leaves there listen carries =
-      let g : IsGivenBy taken key_for t before = all.given before e rest h t is in
+      let g : IsGivenBy taken key_for t before = all.sent before e rest h t is in
       let same : g.leaves ≡ leaves = same_Some g.leaves leaves (sym g.is_act.left ∙ ap (sighting_at taken) g.this ∙ there) in
       subst (λ (y : Sighting). IsRelayedDown taken key_for t y before) same
       (by_kind t before rest e h g (subst (λ (y : Sighting). IsTrue (listens taken.policy y.from)) (sym same) listen) (subst (λ (y : Sighting). CarriesData y.payload) (sym same) carries) g.kind)

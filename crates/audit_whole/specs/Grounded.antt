@@ -45,4 +45,4 @@ pub record IsGrounded (taken : Taken) (key_for : KeyFor) (list : List Step) : Ty
       departure_path (situation_of taken key_for c e.moment arrives leaves) ≡ Some Relay → GroundedUp taken key_for c e.moment arrives leaves before
   pub down : (before : List Step) (e : Step) (c : Pair) (arrives leaves : Sighting) → ActsAt taken key_for list before e c arrives leaves →
       arrival_path (situation_of taken key_for c e.moment arrives leaves) ≡ Some Relay → GroundedDown taken key_for c e.moment arrives leaves before
-  pub given : (before : List Step) (e : Step) (rest : List Step) → before ++ e ∷ rest ≡ list → (t : SightId) → e.move ≡ Out t → IsGivenBy taken key_for t before
+  pub sent : (before : List Step) (e : Step) (rest : List Step) → before ++ e ∷ rest ≡ list → (t : SightId) → e.move ≡ Out t → IsGivenBy taken key_for t before

@@ -28,7 +28,7 @@ module _ (taken : Taken) (key_for : KeyFor) (c : Pair) where
     pub id : List ℕ
     pub end : ℕ
     pub since : List Step
-    pub given : Given taken key_for c user id relayed end before since
+    pub sent : Given taken key_for c user id relayed end before since
     pub in_time : InTime moment end
     pub fact : Fact user since
 

@@ -1,3 +1,3 @@
 pub mod Wording
 pub mod FaultsText
-pub mod Told
+pub mod Written

@@ -4,9 +4,9 @@
 mod noting;
 mod reported;
 mod reporting;
-mod telling;
 mod wording;
+mod writing;
 
 pub use reported::Reported;
 pub use reporting::report_faults;
-pub use telling::{faults_of_files, tell_faults};
+pub use writing::{faults_of_files, write_faults};

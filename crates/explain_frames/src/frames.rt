@@ -48,7 +48,7 @@ impl Frames {
     }
 
     /// Requests a sighting, before the captures are read.
-    pub fn ask(&mut self, sight: SightId) -> Result<(), AllocError>
+    pub fn request(&mut self, sight: SightId) -> Result<(), AllocError>
         ensures { (policy : AnyPolicy) (wanted : SightId → Bool) → Shows self.old policy wanted (λ _. []) →
             OnOk result (Shows self.new policy (λ other. same_sight other sight || wanted other) (λ _. [])) }
     {

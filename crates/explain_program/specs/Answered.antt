@@ -4,7 +4,7 @@ use Rattle.std.specs.List.{AllZip}
 use Rattle.audit_model.specs.declared.certificate.Certificate.{Certificate}
 use Rattle.audit_model.specs.Sink.{followed_by}
 use Rattle.clap.specs.Words.{Text, fault_of, subcommand_of}
-use Rattle.explain_faults.specs.Told.{AreToldOf}
+use Rattle.explain_faults.specs.Written.{AreWrittenOf}
 use Rattle.explain_program.specs.declared.command_line.Inputs.{Inputs}
 use Rattle.explain_program.specs.declared.command_line.Request.{Request}
 use Rattle.explain_program.specs.declared.command_line.Request.TheVariants.{Explain, AsJson, Faults, Evidence, Help, Release, Usage}
@@ -46,7 +46,7 @@ module _ (holds : List ℕ → Option (List ℕ)) (streams : Streams) where
       IfOk done (λ status. (by : Certificate) × IsWrittenAsJson (expected_by subject) policy users captures by streams.before streams.after status))
   Answers (Faults inputs) done =
       IsSilent streams × ((policy users : List ℕ) (captures : List (List ℕ)) → HaveTexts holds inputs policy users captures →
-      IfOk done (AreToldOf policy users captures streams.before streams.after))
+      IfOk done (AreWrittenOf policy users captures streams.before streams.after))
   Answers (Evidence inputs file list) done =
       IsSilent streams × ((policy users : List ℕ) (captures : List (List ℕ)) → HaveTexts holds inputs policy users captures →
       IfOk done (λ status. (by : Certificate) × IsExplained None policy users captures by streams.before streams.after status))

@@ -79,17 +79,17 @@ abbrev pub judging : Text → App
 judging name = with_rule (with_rule (with_rule (reading name) certificate) workers) captures
 
 -- a command that can answer in JSON
-abbrev pub telling : Text → App
-telling name = with_rule (judging name) (flag (codes "json"))
+abbrev pub explaining : Text → App
+explaining name = with_rule (judging name) (flag (codes "json"))
 
 abbrev pub verdict : App
-verdict = with_rule (telling (codes "verdict")) expected
+verdict = with_rule (explaining (codes "verdict")) expected
 
 abbrev pub lanes : App
-lanes = with_rule (telling (codes "lanes")) (flag (codes "broken"))
+lanes = with_rule (explaining (codes "lanes")) (flag (codes "broken"))
 
 abbrev pub client : App
-client = with_rule (with_rule (telling (codes "client")) lane) around
+client = with_rule (with_rule (explaining (codes "client")) lane) around
 
 abbrev pub faults : App
 faults = with_rule (with_rule (reading (codes "faults")) workers) captures

@@ -110,7 +110,7 @@ fn answering_command<'a>(
     name: &'a str,
     page: Page,
 ) -> Result<Command<'a>, AllocError>
-    ensures app { IfOk result (λ command. app_of command ≡ words.telling name.entry.now) }
+    ensures app { IfOk result (λ command. app_of command ≡ words.explaining name.entry.now) }
     ensures local { IfOk result (λ command. (fields_of command).has_globals ≡ false) }
 {
     judging_command(alloc, name, page)?.arg(flag(alloc, "json"))

@@ -46,7 +46,7 @@ const SELF: &str = "/proc/self/exe";
 
 /// The SHA-256 of docs/headline.txt, which states what is proved. `tests/explain_page.py` compares
 /// it.
-const HEADLINE: &str = "58d11f8ed264d5dc4029228483ebff8582a2e1c34ed4096d49bef5031f4c189d";
+const HEADLINE: &str = "a88571147e935d8685dfae734eec0476510b52dcb36904ef7eabd0156885e8cb";
 
 /// The contents of the page, collected.
 #[derive(Drop)]
@@ -117,7 +117,7 @@ fn by_frames<S: Source>(
 ) -> Result<(String, u64, Clients), Stop> {
     let (story, shown) = story_in(alloc, case, verdict)?;
     let mut frames = Frames::new(alloc);
-    story.ask(&mut frames)?;
+    story.request_frames(&mut frames)?;
     if let Some(lanes) = lanes {
         request_breaches(lanes, &mut frames)?;
     }

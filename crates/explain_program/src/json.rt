@@ -30,7 +30,7 @@ fn look_up_all<S: Source>(
     frames: &mut Frames,
 ) -> Result<(), Stop> {
     if let Some(breach) = breach_of(verdict) {
-        frames.ask(breach.sight)?;
+        frames.request(breach.sight)?;
     }
     look_up(alloc, source, case.intake.policy(), case.captures, frames)
 }
@@ -102,7 +102,7 @@ fn write_verdict<S: Source>(
 ) -> Result<(), Stop> {
     let (story, shown) = story_in(alloc, case, verdict)?;
     let mut frames = Frames::new(alloc);
-    story.ask(&mut frames)?;
+    story.request_frames(&mut frames)?;
     look_up_all(alloc, source, case, verdict, &mut frames)?;
     let printer = Printer {
         case,
@@ -183,7 +183,7 @@ fn rungs_in(
     let input = finding.input();
     let breach = breach_in(finding);
     if let Some(breach) = breach {
-        frames.ask(breach.sight)?;
+        frames.request(breach.sight)?;
     }
     let place = breach.map(|breach| breach.at.place);
     let span = span_of(input, place, around);

@@ -3,7 +3,7 @@
 ghost use Rattle.std.specs.Prelude.{◌≡◌, [], ℕ, IfNone, IfOk, IfSome, List, OnOk, Some, map};
 ghost use Rattle.std.specs.List.{AllZip};
 ghost use Rattle.audit_model.specs.Sink.{followed_by};
-ghost use Rattle.explain_faults.specs.Told.{AreToldOf};
+ghost use Rattle.explain_faults.specs.Written.{AreWrittenOf};
 ghost use Rattle.explain_program.specs.Answered.{Answers, IsRun};
 
 use crate::as_json::explain_as_json;
@@ -47,7 +47,7 @@ fn faults<R: Threads + Sync, S: Explaining, O: Sink>(
         S.holds source.old policy.now ≡ Some policy_text →
         IfSome users.entry (λ name. S.holds source.old name.now ≡ Some users_text) → IfNone users.entry (users_text ≡ []) →
         AllZip (λ name text. S.holds source.old name.now ≡ Some text) captures.now texts →
-        IfOk result (AreToldOf policy_text users_text texts (O.taken out.old) (O.taken out.new)) }
+        IfOk result (AreWrittenOf policy_text users_text texts (O.taken out.old) (O.taken out.new)) }
 {
     check_captures(alloc, source, captures)?;
     let status = faults_of_files(rt, alloc, source, policy, users, captures, workers, out)?;

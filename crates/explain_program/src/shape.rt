@@ -16,7 +16,7 @@ fn parts(byte: u8) -> bool {
 }
 
 /// Writes a byte, hidden or not.
-fn tell<W: fmt::Write>(f: &mut fmt::Formatter<W>, byte: u8, is_hidden: bool) -> fmt::Result {
+fn write_byte<W: fmt::Write>(f: &mut fmt::Formatter<W>, byte: u8, is_hidden: bool) -> fmt::Result {
     match byte {
         b'\t' => f.write_str("^I"),
         b'\r' => f.write_str("^M"),
@@ -35,7 +35,7 @@ impl fmt::Display for Shape<'_> {
         let mut is_hidden = !self.line.iter().any(|byte| parts(*byte));
         for byte in self.line {
             is_hidden = is_hidden || parts(*byte);
-            tell(f, *byte, is_hidden)?;
+            write_byte(f, *byte, is_hidden)?;
         }
         Ok(())
     }

@@ -96,7 +96,7 @@ pub fn rest_of_verdict<S: Source>(
 ) -> Result<String, Stop> {
     let (story, shown) = story_in(alloc, case, verdict)?;
     let mut frames = Frames::new(alloc);
-    story.ask(&mut frames)?;
+    story.request_frames(&mut frames)?;
     look_up(
         alloc,
         source,

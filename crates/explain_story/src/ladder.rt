@@ -31,15 +31,15 @@ pub fn span_of(input: &LaneInput<'_>, breach: Option<u32>, around: u32) -> Span 
 /// Requests the frames of an event's sightings.
 fn request_event(frames: &mut Frames, event: &LaneEvent<'_>) -> Result<(), AllocError> {
     match event {
-        LaneEvent::In { sighting, .. } => frames.ask(sighting.id),
-        LaneEvent::Out { sighting, .. } => frames.ask(sighting.id),
+        LaneEvent::In { sighting, .. } => frames.request(sighting.id),
+        LaneEvent::Out { sighting, .. } => frames.request(sighting.id),
         LaneEvent::Act {
             arrives,
             leaves,
             ..
         } => {
-            frames.ask(arrives.id)?;
-            frames.ask(leaves.id)
+            frames.request(arrives.id)?;
+            frames.request(leaves.id)
         }
     }
 }

@@ -14,7 +14,7 @@ use std::alloc::{AllocError, Global};
 pub fn request_breaches(lanes: &Lanes<'_>, frames: &mut Frames) -> Result<(), AllocError> {
     for finding in &lanes.findings {
         if let Outcome::Broken(breach) = finding.outcome() {
-            frames.ask(breach.sight)?;
+            frames.request(breach.sight)?;
         }
     }
     Ok(())

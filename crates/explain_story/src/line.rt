@@ -155,9 +155,9 @@ impl Story {
     }
 
     /// Requests the frames of all lines.
-    pub fn ask(&self, frames: &mut Frames) -> Result<(), AllocError> {
+    pub fn request_frames(&self, frames: &mut Frames) -> Result<(), AllocError> {
         for sight in &self.sights()? {
-            frames.ask(*sight)?;
+            frames.request(*sight)?;
         }
         for line in &self.lines {
             if let Line::GrantedElsewhere(relayed) = line {

@@ -16,7 +16,7 @@ pub struct Datagram<'a> {
 }
 
 /// Writes an error response.
-fn tell_error<W: fmt::Write>(f: &mut fmt::Formatter<W>, answer: &Message<'_>) -> fmt::Result {
+fn write_error<W: fmt::Write>(f: &mut fmt::Formatter<W>, answer: &Message<'_>) -> fmt::Result {
     let method = MethodWord {
         method: answer.method(),
     };
@@ -31,7 +31,7 @@ fn tell_error<W: fmt::Write>(f: &mut fmt::Formatter<W>, answer: &Message<'_>) ->
 }
 
 /// Writes a message.
-fn tell_message<W: fmt::Write>(f: &mut fmt::Formatter<W>, told: &Message<'_>) -> fmt::Result {
+fn write_message<W: fmt::Write>(f: &mut fmt::Formatter<W>, told: &Message<'_>) -> fmt::Result {
     let method = MethodWord {
         method: told.method(),
     };
@@ -39,7 +39,7 @@ fn tell_message<W: fmt::Write>(f: &mut fmt::Formatter<W>, told: &Message<'_>) ->
         Class::Request => write!(f, "{method}"),
         Class::Indication => write!(f, "{method} indication"),
         Class::Success => write!(f, "{method} success"),
-        Class::Error => tell_error(f, told),
+        Class::Error => write_error(f, told),
     }
 }
 
@@ -54,7 +54,7 @@ impl fmt::Display for Datagram<'_> {
             return write!(f, "ChannelData 0x{number:04X}, {size} bytes");
         }
         match message(self.payload) {
-            Some(told) => tell_message(f, &told),
+            Some(told) => write_message(f, &told),
             None => write!(f, "no STUN, {size} bytes"),
         }
     }

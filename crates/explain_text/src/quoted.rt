@@ -39,7 +39,7 @@ fn is_plain(c: char) -> bool {
 }
 
 /// Writes bytes one by one.
-fn tell_bytes<W: fmt::Write>(f: &mut fmt::Formatter<W>, bytes: &[u8]) -> fmt::Result {
+fn write_bytes<W: fmt::Write>(f: &mut fmt::Formatter<W>, bytes: &[u8]) -> fmt::Result {
     for byte in bytes {
         let byte = *byte;
         write!(f, "\\x{byte:02X}")?;
@@ -48,19 +48,19 @@ fn tell_bytes<W: fmt::Write>(f: &mut fmt::Formatter<W>, bytes: &[u8]) -> fmt::Re
 }
 
 /// Writes a character.
-fn tell_char<W: fmt::Write>(f: &mut fmt::Formatter<W>, c: char) -> fmt::Result {
+fn write_char<W: fmt::Write>(f: &mut fmt::Formatter<W>, c: char) -> fmt::Result {
     if is_plain(c) {
         return write!(f, "{c}");
     }
     let mut room = [0u8; 4];
     let text = c.encode_utf8(&mut room);
-    tell_bytes(f, text.as_bytes())
+    write_bytes(f, text.as_bytes())
 }
 
 /// Writes a text.
-fn tell_text<W: fmt::Write>(f: &mut fmt::Formatter<W>, text: &str) -> fmt::Result {
+fn write_text<W: fmt::Write>(f: &mut fmt::Formatter<W>, text: &str) -> fmt::Result {
     for c in text.chars() {
-        tell_char(f, c)?;
+        write_char(f, c)?;
     }
     Ok(())
 }
@@ -68,8 +68,8 @@ fn tell_text<W: fmt::Write>(f: &mut fmt::Formatter<W>, text: &str) -> fmt::Resul
 impl fmt::Display for Escaped<'_> {
     fn fmt<W: fmt::Write>(&self, f: &mut fmt::Formatter<W>) -> fmt::Result {
         for chunk in self.bytes.utf8_chunks() {
-            tell_text(f, chunk.valid())?;
-            tell_bytes(f, chunk.invalid())?;
+            write_text(f, chunk.valid())?;
+            write_bytes(f, chunk.invalid())?;
         }
         Ok(())
     }

@@ -57,7 +57,7 @@ pub struct NewFiles<'r, R: Files<File = File>> {
 }
 
 /// Renames a file to its final name, unless a file with that name exists.
-fn give_name<R: Files>(rt: &R, made: &Made) -> io::Result<()> {
+fn rename_to_final<R: Files>(rt: &R, made: &Made) -> io::Result<()> {
     match fs::hard_link(rt, made.part.as_str(), made.name.as_str()) {
         Ok(()) => Ok(()),
         Err(error) if error.kind() == ErrorKind::AlreadyExists => Err(error),
@@ -186,7 +186,7 @@ impl<'r, R: Files<File = File>> NewFiles<'r, R> {
     /// index and the error.
     fn name_all(&self) -> Result<(), (usize, io::Error)> {
         for (at, made) in self.made.iter().enumerate() {
-            if let Err(error) = give_name(self.rt, made) {
+            if let Err(error) = rename_to_final(self.rt, made) {
                 for named in self.made.iter().take(at) {
                     let _ = fs::remove_file(self.rt, named.name.as_str());
                 }

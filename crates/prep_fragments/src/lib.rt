@@ -3,14 +3,14 @@
 
 mod begun;
 mod fault;
+mod feeding;
 mod fragment;
 mod opens;
 mod places;
 mod reassembler;
-mod taking;
 mod whole;
 
 pub use fault::{FragmentFault, ReassembleFault, Refused};
+pub use feeding::Reassembled;
 pub use fragment::{Fragment, Key};
 pub use reassembler::Reassembler;
-pub use taking::Reassembled;

@@ -4,8 +4,8 @@ ghost use Rattle.std.specs.Prelude.{◌++◌, [], ℕ, List, OnOk};
 ghost use Rattle.prep_blocks.specs.declared.block.Block.{Block};
 
 use crate::fault::ReassembleFault;
+use crate::feeding::{Reassembled, take_block};
 use crate::opens::Opens;
-use crate::taking::{Reassembled, take_block};
 use prep_blocks::BlockSplitter;
 use std::alloc::Global;
 

@@ -3,7 +3,7 @@ use Rattle.std.proofs.Common.{◌≡◌, ℕ, List, [], ◌++◌, Option, Result
 use Rattle.std.proofs.lemmas.List.{append-nil}
 use Rattle.audit_model.specs.Sink.{followed_by}
 use Rattle.prep_fragments.specs.declared.reassembler.Reassembler.{Reassembler}
-use Rattle.prep_fragments.specs.declared.taking.Reassembled.{Reassembled}
+use Rattle.prep_fragments.specs.declared.feeding.Reassembled.{Reassembled}
 use Rattle.prep_fragments.specs.Reassembling.{reassembled, IsReassembling, IsDone, GoesOn}
 use Rattle.prep_fragments.proofs.Going.{reassembled-append}
 use Rattle.prep_program.specs.declared.stop.Stop.{Stop}

@@ -71,7 +71,7 @@ pub fn run_ready<R: Threads + AllocGlobal, S: Source, M: Maker, F: Folders, O: S
     folders.make_folder(work.part())?;
     match prepare(rt, request, &mut work, source, maker, folders, err) {
         Ok(true) => {
-            give_name(&work, folders)?;
+            rename_folder(&work, folders)?;
             put_all(out, work.report())?;
             Ok(0)
         }
@@ -100,7 +100,7 @@ fn check_inputs<S: Source>(
 }
 
 /// Renames the temporary folder.
-fn give_name<F: Folders>(work: &Work, folders: &mut F) -> Result<(), Stop> {
+fn rename_folder<F: Folders>(work: &Work, folders: &mut F) -> Result<(), Stop> {
     match folders.rename(work.part(), work.folder()) {
         Ok(()) => Ok(()),
         Err(fault) => {

@@ -55,7 +55,7 @@ pub struct Answer {
 }
 
 /// Runs the program on the arguments, with room for this number of bytes on standard output.
-pub fn ask(
+pub fn run_program(
     rt: &(impl Threads + Wait + Sync),
     alloc: Global,
     words: &[&str],
@@ -94,7 +94,7 @@ pub fn ask(
 
 /// The expected output of a run, as text. A stream that is `None` is not compared.
 #[derive(Clone, Copy, Debug, PartialEq, Eq)]
-pub struct Told<'a> {
+pub struct Output<'a> {
     pub status: u8,
     pub out: Option<&'a str>,
     pub err: Option<&'a str>,
@@ -102,8 +102,8 @@ pub struct Told<'a> {
 
 impl Answer {
     /// The output, with each stream that `expected` has.
-    pub fn told_like(&self, expected: &Told<'_>) -> Told<'_> {
-        Told {
+    pub fn output_like(&self, expected: &Output<'_>) -> Output<'_> {
+        Output {
             status: self.status,
             out: expected.out.map(|_| text_of(&self.out)),
             err: expected.err.map(|_| text_of(&self.err)),

@@ -7,7 +7,7 @@ mod binding;
 mod files;
 mod seed;
 
-pub use answers::{Answer, PLENTY, Told, ask, text_of};
+pub use answers::{Answer, Output, PLENTY, run_program, text_of};
 pub use binding::{Parts, SECTION, binding_capture, binding_parts};
 pub use files::Files;
 

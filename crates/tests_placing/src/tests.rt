@@ -81,7 +81,7 @@ struct Gained<'a> {
 /// The state after the additions: whether a rule is violated, how many sightings are placed, and
 /// the first one that isn't.
 #[derive(Clone, Copy, Debug, PartialEq, Eq)]
-struct Told {
+struct State {
     answer: Result<(), Breach>,
     count: u32,
     unplaced: Option<SightId>,
@@ -111,18 +111,18 @@ fn added(
 }
 
 /// Adds a portion to a certificate, and returns the state.
-fn told_of(
+fn state_after(
     alloc: Global,
     placing: &mut Placing,
     intake: &Intake,
     gained: Gained<'_>,
-) -> Result<Told, Fail>
+) -> Result<State, Fail>
     requires { Keeps (taken intake.now) placing.old }
     ensures { OnOk result (Keeps (taken intake.now) placing.new) }
 {
     let portion = portion(alloc, gained)?;
     let answer = added(placing, intake, &portion)?;
-    Ok(Told {
+    Ok(State {
         answer,
         count: placing.count(),
         unplaced: placing.unplaced(intake).map(|breach| breach.sight),
@@ -130,12 +130,12 @@ fn told_of(
 }
 
 /// Checks the state after each portion.
-fn play(rt: &(impl Abort + AllocGlobal), portions: &[(Gained<'_>, Told)]) -> Result<(), Fail> {
+fn play(rt: &(impl Abort + AllocGlobal), portions: &[(Gained<'_>, State)]) -> Result<(), Fail> {
     let alloc = rt.alloc();
     let intake = intake(alloc, capture(alloc)?.bytes())?;
     let mut placing = Placing::new(alloc);
-    'portions: for (gained, told) in portions {
-        assert_eq!(rt; told_of(alloc, &mut placing, &intake, *gained)?, *told);
+    'portions: for (gained, state) in portions {
+        assert_eq!(rt; state_after(alloc, &mut placing, &intake, *gained)?, *state);
     }
     Ok(())
 }
@@ -187,12 +187,12 @@ fn portions_are_placed_as_they_come(rt: HostRuntime) -> Result<(), Fail> {
         events: &[(0, act), (0, answer)],
         drops: &[dropped],
     };
-    let one = Told {
+    let one = State {
         answer: Ok(()),
         count: 1,
         unplaced: Some(sight(1)),
     };
-    let all = Told {
+    let all = State {
         answer: Ok(()),
         count: 3,
         unplaced: None,
@@ -220,12 +220,12 @@ fn a_first_placement_that_comes_later_makes_the_earlier_one_the_second(
         events: &no_events,
         drops: &[],
     };
-    let one = Told {
+    let one = State {
         answer: Ok(()),
         count: 1,
         unplaced: Some(sight(1)),
     };
-    let twice = Told {
+    let twice = State {
         answer: Err(broken(1_000_000_000, 0, Rule::PlacedTwice)),
         count: 2,
         unplaced: Some(sight(1)),
@@ -249,12 +249,12 @@ fn a_neighbour_that_comes_later_shows_the_order(rt: HostRuntime) -> Result<(), F
         events: &[(0, answer)],
         drops: &[],
     };
-    let one = Told {
+    let one = State {
         answer: Ok(()),
         count: 1,
         unplaced: Some(sight(0)),
     };
-    let two = Told {
+    let two = State {
         answer: Err(broken(1_000_100_000, 2, Rule::InterfaceOrder)),
         count: 2,
         unplaced: Some(sight(0)),

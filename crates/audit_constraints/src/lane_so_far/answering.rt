@@ -9,7 +9,7 @@ use std::alloc::AllocError;
 impl LaneSoFar<'_> {
     /// Adds constraints by which an older unanswered arrival is answered by the match of the next
     /// arrival, so that the next arrival is free for this departure.
-    pub(crate) fn ask_older(
+    pub(crate) fn require_older_answered(
         &self,
         departure: SeenNumber,
         pools: &[PoolRef],
@@ -69,7 +69,7 @@ impl LaneSoFar<'_> {
 
     /// Adds constraints by which the last arrivals of a pool, too early for a departure, are placed
     /// later, if their windows permit.
-    pub(crate) fn ask_late(
+    pub(crate) fn require_late_arrivals(
         &self,
         departure: SeenNumber,
         pool: PoolRef,

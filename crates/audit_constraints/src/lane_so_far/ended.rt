@@ -23,14 +23,14 @@ impl LaneSoFar<'_> {
 
     /// Adds constraints by which the arrivals that a departure may answer are placed before the
     /// responses that deleted allocations before it.
-    pub(crate) fn ask_before_ends(
+    pub(crate) fn require_before_deletions(
         &self,
         departure: SeenNumber,
         constraints: &mut Vec<Constraint>,
     ) -> Result<(), AllocError> {
         for answer in self.ends_before(departure)? {
             for pool in self.any_pools(departure)? {
-                self.ask_behind(answer, pool, 1, constraints)?;
+                self.require_arrivals_before(answer, pool, 1, constraints)?;
             }
         }
         Ok(())
@@ -38,7 +38,7 @@ impl LaneSoFar<'_> {
 
     /// Adds constraints by which channels that were bound before a departure belong to allocations
     /// that were deleted before the ChannelBind responses left.
-    pub(crate) fn ask_earlier(
+    pub(crate) fn require_earlier_bindings(
         &self,
         departure: SeenNumber,
         constraints: &mut Vec<Constraint>,

@@ -10,7 +10,7 @@ use std::alloc::AllocError;
 impl LaneSoFar<'_> {
     /// Adds constraints by which an address that another client had before is granted before the
     /// departure, or at its request, if the response leaves after the departure.
-    pub(crate) fn ask_soon(
+    pub(crate) fn require_early_grants(
         &self,
         departure: SeenNumber,
         constraints: &mut Vec<Constraint>,
@@ -31,7 +31,7 @@ impl LaneSoFar<'_> {
     }
 
     /// Adds a constraint by which a lease is renewed at its request, before the old lease expires.
-    pub(crate) fn ask_own_early(
+    pub(crate) fn require_early_renewal(
         &self,
         departure: SeenNumber,
         constraints: &mut Vec<Constraint>,
@@ -47,7 +47,7 @@ impl LaneSoFar<'_> {
 
     /// Adds constraints by which the lane's leases were granted at their requests, the latest
     /// leases first, so that they may have expired.
-    pub(crate) fn ask_at_request(
+    pub(crate) fn require_grants_at_requests(
         &self,
         departure: SeenNumber,
         constraints: &mut Vec<Constraint>,

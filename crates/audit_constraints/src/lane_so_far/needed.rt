@@ -19,28 +19,28 @@ impl LaneSoFar<'_> {
     ) -> Result<Vec<Constraint>, AllocError> {
         let mut constraints = Vec::new(self.input.alloc());
         if refused == Refused::Rule(Rule::ChannelConflict) {
-            self.ask_earlier(departure, &mut constraints)?;
+            self.require_earlier_bindings(departure, &mut constraints)?;
         }
         if is_of_what_was_granted(refused) {
-            self.ask_within(departure, &mut constraints)?;
+            self.require_grants_within(departure, &mut constraints)?;
         }
         if is_of_what_is_there(refused) {
-            self.ask_at_request(departure, &mut constraints)?;
+            self.require_grants_at_requests(departure, &mut constraints)?;
         }
         if is_of_lease(refused) {
-            self.ask_own_early(departure, &mut constraints)?;
+            self.require_early_renewal(departure, &mut constraints)?;
         }
-        self.ask_soon(departure, &mut constraints)?;
-        self.ask_before_ends(departure, &mut constraints)?;
+        self.require_early_grants(departure, &mut constraints)?;
+        self.require_before_deletions(departure, &mut constraints)?;
         if is_of_table(refused) {
-            self.ask_changes(departure, refused, &mut constraints)?;
-            self.ask_own(departure, &mut constraints)?;
+            self.require_changes(departure, refused, &mut constraints)?;
+            self.require_own_arrivals(departure, &mut constraints)?;
         } else {
-            self.ask_own(departure, &mut constraints)?;
-            self.ask_changes(departure, refused, &mut constraints)?;
+            self.require_own_arrivals(departure, &mut constraints)?;
+            self.require_changes(departure, refused, &mut constraints)?;
         }
         if is_of_table(refused) {
-            self.ask_earlier(departure, &mut constraints)?;
+            self.require_earlier_bindings(departure, &mut constraints)?;
         }
         if self.has_other_holders(departure)? {
             let place = constraints.len().min(EACH);
@@ -54,21 +54,21 @@ impl LaneSoFar<'_> {
     }
 
     /// Adds constraints for arrivals that the departure may answer.
-    fn ask_own(
+    fn require_own_arrivals(
         &self,
         departure: SeenNumber,
         constraints: &mut Vec<Constraint>,
     ) -> Result<(), AllocError> {
         let pools = self.any_pools(departure)?;
         for pool in &pools {
-            self.ask_late(departure, *pool, constraints)?;
-            self.ask_behind(departure, *pool, EACH, constraints)?;
+            self.require_late_arrivals(departure, *pool, constraints)?;
+            self.require_arrivals_before(departure, *pool, EACH, constraints)?;
         }
-        self.ask_older(departure, &pools, constraints)
+        self.require_older_answered(departure, &pools, constraints)
     }
 
     /// Adds constraints for the requests of responses that may help.
-    fn ask_changes(
+    fn require_changes(
         &self,
         departure: SeenNumber,
         refused: Refused,
@@ -81,12 +81,12 @@ impl LaneSoFar<'_> {
             Refused::Rule(Rule::ErrorCondition),
         ];
         for reason in reasons {
-            self.ask_changes_for(departure, reason, constraints)?;
+            self.require_changes_for(departure, reason, constraints)?;
         }
         Ok(())
     }
 
-    fn ask_changes_for(
+    fn require_changes_for(
         &self,
         departure: SeenNumber,
         reason: Refused,
@@ -110,7 +110,7 @@ impl LaneSoFar<'_> {
                 .is_some_and(|content| helps(reason, content));
             if may_help && !self.state.is_acted(*answer) && self.input.low(*answer) <= until {
                 if let Some(pool) = self.input.response_ref(*answer) {
-                    self.ask_behind(departure, pool, 1, constraints)?;
+                    self.require_arrivals_before(departure, pool, 1, constraints)?;
                 }
             }
         }
@@ -119,7 +119,7 @@ impl LaneSoFar<'_> {
 
     /// Adds constraints for the first arrivals of a pool that are placed after a departure and
     /// might be placed before it.
-    pub(crate) fn ask_behind(
+    pub(crate) fn require_arrivals_before(
         &self,
         departure: SeenNumber,
         pool: PoolRef,

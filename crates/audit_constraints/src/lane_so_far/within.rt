@@ -10,7 +10,7 @@ use std::alloc::AllocError;
 impl LaneSoFar<'_> {
     /// Adds constraints by which permissions and channels that a departure may need were granted in
     /// the present allocation, not in the previous one.
-    pub(crate) fn ask_within(
+    pub(crate) fn require_grants_within(
         &self,
         departure: SeenNumber,
         constraints: &mut Vec<Constraint>,

@@ -12,7 +12,7 @@ impl Settling<'_> {
     /// Computes clock shifts from the constraints that helped and from the pairs that are unique.
     /// If one departure of an interface must be at some distance after the start of its window, all
     /// sightings of the interface are. Returns whether any shift is new.
-    pub fn tell_clocks(&mut self, round: &Round) -> Result<bool, AllocError> {
+    pub fn shift_clocks(&mut self, round: &Round) -> Result<bool, AllocError> {
         let mut is_new = false;
         let sights = self.reading.sights();
         for (place, leaves) in sights.as_slice().iter().enumerate() {

@@ -46,7 +46,11 @@ impl LaneSearch<'_> {
     }
 
     /// Records the constraints that may help the lane to act on a departure.
-    pub fn ask(&mut self, departure: SeenNumber, refused: Refused) -> Result<(), AllocError> {
+    pub fn record_constraints(
+        &mut self,
+        departure: SeenNumber,
+        refused: Refused,
+    ) -> Result<(), AllocError> {
         let is_new = self.asked.iter().all(|asked| asked.0 != departure);
         if is_new && self.asked.len() < AHEAD {
             let constraints = needed(&self.lane, departure, refused)?;
@@ -82,7 +86,7 @@ impl LaneSearch<'_> {
         let refused = self.lane.refused_now(departure)?;
         let _is_noting = self.lane.state_mut().set_noting(was_noting);
         let refused = refused.unwrap_or(Refused::NoArrival);
-        self.ask(departure, refused)?;
+        self.record_constraints(departure, refused)?;
         let is_farther = self.far.as_ref().is_none_or(|far| self.place > far.place);
         if is_farther {
             self.note_farthest()?;
@@ -168,7 +172,7 @@ impl LaneSearch<'_> {
     /// Records the departure on which the lane couldn't act, and acts on it nevertheless.
     pub fn blame(&mut self, departure: SeenNumber) -> Result<(), AllocError> {
         let refused = self.lane.act_likely(departure)?;
-        self.ask(departure, refused)?;
+        self.record_constraints(departure, refused)?;
         let low = self.lane.input().low(departure);
         let is_hopeless = self.lane.is_hopeless(departure, refused);
         self.fault = Some(Fault::new(departure, refused, low, is_hopeless));

@@ -127,12 +127,12 @@ impl Lane<'_> {
     /// Sends the responses of a draw and the departure, and undoes all of that.
     fn try_draw(&mut self, departure: SeenNumber, draw: &Draw) -> Result<Drawn, AllocError> {
         let mark = self.state.mark();
-        let drawn = self.give_all(departure, draw)?;
+        let drawn = self.act_on_all(departure, draw)?;
         self.state.undo(mark);
         Ok(drawn)
     }
 
-    fn give_all(&mut self, departure: SeenNumber, draw: &Draw) -> Result<Drawn, AllocError> {
+    fn act_on_all(&mut self, departure: SeenNumber, draw: &Draw) -> Result<Drawn, AllocError> {
         let slot = Slot::before(self.input.rank(departure));
         let moment = self.input.at(departure);
         for answer in draw {

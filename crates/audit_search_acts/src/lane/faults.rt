@@ -48,7 +48,7 @@ impl Lane<'_> {
         let mut table = self.state.take_table(empty);
         let refused = self.judge(&mut table, arrival, departure, slot, moment)?;
         self.state.put_table(table);
-        self.give(departure, arrival, slot)?;
+        self.act_by(departure, arrival, slot)?;
         if is_used {
             return Ok(Refused::Rule(Rule::ActedTwice));
         }
@@ -97,7 +97,7 @@ impl Lane<'_> {
         None
     }
 
-    fn give(
+    fn act_by(
         &mut self,
         departure: SeenNumber,
         arrival: SeenNumber,
@@ -131,7 +131,7 @@ impl Lane<'_> {
         }
         for pool in self.any_pools(departure)? {
             if let Some(arrival) = self.unused(departure, pool, slot)?.first().copied() {
-                return self.give(departure, arrival, slot);
+                return self.act_by(departure, arrival, slot);
             }
         }
         Ok(())

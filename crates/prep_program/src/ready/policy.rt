@@ -45,7 +45,7 @@ pub fn policy_step<S: Source, M: Maker, E: Sink>(
 ) -> Result<Chosen, Stop> {
     let survey = survey_of(alloc, captures, source)?;
     match from {
-        PolicySource::Policy(name) => given(alloc, name, &survey, work, source, maker),
+        PolicySource::Policy(name) => policy_from_file(alloc, name, &survey, work, source, maker),
         PolicySource::Configuration(name) => {
             let text = read_conf_text(alloc, source, name)?;
             configured(alloc, name, &text, &survey, work, maker, err)
@@ -65,7 +65,7 @@ fn survey_of<S: Source>(
 
 /// Uses a policy from a file. An address that clients were granted and that isn't in the captures
 /// is translated.
-fn given<S: Source, M: Maker>(
+fn policy_from_file<S: Source, M: Maker>(
     alloc: Global,
     name: &str,
     survey: &Survey,

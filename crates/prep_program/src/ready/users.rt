@@ -26,7 +26,7 @@ pub fn users_step<S: Source, M: Maker, E: Sink>(
 ) -> Result<bool, Stop> {
     match (request.creds, request.source) {
         (Some(name), _) => {
-            given(alloc, name, work, source, maker)?;
+            copy_credentials(alloc, name, work, source, maker)?;
             Ok(true)
         }
         (None, PolicySource::Configuration(name)) => {
@@ -37,7 +37,7 @@ pub fn users_step<S: Source, M: Maker, E: Sink>(
 }
 
 /// Copies a file of credentials.
-fn given<S: Source, M: Maker>(
+fn copy_credentials<S: Source, M: Maker>(
     alloc: Global,
     name: &str,
     work: &mut Work,

@@ -25,7 +25,7 @@ pub enum Deed {
 
 /// The result of an action.
 #[derive(Clone, Copy, Debug, PartialEq, Eq)]
-pub enum Told {
+pub enum Outcome {
     Claimed(u32),
     AllClaimed,
     Entered(Receipt),
@@ -38,18 +38,18 @@ pub enum Told {
 }
 
 /// Enters a finding of a job's lane, or gets it back.
-fn told_of_entry<'a, E: Audit, R: Wait>(
+fn outcome_of_entry<'a, E: Audit, R: Wait>(
     rt: &R,
     alloc: Global,
     book: &Book<'a, E>,
     seat: &mut Seat<E>,
     job: &Job<'a>,
     lane: u32,
-) -> Result<Told, Fail> {
+) -> Result<Outcome, Fail> {
     Ok(match book.enter(rt, seat, finding(alloc, job, lane)?) {
-        Ok(receipt) => Told::Entered(receipt),
-        Err((back, fault)) if is_of_lane(&back, job, lane) => Told::Refused(fault),
-        Err(_) => Told::Mixed,
+        Ok(receipt) => Outcome::Entered(receipt),
+        Err((back, fault)) if is_of_lane(&back, job, lane) => Outcome::Refused(fault),
+        Err(_) => Outcome::Mixed,
     })
 }
 
@@ -60,24 +60,24 @@ pub struct Jobs<'r, 'a> {
     pub other: &'r Job<'a>,
 }
 
-fn told_of<'a, E: Audit, R: Wait>(
+fn outcome_of<'a, E: Audit, R: Wait>(
     rt: &R,
     alloc: Global,
     book: &Book<'a, E>,
     seat: &mut Seat<E>,
     jobs: Jobs<'_, 'a>,
     deed: Deed,
-) -> Result<Told, Fail> {
+) -> Result<Outcome, Fail> {
     Ok(match deed {
         Deed::Claim => match book.claim(rt, seat) {
-            Some(lane) => Told::Claimed(lane),
-            None => Told::AllClaimed,
+            Some(lane) => Outcome::Claimed(lane),
+            None => Outcome::AllClaimed,
         },
-        Deed::Enter(lane) => told_of_entry(rt, alloc, book, seat, jobs.own, lane)?,
-        Deed::EnterStranger(lane) => told_of_entry(rt, alloc, book, seat, jobs.other, lane)?,
+        Deed::Enter(lane) => outcome_of_entry(rt, alloc, book, seat, jobs.own, lane)?,
+        Deed::EnterStranger(lane) => outcome_of_entry(rt, alloc, book, seat, jobs.other, lane)?,
         Deed::Look => match book.look(rt, seat) {
-            Ok(view) => Told::Seen(view),
-            Err(_) => Told::Astray,
+            Ok(view) => Outcome::Seen(view),
+            Err(_) => Outcome::Astray,
         },
     })
 }
@@ -109,7 +109,7 @@ pub fn open_two_seats<'a, E: Audit>(
 }
 
 /// The action of one of the two seats, the first one if true, and its result.
-pub type Step = (bool, Deed, Told);
+pub type Step = (bool, Deed, Outcome);
 
 /// Checks that each step has its result.
 pub fn play<'a, E: Audit, R: Wait + Abort>(
@@ -119,13 +119,13 @@ pub fn play<'a, E: Audit, R: Wait + Abort>(
     jobs: Jobs<'_, 'a>,
     steps: &[Step],
 ) -> Result<(), Fail> {
-    for (is_first, deed, told) in steps {
+    for (is_first, deed, outcome) in steps {
         let answer = if *is_first {
-            told_of(rt, alloc, &opened.book, &mut opened.first, jobs, *deed)?
+            outcome_of(rt, alloc, &opened.book, &mut opened.first, jobs, *deed)?
         } else {
-            told_of(rt, alloc, &opened.book, &mut opened.second, jobs, *deed)?
+            outcome_of(rt, alloc, &opened.book, &mut opened.second, jobs, *deed)?
         };
-        assert_eq!(rt; answer, *told);
+        assert_eq!(rt; answer, *outcome);
     }
     Ok(())
 }
@@ -178,26 +178,30 @@ static ROWS: [Row<'static>; 4] = [
     Row {
         broken: &[],
         steps: &[
-            (true, Deed::Claim, Told::Claimed(0)),
-            (false, Deed::Claim, Told::Claimed(1)),
-            (true, Deed::Claim, Told::AllClaimed),
+            (true, Deed::Claim, Outcome::Claimed(0)),
+            (false, Deed::Claim, Outcome::Claimed(1)),
+            (true, Deed::Claim, Outcome::AllClaimed),
         ],
     },
     // A lane is entered once.
     Row {
         broken: &[],
         steps: &[
-            (true, Deed::Enter(0), Told::Entered(FIRST_RECEIPT)),
-            (false, Deed::Enter(0), Told::Refused(EnterFault::Taken(0))),
+            (true, Deed::Enter(0), Outcome::Entered(FIRST_RECEIPT)),
+            (
+                false,
+                Deed::Enter(0),
+                Outcome::Refused(EnterFault::Taken(0)),
+            ),
             (
                 false,
                 Deed::Look,
-                Told::Seen(View {
+                Outcome::Seen(View {
                     entered: 1,
                     ..EMPTY
                 }),
             ),
-            (false, Deed::Enter(1), Told::Entered(SECOND_RECEIPT)),
+            (false, Deed::Enter(1), Outcome::Entered(SECOND_RECEIPT)),
         ],
     },
     // A finding of another client is a stranger.
@@ -207,31 +211,31 @@ static ROWS: [Row<'static>; 4] = [
             (
                 false,
                 Deed::EnterStranger(0),
-                Told::Refused(EnterFault::Stranger),
+                Outcome::Refused(EnterFault::Stranger),
             ),
-            (false, Deed::Look, Told::Seen(EMPTY)),
+            (false, Deed::Look, Outcome::Seen(EMPTY)),
         ],
     },
     // A look shows the breach of a broken lane.
     Row {
         broken: &[0],
         steps: &[
-            (true, Deed::Enter(0), Told::Entered(FIRST_RECEIPT)),
+            (true, Deed::Enter(0), Outcome::Entered(FIRST_RECEIPT)),
             (
                 true,
                 Deed::Look,
-                Told::Seen(View {
+                Outcome::Seen(View {
                     entered: 1,
                     mine: 1,
                     breaches: 1,
                     least: Some(BREACH_OF_0),
                 }),
             ),
-            (false, Deed::Enter(1), Told::Entered(SECOND_RECEIPT)),
+            (false, Deed::Enter(1), Outcome::Entered(SECOND_RECEIPT)),
             (
                 false,
                 Deed::Look,
-                Told::Seen(View {
+                Outcome::Seen(View {
                     entered: 2,
                     mine: 1,
                     breaches: 1,

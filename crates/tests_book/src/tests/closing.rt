@@ -3,7 +3,7 @@
 ghost use Rattle.std.specs.Prelude.{◌≡◌};
 
 use super::books::{
-    Deed, FIRST_RECEIPT, Jobs, Opened, SECOND_RECEIPT, Step, Told, open_two_seats, play,
+    Deed, FIRST_RECEIPT, Jobs, Opened, Outcome, SECOND_RECEIPT, Step, open_two_seats, play,
 };
 use super::lanes::{intake, is_of_lane, job};
 use audit_book::{Audit, CloseFault, Closed, Receipt};
@@ -17,9 +17,9 @@ use std::test::Fail;
 
 /// Lane 0 is claimed by seat 1 and entered by seat 0, and lane 1 is entered by seat 1.
 static STEPS: [Step; 3] = [
-    (false, Deed::Claim, Told::Claimed(0)),
-    (true, Deed::Enter(0), Told::Entered(FIRST_RECEIPT)),
-    (false, Deed::Enter(1), Told::Entered(SECOND_RECEIPT)),
+    (false, Deed::Claim, Outcome::Claimed(0)),
+    (true, Deed::Enter(0), Outcome::Entered(FIRST_RECEIPT)),
+    (false, Deed::Enter(1), Outcome::Entered(SECOND_RECEIPT)),
 ];
 
 /// The closed book. Seat 0 alone doesn't close it.

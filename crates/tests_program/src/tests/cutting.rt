@@ -6,7 +6,7 @@ use std::process::Abort;
 use std::sync::Wait;
 use std::test::Fail;
 use std::thread::Threads;
-use tests_host::{Told, ask, text_of};
+use tests_host::{Output, run_program, text_of};
 
 /// Ways to read a file: in two pieces, split at each place, and byte by byte. Each is the size of
 /// the first piece, and of the later ones.
@@ -39,7 +39,7 @@ static WHOLE: Row<'static> = CHECKED;
 static TORN: Row<'static> = Row {
     name: "a_capture_without_its_last_byte_is_torn",
     capture: Sample::Torn,
-    told: Told {
+    told: Output {
         status: 2,
         out: Some(""),
         err: Some("turnaudit: refused C1 in capture 0\n"),
@@ -59,7 +59,7 @@ fn an_answer_that_cannot_be_written_is_said(rt: HostRuntime) -> Result<(), Fail>
     let capture = WHOLE.capture.bytes(alloc)?;
     let report = REPORT.as_bytes();
     for room in 0..report.len() {
-        let answer = ask(
+        let answer = run_program(
             &rt,
             alloc,
             WHOLE.words,

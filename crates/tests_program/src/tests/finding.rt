@@ -2,7 +2,7 @@
 
 use super::rows::{CHECKED, Row, Sample, play};
 use std::test::Fail;
-use tests_host::{Files, PLENTY, POLICY, Told, ask};
+use tests_host::{Files, Output, PLENTY, POLICY, run_program};
 
 static FIND: [&str; 5] = ["turnaudit", "find", "--policy", "policy", "capture"];
 
@@ -18,7 +18,7 @@ const FOUND: Row<'static> = Row {
     words: &["turnaudit", "find", "--policy", "policy", "capture"],
     certificate: "",
     capture: Sample::Section,
-    told: Told {
+    told: Output {
         status: 0,
         out: Some("turnaudit-certificate 1\nend\n"),
         err: Some(""),
@@ -89,10 +89,10 @@ fn any_number_of_workers_finds_alike(rt: HostRuntime) -> Result<(), Fail> {
     let alloc = rt.alloc();
     let capture = Sample::Binding.bytes(alloc)?;
     let mut files = Files::new(rt.alloc(), POLICY, "", &capture);
-    let by_one = ask(&rt, alloc, &FIND, &mut files, PLENTY)?;
+    let by_one = run_program(&rt, alloc, &FIND, &mut files, PLENTY)?;
     assert_eq!(rt; by_one.status, 0);
     for words in &FIND_WITH_WORKERS {
-        let answer = ask(&rt, alloc, words, &mut files, PLENTY)?;
+        let answer = run_program(&rt, alloc, words, &mut files, PLENTY)?;
         assert_eq!(rt; (answer.status, &answer.out), (0, &by_one.out), "{words:?}");
     }
     Ok(())

@@ -4,15 +4,15 @@ use super::rows::{
     CERTIFICATE, CHECKED, CONFORMING, NO_REQUEST, OTHER_ADDRESS, Row, Sample, play, play_over,
 };
 use std::test::Fail;
-use tests_host::{Files, PLENTY, POLICY, Told, ask};
+use tests_host::{Files, Output, PLENTY, POLICY, run_program};
 
-const TORN: Told<'static> = Told {
+const TORN: Output<'static> = Output {
     status: 2,
     out: Some(""),
     err: Some("turnaudit: refused C1 in capture 0\n"),
 };
 
-const REFUSED: Told<'static> = Told {
+const REFUSED: Output<'static> = Output {
     status: 2,
     out: Some(""),
     err: Some("turnaudit: refused C5 in capture 0\n"),
@@ -118,7 +118,7 @@ fn pauses_are_counted(rt: HostRuntime) -> Result<(), Fail> {
     let capture = PATIENT.capture.bytes(alloc)?;
     let mut files = Files::new(rt.alloc(), POLICY, CERTIFICATE, &capture);
     files.turns = &[100, 0, 152, 0];
-    ask(&rt, alloc, PATIENT.words, &mut files, PLENTY)?;
+    run_program(&rt, alloc, PATIENT.words, &mut files, PLENTY)?;
     // After the second turn, and after the fourth.
     assert_eq!(rt; files.pauses, 2);
     Ok(())
@@ -142,7 +142,7 @@ static NO_CAPTURES: [Row<'static>; 4] = [
         name: "what_is_no_capture_is_refused, a file that is not there",
         words: &["turnaudit", "live", "--policy", "policy", "nowhere"],
         capture: Sample::Nothing,
-        told: Told {
+        told: Output {
             status: 4,
             out: Some(""),
             err: Some("turnaudit: read failed\n"),
@@ -162,7 +162,7 @@ static NO_CAPTURES: [Row<'static>; 4] = [
         capture: Sample::Section,
         second: &[7; 40],
         turns: &[28],
-        told: Told {
+        told: Output {
             status: 2,
             out: Some(""),
             err: Some("turnaudit: refused C5 in capture 1\n"),

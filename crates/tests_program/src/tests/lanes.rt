@@ -3,7 +3,7 @@
 
 use super::rows::{CHECKED, REPORT, Row, play};
 use std::test::Fail;
-use tests_host::{POLICY, Told};
+use tests_host::{Output, POLICY};
 
 /// One millisecond of hold, and half a millisecond of skew.
 const SHORT_HOLD: &str =
@@ -19,7 +19,7 @@ macro_rules! placed_by {
                 $lines,
                 "end\n"
             ),
-            told: Told {
+            told: Output {
                 status: $status,
                 out: Some($report),
                 err: Some(""),

@@ -2,15 +2,15 @@
 
 use super::rows::{CHECKED, OTHER_ADDRESS, Row, Sample, play};
 use std::test::Fail;
-use tests_host::Told;
+use tests_host::Output;
 
-const EMPTY: Told<'static> = Told {
+const EMPTY: Output<'static> = Output {
     status: 0,
     out: Some("turnaudit-report 1\nconforming 0 datagrams 0 lanes\n"),
     err: Some(""),
 };
 
-const READ_FAILED: Told<'static> = Told {
+const READ_FAILED: Output<'static> = Output {
     status: 4,
     out: Some(""),
     err: Some("turnaudit: read failed\n"),

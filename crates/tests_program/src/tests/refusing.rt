@@ -2,7 +2,7 @@
 
 use super::rows::{CHECKED, Row, Sample, play};
 use std::test::Fail;
-use tests_host::Told;
+use tests_host::Output;
 
 /// A policy with a skew of its own for interface 64.
 const WIDER: &str =
@@ -10,7 +10,7 @@ const WIDER: &str =
 
 macro_rules! refused {
     ($line:literal) => {
-        Told {
+        Output {
             status: 2,
             out: Some(""),
             err: Some($line),

@@ -6,7 +6,7 @@ use std::sync::Wait;
 use std::test::Fail;
 use std::thread::Threads;
 use tests_host::{
-    Answer, Files, PLENTY, POLICY, SECTION, Told, ask, binding_capture, binding_parts,
+    Answer, Files, Output, PLENTY, POLICY, SECTION, binding_capture, binding_parts, run_program,
 };
 
 /// The capture of a row.
@@ -69,7 +69,7 @@ pub struct Row<'a> {
     pub fails: Option<&'a str>,
     /// How many bytes each of the first turns returns while captures grow.
     pub turns: &'a [usize],
-    pub told: Told<'a>,
+    pub told: Output<'a>,
 }
 
 pub const CERTIFICATE: &str =
@@ -77,14 +77,14 @@ pub const CERTIFICATE: &str =
 
 pub const REPORT: &str = "turnaudit-report 1\nconforming 2 datagrams 1 lanes\n";
 
-pub const CONFORMING: Told<'static> = Told {
+pub const CONFORMING: Output<'static> = Output {
     status: 0,
     out: Some(REPORT),
     err: Some(""),
 };
 
 /// The report about the success response with another port.
-pub const OTHER_ADDRESS: Told<'static> = Told {
+pub const OTHER_ADDRESS: Output<'static> = Output {
     status: 1,
     out: Some(
         "turnaudit-report 1\nnot shown\nrule R17 mapped address\nphase 2 lane 0 event 1 moment 1000000 tie 1\ndatagram 0.0 198.51.100.7:40000 to 192.0.2.1:3478 20 bytes\n",
@@ -93,7 +93,7 @@ pub const OTHER_ADDRESS: Told<'static> = Told {
 };
 
 /// The output for a usage error. Standard error is not compared.
-pub const NO_REQUEST: Told<'static> = Told {
+pub const NO_REQUEST: Output<'static> = Output {
     status: 5,
     out: Some(""),
     err: None,
@@ -139,7 +139,7 @@ pub fn answer_over<'a>(
     row: &Row<'a>,
     capture: &'a [u8],
 ) -> Result<Answer, AllocError> {
-    ask(
+    run_program(
         rt,
         rt.alloc(),
         row.words,
@@ -157,7 +157,7 @@ pub fn play_over<'a>(
     let answer = answer_over(rt, row, capture)?;
     let (name, pieces, turns) = (row.name, row.pieces, row.turns);
     assert_eq!(rt;
-        answer.told_like(&row.told),
+        answer.output_like(&row.told),
         row.told,
         "{name}, {pieces:?}, {turns:?}"
     );

@@ -2,7 +2,7 @@
 
 use super::rows::{CHECKED, NO_REQUEST, Row, Sample, answer_over, play};
 use std::test::Fail;
-use tests_host::{SECTION, Told};
+use tests_host::{Output, SECTION};
 
 const RELEASE: &str = "turnaudit 0.1.0, proved with rattle-kit-13f logic dac8208d650f15bf\n";
 
@@ -14,7 +14,7 @@ const WITHOUT_POLICY: Row<'static> = Row {
     ..CHECKED
 };
 
-const HELPED: Told<'static> = Told {
+const HELPED: Output<'static> = Output {
     status: 0,
     out: None,
     err: Some(""),
@@ -45,7 +45,7 @@ static WORDS: [Row<'static>; 4] = [
     Row {
         name: "the_release_is_one_line",
         words: &["turnaudit", "--version"],
-        told: Told {
+        told: Output {
             status: 0,
             out: Some(RELEASE),
             err: Some(""),

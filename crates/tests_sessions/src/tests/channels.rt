@@ -6,7 +6,7 @@ use tests_datagrams::{
     ALLOCATED, ALLOCATED_FOR_1200, BIND_4001, BIND_SUCCESS, BOUND_4FFF, BOUND_4000, BOUND_5000,
     Datagram, PEER, Payload, Step,
 };
-use tests_host::Told;
+use tests_host::Output;
 
 const HI: Payload<'static> = Payload::Channel(0x4000, b"hi", b"");
 

@@ -8,7 +8,7 @@ use tests_datagrams::{
     ALLOCATE, ALLOCATED, ALLOCATED_FOR_NO_TIME, BY_USER, Datagram, GIVES_RELAYED, Part, Payload,
     RELAYED, SEEN_AS_CLIENT, SIGNED, Step, UDP,
 };
-use tests_host::Told;
+use tests_host::Output;
 
 /// The Allocate and its success response.
 const JUST_ALLOCATED: Row = Row {

@@ -4,7 +4,7 @@ use super::rows::{Row, SESSION, broken, conforming, play};
 use audit_samples::{Class, attribute, method};
 use std::test::Fail;
 use tests_datagrams::{ALLOCATED, BY_USER, CHALLENGED, Datagram, Part, Payload, SIGNED, Step};
-use tests_host::Told;
+use tests_host::Output;
 
 /// An ERROR-CODE: its class and two digits.
 macro_rules! code {

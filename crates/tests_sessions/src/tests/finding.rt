@@ -10,7 +10,7 @@ use std::sync::Wait;
 use std::test::Fail;
 use std::thread::Threads;
 use tests_datagrams::{ALLOCATED, Built, CHALLENGED, Datagram, PEER, PERMITTED, Payload, Step};
-use tests_host::{Answer, Told, text_of};
+use tests_host::{Answer, Output, text_of};
 
 static AUDIT: [&str; 6] = [
     "turnaudit",
@@ -31,8 +31,8 @@ static FIND: [&str; 6] = [
 ];
 
 /// Whether the output is the expected one.
-fn tells(answer: &Answer, told: Told<'_>) -> bool {
-    answer.told_like(&told) == told
+fn has_output(answer: &Answer, told: Output<'_>) -> bool {
+    answer.output_like(&told) == told
 }
 
 /// The statuses of `audit`, of `find` and of `check` by the certificate that `find` writes, if each
@@ -46,7 +46,10 @@ fn statuses(
     let audited = row.answer(rt, alloc, &AUDIT, built, "")?;
     let found = row.answer(rt, alloc, &FIND, built, "")?;
     let checked = row.answer(rt, alloc, &CHECK, built, text_of(&found.out))?;
-    if tells(&audited, row.told) && tells(&found, WRITTEN) && tells(&checked, row.told) {
+    if has_output(&audited, row.told)
+        && has_output(&found, WRITTEN)
+        && has_output(&checked, row.told)
+    {
         return Ok(Some((audited.status, found.status, checked.status)));
     }
     Ok(None)
@@ -72,7 +75,7 @@ fn play_found(
 }
 
 /// The output of `find`, except the certificate.
-const WRITTEN: Told<'static> = Told {
+const WRITTEN: Output<'static> = Output {
     status: 0,
     out: None,
     err: Some(""),

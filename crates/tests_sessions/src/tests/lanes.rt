@@ -8,7 +8,7 @@ use tests_datagrams::{
     ALLOCATE, ALLOCATED, Datagram, OTHER_CLIENT, PEER, PERMITTED, Part, Payload, RELAYED, SIGNED,
     Step,
 };
-use tests_host::Told;
+use tests_host::Output;
 
 /// A client with an allocation, and another client that is granted a relayed address ten
 /// milliseconds later.

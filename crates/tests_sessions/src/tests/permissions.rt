@@ -4,7 +4,7 @@ use super::rows::{Row, SESSION, broken, conforming, play};
 use audit_model::Addr;
 use std::test::Fail;
 use tests_datagrams::{ALLOCATED, Datagram, PEER, PERMITTED, Payload, Step};
-use tests_host::Told;
+use tests_host::Output;
 
 /// A Send with data to a permitted peer, and other data relayed to it.
 macro_rules! relayed {

@@ -7,7 +7,7 @@ use tests_datagrams::{
     ALLOCATED, BOUND_4FFF, BOUND_4000, BOUND_5000, CHALLENGED, Datagram, PEER, PERMIT,
     PERMIT_SUCCESS, PERMITTED, Payload, Step,
 };
-use tests_host::Told;
+use tests_host::Output;
 
 const TWO_CAPTURES: Row = Row {
     has_two_captures: true,

@@ -7,7 +7,7 @@ use std::sync::Wait;
 use std::test::Fail;
 use std::thread::Threads;
 use tests_datagrams::{Built, Step};
-use tests_host::{Answer, Files, PLENTY, POLICY, Told, ask};
+use tests_host::{Answer, Files, Output, PLENTY, POLICY, run_program};
 
 /// A session, and the expected output.
 #[derive(Clone, Copy)]
@@ -22,7 +22,7 @@ pub struct Row {
     pub steps: &'static [Step<'static>],
     /// The digests of the captures.
     pub digests: Option<&'static str>,
-    pub told: Told<'static>,
+    pub told: Output<'static>,
 }
 
 /// The expected output for a session with this number of datagrams that conforms.
@@ -31,7 +31,7 @@ macro_rules! conforming {
         conforming!($datagrams, 1)
     };
     ($datagrams:literal, $lanes:literal) => {
-        Told {
+        Output {
             status: 0,
             out: Some(concat!(
                 "turnaudit-report 1\nconforming ",
@@ -48,7 +48,7 @@ macro_rules! conforming {
 /// The expected output for a session with a breach of this rule, at this event, of this datagram.
 macro_rules! broken {
     ($rule:literal, $event:literal, $datagram:literal) => {
-        Told {
+        Output {
             status: 1,
             out: Some(concat!(
                 "turnaudit-report 1\nnot shown\nrule ",
@@ -67,7 +67,7 @@ macro_rules! broken {
 /// The expected output for a session whose files are refused.
 macro_rules! refused {
     ($line:literal) => {
-        Told {
+        Output {
             status: 2,
             out: Some(""),
             err: Some($line),
@@ -124,7 +124,7 @@ impl Row {
         if built.second().is_some() {
             words.push("second")?;
         }
-        ask(
+        run_program(
             rt,
             alloc,
             &words,
@@ -160,7 +160,7 @@ pub fn play(
         };
         let answer = row.answer(rt, alloc, &CHECK, &built, &built.certificate)?;
         assert_eq!(rt;
-            (is_captured, answer.told_like(&row.told)),
+            (is_captured, answer.output_like(&row.told)),
             (true, row.told),
             "{}: {digests}",
             row.name

@@ -4,7 +4,7 @@
 use super::relays::SENT;
 use super::rows::{Row, broken, conforming, play};
 use std::test::Fail;
-use tests_host::Told;
+use tests_host::Output;
 
 static SKEWS: [Row; 3] = [
     Row {

@@ -8,7 +8,7 @@ use Rattle.audit_lane.specs.declared.input.LaneEvent.{LaneEvent}
 use Rattle.audit_sightings.specs.Intake.{taken}
 use Rattle.audit_lane.specs.Content.{Content, happening}
 use Rattle.audit_lane.specs.Named.{IsFrom, IsInputOf}
-use Rattle.audit_lane.specs.Told.{Tells}
+use Rattle.audit_lane.specs.UserRows.{Tells}
 use Rattle.audit_lane.specs.Users.{TellsItsUser}
 use Rattle.audit_lane.proofs.Growing.{all_still_tell, grows_by_one}
 use Rattle.audit_lane.proofs.Inputs.{all_tell, zip_more}

@@ -38,4 +38,4 @@ returns-in_err-found-clause-ended g c = λ policy_text users_text texts policy u
 
 pub returns-in_err-status-clause-ended : goal.returns-in_err-status-clause-ended
 returns-in_err-status-clause-ended g c = λ policy_text users_text texts policy users none captures.
-    err_then c.from_residual-in_err-status.result c.from_residual-in_err-status.ensures.1 (λ stop is. inr (subst (λ s. EndsWriting (g.O.Sink.failures c.args.out.now) (g.O.Sink.failures c.tell.new.out) s) (sym is) c.in_err-status.ensures.unwritten))
+    err_then c.from_residual-in_err-status.result c.from_residual-in_err-status.ensures.1 (λ stop is. inr (subst (λ s. EndsWriting (g.O.Sink.failures c.args.out.now) (g.O.Sink.failures c.write_verdict.new.out) s) (sym is) c.in_err-status.ensures.unwritten))

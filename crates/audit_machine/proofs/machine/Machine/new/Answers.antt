@@ -9,7 +9,7 @@ returns-clause-start c = λ i. record {
     table = λ d. ap (option_and_then allocation_in) (c.new.ensures d) i;
     waiting = λ s. c.new-3.ensures s i;
     owed = λ s. c.new-4.ensures s i;
-    given = λ s. ap is_some (c.new-4.ensures s) i;
+    sent = λ s. ap is_some (c.new-4.ensures s) i;
     now = 0;
   };
   placed = λ iface. c.new-5.ensures iface i;

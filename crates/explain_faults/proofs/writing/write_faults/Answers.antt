@@ -6,7 +6,7 @@ use Rattle.audit_model.specs.Sink.{followed_by}
 use Rattle.audit_sightings.specs.Intake.{taken}
 use Rattle.explain_faults.specs.declared.reported.Reported.{Reported}
 use Rattle.explain_faults.specs.FaultsText.{faults_text, status_of}
-use Rattle.explain_faults.proofs.telling.tell_faults.Goals as goal
+use Rattle.explain_faults.proofs.writing.write_faults.Goals as goal
 
 pub returns : goal.returns
 returns g c =
@@ -16,5 +16,5 @@ returns g c =
       all = subst (λ (faults : List ShownFault). AreFaults (taken c.args.intake.now) (key_for c.args.users.now) faults) (sym (c.in_ok-all.ensures ∙ c.as_slice-found.ensures.value)) c.in_ok-faults.ensures.exact;
       first = first;
       written = subst (λ (faults : List Reported). g.O.Sink.taken c.report_faults.new.out ≡ followed_by (g.O.Sink.taken c.args.out.now) (faults_text (taken c.args.intake.now) first faults)) c.as_slice-reported.ensures.value c.in_ok-report_faults.ensures;
-      told = c.status.ensures ∙ ap status_of c.as_slice-reported.ensures.value;
+      are_written = c.status.ensures ∙ ap status_of c.as_slice-reported.ensures.value;
     }

@@ -4,7 +4,7 @@ ghost use Rattle.std.specs.Prelude.{◌≡◌, [], ℕ, IfNone, IfOk, IfSome, Li
 ghost use Rattle.std.specs.List.{AllZip};
 ghost use Rattle.audit_keys.specs.KeyFor.{key_for};
 ghost use Rattle.audit_sightings.specs.Intake.{taken};
-ghost use Rattle.explain_faults.specs.Told.{AreTold, AreToldOf};
+ghost use Rattle.explain_faults.specs.Written.{AreWritten, AreWrittenOf};
 
 use crate::noting::{NOT_CHECKED, Notes, request_frames};
 use crate::reported::with_notes;
@@ -65,7 +65,7 @@ fn first_note(intake: &Intake, faults: &[ShownFault]) -> &'static str {
 
 /// Writes all faults that the captures of an intake show, with notes, and returns 1 if there are
 /// some and 0 if there are none.
-pub fn tell_faults<S: Source, O: Sink>(
+pub fn write_faults<S: Source, O: Sink>(
     alloc: Global,
     source: &mut S,
     captures: &[&str],
@@ -73,7 +73,7 @@ pub fn tell_faults<S: Source, O: Sink>(
     users: &Credentials,
     out: &mut O,
 ) -> Result<u8, Stop>
-    ensures { IfOk result (AreTold (taken intake.now) (key_for users.now) (O.taken out.old) (O.taken out.new)) }
+    ensures { IfOk result (AreWritten (taken intake.now) (key_for users.now) (O.taken out.old) (O.taken out.new)) }
 {
     let faults = shown_faults(alloc, intake, users)?;
     let found = faults.as_slice();
@@ -101,8 +101,8 @@ pub fn faults_of_files<R: Threads + Sync, S: Source, O: Sink>(
         S.holds source.old policy.now ≡ Some policy_text →
         IfSome users.entry (λ name. S.holds source.old name.now ≡ Some users_text) → IfNone users.entry (users_text ≡ []) →
         AllZip (λ name text. S.holds source.old name.now ≡ Some text) captures.now texts →
-        IfOk result (AreToldOf policy_text users_text texts (O.taken out.old) (O.taken out.new)) }
+        IfOk result (AreWrittenOf policy_text users_text texts (O.taken out.old) (O.taken out.new)) }
 {
     let files = read_files(rt, alloc, source, policy, users, captures, workers)?;
-    tell_faults(alloc, source, captures, &files.intake, &files.users, out)
+    write_faults(alloc, source, captures, &files.intake, &files.users, out)
 }

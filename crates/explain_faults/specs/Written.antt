@@ -10,16 +10,16 @@ use Rattle.explain_faults.specs.FaultsText.{faults_text, status_of}
 
 -- All faults that the captures show were written, with notes that the clause doesn't specify, and
 -- the status is 1 if there are any.
-pub record AreTold (taken : Taken) (key_for : KeyFor) (before after : Option (List ℕ)) (status : ℕ) : Type 0 where
+pub record AreWritten (taken : Taken) (key_for : KeyFor) (before after : Option (List ℕ)) (status : ℕ) : Type 0 where
   pub faults : List Reported
   pub all : AreFaults taken key_for (map (λ reported. reported.shown) faults)
   pub first : List ℕ
   pub written : after ≡ followed_by before (faults_text taken first faults)
-  pub told : status ≡ status_of faults
+  pub are_written : status ≡ status_of faults
 
 -- the same for the bytes of these files
-pub record AreToldOf (policy users : List ℕ) (captures : List (List ℕ)) (before after : Option (List ℕ)) (status : ℕ) : Type 0 where
+pub record AreWrittenOf (policy users : List ℕ) (captures : List (List ℕ)) (before after : Option (List ℕ)) (status : ℕ) : Type 0 where
   pub taken : Taken
   pub key_for : KeyFor
   pub read : AreRead policy users captures taken key_for
-  pub told : AreTold taken key_for before after status
+  pub are_written : AreWritten taken key_for before after status

@@ -2,7 +2,7 @@ use Rattle.std.proofs.Common.{ℕ, [], List, None, Some, map, subst, true}
 use Rattle.audit_finder.specs.Found.{IsFound}
 use Rattle.audit_program.specs.Answered.{IsRun}
 use Rattle.tests_host.specs.Held.{gave_of, held_among}
-use Rattle.tests_host.proofs.answers.ask.Goals as goal
+use Rattle.tests_host.proofs.answers.run_program.Goals as goal
 
 pub returns : goal.returns
 returns g c =

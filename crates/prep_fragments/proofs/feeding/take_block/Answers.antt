@@ -4,7 +4,7 @@ use Rattle.prep_fragments.specs.Parts.{part_of}
 use Rattle.prep_fragments.specs.Opens.{opened, extended}
 use Rattle.prep_fragments.specs.Reassembling.{pending, IsHeld}
 use Rattle.prep_fragments.proofs.Held.{holds_part, put_twice, held_first, held_next, held_none}
-use Rattle.prep_fragments.proofs.taking.take_block.Goals as goal
+use Rattle.prep_fragments.proofs.feeding.take_block.Goals as goal
 
 pub returns-in_default-take_out-clause-holds : goal.returns-in_default-take_out-clause-holds
 returns-in_default-take_out-clause-holds c = λ blocks h.
