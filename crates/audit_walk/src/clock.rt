@@ -56,6 +56,11 @@ impl Clock {
         self.latest = latest;
     }
 
+    /// Lets the current departure wait until `latest` at most.
+    pub fn limit(&mut self, latest: u64) {
+        self.latest = self.latest.min(latest);
+    }
+
     /// The latest moment of the current departure.
     pub fn latest(&self) -> u64 {
         self.latest

@@ -1,8 +1,10 @@
 //! The interfaces: how far each was placed, which comes next, and which wait.
 
+mod deletions;
 mod rows;
 mod waiting;
 
+pub use self::deletions::DATA_WAITING;
 use self::rows::Row;
 pub use self::rows::{Data, Role, WAITS, Wait};
 use crate::heads::Heads;
@@ -21,6 +23,8 @@ pub struct Interfaces {
     waiting: BTreeMap<ArrivalNumber, u32>,
     /// The interfaces whose next departure waits for the next sighting of any interface.
     expecting: Vec<u32>,
+    /// The interfaces whose next departure waits for data, at most `DATA_WAITING`.
+    for_data: Vec<u32>,
     alloc: Global,
 }
 
@@ -31,6 +35,7 @@ impl Interfaces {
             heads: Heads::new(alloc),
             waiting: BTreeMap::new(alloc),
             expecting: Vec::new(alloc),
+            for_data: Vec::new(alloc),
             alloc,
         }
     }
@@ -61,6 +66,7 @@ impl Interfaces {
 
     /// Begins to place the next sighting of an interface, and returns its role.
     pub fn start_next(&mut self, iface: u32) -> Option<(SightId, Role)> {
+        self.end_data_wait(iface);
         let row = self.rows.get_mut(iface as usize)?;
         row.start();
         row.next(iface)

@@ -130,6 +130,24 @@ impl Lanes {
         self.allocations.insert(relayed, moment, answer)
     }
 
+    /// The first response that makes an allocation of a relayed address, and on whose request the
+    /// server may act at a moment.
+    pub fn expected_allocation(
+        &self,
+        judge: &Judge<'_>,
+        datagrams: &Datagrams,
+        relayed: Addr,
+        moment: u64,
+    ) -> Option<AnswerNumber> {
+        self.allocations.first(judge, datagrams, relayed, moment)
+    }
+
+    /// The first moment, not before `from`, at which a response leaves that makes an allocation of
+    /// a relayed address.
+    pub fn next_allocation(&self, relayed: Addr, from: u64) -> Option<u64> {
+        self.allocations.next_moment(relayed, from)
+    }
+
     /// Forgets a response that makes an allocation, once the server has acted on its request.
     pub fn forget_allocation(&mut self, relayed: Addr, moment: u64, answer: AnswerNumber) {
         self.allocations.remove(relayed, moment, answer);

@@ -5,6 +5,8 @@ ghost use Rattle.std.specs.Prelude.{◌≡◌, OnOk};
 mod acting;
 mod asking;
 mod deciding;
+mod deleting;
+mod early;
 mod leaving;
 mod matching;
 mod noting;
@@ -14,7 +16,7 @@ use crate::ahead::Ahead;
 use crate::clock::Clock;
 use crate::datagrams::Datagrams;
 use crate::found::Found;
-use crate::interfaces::{Interfaces, Role, WAITS};
+use crate::interfaces::{DATA_WAITING, Interfaces, Role, WAITS};
 use crate::judge::Judge;
 use crate::lanes::Lanes;
 use crate::portion::Portion;
@@ -103,8 +105,10 @@ impl Search {
     /// Places sightings, the least moment first, up to the horizon.
     fn go_on(&mut self, judge: &Judge<'_>, horizon: u64) -> Result<(), AllocError> {
         let (_, sightings) = judge.intake().counts();
-        // Each sighting is queued once, and twice each time that it waits.
-        for _ in 0..(2 * WAITS as u64 + 4) * (sightings as u64 + 1) {
+        // A sighting is queued once, a request perhaps twice, and a departure twice each time that
+        // it waits, when each of those that wait for data may be queued once more.
+        let each = (2 + DATA_WAITING as u64) * WAITS as u64 + 4;
+        for _ in 0..each * (sightings as u64 + 1) {
             let Some((moment, iface)) = self.interfaces.pop(horizon) else {
                 return Ok(());
             };
@@ -126,6 +130,10 @@ impl Search {
         };
         let wait = match role {
             Role::Arrival(number) => {
+                let earliest = self.datagrams.earliest_request(judge, number);
+                if earliest > self.clock.moment() && earliest <= judge.latest_moment(sighting) {
+                    return self.interfaces.queue(&self.clock, iface, earliest);
+                }
                 self.place_arrival(judge, number, sighting)?;
                 None
             }

@@ -36,10 +36,22 @@ impl Datagrams {
             return None;
         }
         let request = judge.sighting(arrival.sight())?;
-        if judge.first_moment(answer) > judge.latest_answer(judge.first_moment(request)) {
+        if judge.first_moment(answer) > judge.latest_answer(judge.latest_moment(request)) {
             return None;
         }
         Some(number)
+    }
+
+    /// The earliest moment of an arrival from which the response linked with it leaves within
+    /// `hold`; 0 if it has none.
+    pub fn earliest_request(&self, judge: &Judge<'_>, number: ArrivalNumber) -> u64 {
+        let Some(answer) = self.noted_answer(number) else {
+            return 0;
+        };
+        match self.leaves(judge, answer) {
+            Some(leaves) => judge.earliest_arrival(judge.first_moment(leaves)),
+            None => 0,
+        }
     }
 
     /// Finds the response to a request that has none yet: the first of its transaction that has no

@@ -47,10 +47,15 @@ pub enum Wait {
     Arrival(ArrivalNumber),
     /// The next sighting of any interface.
     Next,
+    /// Data that arrives and may be relayed before the departure's request deletes the allocation.
+    Data(ArrivalNumber),
 }
 
 /// How often the next sighting of any interface wakes a waiting departure.
 pub const WAITS: u32 = 64;
+
+/// How often a departure waits for data.
+const DATA_WAITS: u32 = 8;
 
 /// How many tries one departure has. An act is one try, plus one for every `UNIT` bytes of its
 /// datagrams.
@@ -79,6 +84,8 @@ pub struct Row {
     queued: Option<u64>,
     /// What the next one waits for.
     wait: Option<Wait>,
+    /// The moment until which it waits at most.
+    until: u64,
 }
 
 impl Row {
@@ -91,6 +98,7 @@ impl Row {
             tried: 0,
             queued: None,
             wait: None,
+            until: 0,
         }
     }
 
@@ -102,6 +110,14 @@ impl Row {
     /// Whether it is queued at that moment.
     pub fn is_queued_at(&self, moment: u64) -> bool {
         self.queued == Some(moment)
+    }
+
+    /// Whether it is queued after that moment.
+    pub fn is_queued_after(&self, moment: u64) -> bool {
+        match self.queued {
+            Some(queued) => queued > moment,
+            None => false,
+        }
     }
 
     /// Notes that it is queued at that moment.
@@ -119,10 +135,29 @@ impl Row {
         self.wait == Some(wait)
     }
 
-    /// Lets the next sighting wait. Returns whether the next sighting of any interface wakes it: it
-    /// waits for that, and hasn't waited often.
-    pub fn wait_for(&mut self, wait: Wait) -> bool {
+    /// The moment until which the next sighting waits, if it waits for anything but data.
+    pub fn waits_until(&self) -> Option<u64> {
+        match self.wait {
+            None | Some(Wait::Data(_)) => None,
+            Some(Wait::Arrival(_) | Wait::Next) => Some(self.until),
+        }
+    }
+
+    /// Whether the next sighting may wait for data once more.
+    pub fn may_wait_for_data(&self) -> bool {
+        self.waits < DATA_WAITS
+    }
+
+    /// Lets the next sighting wait as often again.
+    pub fn renew_waits(&mut self) {
+        self.waits = 0;
+    }
+
+    /// Lets the next sighting wait until a moment at most. Returns whether the next sighting of any
+    /// interface wakes it: it waits for that, and hasn't waited often.
+    pub fn wait_for(&mut self, wait: Wait, until: u64) -> bool {
         self.wait = Some(wait);
+        self.until = until;
         self.waits = self.waits.saturating_add(1);
         wait == Wait::Next && self.waits < WAITS
     }
@@ -150,6 +185,11 @@ impl Row {
         let role = self.roles.front()?;
         let index = self.placed;
         Some((SightId { iface, index }, *role))
+    }
+
+    /// The role of the sighting that comes `count` sightings after the next one.
+    pub fn role_after(&self, count: usize) -> Option<Role> {
+        self.roles.get(count).copied()
     }
 
     /// Whether each of its sightings that was noted has a key.

@@ -50,7 +50,7 @@ impl Interfaces {
     }
 
     /// Queues an interface at a moment, or now if that has passed.
-    fn queue(&mut self, clock: &Clock, iface: u32, moment: u64) -> Result<(), AllocError> {
+    pub fn queue(&mut self, clock: &Clock, iface: u32, moment: u64) -> Result<(), AllocError> {
         let moment = moment.max(clock.moment());
         if let Some(row) = self.rows.get_mut(iface as usize) {
             row.queue_at(moment);
@@ -79,15 +79,20 @@ impl Interfaces {
             }
         }
         if let Some(row) = self.rows.get_mut(iface as usize) {
-            if row.wait_for(wait) {
+            if row.wait_for(wait, clock.latest()) {
                 self.expecting.push(iface)?;
             }
+        }
+        match wait {
+            Wait::Data(_) => self.begin_data_wait(iface)?,
+            Wait::Arrival(_) | Wait::Next => self.hasten(clock)?,
         }
         self.queue(clock, iface, clock.latest())
     }
 
-    /// Queues the interface whose next departure waits for an arrival, if there is one.
+    /// Queues the interfaces whose next departures wait for an arrival.
     pub fn wake(&mut self, clock: &Clock, number: ArrivalNumber) -> Result<(), AllocError> {
+        self.wake_for_data(clock, number)?;
         match self.waiting.remove(&number) {
             Some(iface) => self.wake_row(clock, iface, Wait::Arrival(number)),
             None => Ok(()),
@@ -107,7 +112,12 @@ impl Interfaces {
     }
 
     /// Queues an interface now, if its next departure waits for that.
-    fn wake_row(&mut self, clock: &Clock, iface: u32, wait: Wait) -> Result<(), AllocError> {
+    pub(super) fn wake_row(
+        &mut self,
+        clock: &Clock,
+        iface: u32,
+        wait: Wait,
+    ) -> Result<(), AllocError> {
         match self.rows.get(iface as usize) {
             Some(row) if row.is_waiting_for(wait) => self.queue(clock, iface, 0),
             _ => Ok(()),

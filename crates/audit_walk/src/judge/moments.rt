@@ -44,6 +44,13 @@ impl Judge<'_> {
         moment.saturating_add(self.policy().hold)
     }
 
+    /// The moment until which a response may wait for data: at most a fourth of `hold`, since what
+    /// leaves after it on its interface waits, too.
+    pub(crate) fn data_wait_end(&self, leaves: &Sighting) -> u64 {
+        let longest = (self.policy().hold / 4).min(LONGEST);
+        self.first_moment(leaves).saturating_add(longest)
+    }
+
     /// How far ahead of a moment sightings are read, in nanoseconds.
     pub(crate) fn look_ahead(&self) -> u64 {
         let policy = self.policy();

@@ -54,6 +54,49 @@ impl Allocations {
         });
     }
 
+    /// The first response that makes an allocation of a relayed address, and on whose request the
+    /// server may act at a moment.
+    pub fn first(
+        &self,
+        judge: &Judge<'_>,
+        datagrams: &Datagrams,
+        relayed: Addr,
+        moment: u64,
+    ) -> Option<AnswerNumber> {
+        let from = Expected {
+            relayed,
+            moment: 0,
+            answer: AnswerNumber::new(0),
+        };
+        for expected in self.answers.range(from..).take(LOOKED_AT) {
+            if expected.relayed != relayed {
+                return None;
+            }
+            if let Some(request) = datagrams.request(expected.answer) {
+                if datagrams.may_act_at(judge, moment, request) {
+                    return Some(expected.answer);
+                }
+            }
+        }
+        None
+    }
+
+    /// The first moment, not before `from`, at which a response leaves that makes an allocation of
+    /// a relayed address.
+    pub fn next_moment(&self, relayed: Addr, from: u64) -> Option<u64> {
+        let from = Expected {
+            relayed,
+            moment: from,
+            answer: AnswerNumber::new(0),
+        };
+        for expected in self.answers.range(from..).take(1) {
+            if expected.relayed == relayed {
+                return Some(expected.moment);
+            }
+        }
+        None
+    }
+
     /// Whether another client must have had the relayed address before: its allocation can end
     /// before this one is made, and this one can't end before that one is made.
     pub fn has_to_follow(

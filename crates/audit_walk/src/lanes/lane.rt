@@ -166,6 +166,21 @@ impl FoundLane {
         self.pending.first_change(datagrams, but)
     }
 
+    /// The first delayed response that makes an allocation.
+    pub fn pending_allocation(&self, datagrams: &Datagrams) -> Option<AnswerNumber> {
+        self.pending.first_allocation(datagrams)
+    }
+
+    /// The first delayed response that leaves after another one, and neither makes nor deletes an
+    /// allocation.
+    pub fn pending_other(
+        &self,
+        datagrams: &Datagrams,
+        after: Option<SightId>,
+    ) -> Option<(SightId, AnswerNumber)> {
+        self.pending.next_other(datagrams, after)
+    }
+
     /// The delayed response that says that the allocation is deleted.
     pub fn pending_deletion(&self) -> Option<AnswerNumber> {
         self.pending.deletion()
@@ -227,6 +242,11 @@ impl FoundLane {
             }
         }
         None
+    }
+
+    /// The relayed address of its allocation, if it has one.
+    pub fn relayed(&self) -> Option<Addr> {
+        Some(self.current.running()?.relayed)
     }
 
     /// Whether it has an allocation.

@@ -6,6 +6,7 @@ use crate::numbers::AnswerNumber;
 use audit_model::SightId;
 use std::alloc::{AllocError, Global};
 use std::collections::BTreeMap;
+use std::ops::Bound;
 
 /// How many delayed responses are looked at for one that makes or deletes an allocation.
 const LOOKED_AT: usize = 8;
@@ -71,6 +72,39 @@ impl Pending {
                 {
                     return Some(*answer);
                 }
+            }
+        }
+        None
+    }
+
+    /// The first response that makes an allocation.
+    pub fn first_allocation(&self, datagrams: &Datagrams) -> Option<AnswerNumber> {
+        for (_, answer) in self.answers.iter().take(LOOKED_AT) {
+            if datagrams.relayed(*answer).is_some() {
+                return Some(*answer);
+            }
+        }
+        None
+    }
+
+    /// The first response after another one that neither makes nor deletes an allocation.
+    pub fn next_other(
+        &self,
+        datagrams: &Datagrams,
+        after: Option<SightId>,
+    ) -> Option<(SightId, AnswerNumber)> {
+        let rest = match after {
+            Some(after) => self
+                .answers
+                .range((Bound::Excluded(after), Bound::Unbounded)),
+            None => self.answers.range(..),
+        };
+        for (sight, answer) in rest.take(LOOKED_AT) {
+            if datagrams
+                .content(*answer)
+                .is_some_and(|content| !content.is_change())
+            {
+                return Some((*sight, *answer));
             }
         }
         None

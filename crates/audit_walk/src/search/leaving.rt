@@ -12,7 +12,7 @@ use audit_seen::LaneNumber;
 use std::alloc::AllocError;
 
 /// How many delayed responses are acted on so that another one may be.
-const GIVEN_BEFORE: usize = 8;
+pub(super) const GIVEN_BEFORE: usize = 8;
 
 impl Search {
     /// Places a success or error response after its act, or returns what it waits for.
@@ -40,6 +40,9 @@ impl Search {
                 }
                 if self.is_held_elsewhere(judge, &known) && self.clock.has_time() {
                     return Ok(Some(Wait::Next));
+                }
+                if let Some(data) = self.data_before(judge, lane, &known, leaves) {
+                    return Ok(Some(Wait::Data(data)));
                 }
                 self.answer_late(judge, lane, request, answer)?;
             }

@@ -14,7 +14,7 @@ use std::alloc::AllocError;
 
 /// The arrival for which a departure is sent.
 #[derive(Clone, Copy, Debug)]
-enum Choice {
+pub(super) enum Choice {
     /// The rules allow it in this lane, for this arrival, at this key.
     Acts(LaneNumber, ArrivalNumber, Key),
     /// It may be an arrival that has no key yet, and has this first moment.
@@ -41,28 +41,39 @@ impl Search {
     ///
     /// The act is placed when the data leaves, so that a permission that was requested before is
     /// there. Otherwise it is placed before the allocation was deleted, or at the arrival, before
-    /// the permission ended.
+    /// the permission ended. If the rules allow none of these, delayed responses are acted on.
     pub(super) fn place_data(
         &mut self,
         judge: &Judge<'_>,
         leaves: &Sighting,
         data: &Data,
     ) -> Result<Option<Wait>, AllocError> {
-        let asked = self.lanes.asked_by(judge, leaves, data);
-        if let Some(asked) = &asked {
-            match self.choose(judge, asked, leaves)? {
-                Choice::Acts(lane, number, key) => {
-                    self.write_act(judge, lane, number, leaves.id, key)?;
-                    return self.leave(judge, lane, leaves);
-                }
-                Choice::Waits(number, _) => return Ok(Some(Wait::Arrival(number))),
-                Choice::None => {}
+        let mut choice = self.choose_by(judge, leaves, data)?;
+        if let Choice::None = choice {
+            if self.clock.has_time() {
+                return Ok(Some(Wait::Next));
             }
+            choice = self.choose_early(judge, leaves, data)?;
         }
-        if self.clock.has_time() {
-            return Ok(Some(Wait::Next));
+        match choice {
+            Choice::Acts(lane, number, key) => {
+                self.write_act(judge, lane, number, leaves.id, key)?;
+                self.leave(judge, lane, leaves)
+            }
+            Choice::Waits(number, _) => Ok(Some(Wait::Arrival(number))),
+            Choice::None => self.place_unexplained(judge, leaves, data),
         }
+    }
+
+    /// Places data that the rules don't allow after an act on its most likely arrival.
+    fn place_unexplained(
+        &mut self,
+        judge: &Judge<'_>,
+        leaves: &Sighting,
+        data: &Data,
+    ) -> Result<Option<Wait>, AllocError> {
         self.found.mark_suspect();
+        let asked = self.lanes.asked_by(judge, leaves, data);
         let lane = match asked.or(self.asked_by_last(judge, leaves, data.digest())) {
             Some(asked) => match self.likely(judge, &asked, leaves)? {
                 Some((lane, number)) => {
@@ -85,6 +96,19 @@ impl Search {
         }
         let lane = self.datagrams.last_sender().or(self.lanes.first())?;
         Some(self.lanes.asked_by_one(lane, leaves, digest))
+    }
+
+    /// The first arrival of the data's causes for which the rules allow it, or for which it waits.
+    pub(super) fn choose_by(
+        &mut self,
+        judge: &Judge<'_>,
+        leaves: &Sighting,
+        data: &Data,
+    ) -> Result<Choice, AllocError> {
+        match self.lanes.asked_by(judge, leaves, data) {
+            Some(asked) => self.choose(judge, &asked, leaves),
+            None => Ok(Choice::None),
+        }
     }
 
     fn choose(
@@ -126,7 +150,7 @@ impl Search {
             if self.datagrams.may_come(judge, &self.clock, number) {
                 return Ok(Choice::Waits(number, judge.first_moment(arrives)));
             }
-            if !self.count_try(arrives, leaves) {
+            if !self.count_try(leaves.id.iface, arrives, leaves) {
                 return Ok(Choice::None);
             }
             if let Some(key) = self.key_by(judge, lane, number, leaves)? {
@@ -137,16 +161,16 @@ impl Search {
         Ok(Choice::None)
     }
 
-    /// Counts an act that is tried for a departure, and returns whether it may be tried.
-    fn count_try(&mut self, arrives: &Sighting, leaves: &Sighting) -> bool {
+    /// Counts an act that is tried for the next departure of an interface, and returns whether it
+    /// may be tried.
+    pub(super) fn count_try(&mut self, iface: u32, arrives: &Sighting, leaves: &Sighting) -> bool {
         let is_last_moment = !self.clock.has_time();
         let bytes = arrives
             .payload
             .as_slice()
             .len()
             .saturating_add(leaves.payload.as_slice().len());
-        self.interfaces
-            .count_try(leaves.id.iface, is_last_moment, bytes)
+        self.interfaces.count_try(iface, is_last_moment, bytes)
     }
 
     /// The key at which the rules allow the departure for that arrival.

@@ -32,6 +32,7 @@ impl Search {
     /// Adds the clients, and queues each interface that has a sighting without a key.
     pub fn begin(&mut self, judge: &Judge<'_>) -> Result<(), AllocError> {
         self.lanes.add_all(judge.clients())?;
+        self.interfaces.renew_data_waits();
         for iface in 0..judge.intake().interfaces() {
             self.interfaces.add(iface)?;
             self.interfaces.queue_next(judge, &self.clock, iface)?;
