@@ -33,7 +33,7 @@ impl Finder {
     pub fn new(alloc: Global, seed: RandomState) -> Finder
         ensures clients { result.clients.pairs ≡ [] }
         ensures looked { result.clients.looked.items ≡ [] }
-        ensures horizon { result.search.given_to ≡ None }
+        ensures horizon { result.search.placed_to ≡ None }
     {
         Finder {
             clients: Clients::new(alloc, seed),
@@ -64,9 +64,9 @@ impl Finder {
         ensures clients { OnOk result (self.new.clients.pairs ≡ with_new self.old.clients.looked.items (taken intake.now) self.old.clients.pairs) }
         ensures looked { OnOk result (self.new.clients.looked.items ≡ row_lengths (taken intake.now)) }
         // All of it is after the last horizon, and no later than this one.
-        ensures inside { IfOk result (StandInside self.old.search.given_to horizon) }
+        ensures inside { IfOk result (StandInside self.old.search.placed_to horizon) }
         // The next call returns events after this horizon.
-        ensures horizon { OnOk result (self.new.search.given_to ≡ Some horizon) }
+        ensures horizon { OnOk result (self.new.search.placed_to ≡ Some horizon) }
     {
         let known = self.clients.len();
         self.clients.take_in(self.alloc, intake)?;
@@ -77,7 +77,7 @@ impl Finder {
             &self.clients,
             Windows::Whole,
         );
-        let last = self.search.given_to();
+        let last = self.search.placed_to();
         let portion = self.search.go(&judge, &mut self.ahead, horizon)?;
         let turn = Turn::new(last, horizon);
         let lanes = self.clients.lanes_from(known);

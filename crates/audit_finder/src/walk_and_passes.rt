@@ -77,7 +77,7 @@ impl CertificateFinder for WalkAndPasses {
 }
 
 impl ExtensionFinder for Finder {
-    ghost given_to = { λ finder. finder.search.given_to };
+    ghost placed_to = { λ finder. finder.search.placed_to };
 
     fn extend(
         &mut self,

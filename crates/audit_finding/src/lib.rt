@@ -67,7 +67,7 @@ pub trait CertificateFinder {
 
     /// The finder for captures that grow, before its first portion.
     fn extending(&self, alloc: Global) -> Self::Extending
-        ensures { Self.Extending.given_to result ≡ None };
+        ensures { Self.Extending.placed_to result ≡ None };
 }
 
 /// Makes the certificate of captures that grow, in portions.
@@ -76,7 +76,7 @@ pub trait ExtensionFinder {
     ghost use Rattle.audit_finding.specs.Turn.{StandInside};
 
     /// The last horizon, up to which it returned all events.
-    ghost given_to: { Self → Option ℕ };
+    ghost placed_to: { Self → Option ℕ };
 
     /// Returns the additions to the certificate up to a horizon. After an `AllocError` it can't
     /// continue.
@@ -87,6 +87,6 @@ pub trait ExtensionFinder {
         horizon: u64,
     ) -> Result<Extension, AllocError>
         // All of it is after the last horizon, and no later than this one.
-        ensures inside { IfOk result (StandInside (given_to self.old) horizon) }
-        ensures given { OnOk result (given_to self.new ≡ Some horizon) };
+        ensures inside { IfOk result (StandInside (placed_to self.old) horizon) }
+        ensures given { OnOk result (placed_to self.new ≡ Some horizon) };
 }

@@ -23,7 +23,7 @@ impl Breach {
 
     /// The order in which breaches of one phase are reported: by moment, tie, lane, rule, place and
     /// sighting.
-    pub fn telling_order(&self, other: &Breach) -> Ordering
+    pub fn report_order(&self, other: &Breach) -> Ordering
         ensures { result ≡ breach_cmp self.now other.now }
     {
         self.at
@@ -40,7 +40,7 @@ impl Breach {
         ensures { result ≡ lesser first second }
     {
         match (first, second) {
-            (Some(one), Some(other)) => match other.telling_order(&one) {
+            (Some(one), Some(other)) => match other.report_order(&one) {
                 Ordering::Less => Some(other),
                 _ => Some(one),
             },

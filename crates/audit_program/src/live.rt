@@ -118,7 +118,7 @@ impl<F: ExtensionFinder + Drop> Watch<F> {
             IfSome users.entry (λ name. S.holds source.old name.now ≡ Some users_text) → IfNone users.entry (users_text ≡ []) →
             IfOk result (λ watch. Goes policy_text users_text (length captures.now) (S.bytes_read source.new) watch.live) }
         ensures files { IfOk result (λ watch. vec_len watch.live.intake.files ≡ length captures.now) }
-        ensures step { F.given_to finder ≡ None → IfOk result (λ watch. watch.is_stuck ≡ false → F.given_to watch.finder ≡ watch.live.last) }
+        ensures step { F.placed_to finder ≡ None → IfOk result (λ watch. watch.is_stuck ≡ false → F.placed_to watch.finder ≡ watch.live.last) }
         ensures unread { OnOk result (AreUnread (length captures.now) (S.reads source.new)) }
         ensures refused { (policy_text users_text : List ℕ) (bytes_read : ℕ → Option (List ℕ)) →
             S.holds source.old policy.now ≡ Some policy_text →
@@ -196,9 +196,9 @@ impl<F: ExtensionFinder + Drop> Watch<F> {
     /// The finder's extension up to a horizon. It is never out of turn, so no advance by it is
     /// refused for that (G2).
     fn extension(&mut self, horizon: u64) -> Result<Extension, AllocError>
-        requires { F.given_to self.old.finder ≡ self.old.live.last }
+        requires { F.placed_to self.old.finder ≡ self.old.live.last }
         ensures in_turn { IfOk result (λ extension. ¬ IsOutOfTurn (standing_of self.old.live) horizon extension) }
-        ensures extended { OnOk result (F.given_to self.new.finder ≡ Some horizon) }
+        ensures extended { OnOk result (F.placed_to self.new.finder ≡ Some horizon) }
         ensures live { (self.new.live ≡ self.old.live) × (self.new.is_stuck ≡ self.old.is_stuck) }
     {
         self.finder
@@ -207,14 +207,14 @@ impl<F: ExtensionFinder + Drop> Watch<F> {
 
     /// Finds the certificate up to a horizon, and advances the audit by it.
     fn advance(&mut self, horizon: u64) -> Result<Turn, AllocError>
-        requires { self.old.is_stuck ≡ false → F.given_to self.old.finder ≡ self.old.live.last }
+        requires { self.old.is_stuck ≡ false → F.placed_to self.old.finder ≡ self.old.live.last }
         ensures left { (policy users : List ℕ) (count : ℕ) (bytes_read : ℕ → Option (List ℕ)) → Goes policy users count bytes_read self.old.live
             → IfOk result (λ turn. LeftBy turn policy users count bytes_read self.new.live) }
         ensures files { vec_len self.new.live.intake.files ≡ vec_len self.old.live.intake.files }
         ensures intake { self.new.live.intake ≡ self.old.live.intake }
         ensures fed { IfOk result (λ turn. turn ≢ Quiet) }
         ensures last { IfOk result (λ turn. turn ≢ Refused → self.new.is_stuck ≡ false → self.new.live.last ≡ Some horizon) }
-        ensures extended { OnOk result (self.new.is_stuck ≡ false → F.given_to self.new.finder ≡ Some horizon) }
+        ensures extended { OnOk result (self.new.is_stuck ≡ false → F.placed_to self.new.finder ≡ Some horizon) }
         ensures over { self.old.live.ended ≡ None → IfOk result (λ turn. turn ≡ Refused
             → (self.new.live.ended ≢ None) ⊎ IsNotLater (standing_of self.old.live) horizon) }
     {
@@ -240,12 +240,12 @@ impl<F: ExtensionFinder + Drop> Watch<F> {
         piece: &mut [u8],
     ) -> Result<Turn, Stop>
         requires files { vec_len self.old.live.intake.files ≡ length names.now }
-        requires step { self.old.is_stuck ≡ false → F.given_to self.old.finder ≡ self.old.live.last }
+        requires step { self.old.is_stuck ≡ false → F.placed_to self.old.finder ≡ self.old.live.last }
         ensures left { (policy users : List ℕ) (count : ℕ) → Goes policy users count (S.bytes_read source.old) self.old.live
             → IfOk result (λ turn. LeftBy turn policy users count (S.bytes_read source.new) self.new.live) }
         ensures files { vec_len self.new.live.intake.files ≡ vec_len self.old.live.intake.files }
         ensures horizon { IfOk result (λ turn. self.new.is_stuck ≡ false → IsTurned turn (taken self.new.live.intake) self.old.live.last self.new.live.last) }
-        ensures step { IfOk result (λ turn. turn ≢ Refused → self.new.is_stuck ≡ false → F.given_to self.new.finder ≡ self.new.live.last) }
+        ensures step { IfOk result (λ turn. turn ≢ Refused → self.new.is_stuck ≡ false → F.placed_to self.new.finder ≡ self.new.live.last) }
         ensures over { (policy users : List ℕ) (count : ℕ) → Goes policy users count (S.bytes_read source.old) self.old.live
             → IfOk result (λ turn. turn ≡ Refused → self.new.live.ended ≢ None) }
         ensures read { IfOk result (λ turn. turn ≢ Refused → AreReadOnce turn (length names.now) (S.reads source.old) (S.reads source.new)) }
@@ -271,14 +271,14 @@ impl<F: ExtensionFinder + Drop> Watch<F> {
         idle: u32,
     ) -> Result<Option<u32>, Stop>
         requires files { vec_len self.old.live.intake.files ≡ length names.now }
-        requires step { self.old.is_stuck ≡ false → F.given_to self.old.finder ≡ self.old.live.last }
+        requires step { self.old.is_stuck ≡ false → F.placed_to self.old.finder ≡ self.old.live.last }
         requires room { idle < 4294967295 }
         ensures goes { (policy users : List ℕ) (count : ℕ) → Goes policy users count (S.bytes_read source.old) self.old.live
             → IfOk result (λ idle. IfSome idle (λ _. Goes policy users count (S.bytes_read source.new) self.new.live)) }
         ensures follows { (policy users : List ℕ) (count : ℕ) → Goes policy users count (S.bytes_read source.old) self.old.live
             → OnOk result (Follows policy users count (S.bytes_read source.new) self.new.live) }
         ensures files { vec_len self.new.live.intake.files ≡ vec_len self.old.live.intake.files }
-        ensures step { IfOk result (λ idle. IfSome idle (λ _. self.new.is_stuck ≡ false → F.given_to self.new.finder ≡ self.new.live.last)) }
+        ensures step { IfOk result (λ idle. IfSome idle (λ _. self.new.is_stuck ≡ false → F.placed_to self.new.finder ≡ self.new.live.last)) }
         ensures over { (policy users : List ℕ) (count : ℕ) → Goes policy users count (S.bytes_read source.old) self.old.live
             → IfOk result (λ idle. IfNone idle (self.new.live.ended ≢ None)) }
         ensures few { IfOk result (λ now. IfSome now (λ idle_now. idle_now ≤ idle + 1)) }
@@ -303,7 +303,7 @@ impl<F: ExtensionFinder + Drop> Watch<F> {
         source: &mut S,
     ) -> Result<(), Stop>
         requires files { vec_len self.old.live.intake.files ≡ length names.now }
-        requires step { self.old.is_stuck ≡ false → F.given_to self.old.finder ≡ self.old.live.last }
+        requires step { self.old.is_stuck ≡ false → F.placed_to self.old.finder ≡ self.old.live.last }
         ensures follows { (policy users : List ℕ) (count : ℕ) → Goes policy users count (S.bytes_read source.old) self.old.live
             → OnOk result (Follows policy users count (S.bytes_read source.new) self.new.live) }
         ensures ended { (policy users : List ℕ) (count : ℕ) → Goes policy users count (S.bytes_read source.old) self.old.live → AreUnread (length names.now) (S.reads source.old)

@@ -81,14 +81,14 @@ pub fn after(key: Key) -> Key {
 }
 
 /// Whether an event may still be emitted at a key, if events were emitted up to a horizon.
-pub fn is_open(given_to: Option<u64>, key: Key) -> bool {
-    given_to.is_none_or(|given_to| key.moment > given_to)
+pub fn is_open(placed_to: Option<u64>, key: Key) -> bool {
+    placed_to.is_none_or(|placed_to| key.moment > placed_to)
 }
 
 /// The least key after which an event that follows `key` may still be emitted, if events were
 /// emitted up to a horizon.
-pub fn open_behind(given_to: Option<u64>, key: Key) -> Key {
-    match given_to {
+pub fn open_behind(placed_to: Option<u64>, key: Key) -> Key {
+    match placed_to {
         Some(moment) if key.moment <= moment => Key {
             moment,
             tie: u32::MAX,

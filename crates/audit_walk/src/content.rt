@@ -33,8 +33,8 @@ impl Content {
 }
 
 /// The transaction id of a success or error response, and its content.
-pub fn answer_of(given: &ToClient<'_>) -> Option<([u8; 12], Content)> {
-    match *given {
+pub fn answer_of(sent: &ToClient<'_>) -> Option<([u8; 12], Content)> {
+    match *sent {
         ToClient::Success { id, success, .. } => Some((id, success_content(success))),
         ToClient::Error { method, id, code } => Some((id, error_content(method, code))),
         ToClient::Data { .. } | ToClient::Channel { .. } => None,

@@ -106,8 +106,8 @@ impl Datagrams {
 
     /// Marks the event of an arrival that has a key as emitted. Returns the key, unless the event
     /// was emitted before.
-    pub fn give(&mut self, number: ArrivalNumber) -> Option<Key> {
-        self.arrivals.give(number)
+    pub fn emit(&mut self, number: ArrivalNumber) -> Option<Key> {
+        self.arrivals.emit(number)
     }
 
     /// Marks a response as acted on, and returns it.

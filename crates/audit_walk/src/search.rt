@@ -3,13 +3,13 @@
 ghost use Rattle.std.specs.Prelude.{◌≡◌, OnOk};
 
 mod acting;
-mod asking;
 mod deciding;
 mod deleting;
 mod early;
 mod leaving;
 mod matching;
 mod noting;
+mod requests;
 mod walking;
 
 use crate::ahead::Ahead;
@@ -37,14 +37,14 @@ pub struct Search {
     /// Whether requests are acted on when their responses leave, not when they arrive.
     is_late: bool,
     /// Events are emitted past this moment.
-    given_to: Option<u64>,
+    placed_to: Option<u64>,
     alloc: Global,
 }
 
 impl Search {
     /// Nothing was found yet. Allocates no memory.
     pub fn new(alloc: Global) -> Search
-        ensures { result.given_to ≡ None }
+        ensures { result.placed_to ≡ None }
     {
         Search {
             interfaces: Interfaces::new(alloc),
@@ -53,7 +53,7 @@ impl Search {
             found: Found::new(alloc),
             clock: Clock::new(),
             is_late: false,
-            given_to: None,
+            placed_to: None,
             alloc,
         }
     }
@@ -61,7 +61,7 @@ impl Search {
     /// A walk that acts on requests when their responses leave, so that leases last as long as
     /// possible. Nothing was found yet. Allocates no memory.
     pub fn late(alloc: Global) -> Search
-        ensures { result.given_to ≡ None }
+        ensures { result.placed_to ≡ None }
     {
         let mut search = Search::new(alloc);
         search.is_late = true;
@@ -69,10 +69,10 @@ impl Search {
     }
 
     /// The last horizon, past which events are emitted.
-    pub fn given_to(&self) -> Option<u64>
-        ensures { result ≡ self.now.given_to }
+    pub fn placed_to(&self) -> Option<u64>
+        ensures { result ≡ self.now.placed_to }
     {
-        self.given_to
+        self.placed_to
     }
 
     /// Whether the server kept its rules in all that was placed, as far as the walk can determine.
@@ -91,14 +91,14 @@ impl Search {
         ahead: &mut Ahead,
         horizon: u64,
     ) -> Result<Portion, AllocError>
-        ensures { OnOk result (self.new.given_to ≡ Some horizon) }
+        ensures { OnOk result (self.new.placed_to ≡ Some horizon) }
     {
-        if let Some(given_to) = self.given_to {
-            self.clock.reach(given_to.saturating_add(1));
+        if let Some(placed_to) = self.placed_to {
+            self.clock.reach(placed_to.saturating_add(1));
         }
         self.walk(judge, ahead, judge.placed_until(horizon))?;
         self.decide(judge, horizon)?;
-        self.given_to = Some(horizon);
+        self.placed_to = Some(horizon);
         self.found.take_until(horizon)
     }
 

@@ -125,7 +125,7 @@ impl Arrivals {
 
     /// Marks the event of an arrival that has a key as emitted. Returns the key, unless the event
     /// was emitted before.
-    pub fn give(&mut self, number: ArrivalNumber) -> Option<Key> {
+    pub fn emit(&mut self, number: ArrivalNumber) -> Option<Key> {
         let arrival = self.get_mut(number)?;
         let key = arrival.key?;
         if arrival.is_given {

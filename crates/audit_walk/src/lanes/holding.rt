@@ -88,8 +88,8 @@ impl Holding {
     }
 
     /// The cause of data with this digest that a client with this allocation receives.
-    pub fn cause_of(&self, given: &ToClient<'_>, digest: u64) -> Option<Cause> {
-        let peer = match *given {
+    pub fn cause_of(&self, sent: &ToClient<'_>, digest: u64) -> Option<Cause> {
+        let peer = match *sent {
             ToClient::Data { peer, .. } => peer,
             ToClient::Channel { number, .. } => self.peers.get(&number).copied()?,
             ToClient::Success { .. } | ToClient::Error { .. } => return None,

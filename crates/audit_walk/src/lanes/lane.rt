@@ -223,20 +223,20 @@ impl FoundLane {
     }
 
     /// The cause of data with this digest that the client receives.
-    pub fn cause_of(&self, given: &ToClient<'_>, digest: u64) -> Option<Cause> {
-        self.current.cause_of(given, digest)
+    pub fn cause_of(&self, sent: &ToClient<'_>, digest: u64) -> Option<Cause> {
+        self.current.cause_of(sent, digest)
     }
 
     /// The cause of data that the client receives, by the last of its deleted allocations that had
     /// such a peer, unless it is this one.
     pub fn cause_before(
         &self,
-        given: &ToClient<'_>,
+        sent: &ToClient<'_>,
         digest: u64,
         current: Option<Cause>,
     ) -> Option<Cause> {
         for deleted in self.deleted.iter().rev() {
-            let cause = deleted.holding().cause_of(given, digest);
+            let cause = deleted.holding().cause_of(sent, digest);
             if cause.is_some() && cause != current {
                 return cause;
             }

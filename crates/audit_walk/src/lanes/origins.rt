@@ -47,15 +47,15 @@ impl Origins {
 
 impl Lanes {
     /// The possible causes of data that leaves; none if nobody has or had its relayed address.
-    pub fn asked_by(&self, judge: &Judge<'_>, leaves: &Sighting, data: &Data) -> Option<Origins> {
+    pub fn origins_of(&self, judge: &Judge<'_>, leaves: &Sighting, data: &Data) -> Option<Origins> {
         let digest = data.digest();
         if judge.policy().listens(leaves.from) {
-            return Some(self.asked_by_peer(data.lane()?, leaves, digest));
+            return Some(self.origins_by_peer(data.lane()?, leaves, digest));
         }
         let holders = *self.holders.get(&leaves.from)?;
-        let [send, channel, deleted] = self.asked_by_client(holders.last(), leaves, digest);
+        let [send, channel, deleted] = self.origins_by_client(holders.last(), leaves, digest);
         let [send_previous, channel_previous, deleted_previous] = match holders.previous() {
-            Some(lane) => self.asked_by_client(lane, leaves, digest),
+            Some(lane) => self.origins_by_client(lane, leaves, digest),
             None => [None; 3],
         };
         Some(Origins {
@@ -72,8 +72,8 @@ impl Lanes {
     }
 
     /// The possible causes, in one lane, of data that leaves to a peer.
-    pub fn asked_by_one(&self, lane: LaneNumber, leaves: &Sighting, digest: u64) -> Origins {
-        let [send, channel, deleted] = self.asked_by_client(lane, leaves, digest);
+    pub fn origins_in_lane(&self, lane: LaneNumber, leaves: &Sighting, digest: u64) -> Origins {
+        let [send, channel, deleted] = self.origins_by_client(lane, leaves, digest);
         Origins {
             lane,
             list: [send, channel, deleted, None, None, None],
@@ -81,7 +81,7 @@ impl Lanes {
     }
 
     /// The causes, in one lane, of data that leaves to a peer.
-    fn asked_by_client(
+    fn origins_by_client(
         &self,
         lane: LaneNumber,
         leaves: &Sighting,
@@ -113,7 +113,7 @@ impl Lanes {
     }
 
     /// The causes of data that a client receives.
-    fn asked_by_peer(&self, lane: LaneNumber, leaves: &Sighting, digest: u64) -> Origins {
+    fn origins_by_peer(&self, lane: LaneNumber, leaves: &Sighting, digest: u64) -> Origins {
         let mut list = [None; 6];
         if let Some(client) = self.get(lane) {
             if let Some(given) = parse_to_client(leaves.payload.as_slice()) {

@@ -49,7 +49,7 @@ impl Search {
 
     /// Acts on the first delayed response of a lane, except this one, that makes or deletes an
     /// allocation, if the rules allow it. Returns whether it did.
-    pub(super) fn give_pending(
+    pub(super) fn act_on_pending(
         &mut self,
         judge: &Judge<'_>,
         lane: LaneNumber,
@@ -60,7 +60,7 @@ impl Search {
             None => None,
         };
         match other {
-            Some(other) => self.give(judge, lane, other),
+            Some(other) => self.act_on_response(judge, lane, other),
             None => Ok(false),
         }
     }
@@ -76,14 +76,14 @@ impl Search {
             None => None,
         };
         if let Some(deletion) = deletion {
-            let _did = self.give(judge, lane, deletion)?;
+            let _did = self.act_on_response(judge, lane, deletion)?;
         }
         Ok(())
     }
 
     /// Acts on a response now, if its request is known and the rules allow it. Returns whether it
     /// did.
-    fn give(
+    fn act_on_response(
         &mut self,
         judge: &Judge<'_>,
         lane: LaneNumber,
@@ -141,7 +141,7 @@ impl Search {
         let Some(sight) = self.datagrams.act(number) else {
             return Ok(());
         };
-        if let Some(came) = self.datagrams.give(number) {
+        if let Some(came) = self.datagrams.emit(number) {
             self.found.push(lane, Event::In { sight, key: came })?;
         }
         self.found.push(lane, Event::Act { sight, gives, key })

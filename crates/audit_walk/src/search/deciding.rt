@@ -29,7 +29,7 @@ impl Search {
         let Some(arrival) = self.datagrams.arrival(number).copied() else {
             return Ok(());
         };
-        let Some(key) = self.datagrams.give(number) else {
+        let Some(key) = self.datagrams.emit(number) else {
             return Ok(());
         };
         let sight = arrival.sight();

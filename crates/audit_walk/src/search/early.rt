@@ -4,7 +4,7 @@
 //! that leave before it.
 
 use super::Search;
-use super::leaving::GIVEN_BEFORE;
+use super::leaving::ACTS_BEFORE;
 use super::matching::Choice;
 use crate::interfaces::Data;
 use crate::judge::Judge;
@@ -32,7 +32,7 @@ impl Search {
             }
         }
         let mut after = None;
-        for _ in 0..GIVEN_BEFORE {
+        for _ in 0..ACTS_BEFORE {
             let next = match self.lanes.get(lane) {
                 Some(client) => client.pending_other(&self.datagrams, after),
                 None => None,
@@ -98,11 +98,11 @@ impl Search {
                 self.end_now(judge, holder)?;
             }
         }
-        for _ in 0..GIVEN_BEFORE {
+        for _ in 0..ACTS_BEFORE {
             if self.act_early(judge, lane, answer, leaves)? {
                 return Ok(true);
             }
-            if !self.give_pending(judge, lane, answer)? {
+            if !self.act_on_pending(judge, lane, answer)? {
                 break;
             }
         }

@@ -12,7 +12,7 @@ use audit_seen::LaneNumber;
 use std::alloc::AllocError;
 
 /// How many delayed responses are acted on so that another one may be.
-pub(super) const GIVEN_BEFORE: usize = 8;
+pub(super) const ACTS_BEFORE: usize = 8;
 
 impl Search {
     /// Places a success or error response after its act, or returns what it waits for.
@@ -77,8 +77,8 @@ impl Search {
         lane: LaneNumber,
         leaves: &Sighting,
     ) -> Result<Option<ArrivalNumber>, AllocError> {
-        let given = parse_to_client(leaves.payload.as_slice());
-        let Some(answer) = given.and_then(|given| answer_of(&given)) else {
+        let sent = parse_to_client(leaves.payload.as_slice());
+        let Some(answer) = sent.and_then(|sent| answer_of(&sent)) else {
             return Ok(None);
         };
         let (id, _) = answer;
@@ -149,11 +149,11 @@ impl Search {
                 self.end_now(judge, holder)?;
             }
         }
-        for _ in 0..GIVEN_BEFORE {
+        for _ in 0..ACTS_BEFORE {
             if self.act_on(judge, lane, number, answer)? {
                 return Ok(());
             }
-            if !self.give_pending(judge, lane, answer)? {
+            if !self.act_on_pending(judge, lane, answer)? {
                 break;
             }
         }

@@ -73,15 +73,15 @@ impl Search {
         data: &Data,
     ) -> Result<Option<Wait>, AllocError> {
         self.found.mark_suspect();
-        let asked = self.lanes.asked_by(judge, leaves, data);
-        let lane = match asked.or(self.asked_by_last(judge, leaves, data.digest())) {
-            Some(asked) => match self.likely(judge, &asked, leaves)? {
+        let origins = self.lanes.origins_of(judge, leaves, data);
+        let lane = match origins.or(self.origins_by_last_sender(judge, leaves, data.digest())) {
+            Some(origins) => match self.likely(judge, &origins, leaves)? {
                 Some((lane, number)) => {
                     let key = self.clock.tick();
                     self.write_act(judge, lane, number, leaves.id, key)?;
                     lane
                 }
-                None => asked.lane(),
+                None => origins.lane(),
             },
             None => return Ok(None),
         };
@@ -90,12 +90,17 @@ impl Search {
 
     /// The possible causes of data from an address that nobody has or had: those of the last client
     /// that sent data, or else of the first client.
-    fn asked_by_last(&self, judge: &Judge<'_>, leaves: &Sighting, digest: u64) -> Option<Origins> {
+    fn origins_by_last_sender(
+        &self,
+        judge: &Judge<'_>,
+        leaves: &Sighting,
+        digest: u64,
+    ) -> Option<Origins> {
         if judge.policy().listens(leaves.from) {
             return None;
         }
         let lane = self.datagrams.last_sender().or(self.lanes.first())?;
-        Some(self.lanes.asked_by_one(lane, leaves, digest))
+        Some(self.lanes.origins_in_lane(lane, leaves, digest))
     }
 
     /// The first arrival of the data's causes for which the rules allow it, or for which it waits.
@@ -105,8 +110,8 @@ impl Search {
         leaves: &Sighting,
         data: &Data,
     ) -> Result<Choice, AllocError> {
-        match self.lanes.asked_by(judge, leaves, data) {
-            Some(asked) => self.choose(judge, &asked, leaves),
+        match self.lanes.origins_of(judge, leaves, data) {
+            Some(origins) => self.choose(judge, &origins, leaves),
             None => Ok(Choice::None),
         }
     }
@@ -114,11 +119,11 @@ impl Search {
     fn choose(
         &mut self,
         judge: &Judge<'_>,
-        asked: &Origins,
+        origins: &Origins,
         leaves: &Sighting,
     ) -> Result<Choice, AllocError> {
         let mut choice = Choice::None;
-        for origin in asked.as_slice() {
+        for origin in origins.as_slice() {
             if let Some(origin) = origin {
                 let other = self.choose_of(judge, origin.lane(), origin.cause(), leaves)?;
                 choice = choice.or(other);
@@ -188,21 +193,21 @@ impl Search {
             return Ok(None);
         };
         let now = self.clock.tick();
-        let given_to = self.given_to;
+        let placed_to = self.placed_to;
         let Some(client) = self.lanes.get_mut(lane) else {
             return Ok(None);
         };
         if client.relays(judge, arrives, leaves, now)? {
             return Ok(Some(now));
         }
-        let behind = open_behind(given_to, came);
+        let behind = open_behind(placed_to, came);
         let before = client.relay_before_deletion(judge, arrives, leaves, behind)?;
         if before.is_some() {
             return Ok(before);
         }
         let early = after(came);
         if client.had_allocation_at(came)
-            && is_open(given_to, came)
+            && is_open(placed_to, came)
             && client.relays(judge, arrives, leaves, early)?
         {
             // The permission may have been granted only after the arrival.
@@ -217,11 +222,11 @@ impl Search {
     fn likely(
         &mut self,
         judge: &Judge<'_>,
-        asked: &Origins,
+        origins: &Origins,
         leaves: &Sighting,
     ) -> Result<Option<(LaneNumber, ArrivalNumber)>, AllocError> {
         let earliest = self.earliest(judge);
-        for origin in asked.as_slice() {
+        for origin in origins.as_slice() {
             if let Some(origin) = origin {
                 let cause = origin.cause();
                 if let Some(number) = self.datagrams.skip_to_first(cause, earliest) {
@@ -234,18 +239,18 @@ impl Search {
                 }
             }
         }
-        Ok(self.last_of(judge, asked, leaves, earliest))
+        Ok(self.last_of(judge, origins, leaves, earliest))
     }
 
     /// The last data that came to a lane in the departure's direction, no earlier than `earliest`.
     fn last_of(
         &self,
         judge: &Judge<'_>,
-        asked: &Origins,
+        origins: &Origins,
         leaves: &Sighting,
         earliest: u64,
     ) -> Option<(LaneNumber, ArrivalNumber)> {
-        let last = self.lanes.get(asked.lane())?.last();
+        let last = self.lanes.get(origins.lane())?.last();
         let number = if judge.policy().listens(leaves.from) {
             last.received()?
         } else {
@@ -254,6 +259,6 @@ impl Search {
         if self.datagrams.waiting_since(number)?.moment < earliest {
             return None;
         }
-        Some((asked.lane(), number))
+        Some((origins.lane(), number))
     }
 }

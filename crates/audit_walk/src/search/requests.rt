@@ -56,14 +56,14 @@ impl Search {
             }
         }
         if let Some(transaction) = transaction {
-            return self.ask(judge, number, &transaction);
+            return self.act_on_request(judge, number, &transaction);
         }
         self.datagrams.note_sent(number);
         Ok(())
     }
 
     /// Acts on a request, if its response is captured and may be sent at once.
-    fn ask(
+    fn act_on_request(
         &mut self,
         judge: &Judge<'_>,
         number: ArrivalNumber,

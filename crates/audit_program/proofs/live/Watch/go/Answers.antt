@@ -18,7 +18,7 @@ returns-in-None g c = record {
 pub turns-preserved : goal.turns-preserved
 turns-preserved g c = record {
   files = c.turn_on.ensures.files ∙ c.turns.invariant.files;
-  step = subst (λ (o : Option ℕ). IfSome o (λ _. c.turn_on.new.self.is_stuck ≡ false → g.F.ExtensionFinder.given_to c.turn_on.new.self.finder ≡ c.turn_on.new.self.live.last)) c.in-Some.is c.in_ok-now.ensures.step;
+  step = subst (λ (o : Option ℕ). IfSome o (λ _. c.turn_on.new.self.is_stuck ≡ false → g.F.ExtensionFinder.placed_to c.turn_on.new.self.finder ≡ c.turn_on.new.self.live.last)) c.in-Some.is c.in_ok-now.ensures.step;
   few =
       let now_few = subst (λ (o : Option ℕ). IfSome o (λ now. now ≤ c.turns.idle + 1)) c.in-Some.is c.in_ok-now.ensures.few in
       omega (arith, now_few, c.turns.invariant.few);
@@ -81,7 +81,7 @@ returns-clause-ended g c = λ policy users count goes unread.
 
 pub advance-requires : goal.advance-requires
 advance-requires g c = elim c.turns-test.branch [
-  | else-turns-test w ↦ subst (λ (watch : Watch _). watch.is_stuck ≡ false → g.F.ExtensionFinder.given_to watch.finder ≡ watch.live.last) (sym w.self-is) c.turns.invariant.step
-  | then-turns-test+in_ok-now+in-Some+then-idle-turns w ↦ subst (λ (watch : Watch _). watch.is_stuck ≡ false → g.F.ExtensionFinder.given_to watch.finder ≡ watch.live.last) (sym w.self-is)
-      (subst (λ (o : Option ℕ). IfSome o (λ _. w.turn_on.new.self.is_stuck ≡ false → g.F.ExtensionFinder.given_to w.turn_on.new.self.finder ≡ w.turn_on.new.self.live.last)) w.in-Some.is w.in_ok-now.ensures.step)
+  | else-turns-test w ↦ subst (λ (watch : Watch _). watch.is_stuck ≡ false → g.F.ExtensionFinder.placed_to watch.finder ≡ watch.live.last) (sym w.self-is) c.turns.invariant.step
+  | then-turns-test+in_ok-now+in-Some+then-idle-turns w ↦ subst (λ (watch : Watch _). watch.is_stuck ≡ false → g.F.ExtensionFinder.placed_to watch.finder ≡ watch.live.last) (sym w.self-is)
+      (subst (λ (o : Option ℕ). IfSome o (λ _. w.turn_on.new.self.is_stuck ≡ false → g.F.ExtensionFinder.placed_to w.turn_on.new.self.finder ≡ w.turn_on.new.self.live.last)) w.in-Some.is w.in_ok-now.ensures.step)
 ]
