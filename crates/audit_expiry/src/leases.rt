@@ -168,6 +168,20 @@ impl<K: Ord + Copy, V: Copy> Leases<K, V> {
     }
 }
 
+impl<K: Ord + Copy, V: Copy> Leases<K, V> {
+    /// The entries in the order of their keys. It takes time and memory in proportion to their
+    /// number.
+    pub fn to_vec(&self) -> Result<Vec<(K, V)>, AllocError>
+        ensures { IfOk result (λ entries. entries.items ≡ self.now) }
+    {
+        let mut entries = Vec::new(self.alloc);
+        for (key, value) in &self.values {
+            entries.push((*key, *value))?;
+        }
+        Ok(entries)
+    }
+}
+
 impl<K: ExactKey, V: Copy> Leases<K, V> {
     /// Whether the test holds for some key and its value. It takes time in proportion to the number
     /// of keys.

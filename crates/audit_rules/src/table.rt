@@ -65,8 +65,8 @@ pub struct LaneTable {
 }
 
 impl LaneTable {
-    ghost use Rattle.std.specs.Prelude.{◌≡◌, None, IfOk, option_copied, option_map};
-    ghost use Rattle.audit_rules.specs.Effect.{standing};
+    ghost use Rattle.std.specs.Prelude.{◌≡◌, None, Some, IfOk, option_copied, option_map};
+    ghost use Rattle.audit_rules.specs.Effect.{standing, tenancy_of};
     ghost use Rattle.audit_rules.specs.Seen.{seen};
 
     /// A table with no allocation. Allocates no memory.
@@ -79,6 +79,15 @@ impl LaneTable {
             listen,
             lane,
         }
+    }
+
+    /// A table with this allocation, as an earlier table had it. Allocates no memory.
+    pub fn resume(lane: u32, client: Addr, listen: Addr, allocation: Allocation) -> LaneTable
+        ensures { standing result ≡ record { client = client; listen = listen; lane = lane; allocation = Some (seen allocation); tenancy = Some (tenancy_of None allocation) } }
+    {
+        let mut table = LaneTable::new(lane, client, listen);
+        table.allocation = Some(allocation);
+        table
     }
 
     /// Copies the table. It takes time and memory in proportion to its permissions and channels.
