@@ -20,7 +20,7 @@ module _ (s : Sighting) (new : List Keyed) where
   abbrev pub Has : ℕ → Type 0
   Has key = Contains new (placed_as key s.id s)
 
-  at_key : (key one : ℕ) → key ≡ one → Has one → Has key
+  pub at_key : (key one : ℕ) → key ≡ one → Has one → Has key
   at_key key one e h = subst Has (sym e) h
 
   pub success_listed : (success : List ℕ) → Has (answer_key (parts_of success).method s.to (parts_of success).tid) → ((parts_of success).method ≡ ALLOCATE → Has (beginning_key s.to)) →

@@ -1,83 +1,86 @@
-//! Arrivals by key: by what they request.
+//! Arrivals by key: by what they have in common with the departures that they may have caused.
 
-ghost use Rattle.std.specs.Prelude.{◌≡◌, ◌⊎◌, ◌+◌, ℕ, List, IsTrue, MatchOption, IfOk, OnOk, Contains, length};
+ghost use Rattle.std.specs.Prelude.{◌≡◌, ◌⊎◌, ◌+◌, ℕ, List, IsTrue, IfOk, OnOk, Contains, length};
 ghost use Rattle.audit_model.specs.Policy.{listens, relays};
+ghost use Rattle.audit_model.specs.declared.address.Addr.{Addr as OneAddr};
+ghost use Rattle.audit_stun.specs.declared.class.Class.TheVariants as classes;
 ghost use Rattle.audit_stun.specs.declared.numbers.attribute.TheConstants as attributes;
 ghost use Rattle.audit_stun.specs.Parts.{parts_of};
 ghost use Rattle.audit_sightings.specs.Intake.{taken};
-ghost use Rattle.audit_rules.specs.Values.{Has};
+ghost use Rattle.audit_rules.specs.Values.{Has, Names};
 ghost use Rattle.audit_faults.specs.declared.keyed.Keyed.{Keyed as OneKeyed};
-ghost use Rattle.audit_faults.specs.ArrivalKeys.{HasContent, HasMessageKey, HasChannelKey, IsArrivalBy};
-ghost use Rattle.audit_faults.specs.Keyed.{AreKeyedBefore, IsKeyed, digest_of, placed_as};
+ghost use Rattle.audit_faults.specs.ArrivalKeys.{IsArrivalBy, IsChannelDataUnder, IsPeerDataUnder, IsRequestUnder, IsSendUnder, exchange_key as key_of_exchange, sent_key as key_of_sent};
+ghost use Rattle.audit_faults.specs.Keyed.{AreKeyedBefore, IsKeyed, placed_as};
 
-use crate::keyed::{Keyed, KeyedList, add_key, digest, sort_keyed, transaction_key, wider};
-use crate::values::message_in;
+use crate::cause_keys::{
+    delivered_in_channel_key, delivered_key, exchange_key, sent_in_channel_key, sent_key,
+};
+use crate::keyed::{Keyed, KeyedList, add_key, sort_keyed, wider};
+use crate::values::{address_in, channel_bytes, message_in};
 use audit_model::{Policy, Side, Sighting};
 use audit_sightings::Intake;
-use audit_stun::numbers::attribute::DATA;
-use audit_stun::{Class, Message, channel_data};
+use audit_stun::numbers::attribute::{DATA, XOR_PEER_ADDRESS};
+use audit_stun::{Class, Message};
 use std::alloc::{AllocError, Global};
 
-/// The key of an indication: that of its data.
-fn data_key(said: &Message<'_>) -> Option<u64>
-    ensures { MatchOption result ((bytes : List ℕ) → Has attributes.DATA (parts_of said.now) bytes → ⊥)
-        (λ key. (bytes : List ℕ) × Has attributes.DATA (parts_of said.now) bytes × (key ≡ digest_of bytes)) }
-{
-    let data = said.first(DATA)?;
-    Some(digest(data))
-}
-
-/// The key of a message's content: of its transaction id, or of the data of an indication.
-fn content_key(said: &Message<'_>) -> Option<u64>
-    ensures { MatchOption result ((bytes : List ℕ) → HasContent (parts_of said.now).class (parts_of said.now) bytes → ⊥)
-        (λ key. (bytes : List ℕ) × HasContent (parts_of said.now).class (parts_of said.now) bytes × (key ≡ digest_of bytes)) }
-{
-    match said.class() {
-        Class::Request => Some(transaction_key(said)),
-        Class::Indication => data_key(said),
-        Class::Success => Some(transaction_key(said)),
-        Class::Error => Some(transaction_key(said)),
-    }
-}
-
-/// The key of a message.
-pub fn message_key(payload: &[u8]) -> Option<u64>
-    ensures { MatchOption result ((key : ℕ) → HasMessageKey payload.now key → ⊥)
-        (λ key. HasMessageKey payload.now key × ((other : ℕ) → HasMessageKey payload.now other → other ≡ key)) }
-{
-    let Some(said) = message_in(payload) else {
-        return None;
-    };
-    content_key(&said)
-}
-
-/// The key of ChannelData: that of its data.
-pub fn channel_key(payload: &[u8]) -> Option<u64>
-    ensures { MatchOption result ((key : ℕ) → HasChannelKey payload.now key → ⊥)
-        (λ key. HasChannelKey payload.now key × ((other : ℕ) → HasChannelKey payload.now other → other ≡ key)) }
-{
-    let (_, bytes, _) = channel_data(payload)?;
-    Some(digest(bytes))
-}
-
-/// Adds the place of a message.
-fn add_message(sighting: &Sighting, keyed: &mut Vec<Keyed>) -> Result<(), AllocError>
-    ensures here { OnOk result ((key : ℕ) → HasMessageKey sighting.now.payload key → Contains keyed.new.items (placed_as key sighting.now.id sighting.now)) }
+/// Adds the place of a request.
+fn add_request(
+    said: &Message<'_>,
+    sighting: &Sighting,
+    keyed: &mut Vec<Keyed>,
+) -> Result<(), AllocError>
+    ensures here { OnOk result ((parts_of said.now).class ≡ classes.Request →
+        Contains keyed.new.items (placed_as (key_of_exchange sighting.now.from sighting.now.to (parts_of said.now).tid) sighting.now.id sighting.now)) }
     ensures kept { OnOk result ((one : OneKeyed) → Contains keyed.old.items one → Contains keyed.new.items one) }
 {
-    if let Some(key) = message_key(sighting.payload.as_slice()) {
-        add_key(key, sighting, keyed)?;
+    if said.class() != Class::Request {
+        return Ok(());
     }
+    let key = exchange_key(sighting.from, sighting.to, said);
+    add_key(key, sighting, keyed)?;
+    Ok(())
+}
+
+/// Adds the place of a message with data for a peer, as a Send indication.
+fn add_send(
+    said: &Message<'_>,
+    sighting: &Sighting,
+    keyed: &mut Vec<Keyed>,
+) -> Result<(), AllocError>
+    ensures here { OnOk result ((peer : OneAddr) (bytes : List ℕ) → Names attributes.XOR_PEER_ADDRESS (parts_of said.now) peer →
+        Has attributes.DATA (parts_of said.now) bytes → Contains keyed.new.items (placed_as (key_of_sent peer bytes) sighting.now.id sighting.now)) }
+    ensures kept { OnOk result ((one : OneKeyed) → Contains keyed.old.items one → Contains keyed.new.items one) }
+{
+    let Some(data) = said.first(DATA) else {
+        return Ok(());
+    };
+    let Some(peer) = address_in(said, XOR_PEER_ADDRESS) else {
+        return Ok(());
+    };
+    add_key(sent_key(peer, data), sighting, keyed)?;
+    Ok(())
+}
+
+/// Adds the places of a message.
+fn add_message(sighting: &Sighting, keyed: &mut Vec<Keyed>) -> Result<(), AllocError>
+    ensures here { OnOk result ((key : ℕ) → IsRequestUnder key sighting.now ⊎ IsSendUnder key sighting.now → Contains keyed.new.items (placed_as key sighting.now.id sighting.now)) }
+    ensures kept { OnOk result ((one : OneKeyed) → Contains keyed.old.items one → Contains keyed.new.items one) }
+{
+    let Some(said) = message_in(sighting.payload.as_slice()) else {
+        return Ok(());
+    };
+    add_request(&said, sighting, keyed)?;
+    add_send(&said, sighting, keyed)?;
     Ok(())
 }
 
 /// Adds the place of ChannelData.
 fn add_channel(sighting: &Sighting, keyed: &mut Vec<Keyed>) -> Result<(), AllocError>
-    ensures here { OnOk result ((key : ℕ) → HasChannelKey sighting.now.payload key → Contains keyed.new.items (placed_as key sighting.now.id sighting.now)) }
+    ensures here { OnOk result ((key : ℕ) → IsChannelDataUnder key sighting.now → Contains keyed.new.items (placed_as key sighting.now.id sighting.now)) }
     ensures kept { OnOk result ((one : OneKeyed) → Contains keyed.old.items one → Contains keyed.new.items one) }
 {
-    if let Some(key) = channel_key(sighting.payload.as_slice()) {
-        add_key(key, sighting, keyed)?;
+    if let Some(data) = channel_bytes(sighting.payload.as_slice()) {
+        add_key(sent_in_channel_key(data), sighting, keyed)?;
     }
     Ok(())
 }
@@ -88,7 +91,7 @@ fn add_of_client(
     sighting: &Sighting,
     keyed: &mut Vec<Keyed>,
 ) -> Result<(), AllocError>
-    ensures here { OnOk result ((key : ℕ) → IsTrue (listens policy.now sighting.now.to) → HasMessageKey sighting.now.payload key ⊎ HasChannelKey sighting.now.payload key
+    ensures here { OnOk result ((key : ℕ) → IsTrue (listens policy.now sighting.now.to) → IsRequestUnder key sighting.now ⊎ IsSendUnder key sighting.now ⊎ IsChannelDataUnder key sighting.now
         → Contains keyed.new.items (placed_as key sighting.now.id sighting.now)) }
     ensures kept { OnOk result ((one : OneKeyed) → Contains keyed.old.items one → Contains keyed.new.items one) }
 {
@@ -100,20 +103,24 @@ fn add_of_client(
     Ok(())
 }
 
-/// Adds the place of a datagram that a peer may have sent.
+/// Adds the places of a datagram that a peer may have sent.
 fn add_of_peer(
     policy: &Policy,
     sighting: &Sighting,
     keyed: &mut Vec<Keyed>,
 ) -> Result<(), AllocError>
-    ensures here { OnOk result (IsTrue (relays policy.now sighting.now.to)
-        → Contains keyed.new.items (placed_as (digest_of sighting.now.payload) sighting.now.id sighting.now)) }
+    ensures here { OnOk result ((key : ℕ) → IsTrue (relays policy.now sighting.now.to) → IsPeerDataUnder key sighting.now
+        → Contains keyed.new.items (placed_as key sighting.now.id sighting.now)) }
     ensures kept { OnOk result ((one : OneKeyed) → Contains keyed.old.items one → Contains keyed.new.items one) }
 {
     if !policy.relays(sighting.to) {
         return Ok(());
     }
-    add_key(digest(sighting.payload.as_slice()), sighting, keyed)?;
+    let data = sighting.payload.as_slice();
+    let named = delivered_key(sighting.from, data);
+    add_key(named, sighting, keyed)?;
+    let in_channel = delivered_in_channel_key(data);
+    add_key(in_channel, sighting, keyed)?;
     Ok(())
 }
 
@@ -164,7 +171,7 @@ fn add_rows(intake: &Intake, keyed: &mut Vec<Keyed>) -> Result<u64, AllocError>
     Ok(width)
 }
 
-/// The arrivals by key. It takes n log n time, and memory for three numbers of each.
+/// The arrivals by key. It takes n log n time, and memory for three numbers of each of their keys.
 pub fn arrivals_of(alloc: Global, intake: &Intake) -> Result<KeyedList, AllocError>
     ensures { IfOk result (λ arrivals. IsKeyed (taken intake.now) (IsArrivalBy (taken intake.now).policy) arrivals.places.items arrivals.width) }
 {

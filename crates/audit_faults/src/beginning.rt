@@ -78,27 +78,26 @@ fn sent_on_once(
     let permission = Lease::Permission {
         ip: departure.to.ip,
     };
-    sent_on(intake.policy(), arrival, departure)
-        && was_wanted(
-            intake,
-            index,
-            fault,
-            arrival.from,
-            arrival.to,
-            relayed,
-            always,
-            left,
-        )
-        && was_wanted(
-            intake,
-            index,
-            fault,
-            arrival.from,
-            arrival.to,
-            permission,
-            always,
-            left,
-        )
+    // The leases come first, since a client chooses how long it takes to read its message.
+    was_wanted(
+        intake,
+        index,
+        fault,
+        arrival.from,
+        arrival.to,
+        relayed,
+        always,
+        left,
+    ) && was_wanted(
+        intake,
+        index,
+        fault,
+        arrival.from,
+        arrival.to,
+        permission,
+        always,
+        left,
+    ) && sent_on(intake.policy(), arrival, departure)
 }
 
 /// ChannelData from a client that was ever granted an allocation and the channel.

@@ -1,22 +1,22 @@
 //! Whether a client whose datagram may have caused a departure was ever granted the leases that it
 //! needs, searched among the arrivals with the departure's key.
 
-ghost use Rattle.std.specs.Prelude.{◌≡◌, ◌↔◌, ℕ, IsFalse, IsTrue, Some};
-ghost use Rattle.audit_model.specs.Policy.{relays};
+ghost use Rattle.std.specs.Prelude.{◌≡◌, ◌↔◌, IsFalse, IsTrue, Some};
 ghost use Rattle.audit_model.specs.declared.sighting.Sighting.{Sighting};
 ghost use Rattle.audit_sightings.specs.Intake.{taken, sighting_at};
-ghost use Rattle.audit_faults.specs.ArrivalKeys.{HasMessageKey, HasChannelKey, IsArrivalBy};
+ghost use Rattle.audit_faults.specs.ArrivalKeys.{HasKey, IsArrivalBy};
 ghost use Rattle.audit_faults.specs.Beginning.{Begins, WasBegun};
 ghost use Rattle.audit_faults.specs.Grants.{IsCaptured};
 ghost use Rattle.audit_faults.specs.Index.{AreArrivals, IsIndex};
-ghost use Rattle.audit_faults.specs.Keyed.{digest_of};
 ghost use Rattle.audit_faults.specs.Repeats.{IsPlaced};
 
-use crate::arrival_keys::{channel_key, message_key};
 use crate::beginning::begins;
+use crate::departure_keys::{
+    key_of_any_peer, key_of_channel_data, key_of_named_peer, key_of_sends,
+};
 use crate::fault::Fault;
 use crate::index::Index;
-use crate::keyed::{digest, span_of_key};
+use crate::keyed::span_of_key;
 use crate::reach::Span;
 use crate::repeat_blocks::last_unrepeated;
 use crate::repeats::Arrivals;
@@ -135,14 +135,15 @@ fn begun_by(
     false
 }
 
-/// Whether an arrival did, for data that may have been relayed to a peer.
-fn begun_by_all_of_it(
+/// Whether an arrival with the key, if there is one, did.
+fn begun_by_key(
     intake: &Intake,
     arrivals: Arrivals<'_>,
     index: &Index<'_>,
     fault: Fault,
     always: &Sighting,
     left: &Sighting,
+    key: Option<u64>,
     departure: &Sighting,
 ) -> bool
     requires index { IsIndex (taken intake.now) index.now }
@@ -150,62 +151,13 @@ fn begun_by_all_of_it(
     requires arrivals { AreArrivals (taken intake.now) arrivals }
     ensures some { IsTrue result → ((arrival : Sighting) × IsCaptured (taken intake.now) arrival
         × Begins (taken intake.now) fault left.now.hi departure.now arrival) }
-    ensures all { (key : ℕ) (arrival : Sighting) → IsTrue (relays (taken intake.now).policy departure.now.from) → key ≡ digest_of departure.now.payload → IsCaptured (taken intake.now) arrival →
-        IsArrivalBy (taken intake.now).policy key arrival → Begins (taken intake.now) fault left.now.hi departure.now arrival → IsTrue result }
+    ensures all { (arrival : Sighting) → IsCaptured (taken intake.now) arrival → HasKey (taken intake.now).policy key arrival →
+        Begins (taken intake.now) fault left.now.hi departure.now arrival → IsTrue result }
 {
-    if !intake.policy().relays(departure.from) {
-        return false;
+    match key {
+        Some(key) => begun_by(intake, arrivals, index, fault, always, left, key, departure),
+        None => false,
     }
-    let key = digest(departure.payload.as_slice());
-    begun_by(intake, arrivals, index, fault, always, left, key, departure)
-}
-
-/// Whether an arrival did, for a message to a client.
-fn begun_by_message(
-    intake: &Intake,
-    arrivals: Arrivals<'_>,
-    index: &Index<'_>,
-    fault: Fault,
-    always: &Sighting,
-    left: &Sighting,
-    departure: &Sighting,
-) -> bool
-    requires index { IsIndex (taken intake.now) index.now }
-    requires always { always.now.lo ≡ 0 }
-    requires arrivals { AreArrivals (taken intake.now) arrivals }
-    ensures some { IsTrue result → ((arrival : Sighting) × IsCaptured (taken intake.now) arrival
-        × Begins (taken intake.now) fault left.now.hi departure.now arrival) }
-    ensures all { (key : ℕ) (arrival : Sighting) → HasMessageKey departure.now.payload key → IsCaptured (taken intake.now) arrival →
-        IsArrivalBy (taken intake.now).policy key arrival → Begins (taken intake.now) fault left.now.hi departure.now arrival → IsTrue result }
-{
-    let Some(key) = message_key(departure.payload.as_slice()) else {
-        return false;
-    };
-    begun_by(intake, arrivals, index, fault, always, left, key, departure)
-}
-
-/// Whether an arrival did, for ChannelData to a client.
-fn begun_by_channel(
-    intake: &Intake,
-    arrivals: Arrivals<'_>,
-    index: &Index<'_>,
-    fault: Fault,
-    always: &Sighting,
-    left: &Sighting,
-    departure: &Sighting,
-) -> bool
-    requires index { IsIndex (taken intake.now) index.now }
-    requires always { always.now.lo ≡ 0 }
-    requires arrivals { AreArrivals (taken intake.now) arrivals }
-    ensures some { IsTrue result → ((arrival : Sighting) × IsCaptured (taken intake.now) arrival
-        × Begins (taken intake.now) fault left.now.hi departure.now arrival) }
-    ensures all { (key : ℕ) (arrival : Sighting) → HasChannelKey departure.now.payload key → IsCaptured (taken intake.now) arrival →
-        IsArrivalBy (taken intake.now).policy key arrival → Begins (taken intake.now) fault left.now.hi departure.now arrival → IsTrue result }
-{
-    let Some(key) = channel_key(departure.payload.as_slice()) else {
-        return false;
-    };
-    begun_by(intake, arrivals, index, fault, always, left, key, departure)
 }
 
 /// Whether a captured arrival did: it has a key of the departure.
@@ -223,11 +175,31 @@ pub fn was_begun(
     requires arrivals { AreArrivals (taken intake.now) arrivals }
     ensures { IsTrue result ↔ WasBegun (taken intake.now) fault left.now.hi departure.now }
 {
-    if begun_by_all_of_it(intake, arrivals, index, fault, always, left, departure) {
+    let policy = intake.policy();
+    let sends = key_of_sends(policy, departure);
+    let by_sends = begun_by_key(
+        intake, arrivals, index, fault, always, left, sends, departure,
+    );
+    if by_sends {
         return true;
     }
-    if begun_by_message(intake, arrivals, index, fault, always, left, departure) {
+    let channel = key_of_channel_data(policy, departure);
+    let by_channel = begun_by_key(
+        intake, arrivals, index, fault, always, left, channel, departure,
+    );
+    if by_channel {
         return true;
     }
-    begun_by_channel(intake, arrivals, index, fault, always, left, departure)
+    let named_peer = key_of_named_peer(policy, departure);
+    let by_named_peer = begun_by_key(
+        intake, arrivals, index, fault, always, left, named_peer, departure,
+    );
+    if by_named_peer {
+        return true;
+    }
+    let any_peer = key_of_any_peer(policy, departure);
+    let by_any_peer = begun_by_key(
+        intake, arrivals, index, fault, always, left, any_peer, departure,
+    );
+    by_any_peer
 }

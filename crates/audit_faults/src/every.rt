@@ -229,9 +229,9 @@ fn add_of_interface(
 }
 
 /// The first fault of each departure that shows one, in order of interface and index. For each
-/// departure it reads the arrivals in reach, and for each lease the client's requests for leases
-/// and their success responses. It takes memory for two numbers a sighting, the places of these and
-/// the faults. It fails only if memory is exhausted.
+/// departure it reads the arrivals in reach that have a key of it, and for each lease the client's
+/// requests for leases and their success responses. It takes memory for two numbers a sighting, the
+/// places of these and the faults. It fails only if memory is exhausted.
 pub fn shown_faults(
     alloc: Global,
     intake: &Intake,

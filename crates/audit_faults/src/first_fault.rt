@@ -6,6 +6,7 @@ ghost use Rattle.audit_model.specs.declared.sighting.Side.TheVariants as sides;
 ghost use Rattle.audit_keys.specs.KeyFor.{key_for};
 ghost use Rattle.audit_sightings.specs.Intake.{taken, sighting_at, interface_at};
 ghost use Rattle.audit_faults.specs.declared.fault.Fault.{Fault as FaultKind};
+ghost use Rattle.audit_faults.specs.declared.fault.Fault.TheVariants as faults;
 ghost use Rattle.audit_faults.specs.Explains.{Explains, IsFault, NoneBefore};
 ghost use Rattle.audit_faults.specs.Grants.{IsCaptured};
 ghost use Rattle.audit_faults.specs.Index.{IsIndex};
@@ -74,9 +75,6 @@ fn is_explained(
     requires { IsIndex (taken intake.now) index.now }
     ensures { IsTrue result ↔ ((arrival : Sighting) × IsCaptured (taken intake.now) arrival × Explains (taken intake.now) (key_for credentials.now) fault arrival departure.now) }
 {
-    if is_explained_just_before(intake, index, credentials, fault, departure) {
-        return true;
-    }
     match index.arrivals {
         Some(arrivals) => is_explained_by_keys(
             intake,
@@ -86,7 +84,12 @@ fn is_explained(
             fault,
             departure,
         ),
-        None => is_explained_somewhere(intake, index, credentials, fault, departure),
+        None => {
+            if is_explained_just_before(intake, index, credentials, fault, departure) {
+                return true;
+            }
+            is_explained_somewhere(intake, index, credentials, fault, departure)
+        }
     }
 }
 
@@ -107,61 +110,65 @@ fn is_fault(
     !is_explained(intake, index, credentials, fault, departure)
 }
 
+/// The first fault that a departure shows, if it shows that of all leases. What the check of a
+/// fault includes, those of the faults after it include too.
+fn lease_fault(
+    intake: &Intake,
+    index: &Index<'_>,
+    users: &Credentials,
+    sight: SightId,
+    departure: &Sighting,
+) -> Fault
+    requires index { IsIndex (taken intake.now) index.now }
+    requires there { sighting_at (taken intake.now) sight ≡ Some departure.now }
+    requires leaves { departure.now.side ≡ sides.Leaves }
+    requires unbound { IsFault (taken intake.now) (key_for users.now) faults.Unbound sight }
+    ensures shown { IsFault (taken intake.now) (key_for users.now) result sight }
+    ensures first { NoneBefore (λ earlier. IsFault (taken intake.now) (key_for users.now) earlier sight) result }
+{
+    let unpermitted = is_fault(intake, index, users, Fault::Unpermitted, sight, departure);
+    if !unpermitted {
+        return Fault::Unbound;
+    }
+    let unallocated = is_fault(intake, index, users, Fault::Unallocated, sight, departure);
+    if !unallocated {
+        return Fault::Unpermitted;
+    }
+    let unasked = is_fault(intake, index, users, Fault::Unasked, sight, departure);
+    if !unasked {
+        return Fault::Unallocated;
+    }
+    Fault::Unasked
+}
+
 /// The first fault that a departure shows; none if there is no departure of that id.
 pub fn first_fault(
     intake: &Intake,
     index: &Index<'_>,
-    credentials: &Credentials,
+    users: &Credentials,
     sight: SightId,
 ) -> Option<Fault>
     requires { IsIndex (taken intake.now) index.now }
-    ensures shown { IfSome result (λ fault. IsFault (taken intake.now) (key_for credentials.now) fault sight) }
-    ensures first { IfSome result (NoneBefore (λ earlier. IsFault (taken intake.now) (key_for credentials.now) earlier sight)) }
-    ensures none { result ≡ None → (fault : FaultKind) → IsFault (taken intake.now) (key_for credentials.now) fault sight → ⊥ }
+    ensures shown { IfSome result (λ fault. IsFault (taken intake.now) (key_for users.now) fault sight) }
+    ensures first { IfSome result (NoneBefore (λ earlier. IsFault (taken intake.now) (key_for users.now) earlier sight)) }
+    ensures none { result ≡ None → (fault : FaultKind) → IsFault (taken intake.now) (key_for users.now) fault sight → ⊥ }
 {
     let departure = intake.sighting(sight)?;
     if departure.side != Side::Leaves {
         return None;
     }
     // If it is explained with all reasons, it shows none of the faults.
-    if !is_fault(
-        intake,
-        index,
-        credentials,
-        Fault::Unauthentic,
-        sight,
-        departure,
-    ) {
+    let unauthentic = is_fault(intake, index, users, Fault::Unauthentic, sight, departure);
+    if !unauthentic {
         return None;
     }
-    if is_fault(intake, index, credentials, Fault::Unasked, sight, departure) {
-        return Some(Fault::Unasked);
+    let unfit = is_fault(intake, index, users, Fault::Unfit, sight, departure);
+    if !unfit {
+        return Some(Fault::Unauthentic);
     }
-    if is_fault(
-        intake,
-        index,
-        credentials,
-        Fault::Unallocated,
-        sight,
-        departure,
-    ) {
-        return Some(Fault::Unallocated);
-    }
-    if is_fault(
-        intake,
-        index,
-        credentials,
-        Fault::Unpermitted,
-        sight,
-        departure,
-    ) {
-        return Some(Fault::Unpermitted);
-    }
-    if is_fault(intake, index, credentials, Fault::Unbound, sight, departure) {
-        return Some(Fault::Unbound);
-    }
-    if is_fault(intake, index, credentials, Fault::Unfit, sight, departure) {
+    let unbound = is_fault(intake, index, users, Fault::Unbound, sight, departure);
+    if !unbound {
         return Some(Fault::Unfit);
     }
-    Some(Fault::Unauthentic)
+    Some(lease_fault(intake, index, users, sight, departure))
 }

@@ -9,23 +9,22 @@ ghost use Rattle.audit_faults.specs.Grants.{Requests, Succeeds};
 ghost use Rattle.audit_faults.specs.Index.{IsIndex};
 ghost use Rattle.audit_faults.specs.LastGrant.{seconds_of, NeedsPermission, NeedsChannel, Needs, IsOver, IsTooEarly};
 
-use crate::arrival_keys::{channel_key as key_of_channel_data, message_key};
 use crate::causes::{delivered, delivered_in_channel, in_reach, sent_in_channel, sent_on};
+use crate::departure_keys::{
+    key_of_any_peer, key_of_channel_data, key_of_named_peer, key_of_sends,
+};
 use crate::explains::explains;
 use crate::fault::{Fault, Grant, LastGrant, Lease};
 use crate::index::Index;
-use crate::keyed::{ByKey, digest, span_of_key};
-use crate::lease_keys::{answer_key, channel_key, permission_key, relayed_key};
-use crate::leased::{Leases, lease_message};
+use crate::keyed::span_of_key;
+use crate::last_request::{last_request, last_success, was_requested};
 use crate::leases::{requests, succeeds};
 use crate::repeats::Arrivals;
-use crate::requests::is_answer_at;
 use crate::sought::earliest;
 use crate::values::message_in;
 use audit_keys::Credentials;
 use audit_model::{Policy, Side, SightId, Sighting};
 use audit_sightings::Intake;
-use audit_stun::Class;
 
 /// How many arrivals that may have caused the departure are tried, the last ones.
 const MOST: usize = 64;
@@ -82,16 +81,19 @@ fn fault_before(fault: Fault) -> Option<Fault> {
     }
 }
 
-/// The key of the arrivals that may have caused the departure.
-fn key_of(policy: &Policy, departure: &Sighting) -> Option<u64> {
-    let payload = departure.payload.as_slice();
+/// The key of the arrivals that may have caused a departure which lacked a permission or a channel.
+fn key_of(policy: &Policy, fault: Fault, departure: &Sighting) -> Option<u64> {
     if policy.relays(departure.from) {
-        return Some(digest(payload));
+        return match fault {
+            Fault::Unbound => key_of_channel_data(policy, departure),
+            Fault::Unpermitted => key_of_sends(policy, departure),
+            Fault::Unasked | Fault::Unallocated | Fault::Unfit | Fault::Unauthentic => None,
+        };
     }
-    if let Some(key) = message_key(payload) {
-        return Some(key);
+    match key_of_named_peer(policy, departure) {
+        Some(key) => Some(key),
+        None => key_of_any_peer(policy, departure),
     }
-    key_of_channel_data(payload)
 }
 
 /// Whether it arrived, and the departure may have been sent at most `hold` after it.
@@ -101,7 +103,9 @@ fn is_in_time(policy: &Policy, arrival: &Sighting, departure: &Sighting) -> bool
     arrival.side == Side::Arrives && in_reach(policy.hold, arrival, departure)
 }
 
-/// The last arrival that may have caused the departure, and has all reasons except the fault's own.
+/// The last arrival that may have caused the departure, has all reasons except the fault's own, and
+/// has a request for the lease that is lacking. The requests are looked up first, since a client
+/// chooses how long it takes to read its message.
 fn last_arrival(
     intake: &Intake,
     index: &Index<'_>,
@@ -112,8 +116,9 @@ fn last_arrival(
 ) -> Option<SightId>
     requires { IsIndex (taken intake.now) index.now }
 {
+    let leases = index.leases?;
     let before = fault_before(fault)?;
-    let key = key_of(intake.policy(), departure)?;
+    let key = key_of(intake.policy(), fault, departure)?;
     let first = earliest(departure, intake.policy().hold, arrivals.by_key.width);
     let span = span_of_key(arrivals.by_key.places, key, first, departure.hi);
     let low = span.past.saturating_sub(MOST).max(span.first);
@@ -122,7 +127,9 @@ fn last_arrival(
         place -= 1;
         let one = arrivals.by_key.places.get(place)?;
         let arrival = intake.sighting(one.sight)?;
-        if explains(intake, index, credentials, before, arrival, departure) {
+        if was_requested(intake, leases, fault, arrival, departure)
+            && explains(intake, index, credentials, before, arrival, departure)
+        {
             return Some(one.sight);
         }
     }
@@ -186,45 +193,6 @@ fn lacked(policy: &Policy, fault: Fault, arrival: &Sighting, departure: &Sightin
         Fault::Unbound => lacked_channel(policy, arrival, departure),
         Fault::Unasked | Fault::Unallocated | Fault::Unfit | Fault::Unauthentic => None,
     }
-}
-
-/// The key of requests for a lease.
-fn key_of_lease(grant: &Grant) -> u64 {
-    match grant.lease {
-        Lease::Allocation { relayed } => relayed_key(grant.client, relayed),
-        Lease::Permission { ip } => permission_key(grant.client, ip),
-        Lease::Channel { number, peer } => channel_key(grant.client, number, peer),
-    }
-}
-
-/// The last success response to a request.
-fn last_success(
-    intake: &Intake,
-    answers: ByKey<'_>,
-    grant: &Grant,
-    request: &Sighting,
-) -> Option<SightId> {
-    let said = lease_message(request.payload.as_slice(), Class::Request)?;
-    let key = answer_key(grant.client, &said);
-    let span = span_of_key(answers.places, key, 0, u64::MAX);
-    let one = answers.places.get(span.past.checked_sub(1)?)?;
-    if is_answer_at(intake, one.sight, grant.client, &said) {
-        Some(one.sight)
-    } else {
-        None
-    }
-}
-
-/// The last request for the lease that may precede the departure.
-fn last_request(
-    intake: &Intake,
-    leases: Leases<'_>,
-    grant: &Grant,
-    departure: &Sighting,
-) -> Option<SightId> {
-    let span = span_of_key(leases.requests.places, key_of_lease(grant), 0, departure.hi);
-    let one = leases.requests.places.get(span.past.checked_sub(1)?)?;
-    Some(one.sight)
 }
 
 /// The last success response that granted the lease which the departure lacked, if it had expired.

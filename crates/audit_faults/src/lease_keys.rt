@@ -38,7 +38,7 @@ pub fn address_number(addr: Addr) -> u64
 }
 
 /// The key of a kind, a client and a third number.
-fn of_client(kind: u64, client: Addr, rest: u64) -> u64
+pub fn of_client(kind: u64, client: Addr, rest: u64) -> u64
     ensures { result ≡ lease_key kind client rest }
 {
     mixed(mixed(kind, address_number(client)), rest)

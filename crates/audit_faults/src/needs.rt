@@ -50,7 +50,7 @@ fn may_be_sent_on(
         permission,
         arrival,
         departure,
-    ) && message_in(arrival.payload.as_slice()).is_some()
+    )
 }
 
 /// Whether there is an allocation and the channel for the data of a client's ChannelData.

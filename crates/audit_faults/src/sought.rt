@@ -1,23 +1,23 @@
 //! Whether a departure is explained by an arrival with one of its keys.
 
 ghost use Rattle.std.specs.Prelude.{◌≡◌, ◌↔◌, ◌+◌, ◌≤◌, ℕ, IsFalse, IsTrue, Some};
-ghost use Rattle.audit_model.specs.Policy.{relays};
 ghost use Rattle.audit_model.specs.Window.{later};
 ghost use Rattle.audit_model.specs.declared.sighting.Sighting.{Sighting};
 ghost use Rattle.audit_keys.specs.KeyFor.{key_for};
 ghost use Rattle.audit_sightings.specs.Intake.{taken, sighting_at};
-ghost use Rattle.audit_faults.specs.ArrivalKeys.{HasMessageKey, HasChannelKey, IsArrivalBy};
+ghost use Rattle.audit_faults.specs.ArrivalKeys.{HasKey, IsArrivalBy};
 ghost use Rattle.audit_faults.specs.Explains.{Explains};
 ghost use Rattle.audit_faults.specs.Grants.{IsCaptured};
 ghost use Rattle.audit_faults.specs.Index.{AreArrivals, IsIndex};
-ghost use Rattle.audit_faults.specs.Keyed.{digest_of};
 ghost use Rattle.audit_faults.specs.Repeats.{IsPlaced};
 
-use crate::arrival_keys::{channel_key, message_key};
+use crate::departure_keys::{
+    key_of_any_peer, key_of_channel_data, key_of_named_peer, key_of_requests, key_of_sends,
+};
 use crate::explains::explains;
 use crate::fault::Fault;
 use crate::index::Index;
-use crate::keyed::{digest, span_of_key};
+use crate::keyed::span_of_key;
 use crate::needs::has_needed_leases;
 use crate::reach::Span;
 use crate::repeat_blocks::last_unrepeated;
@@ -166,71 +166,27 @@ fn explained_by(
     false
 }
 
-/// Whether an arrival explains data that may have been relayed to a peer.
-fn explained_by_all_of_it(
+/// Whether an arrival with the key, if there is one, explains the departure.
+fn explained_by_key(
     intake: &Intake,
     index: &Index<'_>,
     arrivals: Arrivals<'_>,
     credentials: &Credentials,
     fault: Fault,
+    key: Option<u64>,
     departure: &Sighting,
 ) -> bool
     requires index { IsIndex (taken intake.now) index.now }
     requires arrivals { AreArrivals (taken intake.now) arrivals }
     ensures some { IsTrue result → ((arrival : Sighting) × IsCaptured (taken intake.now) arrival
         × Explains (taken intake.now) (key_for credentials.now) fault arrival departure.now) }
-    ensures all { (key : ℕ) (arrival : Sighting) → IsTrue (relays (taken intake.now).policy departure.now.from) → key ≡ digest_of departure.now.payload → IsCaptured (taken intake.now) arrival →
-        IsArrivalBy (taken intake.now).policy key arrival → Explains (taken intake.now) (key_for credentials.now) fault arrival departure.now → IsTrue result }
+    ensures all { (arrival : Sighting) → IsCaptured (taken intake.now) arrival → HasKey (taken intake.now).policy key arrival →
+        Explains (taken intake.now) (key_for credentials.now) fault arrival departure.now → IsTrue result }
 {
-    if !intake.policy().relays(departure.from) {
-        return false;
+    match key {
+        Some(key) => explained_by(intake, index, arrivals, credentials, fault, key, departure),
+        None => false,
     }
-    let key = digest(departure.payload.as_slice());
-    explained_by(intake, index, arrivals, credentials, fault, key, departure)
-}
-
-/// Whether an arrival explains a message to a client.
-fn explained_by_message(
-    intake: &Intake,
-    index: &Index<'_>,
-    arrivals: Arrivals<'_>,
-    credentials: &Credentials,
-    fault: Fault,
-    departure: &Sighting,
-) -> bool
-    requires index { IsIndex (taken intake.now) index.now }
-    requires arrivals { AreArrivals (taken intake.now) arrivals }
-    ensures some { IsTrue result → ((arrival : Sighting) × IsCaptured (taken intake.now) arrival
-        × Explains (taken intake.now) (key_for credentials.now) fault arrival departure.now) }
-    ensures all { (key : ℕ) (arrival : Sighting) → HasMessageKey departure.now.payload key → IsCaptured (taken intake.now) arrival →
-        IsArrivalBy (taken intake.now).policy key arrival → Explains (taken intake.now) (key_for credentials.now) fault arrival departure.now → IsTrue result }
-{
-    let Some(key) = message_key(departure.payload.as_slice()) else {
-        return false;
-    };
-    explained_by(intake, index, arrivals, credentials, fault, key, departure)
-}
-
-/// Whether an arrival explains ChannelData to a client.
-fn explained_by_channel(
-    intake: &Intake,
-    index: &Index<'_>,
-    arrivals: Arrivals<'_>,
-    credentials: &Credentials,
-    fault: Fault,
-    departure: &Sighting,
-) -> bool
-    requires index { IsIndex (taken intake.now) index.now }
-    requires arrivals { AreArrivals (taken intake.now) arrivals }
-    ensures some { IsTrue result → ((arrival : Sighting) × IsCaptured (taken intake.now) arrival
-        × Explains (taken intake.now) (key_for credentials.now) fault arrival departure.now) }
-    ensures all { (key : ℕ) (arrival : Sighting) → HasChannelKey departure.now.payload key → IsCaptured (taken intake.now) arrival →
-        IsArrivalBy (taken intake.now).policy key arrival → Explains (taken intake.now) (key_for credentials.now) fault arrival departure.now → IsTrue result }
-{
-    let Some(key) = channel_key(departure.payload.as_slice()) else {
-        return false;
-    };
-    explained_by(intake, index, arrivals, credentials, fault, key, departure)
 }
 
 /// Whether an arrival with a key of the departure explains it. Each that explains it has one.
@@ -238,20 +194,39 @@ pub fn is_explained_by_keys(
     intake: &Intake,
     index: &Index<'_>,
     arrivals: Arrivals<'_>,
-    credentials: &Credentials,
+    users: &Credentials,
     fault: Fault,
     departure: &Sighting,
 ) -> bool
     requires index { IsIndex (taken intake.now) index.now }
     requires arrivals { AreArrivals (taken intake.now) arrivals }
     ensures { IsTrue result ↔ ((arrival : Sighting) × IsCaptured (taken intake.now) arrival
-        × Explains (taken intake.now) (key_for credentials.now) fault arrival departure.now) }
+        × Explains (taken intake.now) (key_for users.now) fault arrival departure.now) }
 {
-    if explained_by_all_of_it(intake, index, arrivals, credentials, fault, departure) {
+    let policy = intake.policy();
+    let requests = key_of_requests(policy, departure);
+    let by_requests = explained_by_key(intake, index, arrivals, users, fault, requests, departure);
+    if by_requests {
         return true;
     }
-    if explained_by_message(intake, index, arrivals, credentials, fault, departure) {
+    let sends = key_of_sends(policy, departure);
+    let by_sends = explained_by_key(intake, index, arrivals, users, fault, sends, departure);
+    if by_sends {
         return true;
     }
-    explained_by_channel(intake, index, arrivals, credentials, fault, departure)
+    let channel = key_of_channel_data(policy, departure);
+    let by_channel = explained_by_key(intake, index, arrivals, users, fault, channel, departure);
+    if by_channel {
+        return true;
+    }
+    let named_peer = key_of_named_peer(policy, departure);
+    let by_named_peer = explained_by_key(
+        intake, index, arrivals, users, fault, named_peer, departure,
+    );
+    if by_named_peer {
+        return true;
+    }
+    let any_peer = key_of_any_peer(policy, departure);
+    let by_any_peer = explained_by_key(intake, index, arrivals, users, fault, any_peer, departure);
+    by_any_peer
 }
