@@ -124,6 +124,7 @@ test:
 	python3 tests/fragments.py $(PREPARES) $(PROGRAM)
 	python3 tests/shown_faults.py $(EXPLAINS) $(PROGRAM)
 	python3 tests/repeated_data.py $(EXPLAINS)
+	python3 tests/equal_data.py $(EXPLAINS)
 	python3 tests/explain.py $(EXPLAINS)
 	python3 tests/explain_page.py $(EXPLAINS)
 	tests/kit.sh $(PROGRAM) $(EXPLAINS)
