@@ -29,20 +29,24 @@ pub struct Searched {
     acts: Vec<Anchored>,
     fault: Option<Fault>,
     constraints: Vec<Constraint>,
+    /// How many steps this search of the lane and those before it took.
+    steps: u64,
 }
 
 impl Searched {
-    /// The result of a lane's search.
+    /// The result of a lane's search, and how many steps its searches took so far.
     pub fn of(
         input: &SearchInput<'_>,
         lane: LaneNumber,
         found: Found,
+        steps: u64,
     ) -> Result<Searched, AllocError> {
         Ok(Searched {
             fingerprint: input.views().fingerprint(lane),
             acts: acts_of(input, &found)?,
             fault: found.fault(),
             constraints: found.into_constraints(),
+            steps,
         })
     }
 
@@ -51,6 +55,13 @@ impl Searched {
         ensures { result ≡ self.now.fingerprint }
     {
         self.fingerprint
+    }
+
+    /// How many steps this search of the lane and those before it took.
+    pub fn steps(&self) -> u64
+        ensures { result ≡ self.now.steps }
+    {
+        self.steps
     }
 
     /// Adds its acts to those of all lanes.
@@ -119,6 +130,17 @@ impl AllSearched {
             return Err(AllocError);
         }
         Ok(())
+    }
+
+    /// How many steps the searches of all lanes took.
+    pub fn steps(&self) -> u64 {
+        let mut steps = 0u64;
+        for place in &self.lanes {
+            if let Some(searched) = place {
+                steps = steps.saturating_add(searched.steps);
+            }
+        }
+        steps
     }
 
     /// Forgets the results.

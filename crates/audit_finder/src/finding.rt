@@ -145,6 +145,12 @@ fn certificate_with(
     certificate_of(alloc, intake, filled, portion)
 }
 
+/// One part in how many of the usual work the rounds do by these windows: five parts of windows are
+/// tried, so each is searched less.
+fn share_of(windows: Windows) -> u64 {
+    if windows == Windows::Whole { 1 } else { 4 }
+}
+
 /// The certificate of the best round, with lanes for these pairs.
 fn found_in_rounds(
     alloc: Global,
@@ -202,7 +208,7 @@ pub fn find(
     let clients = clients_in(alloc, seed, intake)?;
     let lanes = clients.lanes();
     let reading = Reading::new(alloc, intake, credentials, lanes, windows)?;
-    let best = best_round(&reading)?;
+    let best = best_round(&reading, share_of(windows))?;
     found_in_rounds(alloc, intake, lanes, &reading, &best)
 }
 
@@ -227,6 +233,6 @@ pub fn find_parallel<R: Threads + Sync>(
     let clients = clients_in(alloc, seed, intake)?;
     let lanes = clients.lanes();
     let reading = Reading::new(alloc, intake, credentials, lanes, windows)?;
-    let best = best_round_by(rt, workers, &reading)?;
+    let best = best_round_by(rt, workers, &reading, share_of(windows))?;
     found_in_rounds(alloc, intake, lanes, &reading, &best)
 }

@@ -10,14 +10,13 @@ use std::alloc::AllocError;
 use std::collections::{BTreeMap, VecDeque};
 
 /// How many steps are spent on one conflict.
-const STEPS: u64 = 8000;
+const STEPS: u64 = 2_000;
 
-/// How many steps all lanes share, whatever their departures; each lane gets at most as many as one
-/// conflict takes.
-const FREE_STEPS: u64 = 1_000_000;
+/// The fewest steps that a lane has for each departure.
+const FEWEST_EACH: u64 = 2;
 
-/// How many steps a lane has for each departure, in addition to those.
-const STEPS_EACH: u64 = 64;
+/// The most steps that a lane has for each departure.
+const MOST_EACH: u64 = 16;
 
 /// How many choices are kept for backtracking.
 const STACK: usize = 64;
@@ -70,17 +69,43 @@ struct LaneSearch<'a> {
     asked: Vec<(SeenNumber, Vec<Constraint>)>,
 }
 
+/// How many steps the search of each lane may take in a round.
+#[derive(Clone, Copy, Debug)]
+pub(crate) struct Allowance {
+    /// How many in addition to those for its departures.
+    free: u64,
+    /// How many for each departure.
+    each: u64,
+}
+
+impl Allowance {
+    /// What each of these lanes may take, if all of them may take about this number of steps for
+    /// this number of sightings.
+    pub(crate) fn of(steps: u64, lanes: usize, sightings: usize) -> Allowance {
+        let (lanes, sightings) = ((lanes as u64).max(1), (sightings as u64).max(1));
+        Allowance {
+            free: (steps / lanes).min(STEPS),
+            each: (steps / sightings).max(FEWEST_EACH).min(MOST_EACH),
+        }
+    }
+
+    /// The steps of a lane with this number of departures.
+    fn steps(self, departures: u64) -> u64 {
+        self.free
+            .saturating_add(departures.saturating_mul(self.each))
+    }
+}
+
 /// Finds the acts of a lane: an order in which the server kept to its rules, if it finds one; else
-/// the order that leads farthest.
+/// the order that leads farthest. It also returns the number of steps.
 pub(crate) fn search_lane(
     input: &SearchInput<'_>,
+    allowance: Allowance,
     number: LaneNumber,
-) -> Result<Found, AllocError> {
+) -> Result<(Found, u64), AllocError> {
     let mut search = LaneSearch::new(input, number)?;
     let count = search.lane.departures() as u64;
-    let lanes = (input.lanes() as u64).max(1);
-    let free = (FREE_STEPS / lanes).min(STEPS);
-    let budget = free.saturating_add(count.saturating_mul(STEPS_EACH));
+    let budget = allowance.steps(count);
     search.lane.set_budget(budget);
     // Each departure twice, and the departures that are visited again, each of which is a step.
     let turns = budget.saturating_add(count).saturating_mul(2);
@@ -89,7 +114,7 @@ pub(crate) fn search_lane(
             break;
         }
     }
-    search.found()
+    Ok((search.found()?, search.lane.steps()))
 }
 
 impl<'a> LaneSearch<'a> {

@@ -1,5 +1,6 @@
 //! Rounds of searches, each with the constraints that the lanes of the previous one needed.
 
+use crate::lane_search::Allowance;
 use crate::searching::{search, search_by};
 use audit_constraints::{AllSearched, Prepared, Reading, Round, Settling};
 use std::alloc::AllocError;
@@ -9,11 +10,15 @@ use std::thread::Threads;
 /// The most rounds after each computation of the clocks.
 const ROUNDS: u32 = 16;
 
-/// The fewest rounds.
-const FEWEST: u32 = 2;
+/// How much work all rounds may do, in addition to that for each sighting. The work of a round is
+/// the number of sightings and of the steps of all searches.
+const WORK: u64 = 16_000;
 
-/// How many sightings all rounds of a turn search in total, unless `FEWEST` rounds need more.
-const SIGHTINGS: usize = 100_000;
+/// How much work all rounds may do for each sighting.
+const WORK_EACH: u64 = 8;
+
+/// Which part of the work that is left is kept for later turns: one in so many.
+const KEPT: u64 = 9;
 
 /// How often the clocks are computed again.
 const TURNS: u32 = 3;
@@ -50,12 +55,18 @@ struct Climb<'a> {
     /// come.
     left: u32,
     is_first: bool,
+    /// How much work all rounds may still do.
+    work: u64,
+    /// How much of that is kept for later turns.
+    for_later: u64,
+    /// How many steps the searches of this turn took so far.
+    steps: u64,
     is_over: bool,
 }
 
-/// The best of the rounds.
-pub fn best_round(reading: &Reading<'_>) -> Result<BestRound, AllocError> {
-    let mut climb = Climb::new(reading)?;
+/// The best of the rounds. They do one part in `share` of the work that they usually may.
+pub fn best_round(reading: &Reading<'_>, share: u64) -> Result<BestRound, AllocError> {
+    let mut climb = Climb::new(reading, share)?;
     for _ in 0..climb.most() {
         if climb.is_over {
             break;
@@ -73,8 +84,9 @@ pub fn best_round_by<R: Threads + Sync>(
     rt: &R,
     workers: u32,
     reading: &Reading<'_>,
+    share: u64,
 ) -> Result<BestRound, AllocError> {
-    let mut climb = Climb::new(reading)?;
+    let mut climb = Climb::new(reading, share)?;
     for _ in 0..climb.most() {
         if climb.is_over {
             break;
@@ -132,23 +144,29 @@ impl BestRound {
 }
 
 impl<'a> Climb<'a> {
-    fn new(reading: &'a Reading<'a>) -> Result<Climb<'a>, AllocError> {
+    fn new(reading: &'a Reading<'a>, share: u64) -> Result<Climb<'a>, AllocError> {
+        let count = reading.sights().as_slice().len() as u64;
+        let work = count.saturating_mul(WORK_EACH).saturating_add(WORK) / share.max(1);
         Ok(Climb {
             reading,
             settling: Settling::new(reading)?,
             searched: AllSearched::new(reading.alloc()),
             best: None,
             turn: 0,
-            left: rounds_of(reading),
+            left: ROUNDS,
             is_first: true,
+            work,
+            for_later: work / KEPT,
+            steps: 0,
             is_over: false,
         })
     }
 
     /// The most rounds.
     fn most(&self) -> u32 {
-        let each = rounds_of(self.reading).saturating_add(1);
-        each.saturating_mul(TURNS.saturating_add(1))
+        ROUNDS
+            .saturating_add(1)
+            .saturating_mul(TURNS.saturating_add(1))
     }
 
     /// The input of the next round's searches.
@@ -157,8 +175,9 @@ impl<'a> Climb<'a> {
     }
 
     fn search(&mut self, prepared: &Prepared) -> Result<(), AllocError> {
+        let allowance = self.allowance();
         let input = self.settling.input(prepared);
-        search(&mut self.searched, &input)
+        search(&mut self.searched, &input, allowance)
     }
 
     fn search_by<R: Threads + Sync>(
@@ -167,13 +186,34 @@ impl<'a> Climb<'a> {
         workers: u32,
         prepared: &Prepared,
     ) -> Result<(), AllocError> {
+        let allowance = self.allowance();
         let input = self.settling.input(prepared);
-        search_by(rt, workers, &mut self.searched, &input)
+        search_by(rt, workers, &mut self.searched, &input, allowance)
+    }
+
+    /// How many steps each lane has in the next round.
+    fn allowance(&self) -> Allowance {
+        Allowance::of(self.work, self.reading.lanes(), self.sightings())
+    }
+
+    fn sightings(&self) -> usize {
+        self.reading.sights().as_slice().len()
+    }
+
+    /// Subtracts the work of a round from what is left.
+    fn count_work(&mut self) {
+        let steps = self.searched.steps();
+        let work = steps
+            .saturating_sub(self.steps)
+            .saturating_add(self.sightings() as u64);
+        self.work = self.work.saturating_sub(work);
+        self.steps = steps;
     }
 
     /// Records a round whose lanes are searched, and adds their constraints for the next one.
     fn take(&mut self, prepared: Prepared) -> Result<(), AllocError> {
         let alloc = self.reading.alloc();
+        self.count_work();
         let round = prepared.round(alloc, &self.searched)?;
         if !self.is_first {
             self.settling.settle(&round)?;
@@ -187,11 +227,11 @@ impl<'a> Climb<'a> {
     }
 
     /// Goes to the next round, or to the next turn if lanes need nothing more; ends if nothing is
-    /// wrong, or nothing that an order helps.
+    /// wrong, or nothing that an order helps, or the work is done.
     fn go_on(&mut self, best: &BestRound, is_more: bool) -> Result<(), AllocError> {
-        if best.is_whole() || best.is_hopeless() {
+        if best.is_whole() || best.is_hopeless() || self.work == 0 {
             self.is_over = true;
-        } else if is_more && self.left > 0 {
+        } else if is_more && self.left > 0 && self.work > self.for_later {
             self.left -= 1;
         } else {
             self.turn_on(&best.round)?;
@@ -199,8 +239,13 @@ impl<'a> Climb<'a> {
         Ok(())
     }
 
-    /// Goes to the next turn that changes something.
+    /// Goes to the next turn that changes something; ends if less work is left than a turn's first
+    /// round does, which computes all keys and searches all lanes.
     fn turn_on(&mut self, best: &Round) -> Result<(), AllocError> {
+        if self.work < (self.sightings() as u64).saturating_mul(2) {
+            self.is_over = true;
+            return Ok(());
+        }
         for turn in self.turn.saturating_add(1)..=TURNS {
             self.turn = turn;
             let is_new = self.settling.shift_clocks(best)?;
@@ -218,8 +263,14 @@ impl<'a> Climb<'a> {
     fn start_again(&mut self) -> Result<(), AllocError> {
         self.searched.clear();
         self.settling.start_again()?;
-        self.left = rounds_of(self.reading);
+        self.left = ROUNDS;
         self.is_first = true;
+        self.steps = 0;
+        self.for_later = if self.turn == TURNS {
+            0
+        } else {
+            self.work / KEPT
+        };
         Ok(())
     }
 
@@ -227,13 +278,4 @@ impl<'a> Climb<'a> {
     fn end(self) -> Result<BestRound, AllocError> {
         self.best.ok_or(AllocError)
     }
-}
-
-/// How many rounds a turn has after its first one: fewer if there are many sightings.
-fn rounds_of(reading: &Reading<'_>) -> u32 {
-    let count = reading.sights().as_slice().len();
-    let rounds = SIGHTINGS / count.max(1);
-    u32::try_from(rounds)
-        .unwrap_or(ROUNDS)
-        .clamp(FEWEST, ROUNDS)
 }
