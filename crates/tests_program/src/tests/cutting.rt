@@ -39,7 +39,7 @@ static WHOLE: Row<'static> = CHECKED;
 static TORN: Row<'static> = Row {
     name: "a_capture_without_its_last_byte_is_torn",
     capture: Sample::Torn,
-    told: Output {
+    output: Output {
         status: 2,
         out: Some(""),
         err: Some("turnaudit: refused C1 in capture 0\n"),

@@ -18,7 +18,7 @@ const FOUND: Row<'static> = Row {
     words: &["turnaudit", "find", "--policy", "policy", "capture"],
     certificate: "",
     capture: Sample::Section,
-    told: Output {
+    output: Output {
         status: 0,
         out: Some("turnaudit-certificate 1\nend\n"),
         err: Some(""),

@@ -61,7 +61,7 @@ static GROWING: [Row<'static>; 9] = [
     },
     Row {
         turns: &[100, 0, 152],
-        told: TORN,
+        output: TORN,
         ..LIVE
     },
     Row {
@@ -70,20 +70,20 @@ static GROWING: [Row<'static>; 9] = [
     },
     Row {
         turns: &[100, 0, 0, 152],
-        told: TORN,
+        output: TORN,
         ..PATIENT
     },
     Row {
         name: "the_first_breach_is_told",
         capture: Sample::OtherPort,
-        told: OTHER_ADDRESS,
+        output: OTHER_ADDRESS,
         ..LIVE
     },
     Row {
         name: "the_first_breach_is_told",
         capture: Sample::OtherPort,
         turns: &[144, 60],
-        told: OTHER_ADDRESS,
+        output: OTHER_ADDRESS,
         ..LIVE
     },
     Row {
@@ -92,7 +92,7 @@ static GROWING: [Row<'static>; 9] = [
     },
     Row {
         turns: &[250, 1, 1],
-        told: TORN,
+        output: TORN,
         ..TWO_TURNS
     },
 ];
@@ -128,21 +128,21 @@ static NO_CAPTURES: [Row<'static>; 4] = [
     Row {
         name: "what_is_no_capture_is_refused, without bytes",
         capture: Sample::Nothing,
-        told: REFUSED,
+        output: REFUSED,
         ..LIVE
     },
     Row {
         name: "what_is_no_capture_is_refused, other bytes",
         capture: Sample::Noise,
         turns: &[3],
-        told: REFUSED,
+        output: REFUSED,
         ..LIVE
     },
     Row {
         name: "what_is_no_capture_is_refused, a file that is not there",
         words: &["turnaudit", "live", "--policy", "policy", "nowhere"],
         capture: Sample::Nothing,
-        told: Output {
+        output: Output {
             status: 4,
             out: Some(""),
             err: Some("turnaudit: read failed\n"),
@@ -162,7 +162,7 @@ static NO_CAPTURES: [Row<'static>; 4] = [
         capture: Sample::Section,
         second: &[7; 40],
         turns: &[28],
-        told: Output {
+        output: Output {
             status: 2,
             out: Some(""),
             err: Some("turnaudit: refused C5 in capture 1\n"),
@@ -178,7 +178,7 @@ fn what_is_no_capture_is_refused(rt: HostRuntime) -> Result<(), Fail> {
 
 /// An option with a number of turns.
 macro_rules! with {
-    ($option:literal, $number:literal, $capture:expr, $told:expr) => {
+    ($option:literal, $number:literal, $capture:expr, $output:expr) => {
         Row {
             name: concat!($option, " ", $number),
             words: &[
@@ -191,7 +191,7 @@ macro_rules! with {
                 "capture",
             ],
             capture: $capture,
-            told: $told,
+            output: $output,
             ..LIVE
         }
     };

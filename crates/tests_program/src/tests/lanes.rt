@@ -19,7 +19,7 @@ macro_rules! placed_by {
                 $lines,
                 "end\n"
             ),
-            told: Output {
+            output: Output {
                 status: $status,
                 out: Some($report),
                 err: Some(""),

@@ -25,14 +25,14 @@ static JUDGED: [Row<'static>; 3] = [
     Row {
         name: "another_mapped_address_is_r17",
         capture: Sample::OtherPort,
-        told: OTHER_ADDRESS,
+        output: OTHER_ADDRESS,
         ..CHECKED
     },
     Row {
         name: "a_section_alone_conforms_to_an_empty_certificate",
         certificate: "turnaudit-certificate 1\nend\n",
         capture: Sample::Section,
-        told: EMPTY,
+        output: EMPTY,
         ..CHECKED
     },
 ];
@@ -47,7 +47,7 @@ const UNREADABLE: Row<'static> = Row {
     name: "a_file_that_cannot_be_read_is_said",
     capture: Sample::Section,
     pieces: (10, 65_536),
-    told: READ_FAILED,
+    output: READ_FAILED,
     ..CHECKED
 };
 

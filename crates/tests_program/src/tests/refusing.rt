@@ -24,7 +24,7 @@ macro_rules! refused_certificate {
             name: $name,
             certificate: $certificate,
             capture: Sample::Section,
-            told: refused!($line),
+            output: refused!($line),
             ..CHECKED
         }
     };
@@ -36,7 +36,7 @@ macro_rules! refused_policy {
             name: $name,
             policy: $policy,
             capture: Sample::Section,
-            told: refused!($line),
+            output: refused!($line),
             ..CHECKED
         }
     };
@@ -46,13 +46,13 @@ static CAPTURES: [Row<'static>; 2] = [
     Row {
         name: "captures_are_refused_by_number, without bytes",
         capture: Sample::Nothing,
-        told: refused!("turnaudit: refused C5 in capture 0\n"),
+        output: refused!("turnaudit: refused C5 in capture 0\n"),
         ..CHECKED
     },
     Row {
         name: "captures_are_refused_by_number, a fragment",
         capture: Sample::Fragment,
-        told: refused!("turnaudit: refused V1 in capture 0\n"),
+        output: refused!("turnaudit: refused V1 in capture 0\n"),
         ..CHECKED
     },
 ];

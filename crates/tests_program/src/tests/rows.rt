@@ -69,7 +69,7 @@ pub struct Row<'a> {
     pub fails: Option<&'a str>,
     /// How many bytes each of the first turns returns while captures grow.
     pub turns: &'a [usize],
-    pub told: Output<'a>,
+    pub output: Output<'a>,
 }
 
 pub const CERTIFICATE: &str =
@@ -118,7 +118,7 @@ pub const CHECKED: Row<'static> = Row {
     pieces: (65_536, 65_536),
     fails: None,
     turns: &[],
-    told: CONFORMING,
+    output: CONFORMING,
 };
 
 impl<'a> Row<'a> {
@@ -157,8 +157,8 @@ pub fn play_over<'a>(
     let answer = answer_over(rt, row, capture)?;
     let (name, pieces, turns) = (row.name, row.pieces, row.turns);
     assert_eq!(rt;
-        answer.output_like(&row.told),
-        row.told,
+        answer.output_like(&row.output),
+        row.output,
         "{name}, {pieces:?}, {turns:?}"
     );
     Ok(())

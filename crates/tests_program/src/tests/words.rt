@@ -10,7 +10,7 @@ const WITHOUT_POLICY: Row<'static> = Row {
     name: "wrong_words_are_no_request, without a policy",
     words: &["turnaudit", "check", "--cert", "cert", "capture"],
     capture: Sample::Section,
-    told: NO_REQUEST,
+    output: NO_REQUEST,
     ..CHECKED
 };
 
@@ -39,13 +39,13 @@ static WORDS: [Row<'static>; 4] = [
     Row {
         name: "wrong_words_are_no_request, help",
         words: &["turnaudit", "check", "--help"],
-        told: HELPED,
+        output: HELPED,
         ..WITHOUT_POLICY
     },
     Row {
         name: "the_release_is_one_line",
         words: &["turnaudit", "--version"],
-        told: Output {
+        output: Output {
             status: 0,
             out: Some(RELEASE),
             err: Some(""),

@@ -70,14 +70,14 @@ static CHANNELS: [Row; 10] = [
         name: "the_last_channel_number_is_bound",
         steps: &[ALLOCATED, BOUND_4FFF],
         digests: Some("276518b5900241ba1a73eeb033978dafabdab610"),
-        told: conforming!(4),
+        output: conforming!(4),
         ..SESSION
     },
     Row {
         name: "a_number_past_the_channels_is_r10",
         steps: &[ALLOCATED, BOUND_5000],
         digests: Some("838223dd6a7788d6364be54f80b38a9fb8d46044"),
-        told: broken!(
+        output: broken!(
             "R10 channel number",
             "phase 2 lane 0 event 4 moment 1020500000 tie 0",
             "0.2 198.51.100.7:40000 to 192.0.2.1:3478 92 bytes"
@@ -95,7 +95,7 @@ static CHANNELS: [Row; 10] = [
             ),
         ],
         digests: Some("3082f693964751586b0bb23800b7b9ea487ff55b"),
-        told: conforming!(6),
+        output: conforming!(6),
         ..SESSION
     },
     Row {
@@ -109,7 +109,7 @@ static CHANNELS: [Row; 10] = [
             ),
         ],
         digests: Some("549e712fc15617443099683644bc4db218771a49"),
-        told: broken!(
+        output: broken!(
             "R7 permission over",
             "phase 2 lane 0 event 7 moment 310000500000 tie 0",
             "0.4 203.0.113.9:7000 to 192.0.2.1:50000 2 bytes"
@@ -118,12 +118,12 @@ static CHANNELS: [Row; 10] = [
     },
     Row {
         name: "data_within_the_grace_of_its_channel_conforms",
-        told: conforming!(6),
+        output: conforming!(6),
         ..carried_at!(602_020_500_000)
     },
     Row {
         name: "data_after_its_channel_ended_is_r9",
-        told: broken!(
+        output: broken!(
             "R9 channel over",
             "phase 2 lane 0 event 7 moment 602020500001 tie 0",
             "0.4 198.51.100.7:40000 to 192.0.2.1:3478 6 bytes"
@@ -132,7 +132,7 @@ static CHANNELS: [Row; 10] = [
     },
     Row {
         name: "another_number_before_the_channel_is_gone_is_r11",
-        told: broken!(
+        output: broken!(
             "R11 channel conflict",
             "phase 2 lane 0 event 7 moment 601020500000 tie 0",
             "0.4 198.51.100.7:40000 to 192.0.2.1:3478 92 bytes"
@@ -141,21 +141,21 @@ static CHANNELS: [Row; 10] = [
     },
     Row {
         name: "another_number_once_the_channel_is_gone_conforms",
-        told: conforming!(6),
+        output: conforming!(6),
         ..bound_anew_at!(601_020_500_001)
     },
     Row {
         name: "three_bytes_may_follow_channel_data",
         steps: followed_by!(b"\0\0\0"),
         digests: Some("ad7cd52c02c7a4840736c57f6f21d0c490579d1f"),
-        told: conforming!(6),
+        output: conforming!(6),
         ..SESSION
     },
     Row {
         name: "four_bytes_behind_channel_data_are_r21",
         steps: followed_by!(b"\0\0\0\0"),
         digests: Some("90b5456463a84675425996d0a6ec46253d8ec1af"),
-        told: broken!(
+        output: broken!(
             "R21 leaving datagram malformed",
             "phase 2 lane 0 event 7 moment 1030050000 tie 0",
             "0.4 203.0.113.9:7000 to 192.0.2.1:50000 2 bytes"

@@ -80,13 +80,13 @@ macro_rules! repeated {
 static ALLOCATIONS: [Row; 8] = [
     Row {
         name: "an_allocation_conforms",
-        told: conforming!(2),
+        output: conforming!(2),
         ..JUST_ALLOCATED
     },
     Row {
         name: "an_allocate_under_another_password_is_r2",
         credentials: "user\trealm\tpasz\n",
-        told: broken!(
+        output: broken!(
             "R2 credentials",
             "phase 2 lane 0 event 1 moment 1011000000 tie 0",
             "0.0 198.51.100.7:40000 to 192.0.2.1:3478 80 bytes"
@@ -97,7 +97,7 @@ static ALLOCATIONS: [Row; 8] = [
         name: "an_allocation_for_no_time_is_r15",
         steps: &[ALLOCATED_FOR_NO_TIME],
         digests: Some("190f5e5a731c11846cb414d802724fe933314930"),
-        told: broken!(
+        output: broken!(
             "R15 lifetime",
             "phase 2 lane 0 event 1 moment 1011000000 tie 0",
             "0.0 198.51.100.7:40000 to 192.0.2.1:3478 80 bytes"
@@ -118,7 +118,7 @@ static ALLOCATIONS: [Row; 8] = [
             ),
         )],
         digests: Some("006b3e1d09f1ccc09514fd405b8922c4fe4a6a89"),
-        told: broken!(
+        output: broken!(
             "R18 response integrity",
             "phase 2 lane 0 event 1 moment 1011000000 tie 0",
             "0.0 198.51.100.7:40000 to 192.0.2.1:3478 80 bytes"
@@ -129,7 +129,7 @@ static ALLOCATIONS: [Row; 8] = [
         name: "an_odd_port_where_an_even_one_was_asked_is_r14",
         steps: even_port_asked!(50001),
         digests: Some("76a28dd9911479b0e59b58471e72a84a11fa3987"),
-        told: broken!(
+        output: broken!(
             "R14 relayed address",
             "phase 2 lane 0 event 1 moment 1011000000 tie 0",
             "0.0 198.51.100.7:40000 to 192.0.2.1:3478 88 bytes"
@@ -140,21 +140,21 @@ static ALLOCATIONS: [Row; 8] = [
         name: "an_even_port_where_one_was_asked_conforms",
         steps: even_port_asked!(50000),
         digests: Some("35d118b8e157a8e7836b8425e4f34ce34d2b9ca5"),
-        told: conforming!(2),
+        output: conforming!(2),
         ..SESSION
     },
     Row {
         name: "a_repeated_allocate_gets_the_same_address",
         steps: repeated!(50000),
         digests: Some("e0f97dd1566765366a6f8d0d889740a6d5cb84ea"),
-        told: conforming!(4),
+        output: conforming!(4),
         ..SESSION
     },
     Row {
         name: "another_address_for_a_repeated_allocate_is_r14",
         steps: repeated!(50002),
         digests: Some("f99f795f909c2f53b88bb15a7f9bba193b6559ca"),
-        told: broken!(
+        output: broken!(
             "R14 relayed address",
             "phase 2 lane 0 event 4 moment 1020500000 tie 0",
             "0.2 198.51.100.7:40000 to 192.0.2.1:3478 80 bytes"
@@ -228,12 +228,12 @@ macro_rules! given_up_twice {
 static REFRESHES: [Row; 4] = [
     Row {
         name: "a_refresh_within_the_grace_conforms",
-        told: conforming!(4),
+        output: conforming!(4),
         ..refreshed_at!(602_011_000_000)
     },
     Row {
         name: "a_refresh_after_the_grace_is_r5",
-        told: broken!(
+        output: broken!(
             "R5 allocation over",
             "phase 2 lane 0 event 4 moment 602011000001 tie 0",
             "0.2 198.51.100.7:40000 to 192.0.2.1:3478 72 bytes"
@@ -244,14 +244,14 @@ static REFRESHES: [Row; 4] = [
         name: "an_allocation_may_be_given_up_twice",
         steps: given_up_twice!(0),
         digests: Some("092919f00dd953505733dfe63dc69368fdf272a9"),
-        told: conforming!(6),
+        output: conforming!(6),
         ..SESSION
     },
     Row {
         name: "time_for_an_allocation_that_was_given_up_is_r4",
         steps: given_up_twice!(600),
         digests: Some("5f8ddb291bff4b2d79b9d409c861e34ad7245a90"),
-        told: broken!(
+        output: broken!(
             "R4 no allocation",
             "phase 2 lane 0 event 7 moment 1022500000 tie 0",
             "0.4 198.51.100.7:40000 to 192.0.2.1:3478 80 bytes"
@@ -269,19 +269,19 @@ static REFUSED: [Row; 3] = [
     Row {
         name: "credentials_are_refused_by_number_and_line, K2",
         credentials: "user\trealm\tpass\r\n",
-        told: refused!("turnaudit: refused K2 in credentials line 1\n"),
+        output: refused!("turnaudit: refused K2 in credentials line 1\n"),
         ..SESSION
     },
     Row {
         name: "credentials_are_refused_by_number_and_line, K3",
         credentials: "user\trealm\tpass\nuser\trealm\tpass\n",
-        told: refused!("turnaudit: refused K3 in credentials line 2\n"),
+        output: refused!("turnaudit: refused K3 in credentials line 2\n"),
         ..SESSION
     },
     Row {
         name: "credentials_are_refused_by_number_and_line, K1",
         credentials: "user\trealm\n",
-        told: refused!("turnaudit: refused K1 in credentials line 1\n"),
+        output: refused!("turnaudit: refused K1 in credentials line 1\n"),
         ..SESSION
     },
 ];

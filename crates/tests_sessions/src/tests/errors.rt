@@ -58,49 +58,49 @@ static REFUSALS: [Row; 7] = [
         name: "a_challenge_conforms",
         steps: &[CHALLENGED],
         digests: Some("a1dbb28e645be7e5abc8054f73dce758f7220077"),
-        told: conforming!(2),
+        output: conforming!(2),
         ..SESSION
     },
     Row {
         name: "a_challenge_without_nonce_is_r19",
         steps: refused!(17, &[code!(4, 1), Part::Value(attribute::REALM, b"realm")]),
         digests: Some("5aa575c0695c00811d5f7ef08260a9ceecd7c35f"),
-        told: allocate_broken!("R19 error condition"),
+        output: allocate_broken!("R19 error condition"),
         ..SESSION
     },
     Row {
         name: "no_allocation_is_no_answer_to_an_allocate",
         steps: refused!(17, &[code!(4, 37), Part::Challenge]),
         digests: Some("eb3253b841753877d566fd02c38be07c0535d18a"),
-        told: allocate_broken!("R19 error condition"),
+        output: allocate_broken!("R19 error condition"),
         ..SESSION
     },
     Row {
         name: "an_error_code_of_class_seven_is_r21",
         steps: refused!(17, &[code!(7, 1), Part::Challenge]),
         digests: Some("78f1c742d25cc4064201882bbb43a4d3cf98e8c6"),
-        told: allocate_broken!("R21 leaving datagram malformed"),
+        output: allocate_broken!("R21 leaving datagram malformed"),
         ..SESSION
     },
     Row {
         name: "an_error_without_code_is_r21",
         steps: refused!(17, &[Part::Challenge]),
         digests: Some("a25190b90ce38be0bae97f62c04a123fe35d9bf8"),
-        told: allocate_broken!("R21 leaving datagram malformed"),
+        output: allocate_broken!("R21 leaving datagram malformed"),
         ..SESSION
     },
     Row {
         name: "udp_refused_as_a_transport_is_r19",
         steps: refused!(17, &[code!(4, 42)]),
         digests: Some("87b1229a467d0a59cd708b244a2c7c89125e9ef4"),
-        told: allocate_broken!("R19 error condition"),
+        output: allocate_broken!("R19 error condition"),
         ..SESSION
     },
     Row {
         name: "tcp_refused_as_a_transport_conforms",
         steps: refused!(6, &[code!(4, 42)]),
         digests: Some("07569f3ca61a5d62456c37c062c986fabbbc3a2b"),
-        told: conforming!(2),
+        output: conforming!(2),
         ..SESSION
     },
 ];
@@ -178,13 +178,13 @@ static REFRESHES: [Row; 5] = [
     Row {
         name: "another_user_may_be_refused_as_such",
         digests: Some("3d0d92c026b966c61ae06e22aa3bfc55bdb30ee1"),
-        told: conforming!(4),
+        output: conforming!(4),
         ..refused_to!(b"mate", b"word")
     },
     Row {
         name: "the_allocations_user_refused_as_another_is_r19",
         digests: Some("66cfe1c9809bd8cfadc3c9f6edaba822992701e8"),
-        told: broken!(
+        output: broken!(
             "R19 error condition",
             "phase 2 lane 0 event 4 moment 1020500000 tie 0",
             "0.2 198.51.100.7:40000 to 192.0.2.1:3478 72 bytes"
@@ -195,21 +195,21 @@ static REFRESHES: [Row; 5] = [
         name: "no_allocation_may_be_told_once_it_was_given_up",
         steps: given_up!(Payload::Message(Class::Error, method::REFRESH, &[code!(4, 37)])),
         digests: Some("0355f32826cc515bef91de1f5eb517cb64428f8f"),
-        told: conforming!(8),
+        output: conforming!(8),
         ..SESSION
     },
     Row {
         name: "what_was_given_up_may_be_given_up_again",
         steps: given_up!(refreshed!(0)),
         digests: Some("88a6e3c9b50b8e5361c4d22d8a00aa6cc0e03dba"),
-        told: conforming!(8),
+        output: conforming!(8),
         ..SESSION
     },
     Row {
         name: "time_for_what_was_given_up_is_r4",
         steps: given_up!(refreshed!(600)),
         digests: Some("fd2451d34d4de61bd4baca6261cca85ad1fe97de"),
-        told: broken!(
+        output: broken!(
             "R4 no allocation",
             "phase 2 lane 0 event 10 moment 1015500000 tie 0",
             "0.6 198.51.100.7:40000 to 192.0.2.1:3478 80 bytes"

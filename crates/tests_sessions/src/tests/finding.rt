@@ -31,8 +31,8 @@ static FIND: [&str; 6] = [
 ];
 
 /// Whether the output is the expected one.
-fn has_output(answer: &Answer, told: Output<'_>) -> bool {
-    answer.output_like(&told) == told
+fn has_output(answer: &Answer, output: Output<'_>) -> bool {
+    answer.output_like(&output) == output
 }
 
 /// The statuses of `audit`, of `find` and of `check` by the certificate that `find` writes, if each
@@ -46,9 +46,9 @@ fn statuses(
     let audited = row.answer(rt, alloc, &AUDIT, built, "")?;
     let found = row.answer(rt, alloc, &FIND, built, "")?;
     let checked = row.answer(rt, alloc, &CHECK, built, text_of(&found.out))?;
-    if has_output(&audited, row.told)
+    if has_output(&audited, row.output)
         && has_output(&found, WRITTEN)
-        && has_output(&checked, row.told)
+        && has_output(&checked, row.output)
     {
         return Ok(Some((audited.status, found.status, checked.status)));
     }
@@ -84,17 +84,17 @@ const WRITTEN: Output<'static> = Output {
 static FOUND: [Row; 5] = [
     Row {
         name: "a_relay_is_found_whose_clock_is_early",
-        told: conforming!(8),
+        output: conforming!(8),
         ..SENT
     },
     Row {
         name: "a_permission_is_found_before_its_success",
-        told: conforming!(8),
+        output: conforming!(8),
         ..OVERTAKEN
     },
     Row {
         name: "a_channel_is_found_upwards",
-        told: conforming!(8),
+        output: conforming!(8),
         ..CARRIED
     },
     Row {
@@ -106,12 +106,12 @@ static FOUND: [Row; 5] = [
             PERMITTED,
             Step::PeerRepeats(100, 1_030_000, b"hi"),
         ],
-        told: conforming!(106),
+        output: conforming!(106),
         ..SESSION
     },
     Row {
         name: "a_send_within_the_grace_is_found",
-        told: conforming!(8),
+        output: conforming!(8),
         ..WITHIN_THE_GRACE
     },
 ];

@@ -55,7 +55,7 @@ static LANES: [Row; 3] = [
             ),
         ],
         digests: Some("8ff7f402bea85406ede308cd648b6e5ac3a337d6"),
-        told: broken!(
+        output: broken!(
             "S13 act without departure",
             "phase 2 lane 0 event 7 moment 1030050000 tie 0",
             "0.4 198.51.100.7:40000 to 192.0.2.1:3478 44 bytes"
@@ -65,7 +65,7 @@ static LANES: [Row; 3] = [
     Row {
         name: "an_address_that_another_client_holds_is_r22",
         steps: two_allocations!(RELAYED),
-        told: broken!(
+        output: broken!(
             "R22 address held",
             "phase 3 lane 1 event 1 moment 1021000000 tie 0",
             "0.2 198.51.100.8:40001 to 192.0.2.1:3478 80 bytes"
@@ -75,7 +75,7 @@ static LANES: [Row; 3] = [
     Row {
         name: "two_clients_with_addresses_of_their_own_conform",
         steps: two_allocations!(OTHER_RELAYED),
-        told: conforming!(4, 2),
+        output: conforming!(4, 2),
         ..SESSION
     },
 ];

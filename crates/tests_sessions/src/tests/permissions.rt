@@ -74,14 +74,14 @@ static PERMISSIONS: [Row; 9] = [
         name: "what_is_sent_to_a_permitted_peer_conforms",
         steps: relayed!(b"hello", b"hello"),
         digests: Some("8ff7f402bea85406ede308cd648b6e5ac3a337d6"),
-        told: conforming!(6),
+        output: conforming!(6),
         ..SESSION
     },
     Row {
         name: "other_data_than_was_sent_is_r13",
         steps: relayed!(b"hello", b"hellp"),
         digests: Some("9f89b6aeea0b13a8a7cf6a553da9ad2f97dc2f05"),
-        told: broken!(
+        output: broken!(
             "R13 data differs",
             "phase 2 lane 0 event 7 moment 1030050000 tie 0",
             "0.4 198.51.100.7:40000 to 192.0.2.1:3478 44 bytes"
@@ -92,21 +92,21 @@ static PERMISSIONS: [Row; 9] = [
         name: "data_of_no_bytes_is_relayed",
         steps: relayed!(b"", b""),
         digests: Some("3423324342fd41528ef76bf19494e56b56f80916"),
-        told: conforming!(6),
+        output: conforming!(6),
         ..SESSION
     },
     Row {
         name: "a_permission_is_for_every_port_of_the_peer",
         steps: relayed_to!(OTHER_PORT),
         digests: Some("1097961a68b23ee7e2b9260d3606088ae8186a05"),
-        told: conforming!(6),
+        output: conforming!(6),
         ..SESSION
     },
     Row {
         name: "what_is_sent_to_a_peer_without_permission_is_r6",
         steps: relayed_to!(OTHER_PEER),
         digests: Some("9f238cce84134cabf2bb30ac621c8339c2e96585"),
-        told: broken!(
+        output: broken!(
             "R6 no permission",
             "phase 2 lane 0 event 7 moment 1030050000 tie 0",
             "0.4 198.51.100.7:40000 to 192.0.2.1:3478 44 bytes"
@@ -115,12 +115,12 @@ static PERMISSIONS: [Row; 9] = [
     },
     Row {
         name: "relay_within_the_grace_of_the_permission_conforms",
-        told: conforming!(6),
+        output: conforming!(6),
         ..relayed_at!(302_020_500_000)
     },
     Row {
         name: "relay_after_the_permission_ended_is_r7",
-        told: broken!(
+        output: broken!(
             "R7 permission over",
             "phase 2 lane 0 event 7 moment 302020500001 tie 0",
             "0.4 198.51.100.7:40000 to 192.0.2.1:3478 44 bytes"
@@ -131,7 +131,7 @@ static PERMISSIONS: [Row; 9] = [
         name: "what_a_permitted_peer_sends_is_given_to_the_client",
         steps: &[ALLOCATED, PERMITTED, GIVEN],
         digests: Some("ae8145316f1b796de5c3e55291418b5771eb9ffe"),
-        told: conforming!(6),
+        output: conforming!(6),
         ..SESSION
     },
     Row {
@@ -144,7 +144,7 @@ static PERMISSIONS: [Row; 9] = [
             Step::Lines("act 0.4 0.6 1030600000 0\nout 0.6 1031000000 0\n"),
         ],
         digests: Some("6b83d5e2dc8f1088aa9ca69c33fa8720cb4671bb"),
-        told: broken!(
+        output: broken!(
             "S10 acted twice",
             "phase 2 lane 0 event 9 moment 1030600000 tie 0",
             "0.4 203.0.113.9:7000 to 192.0.2.1:50000 5 bytes"

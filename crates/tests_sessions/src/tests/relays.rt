@@ -164,13 +164,13 @@ pub const GIVEN_TWICE: Row = Row {
 static RELAYS: [Row; 9] = [
     Row {
         name: "a_relay_seen_by_two_clocks_conforms",
-        told: conforming!(8),
+        output: conforming!(8),
         ..SENT
     },
     Row {
         name: "a_clock_past_the_skew_is_s4",
         policy: "turnaudit-policy 1\nlisten 192.0.2.1:3478\nrelay 192.0.2.1:49152-65535\nskew-us 100\n",
-        told: broken!(
+        output: broken!(
             "S4 window",
             "phase 1 lane 0 event 11 moment 1030100000 tie 0",
             "64.0 192.0.2.1:50000 to 203.0.113.9:7000 5 bytes"
@@ -180,7 +180,7 @@ static RELAYS: [Row; 9] = [
     Row {
         name: "another_password_is_told_at_the_first_signed_request",
         credentials: "user\trealm\tpasz\n",
-        told: broken!(
+        output: broken!(
             "R2 credentials",
             "phase 2 lane 0 event 4 moment 1011000000 tie 0",
             "0.2 198.51.100.7:40000 to 192.0.2.1:3478 80 bytes"
@@ -189,7 +189,7 @@ static RELAYS: [Row; 9] = [
     },
     Row {
         name: "other_data_in_the_other_capture_is_r13",
-        told: broken!(
+        output: broken!(
             "R13 data differs",
             "phase 2 lane 0 event 10 moment 1030050000 tie 0",
             "0.6 198.51.100.7:40000 to 192.0.2.1:3478 44 bytes"
@@ -198,17 +198,17 @@ static RELAYS: [Row; 9] = [
     },
     Row {
         name: "no_bytes_are_relayed_into_the_other_capture",
-        told: conforming!(8),
+        output: conforming!(8),
         ..NO_DATA
     },
     Row {
         name: "a_permission_lasts_to_the_end_of_its_grace",
-        told: conforming!(8),
+        output: conforming!(8),
         ..WITHIN_THE_GRACE
     },
     Row {
         name: "a_nanosecond_after_its_grace_a_permission_is_r7",
-        told: broken!(
+        output: broken!(
             "R7 permission over",
             "phase 2 lane 0 event 10 moment 302020500001 tie 0",
             "0.6 198.51.100.7:40000 to 192.0.2.1:3478 44 bytes"
@@ -217,12 +217,12 @@ static RELAYS: [Row; 9] = [
     },
     Row {
         name: "a_permission_counts_from_the_act_and_not_from_its_success",
-        told: conforming!(8),
+        output: conforming!(8),
         ..OVERTAKEN
     },
     Row {
         name: "a_permission_does_not_count_before_the_act",
-        told: broken!(
+        output: broken!(
             "R6 no permission",
             "phase 2 lane 0 event 8 moment 1020300000 tie 0",
             "64.0 203.0.113.9:7000 to 192.0.2.1:50000 2 bytes"
@@ -239,12 +239,12 @@ fn relays_of_two_captures_are_judged(rt: HostRuntime) -> Result<(), Fail> {
 static CHANNELS: [Row; 5] = [
     Row {
         name: "a_channel_is_bound_after_a_challenge",
-        told: conforming!(6),
+        output: conforming!(6),
         ..LAST_CHANNEL
     },
     Row {
         name: "a_number_past_the_channels_is_r10_after_a_challenge",
-        told: broken!(
+        output: broken!(
             "R10 channel number",
             "phase 2 lane 0 event 7 moment 1020500000 tie 0",
             "0.4 198.51.100.7:40000 to 192.0.2.1:3478 92 bytes"
@@ -253,7 +253,7 @@ static CHANNELS: [Row; 5] = [
     },
     Row {
         name: "a_channel_carries_data_into_the_other_capture",
-        told: conforming!(8),
+        output: conforming!(8),
         ..CARRIED
     },
     Row {
@@ -270,7 +270,7 @@ static CHANNELS: [Row; 5] = [
         digests: Some(
             "fed154f88f0372e643a297dd0fb6dad657142ecd fab219d574c41526c2f7ba4ec1c54e5dcdcfbf64",
         ),
-        told: broken!(
+        output: broken!(
             "R7 permission over",
             "phase 2 lane 0 event 10 moment 310000500000 tie 0",
             "64.0 203.0.113.9:7000 to 192.0.2.1:50000 2 bytes"
@@ -279,7 +279,7 @@ static CHANNELS: [Row; 5] = [
     },
     Row {
         name: "a_datagram_of_the_other_capture_given_twice_is_s10",
-        told: broken!(
+        output: broken!(
             "S10 acted twice",
             "phase 2 lane 0 event 12 moment 1030600000 tie 0",
             "64.0 203.0.113.9:7000 to 192.0.2.1:50000 2 bytes"

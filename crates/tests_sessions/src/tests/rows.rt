@@ -22,7 +22,7 @@ pub struct Row {
     pub steps: &'static [Step<'static>],
     /// The digests of the captures.
     pub digests: Option<&'static str>,
-    pub told: Output<'static>,
+    pub output: Output<'static>,
 }
 
 /// The expected output for a session with this number of datagrams that conforms.
@@ -88,7 +88,7 @@ pub const SESSION: Row = Row {
     has_two_captures: false,
     steps: &[],
     digests: None,
-    told: conforming!(0),
+    output: conforming!(0),
 };
 
 impl Row {
@@ -160,8 +160,8 @@ pub fn play(
         };
         let answer = row.answer(rt, alloc, &CHECK, &built, &built.certificate)?;
         assert_eq!(rt;
-            (is_captured, answer.output_like(&row.told)),
-            (true, row.told),
+            (is_captured, answer.output_like(&row.output)),
+            (true, row.output),
             "{}: {digests}",
             row.name
         );
