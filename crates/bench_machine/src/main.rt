@@ -1,8 +1,12 @@
 //! How long the machine takes to judge a certificate's moves, and whether it says what `check`
-//! says.
-//! `rt run -- POLICY CREDS CERTIFICATE CAPTURE..`; without these words it prints nothing.
+//! says: `rt run -- POLICY CREDS CERTIFICATE CAPTURE..`. How much memory it takes to judge them
+//! again and again: `rt run -- --rounds ROUNDS POLICY CREDS CERTIFICATE CAPTURE..`. Without these
+//! arguments it prints nothing.
 #![tactic(auto)]
 
+mod again;
+
+use again::judge_again;
 use audit_cert::read;
 use audit_glue::check;
 use audit_keys::Credentials;
@@ -163,45 +167,85 @@ fn read_texts<R: AllocGlobal + Files>(
     }
 }
 
-/// The times of the files that the words name.
-fn times_of<R: AllocGlobal + Files + Clock>(
+/// The number of rounds, if the arguments have it, and the files.
+fn parse(arguments: &[String]) -> (Option<u64>, &[String]) {
+    match arguments {
+        [_, option, rounds, files @ ..] if option.as_str() == "--rounds" => {
+            (Some(rounds.as_str().parse().unwrap_or(1)), files)
+        }
+        [_, files @ ..] => (None, files),
+        [] => (None, &[]),
+    }
+}
+
+/// The files of a run, read.
+#[derive(Drop)]
+struct Inputs {
+    intake: Intake,
+    policy: Policy,
+    credentials: Credentials,
+    certificate: Certificate,
+}
+
+/// Reads the files of these names; none if one of them is refused.
+fn read_inputs<R: AllocGlobal + Files>(
     rt: &R,
     alloc: Global,
-    words: &[String],
-) -> io::Result<Option<Timed>> {
-    let [_, policy, credentials, certificate, captures @ ..] = words else {
+    files: &[String],
+) -> io::Result<Option<Inputs>> {
+    let [policy, credentials, certificate, captures @ ..] = files else {
         return Ok(None);
     };
     let names = [policy.as_str(), credentials.as_str(), certificate.as_str()];
-    let Some((policy, credentials, certificate)) = read_texts(rt, alloc, names)? else {
+    let Some((policy, ..)) = read_texts(rt, alloc, names)? else {
         return Ok(None);
     };
-    match taken_in(rt, alloc, policy, captures)? {
-        Some(intake) => {
-            let timed = measured(rt, alloc, &intake, &credentials, &certificate)?;
-            Ok(Some(timed))
-        }
-        None => Ok(None),
-    }
+    let Some((other, credentials, certificate)) = read_texts(rt, alloc, names)? else {
+        return Ok(None);
+    };
+    let Some(intake) = taken_in(rt, alloc, policy, captures)? else {
+        return Ok(None);
+    };
+    Ok(Some(Inputs {
+        intake,
+        policy: other,
+        credentials,
+        certificate,
+    }))
 }
 
 fn main(rt: HostRuntime) -> io::Result<()> {
     let alloc = rt.alloc();
-    let mut words = Vec::new(alloc);
-    for word in env::args(&rt)? {
-        words.push(word)?;
+    let mut arguments = Vec::new(alloc);
+    for argument in env::args(&rt)? {
+        arguments.push(argument)?;
     }
-    let Some(timed) = times_of(&rt, alloc, &words)? else {
+    let (rounds, files) = parse(&arguments);
+    let Some(inputs) = read_inputs(&rt, alloc, files)? else {
         return Ok(());
     };
-    let Timed {
-        conforms,
-        explains,
-        moves,
-        took,
-    } = timed;
-    let each = took / (moves as u64).max(1);
-    println!(rt;
-        "check: {conforms}, machine: {explains}; {moves} moves in {took} ns, {each} ns a move"
-    )
+    let Inputs {
+        intake,
+        policy,
+        credentials,
+        certificate,
+    } = inputs;
+    let Some(rounds) = rounds else {
+        let Timed {
+            conforms,
+            explains,
+            moves,
+            took,
+        } = measured(&rt, alloc, &intake, &credentials, &certificate)?;
+        let each = took / (moves as u64).max(1);
+        return println!(rt;
+            "check: {conforms}, machine: {explains}; {moves} moves in {took} ns, {each} ns a move"
+        );
+    };
+    let actions = actions_of(alloc, &certificate)?;
+    let (moves, end) = judge_again(alloc, &intake, &credentials, policy, &actions, rounds)?;
+    match end {
+        Ok(()) => println!(rt; "{moves} moves in {rounds} rounds, each accepted"),
+        Err(refusal) => println!(rt; "{moves} moves, then refused: {refusal:?}"),
+    }
 }
