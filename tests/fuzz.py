@@ -1,7 +1,7 @@
 #!/usr/bin/env python3
 """Gives turnaudit damaged captures, policies, credentials and certificates, and looks at how it answers.
 
-    python3 tests/fuzz.py PROGRAM [--seconds 60] [--seed N] [--jobs N] [--keep FOLDER] FOLDER..
+    python3 tests/fuzz.py PROGRAM [--seconds 60] [--seed N] [--jobs N] [--keep FOLDER] [--brief] FOLDER..
 
 A folder is a stored case: policy, captures, perhaps creds. Captures are cut to their first blocks, and `find` writes the certificate.
 Each try damages one or more of its files, runs `check` and `find` with 1 and with 4 workers, and `audit`, and stops where
@@ -10,6 +10,8 @@ Each try damages one or more of its files, runs `check` and `find` with 1 and wi
 - more than one line stands on standard error, or what is written does not belong to the status;
 - `check` or `find` answers otherwise by 4 workers than by 1;
 - `audit` says otherwise than `check` by the certificate of `find`.
+
+With --brief each try runs one of these commands, so that more inputs are tried in the same time; nothing is compared.
 
 The input that showed it is kept in FOLDER, with the words in `words`. The seed tells all tries; it is printed.
 """
@@ -255,6 +257,13 @@ class Stored:
         creds = ["--creds", "creds"] if "creds" in self.files else []
         return [command, "--policy", "policy", *creds, *more, *self.captures]
 
+    def brief_fault_of(self, program, place, statuses, chance):
+        """What is wrong with the answer of one command to the files of the folder, and its words, or None. The status is counted."""
+        command = chance.choice((["check", "--cert", "cert"], ["find"], ["audit"]))
+        answer = Answer(program, place, self.words(*command, *chance.choice(([], ["--workers", "4"]))))
+        statuses[f"{answer.words[0]} {answer.status}"] += 1
+        return (answer.words, answer.fault()) if answer.fault() else None
+
     def fault_of(self, program, place, statuses):
         """What is wrong with the answers to the files of the folder, and to which words, or None. The statuses are counted."""
         one = Answer(program, place, self.words("check", "--cert", "cert"))
@@ -280,7 +289,7 @@ class Stored:
         return None
 
 
-def tried(program, stored, seed, number, keep):
+def tried(program, stored, seed, number, keep, brief):
     """What is wrong with the answers to a try, or None; and how often each status came."""
     statuses = collections.Counter()
     chance = random.Random(f"{seed} {number}")
@@ -292,7 +301,7 @@ def tried(program, stored, seed, number, keep):
     with tempfile.TemporaryDirectory() as place:
         place = pathlib.Path(place)
         case.write(place, files)
-        fault = case.fault_of(program, place, statuses)
+        fault = case.brief_fault_of(program, place, statuses, chance) if brief else case.fault_of(program, place, statuses)
     if fault:
         words, what = fault
         keep = keep / f"{seed}-{number}"
@@ -311,6 +320,7 @@ def main():
     words.add_argument("--seed", type=int, default=int(time.time()))
     words.add_argument("--jobs", type=int, default=os.cpu_count() or 1)
     words.add_argument("--keep", type=pathlib.Path, default=pathlib.Path("fuzz-kept"))
+    words.add_argument("--brief", action="store_true")
     asked = words.parse_args()
     program = asked.program.resolve()
     stored = [Stored(program, folder) for folder in asked.folders if (folder / "policy").exists() and captures_in(folder)]
@@ -319,7 +329,7 @@ def main():
     with concurrent.futures.ThreadPoolExecutor(asked.jobs) as pool:
         while time.monotonic() < end and not wrong:
             batch = range(number, number + 16 * asked.jobs)
-            for what, counted in pool.map(lambda n: tried(program, stored, asked.seed, n, asked.keep), batch):
+            for what, counted in pool.map(lambda n: tried(program, stored, asked.seed, n, asked.keep, asked.brief), batch):
                 statuses.update(counted)
                 if what:
                     wrong.append(what)

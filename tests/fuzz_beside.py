@@ -1,7 +1,7 @@
 #!/usr/bin/env python3
 """Gives turnprep and turnexplain damaged captures, policies, users and configurations, and looks at how they answer.
 
-    python3 tests/fuzz_beside.py TURNPREP TURNEXPLAIN [--seconds 60] [--seed N] [--jobs N] [--keep FOLDER] FOLDER..
+    python3 tests/fuzz_beside.py TURNPREP TURNEXPLAIN [--seconds 60] [--seed N] [--jobs N] [--keep FOLDER] [--brief] FOLDER..
 
 A folder is a stored case: policy, captures, perhaps creds. Captures are cut to their first blocks. Each try damages one or more files
 (tests/fuzz.py), runs three of the commands of each program on them, and stops where
@@ -10,6 +10,8 @@ A folder is a stored case: policy, captures, perhaps creds. Captures are cut to 
 - what is written doesn't belong to the status: a refusal is one line on standard error, and nothing else;
 - something that is printed has a control byte, an answer in JSON is none, or a page has a script;
 - a file is left after a status that isn't 0, 1 or 6, or one under its temporary name.
+
+With --brief each try runs one command, so that more inputs are tried in the same time.
 
 The input that showed it is kept in FOLDER, with the arguments in `words`. The seed decides all tries; it is printed.
 """
@@ -50,8 +52,8 @@ class Case:
         if (folder / "creds").exists():
             self.files["creds"] = (folder / "creds").read_bytes()
 
-    def commands(self, chance):
-        """Commands of both programs on the files: three of each."""
+    def commands(self, chance, brief):
+        """Commands of both programs on the files: three of each, or one where it is brief."""
         lines = self.files["policy"].decode().splitlines()
         address = lines[1].split(" ")[1].partition(":")[0]
         creds = ["--creds", "creds"] if "creds" in self.files else []
@@ -79,6 +81,8 @@ class Case:
             ["faults", *judged],
             ["evidence", "-o", "out/page", *judged],
         ]
+        if brief:
+            return [chance.choice((("turnprep", chance.choice(prepares)), ("turnexplain", chance.choice(explains))))]
         return [("turnprep", words) for words in chance.sample(prepares, 3)] + [("turnexplain", words) for words in chance.sample(explains, 3)]
 
 
@@ -113,7 +117,7 @@ def fault_of(name, words, done, seconds, left):
     return None
 
 
-def tried(programs, cases, seed, number, keep):
+def tried(programs, cases, seed, number, keep, brief):
     """What is wrong with the answers to a try, or None; and how often each status came."""
     statuses = collections.Counter()
     chance = random.Random(f"{seed} {number}")
@@ -122,7 +126,7 @@ def tried(programs, cases, seed, number, keep):
     for _ in range(chance.choice((1, 1, 1, 2, 5))):
         name = chance.choice([*case.captures, *case.captures, *sorted(files)])
         files[name] = damaged(chance, case.policy, name, files[name], files[name] is case.files[name])
-    for name, words in case.commands(chance):
+    for name, words in case.commands(chance, brief):
         with tempfile.TemporaryDirectory() as place:
             place = pathlib.Path(place)
             (place / "out").mkdir()
@@ -155,6 +159,7 @@ def main():
     words.add_argument("--seed", type=int, default=int(time.time()))
     words.add_argument("--jobs", type=int, default=os.cpu_count() or 1)
     words.add_argument("--keep", type=pathlib.Path, default=pathlib.Path("fuzz-kept"))
+    words.add_argument("--brief", action="store_true")
     asked = words.parse_args()
     programs = {"turnprep": asked.prepare.resolve(), "turnexplain": asked.explain.resolve()}
     cases = [Case(folder) for folder in asked.folders if (folder / "policy").exists() and captures_in(folder)]
@@ -163,7 +168,7 @@ def main():
     with concurrent.futures.ThreadPoolExecutor(asked.jobs) as pool:
         while time.monotonic() < end and not wrong:
             batch = range(number, number + 8 * asked.jobs)
-            for what, counted in pool.map(lambda n: tried(programs, cases, asked.seed, n, asked.keep), batch):
+            for what, counted in pool.map(lambda n: tried(programs, cases, asked.seed, n, asked.keep, asked.brief), batch):
                 statuses.update(counted)
                 if what:
                     wrong.append(what)
