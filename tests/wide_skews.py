@@ -5,7 +5,7 @@
 
 A certificate that conforms by a policy's skew conforms by each wider one, since each window is within the wider window. So a capture
 that conforms by its policy has an order by each skew up to 60 seconds, the greatest that a policy may state, and it ought to be found.
-Of one random capture it is asked that a walk by a tenth of each window finds it, and of two that passes by a tenth do: nothing in their
+A walk by a tenth of each window has to find one random capture, and passes by a tenth have to find another one: nothing in their
 certificates comes more than a tenth before all stamps.
 FOLDERs have captures, a policy and users; else those of examples/ are taken. Random captures are those of tests/random_captures.py and
 tests/call_captures.py. Skews are in microseconds. Policies with skews of their own for interfaces (version 2) keep those.
@@ -26,8 +26,8 @@ import random_captures
 TOP = pathlib.Path(__file__).resolve().parent.parent
 MICROSECOND = 1_000
 # Random captures whose orders a walk by whole windows doesn't find with this skew: a walk by a part finds that of the first, and passes by a part
-# alone find those of the others.
-FOUND_BY_PART = [70_218, 200_193, 70_256]
+# alone find that of the second.
+FOUND_BY_PART = [70_218, 200_193]
 PART_SKEW = 1_000_000
 SKEWS = [1_000, 10_000, 100_000, 1_000_000, 5_000_000, 60_000_000]
 
