@@ -11,3 +11,4 @@ pub mod Complete
 pub mod Unmoved
 pub mod ForgettingClients
 pub mod Purging
+pub mod Carried

@@ -15,6 +15,8 @@ ghost use Rattle.audit_server.specs.Run.{HasAddress};
 ghost use Rattle.audit_server.specs.State.{put};
 ghost use Rattle.audit_server.specs.Step.{Act};
 ghost use Rattle.audit_segments.specs.Segment.{View, IsSegment};
+ghost use Rattle.audit_machine.specs.declared.refusal.Refusal.TheVariants.{Held};
+ghost use Rattle.audit_machine.specs.Carrying.{IsHeldBeside, IsHeldFor};
 ghost use Rattle.audit_machine.specs.Counts.{count_of};
 ghost use Rattle.audit_machine.specs.Holders.{holder_of};
 ghost use Rattle.audit_machine.specs.Keys.{AgreeInRequest};
@@ -49,7 +51,8 @@ impl Machine {
     fn is_free(&self, pair: Pair, relayed: Addr, moment: u64) -> bool
         requires held { AreHeld self.now.tables self.now.holders self.now.policy.grace self.now.last }
         requires order { self.now.last ≤ moment }
-        ensures { IsTrue result → IsFreeFor self.now.tables self.now.policy.grace moment pair relayed }
+        ensures free { IsTrue result → IsFreeFor self.now.tables self.now.policy.grace moment pair relayed }
+        ensures held { result ≡ false → IsHeldBeside self.now.policy.grace moment (allocation_of self.now.tables) pair relayed }
     {
         let Some(holder) = self.holders.get(relayed) else {
             return true;
@@ -61,13 +64,19 @@ impl Machine {
     }
 
     /// Notes that a client has the relayed address of its table, unless another client has it.
-    fn claim(&mut self, pair: Pair, table: &LaneTable, moment: u64) -> Result<(), Refusal>
+    pub(crate) fn claim(
+        &mut self,
+        pair: Pair,
+        table: &LaneTable,
+        moment: u64,
+    ) -> Result<(), Refusal>
         requires held { AreHeld self.old.tables self.old.holders self.old.policy.grace self.old.last }
         requires order { self.old.last ≤ moment }
         ensures free { OnOk result (IfUsable self.old.policy.grace moment (standing table.now).allocation (λ a. IsFreeFor self.old.tables self.old.policy.grace moment pair a.relayed)) }
         ensures noted { OnOk result (IfUsable self.old.policy.grace moment (standing table.now).allocation (λ a. holder_of self.new.holders a.relayed ≡ Some pair)) }
         ensures others { OnOk result (AreOthersHeld pair self.old.tables self.new.holders self.old.policy.grace moment) }
         ensures refused { IfErr result (λ refusal. (IsFatal refusal → ⊥) → self.new ≡ self.old) }
+        ensures why { IfErr result (λ refusal. refusal ≡ Held → IsHeldFor self.old.policy.grace moment (allocation_of self.old.tables) pair (standing table.now).allocation) }
         ensures rest { self.new ≡ record self.old { holders = self.new.holders } }
     {
         let Some(allocation) = table.allocation() else {

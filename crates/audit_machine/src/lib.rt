@@ -3,6 +3,9 @@
 #![tactic(auto)]
 
 mod acts;
+mod carry_error;
+mod carrying;
+mod clients;
 mod counts;
 mod explaining;
 mod forgetting;
@@ -14,6 +17,7 @@ mod tables;
 mod times;
 mod upkeep;
 
+pub use carry_error::CarryError;
 pub use explaining::explains;
 pub use machine::Machine;
 pub use moves::{Action, Stop};

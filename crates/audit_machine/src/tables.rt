@@ -1,13 +1,16 @@
 //! The server's state for each client.
 
-ghost use Rattle.std.specs.Prelude.{◌≡◌, ◌≢◌, Some, None, OnOk, option_copied};
+ghost use Rattle.std.specs.Prelude.{◌≡◌, ◌≢◌, Some, None, IfOk, OnOk, option_copied, is_some};
 ghost use Rattle.audit_model.specs.declared.pair.Pair.{Pair as Client};
 ghost use Rattle.audit_model.specs.Sames.{same_client};
 ghost use Rattle.audit_server.specs.State.{put};
 ghost use Rattle.audit_rules.specs.declared.table.LaneTable.{LaneTable as Table};
 ghost use Rattle.audit_rules.specs.Effect.{standing};
+ghost use Rattle.audit_cuts.specs.Carried as carried;
 ghost use Rattle.audit_machine.specs.Tables.{table_of, allocation_of, AreOwn, AreTablesPurged};
 
+use crate::clients::client_of;
+use audit_cuts::Client as Carried;
 use audit_model::{Addr, Pair};
 use audit_rules::LaneTable;
 use std::alloc::{AllocError, Global};
@@ -90,5 +93,32 @@ impl Tables {
         ensures { (c : Client) → table_of self.new c ≡ put same_client (table_of self.old) pair None c }
     {
         self.remove(pair);
+    }
+
+    /// Whether a client has an allocation, whether or not it has expired.
+    pub fn has_allocation(&self, pair: Pair) -> bool
+        ensures { result ≡ is_some (allocation_of self.now pair) }
+    {
+        match self.get(pair) {
+            Some(table) => table.allocation().is_some(),
+            None => false,
+        }
+    }
+
+    /// The clients that have an allocation, by client and listen address.
+    pub fn to_vec(&self, alloc: Global) -> Result<Vec<Carried>, AllocError>
+        ensures { IfOk result (λ all. (c : Client) → carried.allocation_in all.items c ≡ allocation_of self.now c) }
+    {
+        let mut all = Vec::new(alloc);
+        for (key, table) in self.tables.iter() {
+            let pair = Pair {
+                client: key.0,
+                listen: key.1,
+            };
+            if let Some(client) = client_of(alloc, pair, table)? {
+                all.push(client)?;
+            }
+        }
+        Ok(all)
     }
 }

@@ -1,11 +1,13 @@
 //! Moments, by the ids of sightings.
 
-ghost use Rattle.std.specs.Prelude.{◌≡◌, Some, None, OnOk, IsTrue};
+ghost use Rattle.std.specs.Prelude.{◌≡◌, Some, None, IfOk, OnOk, IsTrue};
 ghost use Rattle.audit_model.specs.declared.sighting.SightId.{SightId as SightName};
 ghost use Rattle.audit_model.specs.Sames.{same_sight};
 ghost use Rattle.audit_server.specs.State.{put};
+ghost use Rattle.audit_cuts.specs.Carried.{moment_in};
 ghost use Rattle.audit_machine.specs.Times.{time_of};
 
+use audit_cuts::Came;
 use audit_model::SightId;
 use std::alloc::{AllocError, Global};
 use std::collections::BTreeMap;
@@ -53,5 +55,32 @@ impl Times {
         ensures { IsTrue result → (s : SightName) → time_of self.now s ≡ None }
     {
         self.moments.is_empty()
+    }
+
+    /// The sightings and their moments, by interface and index.
+    pub fn to_vec(&self, alloc: Global) -> Result<Vec<Came>, AllocError>
+        ensures { IfOk result (λ all. (s : SightName) → moment_in all.items s ≡ time_of self.now s) }
+    {
+        let mut all = Vec::new(alloc);
+        for (sight, moment) in &self.moments {
+            all.push(Came {
+                sight: *sight,
+                moment: *moment,
+            })?;
+        }
+        Ok(all)
+    }
+
+    /// The moments of these sightings; of each sighting the first entry counts.
+    pub fn resume(alloc: Global, all: &[Came]) -> Result<Times, AllocError>
+        ensures { IfOk result (λ times. (s : SightName) → time_of times s ≡ moment_in all.now s) }
+    {
+        let mut times = Times::new(alloc);
+        for came in all {
+            if times.get(came.sight).is_none() {
+                times.put(came.sight, came.moment)?;
+            }
+        }
+        Ok(times)
     }
 }

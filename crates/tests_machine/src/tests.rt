@@ -1,5 +1,6 @@
 //! Sessions that conform and sessions that violate a rule, judged by the machine and by `check`.
 
+mod carrying;
 mod judging;
 mod sessions;
 mod steps;

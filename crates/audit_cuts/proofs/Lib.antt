@@ -1,0 +1,3 @@
+pub mod Absolute
+pub mod OneCut
+pub mod Pushed
