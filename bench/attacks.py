@@ -56,7 +56,21 @@ import attack_captures as made
 # How many times as long as the ordinary capture each may take.
 MOST = 8
 # The captures for which that is more, and why.
-ACCEPTED = {}
+PASSES = "no order is found, so the passes do 8 units of work for each datagram, and 16,000 more (docs/FINDING.md)"
+PARTS = f"{PASSES}, and a fourth of that for each of five parts of the windows"
+ACCEPTED = {
+    made.allocates: (32, PASSES),
+    made.two_holders: (26, PASSES),
+    made.many_holders: (24, PASSES),
+    made.held: (30, PASSES),
+    made.churn: (24, PASSES),
+    made.channels_conflict: (20, PASSES),
+    made.permissions_conflict: (18, PASSES),
+    made.clocks: (18, PARTS),
+    made.ring: (18, PARTS),
+    made.far_apart: (56, PARTS),
+    made.eight_times: (50, PASSES),
+}
 # The datagrams at n of scale 1, and how many bytes of data each has; TINY is not scaled.
 SMALL, LARGE, TINY = (32_768, 60), (512, 54_000), (140, 60)
 CAPTURES = {
