@@ -259,7 +259,7 @@ def outstanding(folder, datagrams, size):
     named = [(USERNAME, client.name.encode()), (REALM, b"example.org"), (NONCE, b"nonce")]
     none = (LIFETIME, struct.pack(">I", 0))
     ids = [client.transaction() for _ in range(datagrams // 2)]
-    # All are asked for in the first half of a second, and answered in the second one.
+    # All are requested in the first half of a second, and answered in the second one.
     for half, (kind, moment) in enumerate([(0, START + 1_000_000), (SUCCESS, START + 1_500_000)]):
         for number, id in enumerate(ids):
             at = moment + number * 500_000 // len(ids)
@@ -278,7 +278,7 @@ def reversed_stamps(folder, datagrams, size):
         source = ("198.51.100.1", 40000 + number % 64)
         at = capture.client.out.tell()
         capture.client.put(START + 40 * (datagrams - number), source, SERVER, message(BINDING, struct.pack(">III", 0, 0, number), []))
-        # The interface's number stands behind the block's type and length.
+        # The interface's number stands after the block's type and length.
         capture.client.out.seek(at + 8)
         capture.client.out.write(struct.pack("<I", number % 64))
         capture.client.out.seek(0, 2)
@@ -306,7 +306,7 @@ def allocates(folder, datagrams, size):
     count = datagrams // 4
     none = [(LIFETIME, struct.pack(">I", 0))]
     ids = [client.transaction() for _ in range(2 * count + 2)]
-    # All are asked for in the first half of a second, and answered in the second one: one that is granted, one that deletes, and so
+    # All are requested in the first half of a second, and answered in the second one: one that is granted, one that deletes, and so
     # on, and at the end two that are granted.
     for half, moment in enumerate([START, START + 500_000]):
         for number, id in enumerate(ids):
@@ -324,7 +324,7 @@ def allocates(folder, datagrams, size):
 
 
 def holders(folder, datagrams, count):
-    """Clients that are granted one relayed address in turn, each of which asks for it before the one before is told of its deletion."""
+    """Clients that are granted one relayed address in turn, each of which requests it before the one before gets the response to its deletion."""
     capture = Capture(folder, count)
     clients = [Client(number, capture.sides()) for number in range(count)]
     moment = START
@@ -427,7 +427,7 @@ class OfManyInterfaces(Capture):
         side = self.files[interface // self.count]
         at = side.out.tell()
         side.put(moment + self.step * interface, source, target, payload)
-        # The interface's number stands behind the block's type and length.
+        # The interface's number stands after the block's type and length.
         side.out.seek(at + 8)
         side.out.write(struct.pack("<I", interface % self.count))
         side.out.seek(0, 2)

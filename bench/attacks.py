@@ -29,14 +29,14 @@ Those below are such that `audit` needs the passes, and finds no certificate. Th
 clients, but for `allocates`, `eight_times` and `held`:
 
   allocates   one client whose Allocates and deletions all wait for their answers at once, and two more allocations than deletions
-  two_holders two clients that are granted one relayed address in turn, each asking for it before the other one is told of its deletion
+  two_holders two clients that are granted one relayed address in turn, each requesting it before the other one's deletion has its response
   many_holders the same with a thousand clients
   held        a thousand clients that are granted one relayed address again and again, and none of which gives it up
   churn       a hundred clients, each of which makes and deletes an allocation again and again
   channels_conflict one client with up to 4,096 channels, and data by each
   permissions_conflict one client that asks for 5,000 permissions, one by one, again and again
   clocks      a hundred interfaces, each a microsecond ahead of the one before; requests are on one and their responses on the next
-  ring        64 interfaces, each behind the one before, in windows of a millisecond
+  ring        64 interfaces, each after the one before, in windows of a millisecond
   far_apart   1,024 interfaces, each five milliseconds ahead of the one before, in windows of ten seconds
   eight_times `allocates` of an eighth of the datagrams, given as eight captures
 
