@@ -2,6 +2,7 @@
 use Rattle.std.proofs.Common.{◌≡◌, ◌≤◌, ◌<◌, ◌+◌, ◌++◌, ◌∙◌, ℕ, zero, suc, List, [], ◌∷◌, take, drop, length, get_or, ap, sym, arith}
 use Rattle.std.specs.List.{AllZip}
 use Rattle.std.proofs.lemmas.List.{take-append-drop, take-take, drop-take, take-append-le}
+use Rattle.prep_program.specs.Pieces.{IsPieceAt}
 
 -- the bytes up to an offset, and a piece behind them
 pub fed_more : (bytes into : List ℕ) (at count : ℕ) → take count into ≡ take count (drop at bytes) → take at bytes ++ take count into ≡ take (at + count) bytes
@@ -14,6 +15,13 @@ fed_more bytes into at count same =
 -- a piece of a buffer that was filled from its front
 pub read_of : (into rest : List ℕ) (len count : ℕ) → count ≤ len → count ≤ length into → take count (take len (into ++ rest)) ≡ take count into
 read_of into rest len count short within = take-take count len (into ++ rest) short ∙ take-append-le count into rest within
+
+-- the piece is there, too, in a vector that has the buffer at its front
+pub moved_piece : (bytes into rest : List ℕ) (at count len : ℕ) → count ≤ len → count ≤ length into → 0 < length into → IsPieceAt bytes at count into → IsPieceAt bytes at count (take len (into ++ rest))
+moved_piece bytes into rest at count len short within some piece = record {
+  same = read_of into rest len count short within ∙ piece.same;
+  last = λ none full. piece.last none some;
+}
 
 -- what holds of two lists place by place holds at a place
 pub zip_at : {A B : Type 0} (R : A → B → Type 0) (xs : List A) (ys : List B) (i : ℕ) (d : A) (e : B) → AllZip R xs ys → i < length xs → (i < length ys) × R (get_or xs i d) (get_or ys i e)

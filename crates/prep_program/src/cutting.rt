@@ -1,30 +1,33 @@
 //! Cuts captures that are files.
 
-ghost use Rattle.std.specs.Prelude.{◌≡◌, ◌++◌, [], ℕ, List, Option, Some, IfOk, OnOk};
+ghost use Rattle.std.specs.Prelude.{◌≡◌, ◌≤◌, ◌++◌, [], ℕ, List, Option, Some, IfOk, OnOk, length};
 ghost use Rattle.std.specs.List.{AllZip};
 ghost use Rattle.sha2.specs.Hashers.{Holds256};
 ghost use Rattle.prep_blocks.specs.declared.block.Block.{Block};
-ghost use Rattle.prep_cut.specs.Cutting.{GoesOn, IsCut, IsCutting};
+ghost use Rattle.prep_cut.specs.Cutting.{IsCut, IsCutting};
 ghost use Rattle.prep_cut.specs.Marks.{Marked};
 ghost use Rattle.prep_cut.specs.declared.plan.Plan.{Plan};
 ghost use Rattle.prep_cut.specs.declared.plan.Proposal.{Proposal};
 ghost use Rattle.prep_program.specs.AllCuts.{CutsAll};
-ghost use Rattle.prep_program.specs.Cuts.{Cuts};
+ghost use Rattle.prep_program.specs.Cuts.{Cuts, CutSoFar};
 ghost use Rattle.prep_program.specs.Making.{files_of};
+ghost use Rattle.prep_program.specs.Pieces.{IsPieceAt};
 
 use crate::cut_comment::section_of_cut;
 use crate::maker::{Maker, append_all};
 use crate::source::Source;
 use crate::stop::Stop;
-use prep_cut::{CauseNumber, CutFault, Cutter, Plan, Proposal, Tallies, Totals, WasCut};
+use prep_cut::{CauseNumber, Cutter, Plan, Proposal, Tallies, Totals, WasCut};
 use sha2::{Digest, Sha256};
+use std::mem::swap;
 use std::thread::{Threads, join_mut};
 
 /// How many bytes are read at once: so many that the time to start a thread for them is negligible.
 const PIECE: usize = 262_144;
 
 /// Writes a capture without the excluded packets, from its first byte to its last, to the file that
-/// was made last.
+/// was made last. While a thread hashes a piece, another cuts it, writes what stays of it and reads
+/// the next one.
 pub fn cut_capture<R: Threads + AllocGlobal, S: Source, M: Maker>(
     rt: &R,
     source: &mut S,
@@ -44,45 +47,112 @@ pub fn cut_capture<R: Threads + AllocGlobal, S: Source, M: Maker>(
     let alloc = rt.alloc();
     let mut cutter = cutter;
     let mut piece = vec![in alloc; 0u8; PIECE]?;
+    let mut next = vec![in alloc; 0u8; PIECE]?;
     let mut out = Vec::new(alloc);
     let mut at = 0u64;
+    let mut read = source.piece(name, at, &mut piece)?;
     'pieces: for _ in 0..u64::MAX {
-        let read = source.piece(name, at, &mut piece)?;
         if read == 0 {
             return end_capture(cutter, capture);
         }
-        if let Err(fault) = take_piece(rt, &mut cutter, hasher, &piece[..read], &mut out) {
-            return Err(Stop::of_cut(capture, fault));
-        }
-        append_all(made, &out)?;
-        out.clear();
-        let Some(next) = at.checked_add(read as u64) else {
+        let Some(after) = at.checked_add(read as u64) else {
             return Err(Stop::Read);
         };
-        at = next;
+        read = take_piece(
+            rt,
+            source,
+            name,
+            after,
+            &mut next,
+            &mut cutter,
+            capture,
+            &piece[..read],
+            made,
+            hasher,
+            &mut out,
+        )?;
+        swap(&mut piece, &mut next);
+        at = after;
     }
     Err(Stop::Read)
 }
 
-/// Cuts the next piece, while another thread hashes it.
-fn take_piece<R: Threads>(
+/// Cuts a piece, writes what stays of it, and reads the next one, while another thread hashes the
+/// piece.
+fn take_piece<R: Threads, S: Source, M: Maker>(
     rt: &R,
+    source: &mut S,
+    name: &str,
+    after: u64,
+    next: &mut [u8],
     cutter: &mut Cutter<'_>,
-    hasher: &mut Sha256,
+    capture: u32,
     piece: &[u8],
+    made: &mut M,
+    hasher: &mut Sha256,
     out: &mut Vec<u8>,
-) -> Result<(), CutFault>
+) -> Result<usize, Stop>
+    ensures kept { S.holds source.new ≡ S.holds source.old }
+    ensures others { M.making made.new ≡ M.making made.old }
+    ensures within { IfOk result (λ n. n ≤ length next.old) }
+    ensures read { (text : List ℕ) → S.holds source.old name.now ≡ Some text → IfOk result (λ n. IsPieceAt text after n next.new) }
     ensures hashes { (bytes : List ℕ) → Holds256 hasher.old bytes → Holds256 hasher.new (bytes ++ piece.now) }
-    ensures ok { (plan : Plan) (proposals : List Proposal) (earlier : List Marked) (text : List ℕ) (current : List Block) →
-        IsCutting cutter.old plan proposals earlier text current →
-        OnOk result (GoesOn cutter.new plan proposals earlier text current piece.now [] out.old.items out.new.items) }
+    ensures ok { (plan : Plan) (proposals : List Proposal) (earlier : List Marked) (text : List ℕ) (before : Option (List ℕ)) →
+        CutSoFar cutter.old plan proposals earlier text before (M.taken made.old) →
+        OnOk result (CutSoFar cutter.new plan proposals earlier (text ++ piece.now) before (M.taken made.new)) }
 {
-    let (fed, ()) = join_mut(
+    let ((), read) = join_mut(
         rt,
-        &mut || cutter.feed(piece, out),
         &mut || hasher.update(piece),
+        &mut || cut_and_read(source, name, after, next, cutter, capture, piece, made, out),
     );
-    fed
+    read
+}
+
+/// Cuts a piece, writes what stays of it, and reads the next one.
+fn cut_and_read<S: Source, M: Maker>(
+    source: &mut S,
+    name: &str,
+    after: u64,
+    next: &mut [u8],
+    cutter: &mut Cutter<'_>,
+    capture: u32,
+    piece: &[u8],
+    made: &mut M,
+    out: &mut Vec<u8>,
+) -> Result<usize, Stop>
+    ensures kept { S.holds source.new ≡ S.holds source.old }
+    ensures others { M.making made.new ≡ M.making made.old }
+    ensures within { IfOk result (λ n. n ≤ length next.old) }
+    ensures read { (text : List ℕ) → S.holds source.old name.now ≡ Some text → IfOk result (λ n. IsPieceAt text after n next.new) }
+    ensures ok { (plan : Plan) (proposals : List Proposal) (earlier : List Marked) (text : List ℕ) (before : Option (List ℕ)) →
+        CutSoFar cutter.old plan proposals earlier text before (M.taken made.old) →
+        OnOk result (CutSoFar cutter.new plan proposals earlier (text ++ piece.now) before (M.taken made.new)) }
+{
+    cut_piece(cutter, capture, piece, made, out)?;
+    let read = source.piece(name, after, next)?;
+    Ok(read)
+}
+
+/// Cuts the next piece, and writes what stays of it. It uses the buffer for that.
+fn cut_piece<M: Maker>(
+    cutter: &mut Cutter<'_>,
+    capture: u32,
+    piece: &[u8],
+    made: &mut M,
+    out: &mut Vec<u8>,
+) -> Result<(), Stop>
+    ensures others { M.making made.new ≡ M.making made.old }
+    ensures ok { (plan : Plan) (proposals : List Proposal) (earlier : List Marked) (text : List ℕ) (before : Option (List ℕ)) →
+        CutSoFar cutter.old plan proposals earlier text before (M.taken made.old) →
+        OnOk result (CutSoFar cutter.new plan proposals earlier (text ++ piece.now) before (M.taken made.new)) }
+{
+    out.clear();
+    if let Err(fault) = cutter.feed(piece, out) {
+        return Err(Stop::of_cut(capture, fault));
+    }
+    append_all(made, out)?;
+    Ok(())
 }
 
 /// Ends a capture, and returns its result.
