@@ -10,10 +10,11 @@ use audit_files::{Source, Workers, take_in};
 use audit_model::{Policy, read_policy};
 use audit_sightings::Intake;
 use captures::Captures;
+use host::arguments;
 use std::alloc::{AllocError, Global};
 use std::thread::Threads;
 use std::time::{Clock, Instant};
-use std::{env, fmt, fs, io};
+use std::{fmt, fs, io};
 
 /// How captures are read.
 #[derive(Clone, Copy)]
@@ -114,10 +115,7 @@ fn timed<R: Threads + Clock + Sync, S: Source>(
 
 fn main(rt: HostRuntime) -> io::Result<()> {
     let alloc = rt.alloc();
-    let mut words = Vec::new(alloc);
-    for word in env::args(&rt)? {
-        words.push(word)?;
-    }
+    let words = arguments(&rt)?;
     let [_, policy, workers, kibibytes, rounds, captures @ ..] = words.as_slice() else {
         return Ok(());
     };

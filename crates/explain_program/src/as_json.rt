@@ -8,11 +8,11 @@ ghost use Rattle.explain_program.specs.Explained.{IsJsonBehind, IsWrittenAsJson,
 use crate::command_line::Subject;
 use crate::digesting::{Digesting, unread};
 use crate::explaining::{case_of, expected_by, expected_status};
-use crate::host::{Explaining, check_captures};
 use crate::inputs::add_inputs;
 use crate::json::write_answer;
 use crate::judged::judge_files;
 use crate::run_error::RunError;
+use crate::system::{Explaining, check_captures};
 use audit_files::{Stop, Workers};
 use audit_finding::CertificateFinder;
 use audit_model::{Sink, Verdict, WriteFault, put_all};

@@ -3,7 +3,7 @@
 
 ghost use Rattle.std.specs.Prelude.{◌≡◌};
 
-use crate::host::{Explaining, Trouble};
+use crate::system::{Explaining, Trouble};
 use audit_files::{ReadFailed, Source};
 use explain_page::{Digests, FileReading};
 use std::alloc::{AllocError, Global};

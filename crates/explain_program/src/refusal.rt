@@ -2,11 +2,11 @@
 
 use crate::command_line::Inputs;
 use crate::digesting::Digesting;
-use crate::host::{Explaining, PageFile, Trouble};
 use crate::line_of_text::{LineOfText, line_of_text};
 use crate::mistakes::{Kind, mistake};
 use crate::run_error::RunError;
 use crate::shape::Shape;
+use crate::system::{Explaining, PageFile, Trouble};
 use audit_files::{Place, Source, Stop};
 use explain_text::{Quoted, refusal_reason};
 use std::alloc::{AllocError, Global};

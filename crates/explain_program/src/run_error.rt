@@ -5,7 +5,7 @@ ghost use Rattle.explain_program.specs.Errors.{status_of_error};
 
 use audit_files::Stop;
 use audit_model::{SinkFailed, WriteFault};
-use host_files::NewFault;
+use host::NewFault;
 use std::alloc::{AllocError, AllocFailed};
 
 /// Why a run ended.

@@ -4,5 +4,7 @@
 mod drawing;
 mod progress;
 mod terminal;
+mod watched;
 
 pub use progress::Progress;
+pub use watched::{WatchedReader, WatchedStream};

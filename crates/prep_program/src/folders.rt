@@ -1,7 +1,7 @@
 //! Folders that are made for a command's files.
 
 use crate::maker::MakeFault;
-use host_files::Failure;
+use host::Failure;
 
 /// Makes, renames and removes folders. It has no contract about their contents.
 pub trait Folders {

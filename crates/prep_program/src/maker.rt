@@ -5,7 +5,7 @@ ghost use Rattle.audit_model.specs.Sink.{followed_by};
 ghost use Rattle.prep_program.specs.Making.{emptied, files_of, opened_by};
 
 use audit_model::{Sink, SinkFailed};
-use host_files::Failure;
+use host::Failure;
 
 /// Why a file could not be made.
 #[derive(Clone, Copy, Debug, PartialEq, Eq)]

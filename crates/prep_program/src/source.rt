@@ -4,7 +4,7 @@ ghost use Rattle.std.specs.Prelude.{◌≡◌, ◌≤◌, ℕ, IfOk, List, Some,
 ghost use Rattle.prep_program.specs.Pieces.{IsPieceAt};
 
 use crate::stop::Stop;
-use host_files::Failure;
+use host::Failure;
 use std::alloc::Global;
 
 /// How many bytes are read at once.

@@ -1,6 +1,6 @@
 //! The folders of the machine.
 
-use host_files::Failure;
+use host::Failure;
 use prep_program::{Folders, MakeFault};
 use std::alloc::Global;
 use std::fs::File;

@@ -1,10 +1,10 @@
-//! The host's functions that the program needs, in addition to reading bytes of files.
+//! What the program needs of the system, in addition to the bytes of files.
 
 use crate::command_line::Inputs;
 use crate::run_error::RunError;
 use audit_files::Source;
 use audit_model::Sink;
-use host_files::{Failure, NewFault};
+use host::{Failure, NewFault};
 use std::alloc::Global;
 
 /// Why a file can't be read.

@@ -1,15 +1,13 @@
-//! The files and the streams of the machine.
-
-ghost use Rattle.std.specs.Prelude.{◌≡◌, None};
+//! The files of the machine.
 
 use audit_files::{ReadFailed, Source};
 use audit_model::{Sink, SinkFailed};
 use explain_program::{Explaining, PageFile, Trouble};
-use host_files::{Failure, NewFault, NewFiles, is_repeatable};
-use host_progress::Progress;
+use host::{Failure, NewFault, NewFiles, is_repeatable};
+use host_progress::{Progress, WatchedReader};
 use std::alloc::Global;
 use std::fs::File;
-use std::io::{Read, Write};
+use std::io::Read;
 use std::rt::Files;
 use std::time::Clock;
 use std::{fs, io};
@@ -18,29 +16,16 @@ use std::{fs, io};
 #[derive(Drop)]
 pub struct HostFiles<'r, R: Files<File = File> + Clock> {
     rt: &'r R,
-    /// The line on a terminal with the progress of reading a file.
-    progress: &'r Progress<'r, R>,
-    opened: Option<File>,
+    reader: WatchedReader<'r, R>,
 }
 
 impl<'r, R: Files<File = File> + Clock> HostFiles<'r, R> {
     /// No file is open.
-    pub fn new(rt: &'r R, progress: &'r Progress<'r, R>) -> Self
-        ensures { result.opened ≡ None }
-    {
+    pub fn new(rt: &'r R, progress: &'r Progress<'r, R>) -> Self {
         HostFiles {
             rt,
-            progress,
-            opened: None,
+            reader: WatchedReader::new(rt, progress),
         }
-    }
-}
-
-/// The size of a file in bytes, 0 if the system doesn't report it.
-fn size_of(file: &File) -> u64 {
-    match file.metadata() {
-        Ok(metadata) => metadata.len(),
-        Err(_) => 0,
     }
 }
 
@@ -50,29 +35,17 @@ impl<R: Files<File = File> + Clock + Sync> Source for HostFiles<'_, R> {
     ghost holds = { λ _ _. None };
 
     fn piece(&mut self, name: &str, at: u64, into: &mut [u8]) -> Result<usize, ReadFailed> {
-        if at == 0 {
-            match fs::open(self.rt, name) {
-                Ok(file) => {
-                    self.progress.begin(size_of(&file));
-                    self.opened = Some(file);
-                }
-                Err(_) => return Err(ReadFailed),
-            }
-        }
-        let Some(file) = &mut self.opened else {
-            return Err(ReadFailed);
-        };
-        match file.read(into) {
-            Ok(read) => {
-                self.progress.advance(name, read);
-                Ok(read)
-            }
+        match self.reader.piece(name, at, into) {
+            Ok(read) => Ok(read),
             Err(_) => Err(ReadFailed),
         }
     }
 
     fn beside(&self, _alloc: Global) -> Self {
-        HostFiles::new(self.rt, self.progress)
+        HostFiles {
+            rt: self.rt,
+            reader: self.reader.another(),
+        }
     }
 }
 
@@ -103,48 +76,6 @@ impl<R: Files<File = File> + Clock + Sync> Explaining for HostFiles<'_, R> {
 
     fn is_repeatable(&self, name: &str) -> bool {
         is_repeatable(self.rt, name)
-    }
-}
-
-/// Opens a stream that can't be written to. If a standard stream is closed, this gets its number,
-/// the lowest free one, so that no later file gets it, and output to that stream isn't written.
-pub fn hold_stream<R: Files<File = File>>(rt: &R) -> Option<File> {
-    fs::open(rt, "/dev/null").ok()
-}
-
-/// A stream of the machine. It has no contract about its output.
-#[derive(Drop)]
-pub struct HostStream<'r, R: Files<File = File> + Clock, W: Write> {
-    stream: W,
-    /// The line on a terminal, which is removed before the stream is written to.
-    progress: &'r Progress<'r, R>,
-}
-
-impl<'r, R: Files<File = File> + Clock, W: Write> HostStream<'r, R, W> {
-    /// The stream, before any output.
-    pub fn new(stream: W, progress: &'r Progress<'r, R>) -> Self
-        ensures { result.stream ≡ stream }
-    {
-        HostStream { stream, progress }
-    }
-}
-
-impl<R: Files<File = File> + Clock, W: Write> Sink for HostStream<'_, R, W> {
-    ghost use Rattle.std.specs.Prelude.{None};
-
-    ghost taken = { λ _. None };
-
-    ghost failures = { λ _. None };
-
-    fn put(&mut self, piece: &[u8]) -> Result<usize, SinkFailed> {
-        self.progress.clear();
-        let Ok(taken) = self.stream.write(piece) else {
-            return Err(SinkFailed);
-        };
-        match self.stream.flush() {
-            Ok(()) => Ok(taken),
-            Err(_) => Err(SinkFailed),
-        }
     }
 }
 
