@@ -1,6 +1,6 @@
 -- What is carried over a cut, and the maps that it is made of.
 use Rattle.std.proofs.Common.{◌≡◌, ◌<◌, ◌≤◌, ◌∙◌, ◌++◌, ℕ, zero, suc, Bool, true, false, cond, ◌&&◌, eqb, Option, Some, None, List, [], ◌∷◌, map, length, refl, sym, ap, subst, arith}
-use Rattle.std.specs.Prelude.{is_some, option_and_then, IfOk, Result, Ok, Err}
+use Rattle.std.specs.Prelude.{is_some, option_and_then, IfOk, IfErr, Result, Ok, Err}
 use Rattle.std.specs.List.{AllByRecursion}
 use Rattle.std.specs.BTreeMap.{is_at, get}
 use Rattle.std.specs.Map.{lookup}
@@ -247,6 +247,10 @@ none_there None h = refl
 pub ok_then : {A E : Type 0} (r : Result A E) (P Q : A → Type 0) → ((a : A) → P a → Q a) → IfOk r P → IfOk r Q
 ok_then (Ok a) P Q f h = f a h
 ok_then (Err e) P Q f h = h
+
+pub err_then : {A E : Type 0} (r : Result A E) (P Q : E → Type 0) → ((e : E) → P e → Q e) → IfErr r P → IfErr r Q
+err_then (Ok a) P Q f h = h
+err_then (Err e) P Q f h = f e h
 
 -- ---- why clients can't be added
 module _ (grace moment : ℕ) (table : Pair → Option Allocation) (front rest : List Client) (client : Client) (was : (c : Pair) → table c ≡ carried.allocation_in front c) where

@@ -8,7 +8,9 @@ use Rattle.audit_model.specs.declared.sighting.SightId.{SightId}
 use Rattle.audit_model.specs.Sames.{same_client}
 use Rattle.audit_rules.specs.Allocation.{Allocation}
 use Rattle.audit_cuts.specs.declared.carried.Client.{Client}
+use Rattle.audit_cuts.specs.Absolute.{absolute_cut}
 use Rattle.audit_cuts.specs.Carried.{allocation_of, allocation_in}
+use Rattle.audit_cuts.specs.Rebasing.{bases_of, IsUnfitFor}
 use Rattle.audit_cuts.specs.declared.carried.Carried.{Carried}
 use Rattle.audit_expiry.specs.Lease.{IsUsable}
 use Rattle.audit_server.specs.Run.{HasAddress}
@@ -81,3 +83,21 @@ CanNotResume grace carried errors.Interfaces = 2 ^ 32 ≤ length carried.interfa
 CanNotResume grace carried errors.Held = ShareAddress grace carried.moment (allocation_in carried.clients.items)
 CanNotResume grace carried (errors.Rebase error) = ⊥
 CanNotResume grace carried errors.Memory = Unit {0}
+
+-- what is carried of a machine whose ids count from the first bases, with ids that count from the
+-- second ones
+abbrev pub IsCarriedOver : Machine → (bases others : List ℕ) → Carried → Type 0
+IsCarriedOver m bases others carried = (bases_of carried.interfaces.items ≡ others) × ((excluded : SightId → Bool) → absolute_cut carried excluded ≡ absolute_cut_of bases m excluded)
+
+-- what is carried by the machine's bases can't have the others
+abbrev pub CanNotMove : Machine → (bases others : List ℕ) → CarryError → Type 0
+CanNotMove m bases others (errors.Rebase why) = (carried : Carried) × IsCarriedOver m bases bases carried × IsUnfitFor carried others why
+CanNotMove m bases others errors.Interfaces = ⊥
+CanNotMove m bases others errors.Held = ⊥
+CanNotMove m bases others errors.Memory = Unit {0}
+
+-- why a machine can't have other bases: it can't be carried by its own ones, its ids can't count
+-- from the others, or no machine can go on from what is carried by these
+abbrev pub CanNotBeRebased : ℕ → Machine → (bases others : List ℕ) → CarryError → Type 0
+CanNotBeRebased grace m bases others error =
+    LacksBase m.placed bases error ⊎ CanNotMove m bases others error ⊎ ((carried : Carried) × IsCarriedOver m bases others carried × CanNotResume grace carried error)

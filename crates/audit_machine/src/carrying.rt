@@ -6,7 +6,7 @@ ghost use Rattle.audit_model.specs.declared.sighting.SightId.{SightId as SightNa
 ghost use Rattle.audit_cuts.specs.Carried.{allocation_in, cut_in};
 ghost use Rattle.audit_cuts.specs.Rebasing.{bases_of};
 ghost use Rattle.audit_machine.specs.Machine.{cut_of, IsConsistent};
-ghost use Rattle.audit_machine.specs.Carrying.{or_client, AreOneCut, LacksBase, CanNotAdd, CanNotAddAll, CanNotResume};
+ghost use Rattle.audit_machine.specs.Carrying.{or_client, AreOneCut, LacksBase, CanNotAdd, CanNotAddAll, CanNotResume, CanNotBeRebased};
 ghost use Rattle.audit_machine.specs.Tables.{allocation_of};
 
 use crate::carry_error::CarryError;
@@ -92,7 +92,7 @@ impl Machine {
 
     /// A machine in the same state, whose ids of sightings count from other bases, as they do if
     /// the captures are read again from a later place. The cut by ids among all captured sightings
-    /// is the same.
+    /// is the same. It fails if an index comes before its other base, or is 2^32 or more above it.
     pub fn rebased(
         &self,
         alloc: Global,
@@ -103,6 +103,7 @@ impl Machine {
         ensures cut { IfOk result (λ machine. (excluded : SightName → Bool) → AreOneCut bases.now self.now others.now machine excluded) }
         ensures consistent { IfOk result IsConsistent }
         ensures policy { IfOk result (λ machine. machine.policy ≡ policy) }
+        ensures why { IfErr result (CanNotBeRebased policy.grace self.now bases.now others.now) }
     {
         let mut carried = self.carried(alloc, bases)?;
         carried.rebase(alloc, others)?;
