@@ -1,0 +1,10 @@
+pub mod Texts
+pub mod Sets
+pub mod Signed
+pub mod Drafts
+pub mod Found
+pub mod FoundTexts
+pub mod Lifted
+pub mod AgainLines
+pub mod AgainTexts
+pub mod Laws
