@@ -25,7 +25,7 @@ same_rest a b e = ap (drop 23) e
 
 only_fault : (grace : ℕ) (bytes : List ℕ) (c : Content) (fault : CheckpointFault) → IsCheckpoint grace c → bytes ≡ text_of c → Refuses grace bytes fault → fault ≡ faults.Memory
 only_fault grace bytes c faults.Heading is e why = absurd (why (rest_of c ++ digest_line (body_of c)) (e ∙ ap (λ (l : List ℕ). l ++ digest_line (body_of c)) (rest_is c) ∙ append_assoc (codes "turnwatch-checkpoint 1\n") (rest_of c) (digest_line (body_of c))))
-only_fault grace bytes c faults.Digest is e why = absurd (why (rest_of c) (e ∙ ap signed (rest_is c)))
+only_fault grace bytes c faults.Digest is e why = absurd (why.1 (rest_of c) (e ∙ ap signed (rest_is c)))
 only_fault grace bytes c (faults.Line n kind) is e why =
     let body : codes "turnwatch-checkpoint 1\n" ++ why.0 ≡ body_of c = sym (signed_parts bytes (codes "turnwatch-checkpoint 1\n" ++ why.0) why.1).front ∙ (signed_parts bytes (body_of c) e).front in
     let rest : why.0 ≡ rest_of c = same_rest why.0 (rest_of c) (body ∙ rest_is c) in

@@ -62,6 +62,6 @@ RefusesRest grace rest faults.Memory = Unit {0}
 -- why bytes are refused: another first line, another digest, or the first line that doesn't fit
 abbrev pub Refuses : ℕ → List ℕ → CheckpointFault → Type 0
 Refuses grace bytes faults.Heading = (rest : List ℕ) → bytes ≢ codes "turnwatch-checkpoint 1\n" ++ rest
-Refuses grace bytes faults.Digest = (rest : List ℕ) → bytes ≢ signed (codes "turnwatch-checkpoint 1\n" ++ rest)
+Refuses grace bytes faults.Digest = ((rest : List ℕ) × (bytes ≡ codes "turnwatch-checkpoint 1\n" ++ rest)) × ((rest : List ℕ) → bytes ≢ signed (codes "turnwatch-checkpoint 1\n" ++ rest))
 Refuses grace bytes (faults.Line line kind) = (rest : List ℕ) × (bytes ≡ signed (codes "turnwatch-checkpoint 1\n" ++ rest)) × (rest_read grace rest ≡ Err (record { kind = kind; line = line }))
 Refuses grace bytes faults.Memory = Unit {0}
