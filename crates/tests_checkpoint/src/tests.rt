@@ -1,0 +1,3 @@
+//! The texts of checkpoints.
+
+mod texts;
