@@ -8,6 +8,7 @@
 use crate::heads::Heads;
 use crate::judge::Judge;
 use crate::kinds::{Kind, kind_of};
+use audit_cuts::Interface;
 use audit_model::Sighting;
 use audit_sightings::Intake;
 use std::alloc::{AllocError, Global};
@@ -59,6 +60,15 @@ impl Ahead {
             read: Vec::new(alloc),
             alloc,
         }
+    }
+
+    /// The placed sightings of each interface were read.
+    pub fn resume(alloc: Global, interfaces: &[Interface]) -> Result<Ahead, AllocError> {
+        let mut ahead = Ahead::new(alloc);
+        for interface in interfaces {
+            ahead.read.push(interface.placed as usize)?;
+        }
+        Ok(ahead)
     }
 
     /// Begins to read the sightings that were added to the intake.

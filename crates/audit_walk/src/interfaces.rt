@@ -9,6 +9,7 @@ use self::rows::Row;
 pub use self::rows::{Data, Role, WAITS, Wait};
 use crate::heads::Heads;
 use crate::numbers::ArrivalNumber;
+use audit_cuts::Interface;
 use audit_model::SightId;
 use std::alloc::{AllocError, Global};
 use std::collections::BTreeMap;
@@ -38,6 +39,15 @@ impl Interfaces {
             for_data: Vec::new(alloc),
             alloc,
         }
+    }
+
+    /// The interfaces of which sightings are placed before a cut.
+    pub fn resume(alloc: Global, interfaces: &[Interface]) -> Result<Interfaces, AllocError> {
+        let mut resumed = Interfaces::new(alloc);
+        for interface in interfaces {
+            resumed.rows.push(Row::resume(alloc, interface.placed))?;
+        }
+        Ok(resumed)
     }
 
     /// Adds an interface, unless it is there.

@@ -7,6 +7,8 @@ mod lane;
 mod last;
 mod origins;
 mod pending;
+mod resume;
+mod tables;
 
 use self::allocations::Allocations;
 use self::holders::Holders;

@@ -10,6 +10,7 @@ mod leaving;
 mod matching;
 mod noting;
 mod requests;
+mod resume;
 mod walking;
 
 use crate::ahead::Ahead;
@@ -19,8 +20,11 @@ use crate::found::Found;
 use crate::interfaces::{DATA_WAITING, Interfaces, Role, WAITS};
 use crate::judge::Judge;
 use crate::lanes::Lanes;
+use crate::numbers::ArrivalNumber;
 use crate::portion::Portion;
+use audit_model::SightId;
 use std::alloc::{AllocError, Global};
+use std::collections::BTreeSet;
 
 /// The state of the walk.
 #[derive(Drop)]
@@ -38,6 +42,10 @@ pub struct Search {
     is_late: bool,
     /// Events are emitted past this moment.
     placed_to: Option<u64>,
+    /// The arrivals from before the cut at which the walk begins, until it places sightings.
+    waiting: Vec<ArrivalNumber>,
+    /// The departures that leave after that cut, and whose acts are before it.
+    owed: BTreeSet<SightId>,
     alloc: Global,
 }
 
@@ -54,6 +62,8 @@ impl Search {
             clock: Clock::new(),
             is_late: false,
             placed_to: None,
+            waiting: Vec::new(alloc),
+            owed: BTreeSet::new(alloc),
             alloc,
         }
     }
@@ -145,6 +155,7 @@ impl Search {
                 self.clock.begin_departure(judge.latest_moment(sighting));
                 self.place_data(judge, sighting, &data)?
             }
+            Role::Owed(lane) => self.leave(judge, lane, sighting)?,
         };
         match wait {
             Some(wait) => self.interfaces.wait(&self.clock, iface, wait),

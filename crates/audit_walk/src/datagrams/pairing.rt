@@ -54,15 +54,15 @@ impl Datagrams {
         }
     }
 
-    /// Finds the response to a request that has none yet: the first of its transaction that has no
-    /// request and leaves in time.
+    /// Finds the response to a request that has a key and no response yet: the first of its
+    /// transaction that has no request and leaves in time.
     pub fn reserve(
         &mut self,
         judge: &Judge<'_>,
-        moment: u64,
         number: ArrivalNumber,
         transaction: &Transaction,
     ) -> Option<AnswerNumber> {
+        let moment = self.arrivals.get(number)?.key()?.moment;
         let answer = self.skip_to_answer(judge, moment, transaction)?;
         let leaves = self.leaves(judge, answer)?;
         if judge.first_moment(leaves) > judge.latest_answer(moment) {

@@ -15,6 +15,8 @@ pub enum Role {
     Answer(AnswerNumber),
     /// Relayed data that leaves.
     Data(Data),
+    /// A departure whose act is before the cut at which the walk begins, and its lane.
+    Owed(LaneNumber),
 }
 
 /// Relayed data that leaves.
@@ -100,6 +102,14 @@ impl Row {
             wait: None,
             until: 0,
         }
+    }
+
+    /// An interface of which this many sightings are placed.
+    pub fn resume(alloc: Global, placed: u32) -> Row {
+        let mut row = Row::new(alloc);
+        row.noted = placed;
+        row.placed = placed;
+        row
     }
 
     /// Whether it is queued.

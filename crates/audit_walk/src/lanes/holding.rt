@@ -1,9 +1,11 @@
 //! The allocation of a client: the current state, and the state before a deletion.
 
+use super::tables::table_of;
 use crate::causes::Cause;
 use crate::clock::after;
 use crate::judge::Judge;
 use audit_content::{Channel, ToClient};
+use audit_cuts::Client;
 use audit_model::{Addr, Key, Sighting, Tenancy};
 use audit_rules::LaneTable;
 use audit_seen::LaneNumber;
@@ -33,6 +35,32 @@ impl Holding {
             peers: BTreeMap::new(alloc),
             numbers: BTreeMap::new(alloc),
         }
+    }
+
+    /// The allocation of a client that was carried over a cut, which ends after this grace. It
+    /// takes n log n time in its permissions and channels.
+    pub fn resume(
+        alloc: Global,
+        number: LaneNumber,
+        client: &Client,
+        grace: u64,
+    ) -> Result<Holding, AllocError> {
+        let mut channels = Vec::with_capacity(alloc, client.channels.len())?;
+        for (number, channel) in &client.channels {
+            channels.push((channel.lease.until, *number, channel.peer))?;
+        }
+        let mut holding = Holding {
+            table: table_of(alloc, number, client, grace)?,
+            relayed: Some(client.relayed),
+            peers: BTreeMap::new(alloc),
+            numbers: BTreeMap::new(alloc),
+        };
+        // Of the numbers of one peer the last one counts.
+        channels.sort_unstable();
+        for (_, number, peer) in channels {
+            holding.bind_number(number, peer)?;
+        }
+        Ok(holding)
     }
 
     /// The current allocation.
@@ -82,8 +110,12 @@ impl Holding {
 
     /// Notes a channel's peer.
     pub fn bind(&mut self, channel: Channel) -> Result<(), AllocError> {
-        self.peers.insert(channel.number(), channel.peer())?;
-        self.numbers.insert(channel.peer(), channel.number())?;
+        self.bind_number(channel.number(), channel.peer())
+    }
+
+    fn bind_number(&mut self, number: u16, peer: Addr) -> Result<(), AllocError> {
+        self.peers.insert(number, peer)?;
+        self.numbers.insert(peer, number)?;
         Ok(())
     }
 

@@ -52,6 +52,11 @@ impl FoundLane {
         }
     }
 
+    /// Sets the current allocation.
+    pub fn set_holding(&mut self, holding: Holding) {
+        self.current = holding;
+    }
+
     /// Applies a response to a request now, and returns whether the rules allow it. If not, nothing
     /// changes.
     pub fn answer<'a>(

@@ -6,8 +6,8 @@ use crate::datagrams::{Answer, Transaction};
 use crate::interfaces::Role;
 use crate::judge::Judge;
 use crate::kinds::Kind;
-use crate::numbers::AnswerNumber;
-use audit_model::Sighting;
+use crate::numbers::{AnswerNumber, ArrivalNumber};
+use audit_model::{SightId, Sighting};
 use audit_seen::LaneNumber;
 use std::alloc::AllocError;
 
@@ -19,23 +19,36 @@ impl Search {
         sighting: &Sighting,
         kind: Kind,
     ) -> Result<(), AllocError> {
+        if let Some(lane) = self.lane_of_owed(judge, sighting) {
+            return self.interfaces.note(sighting.id.iface, Role::Owed(lane));
+        }
         let role = match kind {
             Kind::Arrival {
                 lane,
                 is_sent_on,
                 asks,
-            } => {
-                if is_sent_on {
-                    self.note_sending(lane);
-                }
-                Role::Arrival(self.datagrams.add_arrival(sighting.id, lane, asks)?)
-            }
+            } => Role::Arrival(self.note_arrival(sighting.id, lane, is_sent_on, asks)?),
             Kind::Answer(transaction, content) => {
                 Role::Answer(self.note_answer(judge, sighting, content, &transaction)?)
             }
             Kind::Data(data) => Role::Data(data),
         };
         self.interfaces.note(sighting.id.iface, role)
+    }
+
+    /// Notes an arrival: the client's lane, whether it is a Send indication, and the digest of its
+    /// cause.
+    pub(super) fn note_arrival(
+        &mut self,
+        sight: SightId,
+        lane: Option<LaneNumber>,
+        is_sent_on: bool,
+        asks: Option<u64>,
+    ) -> Result<ArrivalNumber, AllocError> {
+        if is_sent_on {
+            self.note_sending(lane);
+        }
+        self.datagrams.add_arrival(sight, lane, asks)
     }
 
     /// Notes that a client sends data in indications.

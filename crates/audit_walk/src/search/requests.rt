@@ -31,6 +31,17 @@ impl Search {
         let until = judge.latest_answer(key.moment);
         self.datagrams.place(number, key, until)?;
         self.interfaces.wake(&self.clock, number)?;
+        self.place_with_lane(judge, number, sighting)
+    }
+
+    /// Notes an arrival that has a key as the last one of its client, and acts on it if that is
+    /// best done at once.
+    pub(super) fn place_with_lane(
+        &mut self,
+        judge: &Judge<'_>,
+        number: ArrivalNumber,
+        sighting: &Sighting,
+    ) -> Result<(), AllocError> {
         match self.datagrams.lane(number) {
             Some(lane) => self.place_of_client(judge, lane, number, sighting),
             None => {
@@ -62,7 +73,7 @@ impl Search {
         Ok(())
     }
 
-    /// Acts on a request, if its response is captured and may be sent at once.
+    /// Acts on a request that has a key, if its response is captured and may be sent at once.
     fn act_on_request(
         &mut self,
         judge: &Judge<'_>,
@@ -71,10 +82,9 @@ impl Search {
     ) -> Result<(), AllocError> {
         let lane = transaction.lane();
         let noted = self.datagrams.noted_answer(number);
-        let moment = self.clock.moment();
         let answer = match noted {
             Some(_) => noted,
-            None => self.datagrams.reserve(judge, moment, number, transaction),
+            None => self.datagrams.reserve(judge, number, transaction),
         };
         let Some(answer) = answer else {
             return Ok(());

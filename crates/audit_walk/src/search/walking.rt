@@ -74,6 +74,7 @@ impl Search {
             self.note_row(judge, iface, row)?;
             self.interfaces.queue_unqueued(judge, &self.clock, iface)?;
         }
+        self.place_waiting(judge)?;
         self.go_on(judge, horizon.min(placed_until))?;
         let moment = self.clock.moment();
         self.datagrams.tidy(moment, judge.earliest_arrival(moment))
