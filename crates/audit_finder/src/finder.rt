@@ -11,9 +11,10 @@ ghost use Rattle.audit_finding.specs.Turn.{StandInside};
 use crate::finding::extension;
 use crate::turn::Turn;
 use audit_clients::Clients;
+use audit_cuts::Carried;
 use audit_finding::Windows;
 use audit_keys::Credentials;
-use audit_model::{Extension, Listed};
+use audit_model::{Addr, Extension, Listed};
 use audit_sightings::Intake;
 use audit_walk::{Ahead, Judge, Search};
 use std::alloc::{AllocError, Global};
@@ -26,6 +27,32 @@ pub struct Finder {
     search: Search,
     ahead: Ahead,
     alloc: Global,
+}
+
+/// The clients that were carried over a cut, then the ends of the departures that are owed, and
+/// then the clients in the intake. A departure that is owed to a peer has a lane of its own, since
+/// its client may be gone.
+fn clients_from(
+    alloc: Global,
+    seed: RandomState,
+    intake: &Intake,
+    carried: &Carried,
+) -> Result<Clients, AllocError>
+    ensures { IfOk result (λ clients. clients.looked.items ≡ row_lengths (taken intake.now)) }
+{
+    let mut clients = Clients::new(alloc, seed);
+    for client in &carried.clients {
+        clients
+            .pairs
+            .insert(client.pair.client, client.pair.listen)?;
+    }
+    for came in &carried.owed {
+        if let Some(leaves) = intake.sighting(came.sight) {
+            clients.pairs.insert(leaves.to, leaves.from)?;
+        }
+    }
+    clients.take_in(alloc, intake)?;
+    Ok(clients)
 }
 
 impl Finder {
@@ -41,6 +68,32 @@ impl Finder {
             ahead: Ahead::new(alloc),
             alloc,
         }
+    }
+
+    /// A finder that goes on from what was carried over a cut: with the machine that goes on from
+    /// it, its events are judged as if the walk had begun before the cut.
+    ///
+    /// The intake has the sightings from the bases of the interfaces on, at least those that wait.
+    /// Those that are placed get no event. It takes n log n time in what was carried and in the
+    /// sightings of the intake.
+    pub fn resume(
+        alloc: Global,
+        seed: RandomState,
+        intake: &Intake,
+        credentials: &Credentials,
+        carried: &Carried,
+    ) -> Result<Finder, AllocError>
+        ensures looked { IfOk result (λ finder. finder.clients.looked.items ≡ row_lengths (taken intake.now)) }
+    {
+        let clients = clients_from(alloc, seed, intake, carried)?;
+        let judge = Judge::new(alloc, intake, credentials, &clients, Windows::Whole);
+        let search = Search::resume(alloc, &judge, carried)?;
+        Ok(Finder {
+            clients,
+            search,
+            ahead: Ahead::resume(alloc, &carried.interfaces)?,
+            alloc,
+        })
     }
 
     /// Makes the event of each sighting that has none yet and has a moment up to the horizon.
@@ -82,5 +135,13 @@ impl Finder {
         let turn = Turn::new(last, horizon);
         let lanes = self.clients.lanes_from(known);
         extension(self.alloc, intake, lanes, portion, turn)
+    }
+
+    /// The clients of the lanes so far. Those of a finder that goes on from a cut begin with lanes
+    /// that `extend` doesn't return.
+    pub fn lanes(&self) -> &[(Addr, Addr)]
+        ensures { result.now ≡ take MAX_LANES self.now.clients.pairs }
+    {
+        self.clients.lanes()
     }
 }
