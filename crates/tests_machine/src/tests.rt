@@ -2,5 +2,8 @@
 
 mod carrying;
 mod judging;
+mod rest;
+mod resuming;
 mod sessions;
 mod steps;
+mod walks;

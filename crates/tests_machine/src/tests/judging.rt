@@ -45,7 +45,7 @@ struct Placed {
     action: Action,
 }
 
-fn action_of(pair: Pair, event: &Event) -> Action {
+pub(super) fn action_of(pair: Pair, event: &Event) -> Action {
     match *event {
         Event::In { sight, key } => Action::Arrive {
             sight,
