@@ -12,3 +12,4 @@ pub mod Unmoved
 pub mod ForgettingClients
 pub mod Purging
 pub mod Carried
+pub mod Judging

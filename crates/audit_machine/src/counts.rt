@@ -45,7 +45,7 @@ impl Counts {
     }
 
     /// Whether each interface that has a count is before this one.
-    fn are_before(&self, end: u32) -> bool
+    pub fn are_before(&self, end: u32) -> bool
         ensures yes { IsTrue result → (iface : ℕ) → end ≤ iface → count_of self.now iface ≡ 0 }
         ensures no { result ≡ false → HasCountFrom end self.now }
     {

@@ -27,7 +27,7 @@ impl Machine {
     }
 
     /// Whether all sightings are placed.
-    fn has_all(&self, intake: &Intake) -> bool
+    pub(crate) fn has_all(&self, intake: &Intake) -> bool
         ensures { IsTrue result → (s : SightName) → is_some (sighting_at (taken intake.now) s) ≡ true → is_placed (count_of self.now.placed) s ≡ true }
     {
         'interfaces: for iface in 0..intake.interfaces() {
@@ -39,7 +39,7 @@ impl Machine {
     }
 
     /// Whether no departure is owed.
-    fn owes_nothing(&self) -> bool
+    pub(crate) fn owes_nothing(&self) -> bool
         ensures { IsTrue result → (t : SightName) → time_of self.now.owed t ≡ None }
     {
         self.owed.is_empty()
@@ -74,8 +74,5 @@ pub fn explains(
     if let Err(stop) = machine.apply_all(alloc, intake, credentials, actions) {
         return Err(stop.refusal);
     }
-    if !machine.owes_nothing() {
-        return Ok(false);
-    }
-    Ok(machine.has_all(intake))
+    Ok(machine.is_complete(intake))
 }

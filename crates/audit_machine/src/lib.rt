@@ -10,6 +10,7 @@ mod counts;
 mod explaining;
 mod forgetting;
 mod holders;
+mod judged;
 mod machine;
 mod moves;
 mod refusal;

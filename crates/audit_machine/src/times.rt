@@ -1,10 +1,12 @@
 //! Moments, by the ids of sightings.
 
-ghost use Rattle.std.specs.Prelude.{◌≡◌, Some, None, IfOk, OnOk, IsTrue};
+ghost use Rattle.std.specs.Prelude.{◌≡◌, ◌≤◌, ◌⊎◌, ℕ, Some, None, IfOk, OnOk, IsTrue};
 ghost use Rattle.audit_model.specs.declared.sighting.SightId.{SightId as SightName};
 ghost use Rattle.audit_model.specs.Sames.{same_sight};
+ghost use Rattle.audit_model.specs.Window.{later};
 ghost use Rattle.audit_server.specs.State.{put};
 ghost use Rattle.audit_cuts.specs.Carried.{moment_in};
+ghost use Rattle.audit_machine.specs.Judged.{EndsAt};
 ghost use Rattle.audit_machine.specs.Times.{time_of};
 
 use audit_cuts::Came;
@@ -55,6 +57,22 @@ impl Times {
         ensures { IsTrue result → (s : SightName) → time_of self.now s ≡ None }
     {
         self.moments.is_empty()
+    }
+
+    /// The earliest end of the hold after one of the moments, or the bound if that is earlier.
+    pub fn least_end(&self, hold: u64, bound: u64) -> u64
+        ensures bound { result ≤ bound }
+        ensures each { (s : SightName) (came : ℕ) → time_of self.now s ≡ Some came → result ≤ later came hold }
+        ensures least { (result ≡ bound) ⊎ EndsAt (time_of self.now) hold result }
+    {
+        let mut least = bound;
+        for (_, came) in self.moments.iter() {
+            let end = came.saturating_add(hold);
+            if end < least {
+                least = end;
+            }
+        }
+        least
     }
 
     /// The sightings and their moments, by interface and index.

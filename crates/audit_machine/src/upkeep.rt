@@ -9,6 +9,7 @@ ghost use Rattle.audit_machine.specs.Machine.{cut_of, IsConsistent};
 
 use crate::machine::Machine;
 use crate::moves::Action;
+use audit_cuts::{Came, Carried};
 use audit_model::{Addr, Pair, SightId};
 use std::alloc::{AllocError, Global};
 use std::collections::{BTreeSet, VecDeque};
@@ -16,13 +17,6 @@ use std::collections::{BTreeSet, VecDeque};
 /// How often a client's expired permissions and channel bindings are looked for, in nanoseconds:
 /// the lifetime of a permission (RFC 8656, section 9).
 const INTERVAL: u64 = 300_000_000_000;
-
-/// An arrival, and when it came.
-#[derive(Clone, Copy, Drop)]
-struct Came {
-    sight: SightId,
-    moment: u64,
-}
 
 /// A client, and when its leases are looked at next.
 #[derive(Clone, Copy, Drop)]
@@ -49,6 +43,27 @@ impl Upkeep {
             clients: VecDeque::new(alloc),
             known: BTreeSet::new(alloc),
         }
+    }
+
+    /// What a machine will be able to forget that goes on from what was carried over a cut. It
+    /// takes n log n time.
+    pub fn resume(alloc: Global, carried: &Carried) -> Result<Upkeep, AllocError> {
+        let mut upkeep = Upkeep::new(alloc);
+        let mut waiting = Vec::from_slice(alloc, &carried.waiting)?;
+        waiting.sort_unstable_by_key(|came| came.moment);
+        for came in waiting {
+            upkeep.arrivals.push_back(came)?;
+        }
+        for client in &carried.clients {
+            let Pair {
+                client: address,
+                listen,
+            } = client.pair;
+            if upkeep.known.insert((address, listen))? {
+                upkeep.look_later(client.pair, carried.moment)?;
+            }
+        }
+        Ok(upkeep)
     }
 
     /// Notes a move that the machine made. Moves come in the order of time. It takes logarithmic

@@ -11,7 +11,7 @@ use Rattle.audit_machine.proofs.Complete.{all_name_included}
 use Rattle.audit_machine.proofs.explaining.explains.Goals as goal
 
 pub returns : goal.returns
-returns c placed_all =
+returns c complete =
     let t = taken c.args.intake.now in
     let keys = key_for c.args.credentials.now in
     let steps = steps_of c.args.actions.now in
@@ -19,4 +19,4 @@ returns c placed_all =
     let one : IsSegment t.policy keys (sighting_at t) empty_cut steps last =
     subst (λ (a : Cut). IsSegment t.policy keys (sighting_at t) a steps last) c.new-machine.ensures.start
     (subst (λ (p : Policy). IsSegment p keys (sighting_at t) (cut_of c.new-machine.result (λ _. false)) steps last) (c.new-machine.ensures.policy ∙ c.in_ok-copy_of.ensures ∙ c.policy.ensures) (c.in_default.ensures.segment (λ _. false) (all_name_included c.args.actions.now))) in
-    headline_of t keys steps last one (record { all = c.has_all.ensures placed_all; owed = λ x h. c.owes_nothing.ensures c.if-not-owes_nothing.false x }) (λ s. refl)
+    headline_of t keys steps last one (record { all = c.is_complete.ensures.placed complete; owed = λ x h. c.is_complete.ensures.owed complete x }) (λ s. refl)
