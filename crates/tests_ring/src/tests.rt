@@ -1,0 +1,4 @@
+//! The names of the files of a ring, and which file is next.
+
+mod names;
+mod order;
