@@ -1,5 +1,5 @@
 -- A line that is written is read again.
-use Rattle.std.proofs.Common.{◌≡◌, ℕ, zero, suc, ◌+◌, ◌/◌, ◌%◌, ◌<◌, ◌≤◌, ◌^◌, Bool, true, false, cond, eqb, ◌||◌, List, [], ◌∷◌, ◌++◌, length, get_or, Result, Ok, Err, codes, decimal, refl, sym, ap, ◌∙◌, append_assoc, arith}
+use Rattle.std.proofs.Common.{◌≡◌, ℕ, zero, suc, ◌/◌, ◌%◌, ◌<◌, ◌≤◌, ◌^◌, Bool, true, false, cond, eqb, ◌||◌, List, [], ◌∷◌, ◌++◌, length, get_or, Result, Ok, Err, codes, decimal, refl, sym, ap, ◌∙◌, append_assoc, arith}
 use Rattle.std.specs.Int.{w32, to_be_bytes}
 use Rattle.std.specs.List.{list_any}
 use Rattle.std.specs.Char.{is_ascii_digit}
@@ -22,15 +22,15 @@ use Rattle.audit_expiry.specs.declared.lease.Lease.{Lease}
 use Rattle.audit_rules.specs.declared.table.Channel.{Channel}
 use Rattle.audit_cuts.specs.declared.carried.Came.{Came}
 use Rattle.audit_cuts.specs.declared.carried.Interface.{Interface}
-use Rattle.watch_checkpoint.specs.declared.checkpoint.Header.{Header}
 use Rattle.watch_checkpoint.specs.declared.entry.Entry.{Entry}
 use Rattle.watch_checkpoint.specs.declared.entry.Entry.TheVariants as entry
 use Rattle.watch_checkpoint.specs.declared.entry.Holder.{Holder}
 use Rattle.watch_checkpoint.specs.declared.fault.LineKind.TheVariants.{Line}
+use Rattle.watch_checkpoint.specs.Content.{HeaderContent}
 use Rattle.watch_checkpoint.specs.Fault.{of_word}
 use Rattle.watch_checkpoint.specs.Fits.{HolderFits, CameFits, EntryFits, HeaderFits}
 use Rattle.watch_checkpoint.specs.Spelling.{ip_text, entry_text, header_text, moment_text}
-use Rattle.watch_checkpoint.specs.Words.{labelled_of, of_hex, interface_of, permission_of, channel_of, came_of, holder_of_words, words_of, parsed_of, parsed_header_of, parsed_moment_of, entry_of, header_of, moment_of}
+use Rattle.watch_checkpoint.specs.Words.{labelled_of, of_hex, interface_of, permission_of, channel_of, came_of, holder_of_words, words_of, parsed_of, file_of, parsed_header_of, parsed_moment_of, entry_of, header_of, moment_of}
 
 pub number_again : (most n : ℕ) → n ≤ most → most < 2 ^ 64 → number_of most (decimal n) ≡ Ok n
 number_again most n le fits = number_only most n (decimal n) le fits refl
@@ -207,21 +207,22 @@ entry_again e fits = checked_again entry_text (parsed_of (entry_text e)) e (pars
 
 -- ---- the header and the moment
 
-header_parts : (p u n : List ℕ) → codes "claim policy " ++ (p ++ (codes " users " ++ (u ++ (codes " begin " ++ n)))) ≡ codes "claim" ++ 32 ∷ (codes "policy" ++ 32 ∷ (p ++ 32 ∷ (codes "users" ++ 32 ∷ (u ++ 32 ∷ (codes "begin" ++ 32 ∷ n)))))
-header_parts p u n = refl
-
-parsed_header_again : (h : Header) → HeaderFits h → parsed_header_of (header_text h) ≡ Ok h
+parsed_header_again : (h : HeaderContent) → HeaderFits h → parsed_header_of (header_text h) ≡ Ok h
 unfolding parsed_header_of
 parsed_header_again h fits =
     bind_again (labelled_of (header_text h)) _ (codes "claim", _) (Ok h) (labelled_again (codes "claim") (codes "policy") _ refl refl)
     (bind_again (labelled_of _) _ (encode_lower h.policy, _) (Ok h) (labelled_again (encode_lower h.policy) (codes "users") _ (hex_lacks 32 h.policy refl refl) refl)
-    (bind_again (labelled_of _) _ (encode_lower h.users, decimal h.begin) (Ok h) (labelled_again (encode_lower h.users) (codes "begin") (decimal h.begin) (hex_lacks 32 h.users refl refl) refl)
-    (bind_again (word64_of (decimal h.begin)) _ h.begin (Ok h) (number_again 18446744073709551615 h.begin (omega (arith, fits.begin)) (omega arith))
+    (bind_again (labelled_of _) _ (encode_lower h.users, _) (Ok h) (labelled_again (encode_lower h.users) (codes "begin") _ (hex_lacks 32 h.users refl refl) refl)
+    (bind_again (labelled_of _) _ (decimal h.begin, _) (Ok h) (labelled_again (decimal h.begin) (codes "file") _ (decimal_lacks 32 h.begin refl fits.begin) refl)
+    (bind_again (labelled_of _) _ (decimal h.number, decimal h.opened) (Ok h) (labelled_again (decimal h.number) (codes "opened") (decimal h.opened) (decimal_lacks 32 h.number refl (omega (arith, fits.number))) refl)
     (bind_again (of_hex (decode_sized (encode_lower h.policy) 32)) _ h.policy (Ok h) (sized_again 32 h.policy fits.policy.0 fits.policy.1)
     (bind_again (of_hex (decode_sized (encode_lower h.users) 32)) _ h.users (Ok h) (sized_again 32 h.users fits.users.0 fits.users.1)
-    refl)))))
+    (bind_again (both_of (word64_of (decimal h.begin)) (file_of (decimal h.number) (decimal h.opened))) _ (h.begin, (h.number, h.opened)) (Ok h)
+    (both_again _ _ h.begin (h.number, h.opened) (number_again 18446744073709551615 h.begin (omega (arith, fits.begin)) (omega arith))
+    (both_again _ _ h.number h.opened (number_again 99999 h.number (omega (arith, fits.number)) (omega arith)) (number_again 99999999999999 h.opened (omega (arith, fits.opened)) (omega arith))))
+    refl)))))))
 
-pub header_again : (h : Header) → HeaderFits h → header_of (header_text h) ≡ Ok h
+pub header_again : (h : HeaderContent) → HeaderFits h → header_of (header_text h) ≡ Ok h
 unfolding header_of
 header_again h fits = checked_again header_text (parsed_header_of (header_text h)) h (parsed_header_again h fits)
 

@@ -22,13 +22,12 @@ use Rattle.audit_cert.proofs.Steps.{bind_ok, ok_is}
 use Rattle.audit_cert.proofs.Texts.{pieces-line}
 use Rattle.audit_cuts.specs.declared.carried.Came.{Came}
 use Rattle.audit_cuts.specs.declared.carried.Interface.{Interface}
-use Rattle.watch_checkpoint.specs.declared.checkpoint.Header.{Header}
 use Rattle.watch_checkpoint.specs.declared.entry.Entry.{Entry}
 use Rattle.watch_checkpoint.specs.declared.entry.Entry.TheVariants as entry
 use Rattle.watch_checkpoint.specs.declared.entry.Holder.{Holder}
 use Rattle.watch_checkpoint.specs.declared.fault.LineKind.{LineKind}
 use Rattle.watch_checkpoint.specs.declared.fault.LineKind.TheVariants.{Order, Placement}
-use Rattle.watch_checkpoint.specs.Content.{Content, Tenant, entries_of, numbered, tenant_entries, tenants_entries, permission_entry, channel_entry}
+use Rattle.watch_checkpoint.specs.Content.{Content, HeaderContent, Tenant, entries_of, numbered, tenant_entries, tenants_entries, permission_entry, channel_entry}
 use Rattle.watch_checkpoint.specs.Spelling.{ip_text, came_text, ends_text, grant_text, entry_text, header_text, moment_text, lines_of, body_of, line}
 use Rattle.watch_checkpoint.specs.Fault.{of_word}
 use Rattle.watch_checkpoint.specs.Words.{entry_of, header_of, moment_of}
@@ -160,7 +159,7 @@ then_folded p q r (x ∷ more) b e f =
 
 -- ---- the entries of a checkpoint, section by section
 
-module _ (grace : ℕ) (header : Header) (moment : ℕ) where
+module _ (grace : ℕ) (header : HeaderContent) (moment : ℕ) where
   abbrev state : List Interface → List Tenant → Option Tenant → List Came → List Came → Progress
   state is b l w o = record { grace = grace; header = header; moment = moment; interfaces = is; before = b; last = l; waiting = w; owed = o }
 
@@ -249,8 +248,9 @@ entries_again grace c is =
 
 -- ---- the whole
 
-header_lacks : (h : Header) → HeaderFits h → Lacks 10 (header_text h)
-header_lacks h fits = lacks_both 10 (encode_lower h.policy) _ (hex_lacks 10 h.policy refl refl) (lacks_both 10 (encode_lower h.users) _ (hex_lacks 10 h.users refl refl) (decimal_lacks 10 h.begin refl fits.begin))
+header_lacks : (h : HeaderContent) → HeaderFits h → Lacks 10 (header_text h)
+header_lacks h fits = lacks_both 10 (encode_lower h.policy) _ (hex_lacks 10 h.policy refl refl) (lacks_both 10 (encode_lower h.users) _ (hex_lacks 10 h.users refl refl) (lacks_both 10 (decimal h.begin) _ (decimal_lacks 10 h.begin refl fits.begin)
+    (lacks_both 10 (decimal h.number) _ (decimal_lacks 10 h.number refl (omega (arith, fits.number))) (decimal_lacks 10 h.opened refl (omega (arith, fits.opened))))))
 
 moment_lacks : (n : ℕ) → n < 2 ^ 64 → Lacks 10 (moment_text n)
 moment_lacks n fits = decimal_lacks 10 n refl fits

@@ -6,19 +6,18 @@ use Rattle.audit_text.specs.Token.{◌>>=◌}
 use Rattle.audit_cuts.specs.declared.carried.Came.{Came}
 use Rattle.audit_cuts.specs.declared.carried.Client.{Client}
 use Rattle.audit_cuts.specs.declared.carried.Interface.{Interface}
-use Rattle.watch_checkpoint.specs.declared.checkpoint.Header.{Header}
 use Rattle.watch_checkpoint.specs.declared.draft.Draft.{Draft}
 use Rattle.watch_checkpoint.specs.declared.entry.Entry.{Entry}
 use Rattle.watch_checkpoint.specs.declared.entry.Holder.{Holder}
 use Rattle.watch_checkpoint.specs.declared.fault.LineKind.{LineKind}
 use Rattle.watch_checkpoint.specs.declared.fault.LineKind.TheVariants.{Order}
 use Rattle.watch_checkpoint.specs.declared.client_set.ClientSet.{ClientSet}
-use Rattle.watch_checkpoint.specs.Content.{Tenant, tenant_of}
+use Rattle.watch_checkpoint.specs.Content.{HeaderContent, Tenant, tenant_of}
 use Rattle.watch_checkpoint.specs.Fault.{is_memory}
 use Rattle.watch_checkpoint.specs.Words.{entry_of}
 use Rattle.watch_checkpoint.specs.Adding.{Progress, begun, clients_of, claimed, tenant, Knows, has_no_times, with_client, with_entry, after, progress_of, Says}
 
-pub empty_progress : (grace : ℕ) (header : Header) (moment : ℕ) (i : List Interface) (b : List Client) (w o : List Came) → i ≡ [] → b ≡ [] → w ≡ [] → o ≡ [] →
+pub empty_progress : (grace : ℕ) (header : HeaderContent) (moment : ℕ) (i : List Interface) (b : List Client) (w o : List Came) → i ≡ [] → b ≡ [] → w ≡ [] → o ≡ [] →
     ◌≡◌ {A = Progress} (record { grace = grace; header = header; moment = moment; interfaces = i; before = map tenant_of b; last = None; waiting = w; owed = o }) (begun grace header moment)
 empty_progress grace header moment i b w o ei eb ew eo =
     let st : List Interface → List Tenant → List Came → List Came → Progress = λ i b w o. record { grace = grace; header = header; moment = moment; interfaces = i; before = b; last = None; waiting = w; owed = o } in

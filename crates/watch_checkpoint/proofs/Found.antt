@@ -9,13 +9,12 @@ use Rattle.audit_text.specs.Token.{◌>>=◌}
 use Rattle.audit_cert.proofs.Steps.{bind_ok, guard_true, ok_is}
 use Rattle.audit_cuts.specs.declared.carried.Came.{Came}
 use Rattle.audit_cuts.specs.declared.carried.Interface.{Interface}
-use Rattle.watch_checkpoint.specs.declared.checkpoint.Header.{Header}
 use Rattle.watch_checkpoint.specs.declared.entry.Entry.{Entry}
 use Rattle.watch_checkpoint.specs.declared.entry.Entry.TheVariants as entry
 use Rattle.watch_checkpoint.specs.declared.entry.Holder.{Holder}
 use Rattle.watch_checkpoint.specs.declared.fault.LineKind.{LineKind}
 use Rattle.watch_checkpoint.specs.declared.fault.LineKind.TheVariants.{Line, Order, Placement}
-use Rattle.watch_checkpoint.specs.Content.{Tenant, entries_of, numbered, tenant_entries, tenants_entries, permission_entry, channel_entry}
+use Rattle.watch_checkpoint.specs.Content.{HeaderContent, Tenant, entries_of, numbered, tenant_entries, tenants_entries, permission_entry, channel_entry}
 use Rattle.watch_checkpoint.specs.Spelling.{entry_text, header_text, moment_text}
 use Rattle.watch_checkpoint.specs.Fault.{of_word}
 use Rattle.watch_checkpoint.specs.Words.{parsed_of, parsed_header_of, parsed_moment_of, entry_of, header_of, moment_of}
@@ -34,7 +33,7 @@ pub entry_found : (line : List ℕ) (e : Entry) → entry_of line ≡ Ok e → l
 unfolding entry_of
 entry_found line e is = checked entry_text (of_word (parsed_of line)) line e is
 
-pub header_found : (line : List ℕ) (h : Header) → header_of line ≡ Ok h → line ≡ header_text h
+pub header_found : (line : List ℕ) (h : HeaderContent) → header_of line ≡ Ok h → line ≡ header_text h
 unfolding header_of
 header_found line h is = checked header_text (of_word (parsed_header_of line)) line h is
 

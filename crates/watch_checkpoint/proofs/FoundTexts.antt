@@ -9,10 +9,9 @@ use Rattle.audit_text.specs.Token.{halves_of}
 use Rattle.audit_cert.proofs.FoundTexts.{joined, joined_pieces}
 use Rattle.audit_cert.proofs.Steps.{bind_ok, ok_is}
 use Rattle.audit_cert.proofs.Words.{halves_found}
-use Rattle.watch_checkpoint.specs.declared.checkpoint.Header.{Header}
 use Rattle.watch_checkpoint.specs.declared.entry.Entry.{Entry}
 use Rattle.watch_checkpoint.specs.declared.fault.LineKind.{LineKind}
-use Rattle.watch_checkpoint.specs.Content.{Content}
+use Rattle.watch_checkpoint.specs.Content.{Content, HeaderContent}
 use Rattle.watch_checkpoint.specs.Spelling.{entry_text, header_text, moment_text, lines_of, front_text, body_of}
 use Rattle.watch_checkpoint.specs.Fault.{of_word}
 use Rattle.watch_checkpoint.specs.Words.{entry_of, header_of, moment_of}
@@ -109,6 +108,6 @@ rest_found grace text c e =
     halves_found 10 second.0.1 third.0 (word_ok _ third.0 (at_ok 3 _ third.0 third.1)) ∙ ap (λ (l : List ℕ). l ++ 10 ∷ third.0.1) (moment_found third.0.0 moment.0 (at_ok 3 _ moment.0 moment.1)) in
     ap (λ (l : List ℕ). codes "turnwatch-checkpoint 1\n" ++ l) (first ∙ ap (λ (l : List ℕ). header_text header.0 ++ 10 ∷ l) (next ∙ ap (λ (l : List ℕ). moment_text moment.0 ++ 10 ∷ l) lines.lines))
     ∙ all_lines (header_text header.0) (moment_text moment.0) (lines_of (entries_at read.0))
-    ∙ ap (λ (h : Header). front_text h moment.0 ++ lines_of (entries_at read.0)) (sym lines.header)
+    ∙ ap (λ (h : HeaderContent). front_text h moment.0 ++ lines_of (entries_at read.0)) (sym lines.header)
     ∙ ap (λ (m : ℕ). front_text read.0.header m ++ lines_of (entries_at read.0)) (sym lines.moment)
     ∙ ap body_of (ok_is {E = LineFault LineKind} (content_at read.0) c read.2)

@@ -15,7 +15,6 @@ use Rattle.audit_rules.specs.declared.table.Channel.{Channel}
 use Rattle.audit_cuts.specs.declared.carried.Came.{Came}
 use Rattle.audit_cuts.specs.declared.carried.Client.{Client}
 use Rattle.audit_cuts.specs.declared.carried.Interface.{Interface}
-use Rattle.watch_checkpoint.specs.declared.checkpoint.Header.{Header}
 use Rattle.watch_checkpoint.specs.declared.draft.Draft.{Draft}
 use Rattle.watch_checkpoint.specs.declared.entry.Entry.{Entry}
 use Rattle.watch_checkpoint.specs.declared.entry.Entry.TheVariants as entry
@@ -23,14 +22,14 @@ use Rattle.watch_checkpoint.specs.declared.entry.Holder.{Holder}
 use Rattle.watch_checkpoint.specs.declared.fault.LineKind.{LineKind}
 use Rattle.watch_checkpoint.specs.declared.fault.LineKind.TheVariants.{Order, ClientDouble, AddressHeld, Placement}
 use Rattle.watch_checkpoint.specs.declared.client_set.ClientSet.{ClientSet}
-use Rattle.watch_checkpoint.specs.Content.{Content, Tenant, tenant_of}
+use Rattle.watch_checkpoint.specs.Content.{Content, HeaderContent, Tenant, header_content, tenant_of}
 use Rattle.watch_checkpoint.specs.Words.{entry_of}
 
 -- what the lines so far say: the last client is apart, since its permissions and channels may
 -- follow
 pub record Progress : Type 0 where
   pub grace : ℕ
-  pub header : Header
+  pub header : HeaderContent
   pub moment : ℕ
   pub interfaces : List Interface
   pub before : List Tenant
@@ -39,7 +38,7 @@ pub record Progress : Type 0 where
   pub owed : List Came
 
 -- no line yet
-abbrev pub begun : ℕ → Header → ℕ → Progress
+abbrev pub begun : ℕ → HeaderContent → ℕ → Progress
 begun grace header moment = record { grace = grace; header = header; moment = moment; interfaces = []; before = []; last = None; waiting = []; owed = [] }
 
 abbrev pub with_last : List Tenant → Option Tenant → List Tenant
@@ -167,7 +166,7 @@ last_of (Some client) = Some (tenant_of client)
 abbrev pub progress_of : Draft → Progress
 progress_of d = record {
   grace = d.grace;
-  header = d.header;
+  header = header_content d.header;
   moment = d.moment;
   interfaces = d.interfaces.items;
   before = map tenant_of d.clients.items;

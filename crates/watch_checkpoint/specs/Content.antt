@@ -18,8 +18,16 @@ pub record Tenant : Type 0 where
   pub permissions : List (ℕ × Lease)
   pub channels : List (ℕ × Channel)
 
+-- the header without the proofs that its file's numbers are in range
+pub record HeaderContent : Type 0 where
+  pub policy : List ℕ
+  pub users : List ℕ
+  pub begin : ℕ
+  pub number : ℕ
+  pub opened : ℕ
+
 pub record Content : Type 0 where
-  pub header : Header
+  pub header : HeaderContent
   pub moment : ℕ
   pub interfaces : List Interface
   pub clients : List Tenant
@@ -32,9 +40,12 @@ holder_of client = record { pair = client.pair; relayed = client.relayed; user =
 abbrev pub tenant_of : Client → Tenant
 tenant_of client = record { holder = holder_of client; permissions = client.permissions.items; channels = client.channels.items }
 
+abbrev pub header_content : Header → HeaderContent
+header_content h = record { policy = h.policy; users = h.users; begin = h.begin; number = h.file.number; opened = h.file.opened }
+
 abbrev pub content_of : Checkpoint → Content
 content_of c = record {
-  header = c.header;
+  header = header_content c.header;
   moment = c.carried.moment;
   interfaces = c.carried.interfaces.items;
   clients = map tenant_of c.carried.clients.items;

@@ -6,11 +6,10 @@ use Rattle.hex.specs.Hex.{IsBytes}
 use Rattle.audit_model.specs.Fits.{AddrFits}
 use Rattle.audit_cert.specs.Fits.{SightFits}
 use Rattle.audit_cuts.specs.declared.carried.Came.{Came}
-use Rattle.watch_checkpoint.specs.declared.checkpoint.Header.{Header}
 use Rattle.watch_checkpoint.specs.declared.entry.Entry.{Entry}
 use Rattle.watch_checkpoint.specs.declared.entry.Entry.TheVariants as entry
 use Rattle.watch_checkpoint.specs.declared.entry.Holder.{Holder}
-use Rattle.watch_checkpoint.specs.Content.{Content, Tenant, entries_of}
+use Rattle.watch_checkpoint.specs.Content.{Content, HeaderContent, Tenant, entries_of}
 use Rattle.watch_checkpoint.specs.Adding.{claimed, placed_at}
 
 -- bytes of a fixed number
@@ -37,10 +36,12 @@ EntryFits (entry.Channel n c) = (n < 2 ^ 16) × (AddrFits c.peer × (c.lease.unt
 EntryFits (entry.Waits came) = CameFits came
 EntryFits (entry.Owed came) = CameFits came
 
-pub record HeaderFits (h : Header) : Type 0 where
+pub record HeaderFits (h : HeaderContent) : Type 0 where
   pub policy : BytesFit 32 h.policy
   pub users : BytesFit 32 h.users
   pub begin : h.begin < 2 ^ 64
+  pub number : h.number < 10 ^ 5
+  pub opened : h.opened < 10 ^ 14
 
 -- each client may come after those before it: no two are at one 5-tuple, or have usable allocations
 -- with one relayed address

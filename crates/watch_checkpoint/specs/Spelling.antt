@@ -9,11 +9,10 @@ use Rattle.audit_model.specs.declared.address.Addr.{Addr}
 use Rattle.audit_model.specs.declared.pair.Pair.{Pair}
 use Rattle.audit_cuts.specs.declared.carried.Came.{Came}
 use Rattle.audit_cuts.specs.declared.carried.Client.{Client}
-use Rattle.watch_checkpoint.specs.declared.checkpoint.Header.{Header}
 use Rattle.watch_checkpoint.specs.declared.entry.Entry.{Entry}
 use Rattle.watch_checkpoint.specs.declared.entry.Entry.TheVariants as entry
 use Rattle.watch_checkpoint.specs.declared.entry.Holder.{Holder}
-use Rattle.watch_checkpoint.specs.Content.{Content, entries_of, tenant_of, tenant_entries}
+use Rattle.watch_checkpoint.specs.Content.{Content, HeaderContent, entries_of, tenant_of, tenant_entries}
 
 -- four numbers joined by dots
 unfoldable pub ip_text : ℕ → List ℕ
@@ -45,8 +44,12 @@ entry_text (entry.Channel n c) = codes "channel " ++ (decimal n ++ (codes " " ++
 entry_text (entry.Waits came) = codes "waits " ++ came_text came
 entry_text (entry.Owed came) = codes "owed " ++ came_text came
 
-abbrev pub header_text : Header → List ℕ
-header_text h = codes "claim policy " ++ (encode_lower h.policy ++ (codes " users " ++ (encode_lower h.users ++ (codes " begin " ++ decimal h.begin))))
+-- the first moment of the claim, and the file of the ring from which the audit goes on
+abbrev pub start_text : (begin number opened : ℕ) → List ℕ
+start_text begin number opened = codes " begin " ++ (decimal begin ++ (codes " file " ++ (decimal number ++ (codes " opened " ++ decimal opened))))
+
+abbrev pub header_text : HeaderContent → List ℕ
+header_text h = codes "claim policy " ++ (encode_lower h.policy ++ (codes " users " ++ (encode_lower h.users ++ start_text h.begin h.number h.opened)))
 
 abbrev pub moment_text : ℕ → List ℕ
 moment_text n = codes "moment " ++ decimal n
@@ -75,7 +78,7 @@ abbrev pub signed : List ℕ → List ℕ
 signed text = text ++ digest_line text
 
 -- the first three lines
-abbrev pub front_text : Header → ℕ → List ℕ
+abbrev pub front_text : HeaderContent → ℕ → List ℕ
 front_text header moment = codes "turnwatch-checkpoint 1\n" ++ (line (header_text header) ++ line (moment_text moment))
 
 -- all lines except the last one

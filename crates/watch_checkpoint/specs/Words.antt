@@ -13,12 +13,12 @@ use Rattle.audit_cert.specs.EventLine.{word32_of, word64_of, sight_id_of}
 use Rattle.audit_rules.specs.declared.table.Channel.{Channel}
 use Rattle.audit_cuts.specs.declared.carried.Came.{Came}
 use Rattle.audit_cuts.specs.declared.carried.Interface.{Interface}
-use Rattle.watch_checkpoint.specs.declared.checkpoint.Header.{Header}
 use Rattle.watch_checkpoint.specs.declared.entry.Entry.{Entry}
 use Rattle.watch_checkpoint.specs.declared.entry.Entry.TheVariants as entry
 use Rattle.watch_checkpoint.specs.declared.entry.Holder.{Holder}
 use Rattle.watch_checkpoint.specs.declared.fault.LineKind.{LineKind}
 use Rattle.watch_checkpoint.specs.declared.fault.LineKind.TheVariants.{Line}
+use Rattle.watch_checkpoint.specs.Content.{HeaderContent}
 use Rattle.watch_checkpoint.specs.Fault.{of_word}
 use Rattle.watch_checkpoint.specs.Spelling.{entry_text, header_text, moment_text}
 
@@ -111,18 +111,24 @@ entry_of line = do
   entry ← of_word (parsed_of line)
   if bytes_eq (entry_text entry) line then Ok entry else Err Line
 
--- claim policy HEX users HEX begin N
-unfoldable pub parsed_header_of : List ℕ → Result Header TokenFault
+-- the number and the second of a file of the ring
+abbrev pub file_of : (number opened : List ℕ) → Result (ℕ × ℕ) TokenFault
+file_of number opened = both_of (number_of 99999 number) (number_of 99999999999999 opened)
+
+-- claim policy HEX users HEX begin N file N opened N
+unfoldable pub parsed_header_of : List ℕ → Result HeaderContent TokenFault
 parsed_header_of line = do
   first ← labelled_of line
   policy ← labelled_of first.1
   users ← labelled_of policy.1
-  begin ← word64_of users.1
+  begin ← labelled_of users.1
+  file ← labelled_of begin.1
   a ← of_hex (decode_sized policy.0 32)
   b ← of_hex (decode_sized users.0 32)
-  Ok (record { policy = a; users = b; begin = begin })
+  c ← both_of (word64_of begin.0) (file_of file.0 file.1)
+  Ok (record { policy = a; users = b; begin = c.0; number = c.1.0; opened = c.1.1 })
 
-unfoldable pub header_of : List ℕ → Result Header LineKind
+unfoldable pub header_of : List ℕ → Result HeaderContent LineKind
 header_of line = do
   header ← of_word (parsed_header_of line)
   if bytes_eq (header_text header) line then Ok header else Err Line

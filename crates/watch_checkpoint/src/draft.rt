@@ -2,7 +2,7 @@
 
 ghost use Rattle.std.specs.Prelude.{◌≡◌, ◌==◌, length, true, Ok, MatchResult, OnOk, IfErr};
 ghost use Rattle.audit_text.specs.Reading.{UnlessMemory};
-ghost use Rattle.watch_checkpoint.specs.Content.{content_of};
+ghost use Rattle.watch_checkpoint.specs.Content.{content_of, header_content};
 ghost use Rattle.watch_checkpoint.specs.Fault.{is_memory};
 ghost use Rattle.watch_checkpoint.specs.Adding.{Progress, Says, begun, after, clients_of, content_at, has_no_times, has_no_clients, placed_at, progress_of, with_interface, with_client, with_permission, with_channel, with_waits, with_owed, with_entry};
 
@@ -48,7 +48,7 @@ fn placed_at(interfaces: &[Interface], iface: u32) -> u32
 impl Draft {
     /// No line yet after the moment's. Allocates no memory.
     pub fn new(alloc: Global, grace: u64, header: Header, moment: u64) -> Draft
-        ensures { Says result (begun grace header moment) }
+        ensures { Says result (begun grace (header_content header) moment) }
     {
         Draft {
             alloc,

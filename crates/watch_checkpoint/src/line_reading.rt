@@ -2,6 +2,7 @@
 
 ghost use Rattle.std.specs.Prelude.{◌≡◌, Ok, MatchResult};
 ghost use Rattle.audit_text.specs.Reading.{UnlessMemory};
+ghost use Rattle.watch_checkpoint.specs.Content.{header_content};
 ghost use Rattle.watch_checkpoint.specs.Fault.{is_memory, of_word};
 ghost use Rattle.watch_checkpoint.specs.Words.{entry_of, header_of, moment_of};
 
@@ -30,7 +31,7 @@ pub fn read_entry(alloc: Global, line: &[u8]) -> Result<Entry, LineKind>
 /// Reads the header.
 #[tactic(auto, unfolding(crate::specs::Words::header_of))]
 pub fn read_header(alloc: Global, line: &[u8]) -> Result<Header, LineKind>
-    ensures { MatchResult result (λ header. header_of line.now ≡ Ok header)
+    ensures { MatchResult result (λ header. header_of line.now ≡ Ok (header_content header))
         (λ kind. UnlessMemory is_memory kind (header_of line.now)) }
 {
     let header = parse_header(line)?;

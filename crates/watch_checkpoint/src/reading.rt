@@ -4,7 +4,7 @@ ghost use Rattle.std.specs.Prelude.{◌≡◌, ◌≢◌, ◌++◌, List, ℕ, c
 ghost use Rattle.audit_text.specs.Reading.{UnlessMemory};
 ghost use Rattle.watch_checkpoint.specs.Adding.{Progress, Says, begun};
 ghost use Rattle.watch_checkpoint.specs.declared.fault.CheckpointFault.TheVariants as faults;
-ghost use Rattle.watch_checkpoint.specs.Content.{Content, content_of};
+ghost use Rattle.watch_checkpoint.specs.Content.{Content, content_of, header_content};
 ghost use Rattle.watch_checkpoint.specs.Fault.{is_memory, fault_of};
 ghost use Rattle.watch_checkpoint.specs.Fits.{IsCheckpoint};
 ghost use Rattle.watch_checkpoint.specs.Reading.{entries_read, rest_read, IsRead, Refuses, RefusesRest};
@@ -46,8 +46,8 @@ fn read_entries(
     moment: u64,
     text: &[u8],
 ) -> Result<Draft, LineFault<LineKind>>
-    ensures { MatchResult result (λ draft. (p : Progress) × (entries_read (begun grace header moment) text.now ≡ Ok p) × Says draft p)
-        (λ fault. UnlessMemory (λ f. is_memory f.kind) fault (entries_read (begun grace header moment) text.now)) }
+    ensures { MatchResult result (λ draft. (p : Progress) × (entries_read (begun grace (header_content header) moment) text.now ≡ Ok p) × Says draft p)
+        (λ fault. UnlessMemory (λ f. is_memory f.kind) fault (entries_read (begun grace (header_content header) moment) text.now)) }
 {
     let reader = TextReader::new(alloc, Draft::new(alloc, grace, header, moment));
     reader.feed(text)?.finish()

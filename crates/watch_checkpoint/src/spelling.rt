@@ -5,8 +5,8 @@ ghost use Rattle.std.specs.String.{string_bytes};
 ghost use Rattle.hex.specs.Hex.{encode_lower};
 ghost use Rattle.audit_model.specs.Addr.{addr_text};
 ghost use Rattle.audit_cert.specs.Spelling.{sight_text};
-ghost use Rattle.watch_checkpoint.specs.Content.{holder_of};
-ghost use Rattle.watch_checkpoint.specs.Spelling.{ip_text, ends_text, grant_text, came_text, entry_text, header_text, moment_text};
+ghost use Rattle.watch_checkpoint.specs.Content.{holder_of, header_content};
+ghost use Rattle.watch_checkpoint.specs.Spelling.{ip_text, ends_text, grant_text, came_text, entry_text, start_text, header_text, moment_text};
 ghost use Rattle.watch_checkpoint.specs.declared.entry.Entry.TheVariants as entries;
 
 use crate::checkpoint::Header;
@@ -17,6 +17,7 @@ use audit_model::{Addr, Pair, SightId};
 use audit_rules::Channel;
 use itoa::Buffer;
 use std::alloc::{AllocError, Global};
+use watch_ring::RingFile;
 
 /// Adds a number in decimal.
 fn add_number(text: &mut Vec<u8>, number: u64) -> Result<(), AllocError>
@@ -215,16 +216,27 @@ pub fn add_entry(alloc: Global, text: &mut Vec<u8>, entry: &Entry) -> Result<(),
     }
 }
 
+/// Adds the first moment of the claim and a file, as ` begin 5 file 41 opened 20260714093000`.
+fn add_start(text: &mut Vec<u8>, begin: u64, file: RingFile) -> Result<(), AllocError>
+    ensures { OnOk result (text.new.items ≡ text.old.items ++ start_text begin file.number file.opened) }
+{
+    text.extend_from_slice(b" begin ")?;
+    add_number(text, begin)?;
+    text.extend_from_slice(b" file ")?;
+    add_number(text, file.number as u64)?;
+    text.extend_from_slice(b" opened ")?;
+    add_number(text, file.opened)
+}
+
 /// Adds the header's line without its LF.
 pub fn add_header(alloc: Global, text: &mut Vec<u8>, header: &Header) -> Result<(), AllocError>
-    ensures { OnOk result (text.new.items ≡ text.old.items ++ header_text header.now) }
+    ensures { OnOk result (text.new.items ≡ text.old.items ++ header_text (header_content header.now)) }
 {
     text.extend_from_slice(b"claim policy ")?;
     add_hex(alloc, text, &header.policy)?;
     text.extend_from_slice(b" users ")?;
     add_hex(alloc, text, &header.users)?;
-    text.extend_from_slice(b" begin ")?;
-    add_number(text, header.begin)
+    add_start(text, header.begin, header.file)
 }
 
 /// Adds the moment's line without its LF.

@@ -5,8 +5,9 @@ ghost use Rattle.hex.specs.Hex.{decode_of, decode_sized};
 ghost use Rattle.audit_text.specs.Reading.{UnlessMemory};
 ghost use Rattle.audit_text.specs.Token.{now_both};
 ghost use Rattle.audit_cert.specs.EventLine.{word32_of, word64_of, sight_id_of};
+ghost use Rattle.watch_checkpoint.specs.Content.{header_content};
 ghost use Rattle.watch_checkpoint.specs.Fault.{is_memory, of_word};
-ghost use Rattle.watch_checkpoint.specs.Words.{of_hex, labelled_of, interface_of, permission_of, channel_of, came_of, holder_of_words, words_of, parsed_of, parsed_header_of, parsed_moment_of};
+ghost use Rattle.watch_checkpoint.specs.Words.{of_hex, labelled_of, interface_of, permission_of, channel_of, came_of, holder_of_words, words_of, parsed_of, file_of, parsed_header_of, parsed_moment_of};
 
 use crate::checkpoint::Header;
 use crate::entry::{Entry, Holder};
@@ -18,6 +19,7 @@ use audit_rules::Channel;
 use audit_text::{TokenFault, both, halves, number};
 use hex::{FromHex, FromHexError};
 use std::alloc::Global;
+use watch_ring::RingFile;
 
 /// Parses a number of 32 bits.
 fn read_u32(word: &[u8]) -> Result<u32, TokenFault>
@@ -196,21 +198,35 @@ pub fn parse_entry(alloc: Global, line: &[u8]) -> Result<Entry, LineKind>
     read_words(alloc, word, words)
 }
 
+/// Parses the number of a file of a ring, and the second in which it was opened.
+fn read_file(file: &[u8], opened: &[u8]) -> Result<RingFile, TokenFault>
+    ensures { MatchResult result (λ f. file_of file.now opened.now ≡ Ok (f.number, f.opened)) (λ e. file_of file.now opened.now ≡ Err e) }
+{
+    let (file, opened) = both(number(file, 99_999), number(opened, 99_999_999_999_999))?;
+    Ok(RingFile {
+        opened,
+        number: file as u32,
+    })
+}
+
 /// What the words of the header say.
 #[tactic(auto, unfolding(crate::specs::Words::parsed_header_of))]
 pub fn parse_header(line: &[u8]) -> Result<Header, TokenFault>
-    ensures { result ≡ parsed_header_of line.now }
+    ensures { MatchResult result (λ header. parsed_header_of line.now ≡ Ok (header_content header)) (λ e. parsed_header_of line.now ≡ Err e) }
 {
     let (_, rest) = labelled(line)?;
     let (policy, rest) = labelled(rest)?;
-    let (users, begin) = labelled(rest)?;
-    let begin = read_u64(begin)?;
+    let (users, rest) = labelled(rest)?;
+    let (begin, rest) = labelled(rest)?;
+    let (file, opened) = labelled(rest)?;
     let policy = read_digest(policy)?;
     let users = read_digest(users)?;
+    let (begin, file) = both(read_u64(begin), read_file(file, opened))?;
     Ok(Header {
         policy,
         users,
         begin,
+        file,
     })
 }
 

@@ -2,7 +2,7 @@
 
 ghost use Rattle.std.specs.Prelude.{◌≡◌, ◌++◌, codes, map, IfOk, OnOk};
 ghost use Rattle.watch_checkpoint.specs.declared.entry.Entry.TheVariants as entries;
-ghost use Rattle.watch_checkpoint.specs.Content.{content_of, carried_entries, tenant_of, tenant_entries, numbered, permission_entry, channel_entry, holder_of};
+ghost use Rattle.watch_checkpoint.specs.Content.{content_of, header_content, carried_entries, tenant_of, tenant_entries, numbered, permission_entry, channel_entry, holder_of};
 ghost use Rattle.watch_checkpoint.specs.Spelling.{lines_of, clients_lines, digest_line, front_text, body_of, text_of, line};
 
 use crate::checkpoint::{Checkpoint, Header};
@@ -106,7 +106,7 @@ fn add_carried(alloc: Global, text: &mut Vec<u8>, carried: &Carried) -> Result<(
 
 /// The first three lines.
 fn front(alloc: Global, header: &Header, moment: u64) -> Result<Vec<u8>, AllocError>
-    ensures { IfOk result (λ text. text.items ≡ front_text header.now moment) }
+    ensures { IfOk result (λ text. text.items ≡ front_text (header_content header.now) moment) }
 {
     let mut text = Vec::new(alloc);
     text.extend_from_slice(HEADING_LINE)?;

@@ -7,6 +7,7 @@ use audit_rules::Channel;
 use std::alloc::{AllocError, Global};
 use std::test::*;
 use watch_checkpoint::{Checkpoint, CheckpointFault, Header, LineKind, read, write};
+use watch_ring::RingFile;
 
 /// The grace of the policy, in nanoseconds.
 const GRACE: u64 = 5_000_000_000;
@@ -16,9 +17,10 @@ const POLICY: &str = "0000000000000000000000000000000000000000000000000000000000
 
 const USERS: &str = "0a0a0a0a0a0a0a0a0a0a0a0a0a0a0a0a0a0a0a0a0a0a0a0a0a0a0a0a0a0a0a0a";
 
-/// The moment, and a client with a permission and a channel, an arrival that waits and a departure
-/// that is owed.
-const LINES: &str = "moment 2000000000
+/// The end of the header, the moment, and a client with a permission and a channel, an arrival that
+/// waits and a departure that is owed.
+const LINES: &str = " begin 1000000000 file 41 opened 20260714093000
+moment 2000000000
 interface 0 base 12 placed 5
 interface 1 base 0 placed 0
 client 198.51.100.7:40000 listen 192.0.2.1:3478 relayed 192.0.2.15:50000 \
@@ -30,17 +32,16 @@ owed 1.0 1998000000
 ";
 
 /// The SHA-256 of the lines before it, by sha256sum.
-const DIGEST: &str = "6c52487b2796658aafa3c0fa4aa7a8e8a925a53ed14784b798fed7eff32ac925";
+const DIGEST: &str = "a475f757c4fb8f181a2625d1ff76de329bb09d9a62c6d8149d71c8ed15509bba";
 
 /// The same with version 2 in the first line.
 const DIGEST_OF_VERSION_2: &str =
-    "4a203c44e199fa997b32bb8ecd0553fd28e06316d283e9da5bc1794649bf8a75";
+    "35d83e2f49d8f167df8c541b5f97eeb1a81af6df78d5e5ecccaff1efed023fa9";
 
 /// A text with these lines and this digest.
 fn text_with(alloc: Global, version: u32, lines: &str, digest: &str) -> Result<String, AllocError> {
     format!(in alloc;
-        "turnwatch-checkpoint {version}\nclaim policy {POLICY} users {USERS} begin 1000000000\n\
-         {lines}digest {digest}\n"
+        "turnwatch-checkpoint {version}\nclaim policy {POLICY} users {USERS}{lines}digest {digest}\n"
     )
 }
 
@@ -113,6 +114,10 @@ fn checkpoint(alloc: Global) -> Result<Checkpoint, AllocError> {
             policy,
             users: [10; 32],
             begin: 1_000_000_000,
+            file: RingFile {
+                opened: 20_260_714_093_000,
+                number: 41,
+            },
         },
         carried: Carried {
             moment: 2_000_000_000,
@@ -160,7 +165,7 @@ fn a_foreign_or_damaged_text_is_refused(rt: HostRuntime) -> Result<(), Fail> {
         fault_of(alloc, next.as_str()),
         Some(CheckpointFault::Heading)
     );
-    let cut = text_with(alloc, 1, LINES, "6c52487b2796658a")?;
+    let cut = text_with(alloc, 1, LINES, "a475f757c4fb8f18")?;
     assert_eq!(rt;
         fault_of(alloc, cut.as_str()),
         Some(CheckpointFault::Digest)
@@ -182,15 +187,59 @@ struct Case {
     kind: LineKind,
 }
 
-/// Two clients with one relayed address, one client twice, a leading zero, digits in upper case,
-/// and an arrival that waits and isn't placed.
-const CASES: [Case; 5] = [
+/// A header without a file, with a word too many, with another label, with a file's number past
+/// 99,999, with a leading zero, and with a second of 15 digits; two clients with one relayed
+/// address, one client twice, a leading zero, digits in upper case, and an arrival that waits and
+/// isn't placed.
+const CASES: [Case; 11] = [
+    Case {
+        old: " file 41 opened 20260714093000",
+        new: "",
+        digest: "6c52487b2796658aafa3c0fa4aa7a8e8a925a53ed14784b798fed7eff32ac925",
+        line: 2,
+        kind: LineKind::Line,
+    },
+    Case {
+        old: "20260714093000",
+        new: "20260714093000 0",
+        digest: "6b46a58000fa888d864177b15f2a5c0075492a01bc3cd4c699d54ea1fa9ad216",
+        line: 2,
+        kind: LineKind::Line,
+    },
+    Case {
+        old: "file 41",
+        new: "number 41",
+        digest: "df10637e05c884e03d2322474f5aa355de96b8bc678638dff02d649d138dd71f",
+        line: 2,
+        kind: LineKind::Line,
+    },
+    Case {
+        old: "file 41",
+        new: "file 100000",
+        digest: "cda31c9c85741ebd4c24786f1769957398a22ff11474b50ceaa88834f2bdea8a",
+        line: 2,
+        kind: LineKind::Number,
+    },
+    Case {
+        old: "file 41",
+        new: "file 041",
+        digest: "2931352701d5dac8fc5d7d87b156f14665d54b9a86783807492e5eb6533e935e",
+        line: 2,
+        kind: LineKind::Number,
+    },
+    Case {
+        old: "20260714093000",
+        new: "120260714093000",
+        digest: "e92f16ba37c4e9a721f05eccf117e6ccda0534c118673c138e8feaada242c184",
+        line: 2,
+        kind: LineKind::Number,
+    },
     Case {
         old: "waits 0.4",
         new: "client 198.51.100.8:40000 listen 192.0.2.1:3478 relayed 192.0.2.15:50000 \
 user  id 0102030405060708090a0b0d until 602000000000
 waits 0.4",
-        digest: "fca3ac3abf181eb2d2e003e0a6885b9d2d161f8fc8f8ee7da261295f7e97c3a7",
+        digest: "0236e8039b768cfc079b43552023f2aba0c8e6952b41b84a07a87a43b820d12a",
         line: 9,
         kind: LineKind::AddressHeld,
     },
@@ -199,28 +248,28 @@ waits 0.4",
         new: "client 198.51.100.7:40000 listen 192.0.2.1:3478 relayed 192.0.2.15:50001 \
 user 616c696365 id 0102030405060708090a0b0c until 602000000000
 waits 0.4",
-        digest: "f64d8b7b4cd776f44201d8bda66b045450bf7016ea696757eeb33198fc4c052c",
+        digest: "937673a99dd1d571f6eff5d6c62ced9d7c5c951aff5d6a13f0e867eb434d3867",
         line: 9,
         kind: LineKind::ClientDouble,
     },
     Case {
         old: "moment 2",
         new: "moment 02",
-        digest: "61973e00177ad5d4635aed1da224d9bce2ff32fd3e5ee0876e7d306f88e8e9fb",
+        digest: "cba64a1dbcb5699fed0e3e58b4873cc4bf02990d2ce5f21457fc973f067afbae",
         line: 3,
         kind: LineKind::Number,
     },
     Case {
         old: "090a0b0c",
         new: "090A0B0C",
-        digest: "f64b14bc6b9820c6a1fa56800ebf2d8d98f780f14e50fa420f218ca71bd565bb",
+        digest: "b1da31efca5ea692b0939e6e5a172b823fd34c5d6c74c38d38fa1ae8924a75c8",
         line: 6,
         kind: LineKind::Line,
     },
     Case {
         old: "waits 0.4",
         new: "waits 0.5",
-        digest: "b5dd3679f7291b529ea8452c6f9f9b2a4d54c1131520d6274a8a75894a655385",
+        digest: "8442cf27703ad8b06431230299571e685f54296f6295c92462d415b0a825aa81",
         line: 9,
         kind: LineKind::Placement,
     },

@@ -1,4 +1,4 @@
-use Rattle.std.proofs.Common.{◌≡◌, ◌++◌, sym, ◌∙◌, codes}
+use Rattle.std.proofs.Common.{◌++◌, sym, ◌∙◌, codes}
 use Rattle.watch_checkpoint.proofs.Lifted.{stripped, read_lifted, refusal_lifted, begins, not_stripped}
 use Rattle.watch_checkpoint.proofs.reading.read_lines.Goals as goal
 
