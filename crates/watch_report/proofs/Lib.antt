@@ -1,0 +1,4 @@
+pub mod Plain
+pub mod Padding
+pub mod Texts
+pub mod Ruled

@@ -1,0 +1,4 @@
+pub mod Ascii
+pub mod EventLine
+pub mod Exposition
+pub mod Metrics
