@@ -151,6 +151,37 @@ def refused(folder, datagrams, size):
     capture.close()
 
 
+def equal(folder, datagrams, size, in_channels):
+    """Many clients send the same data to one peer, and the server relays it after the last of them."""
+    count = min(16_000, datagrams // 16)
+    capture = Capture(folder, count)
+    clients = [Client(number, capture.sides()) for number in range(count)]
+    moment = START
+    for client in clients:
+        client.peer = ("203.0.113.1", 7000)
+        client.channel = 0x4000 if in_channels else None
+        client.open(moment)
+        moment += 300
+    for turn in range((datagrams - 6 * count) // (2 * count)):
+        data = struct.pack(">I", turn) + bytes(size)
+        framed = struct.pack(">HH", 0x4000, len(data)) + data
+        for client in clients:
+            capture.client.put(moment, client.endpoint, SERVER, framed if in_channels else send(client, client.peer, data))
+            moment += 1
+        for client in clients:
+            capture.peer.put(moment, client.relayed, client.peer, data)
+            moment += 1
+    capture.close()
+
+
+def equal_sends(folder, datagrams, size):
+    equal(folder, datagrams, size, False)
+
+
+def equal_channels(folder, datagrams, size):
+    equal(folder, datagrams, size, True)
+
+
 def unasked(folder, datagrams, size):
     capture = Capture(folder, 1)
     client = Client(0, capture.sides())

@@ -15,6 +15,8 @@ capture, or over the times of ACCEPTED, which says why. It takes some ten minute
   denied      64 Send indications of equal data to a peer without a permission, in messages of 54 kB that are all attributes, and departures
               that carry it all the same, each with 7 requests of other clients about it, for which it waits
   refused     Send indications of two data in turn to a peer without a permission, each relayed all the same
+  equal_sends clients that each send the same data to one peer, in Send indications, relayed after the last of them
+  equal_channels the same in channels
   unasked     departures with the data of the last Send indication, which was relayed already, so that no arrival explains them
   silent      Allocate requests that nobody answers, all of one transaction, and at the end a success to it for each
   copies      one datagram of a peer again and again, each relayed to the client
@@ -80,6 +82,8 @@ CAPTURES = {
     made.copies: SMALL,
     made.denied: SMALL,
     made.refused: SMALL,
+    made.equal_sends: SMALL,
+    made.equal_channels: SMALL,
     made.unasked: LARGE,
     made.same: SMALL,
     made.permissions: SMALL,

@@ -4,15 +4,19 @@
     python3 tests/equal_data.py TURNEXPLAIN [--count 6000] [--seconds 10]
 
 In one capture as many clients as --count says send a Binding request each, all of one transaction id, and all are answered after the
-last of them. In the other one a client without a permission sends the same data to as many peers, which is relayed after the last. Each
+last of them. In another one a client without a permission sends the same data to as many peers, which is relayed after the last. In the
+others each of as many clients has an allocation. They send the same data to one peer, or that peer sends it to their relayed addresses,
+in indications or in channels, and all of it is relayed after the last: with the permissions or channels that it needs, or without. Each
 takes at most --seconds of processor time. Comparing each departure with all datagrams before it takes minutes.
 
 Messages and captures are made by bench/make_capture.py.
 """
 
 import argparse
+import functools
 import pathlib
 import resource
+import struct
 import subprocess
 import sys
 import tempfile
@@ -27,6 +31,8 @@ START = 1_700_000_000_000_000
 POLICY = "turnaudit-policy 1\nlisten 192.0.2.1:3478\nrelay 192.0.2.1:49152-65535\n"
 BINDING = 0x001
 DATA_BYTES = b"equal"
+CHANNEL = 0x4000
+SERVED = ("203.0.113.1", 7000)
 
 
 def open_sides(folder):
@@ -68,6 +74,49 @@ def for_peers(folder, count):
     return sides
 
 
+def with_peer(folder, count, from_peer, in_channels, allowed):
+    """The same data of many clients to a peer, or of the peer to each of them."""
+    sides = Side(folder / "client.pcapng", 0, 0), Side(folder / "peer.pcapng", 0, 64)
+    (folder / "policy").write_text(POLICY)
+    (folder / "creds").write_text("".join(f"user{number}\texample.org\tsecret\n" for number in range(count)))
+    clients = [Client(number, sides) for number in range(count)]
+    moment = START
+    for client in clients:
+        client.peer = SERVED if allowed else ("203.0.113.2", 7000)
+        client.channel = CHANNEL if in_channels else None
+        client.open(moment)
+        moment += 1000
+    framed = struct.pack(">HH", CHANNEL, len(DATA_BYTES)) + DATA_BYTES + bytes(-len(DATA_BYTES) % 4)
+    named = [(PEER, address(SERVED)), (DATA, DATA_BYTES)]
+    kind = BINDING_TYPES["data" if from_peer else "send"]
+    to_server = [(client, framed if in_channels else message(kind, client.transaction(), named)) for client in clients]
+    for client, content in to_server:
+        if from_peer:
+            sides[1].put(moment, SERVED, client.relayed, DATA_BYTES)
+        else:
+            sides[0].put(moment, client.endpoint, SERVER, content)
+        moment += 1
+    for client, content in to_server:
+        if from_peer:
+            sides[0].put(moment, SERVER, client.endpoint, content)
+        else:
+            sides[1].put(moment, client.relayed, SERVED, DATA_BYTES)
+        moment += 1
+    return sides
+
+
+def captures(count):
+    """The name of each capture, what builds it, and how many faults it shows."""
+    yield "of clients", of_clients, 0
+    yield "for peers", for_peers, count
+    for from_peer in (False, True):
+        for in_channels in (False, True):
+            for allowed in (True, False):
+                name = f"{'of a peer' if from_peer else 'to a peer'}, {'in channels' if in_channels else 'in indications'}, {'allowed' if allowed else 'refused'}"
+                build = functools.partial(with_peer, from_peer=from_peer, in_channels=in_channels, allowed=allowed)
+                yield name, build, 0 if allowed else count
+
+
 def faults_of(program, folder):
     """The last line of the report of `faults`, and the processor seconds that it took."""
     before = resource.getrusage(resource.RUSAGE_CHILDREN)
@@ -86,7 +135,7 @@ def main():
     words.add_argument("--seconds", type=float, default=10)
     options = words.parse_args()
     failed = 0
-    for name, build, faults in (("of clients", of_clients, 0), ("for peers", for_peers, options.count)):
+    for name, build, faults in captures(options.count):
         with tempfile.TemporaryDirectory() as folder:
             folder = pathlib.Path(folder)
             for side in build(folder, options.count):

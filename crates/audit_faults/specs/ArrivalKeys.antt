@@ -34,19 +34,27 @@ delivered_key peer bytes = lease_key 4 peer (digest_of bytes)
 abbrev pub delivered_in_channel_key : List ℕ → ℕ
 delivered_in_channel_key bytes = mixed_of 5 (digest_of bytes)
 
--- a request has its key, data to a peer one of two, and data of a peer both
+-- data with its owner: the client that sent it, or the relayed address that a peer sent it to
+abbrev pub owned_key : ℕ → ℕ → ℕ
+owned_key key owner = mixed_of key owner
+
+-- data has its plain key, and the one with its owner
+abbrev pub IsEither : ℕ → ℕ → Addr → Type 0
+IsEither key plain owner = (key ≡ plain) ⊎ (key ≡ owned_key plain (address_number owner))
+
+-- a request has its key, data to a peer those of one of two kinds, and data of a peer those of both
 abbrev pub IsRequestUnder : ℕ → Sighting → Type 0
 IsRequestUnder key s = IsMessage s.payload (parts_of s.payload) × ((parts_of s.payload).class ≡ Request) × (key ≡ exchange_key s.from s.to (parts_of s.payload).tid)
 
 abbrev pub IsSendUnder : ℕ → Sighting → Type 0
 IsSendUnder key s =
-    IsMessage s.payload (parts_of s.payload) × ((peer : Addr) × (bytes : List ℕ) × Names XOR_PEER_ADDRESS (parts_of s.payload) peer × Has DATA (parts_of s.payload) bytes × (key ≡ sent_key peer bytes))
+    IsMessage s.payload (parts_of s.payload) × ((peer : Addr) × (bytes : List ℕ) × Names XOR_PEER_ADDRESS (parts_of s.payload) peer × Has DATA (parts_of s.payload) bytes × IsEither key (sent_key peer bytes) s.from)
 
 abbrev pub IsChannelDataUnder : ℕ → Sighting → Type 0
-IsChannelDataUnder key s = (number : ℕ) × (bytes : List ℕ) × (past : ℕ) × (channel_data_of s.payload ≡ Some (number, bytes, past)) × (key ≡ sent_in_channel_key bytes)
+IsChannelDataUnder key s = (number : ℕ) × (bytes : List ℕ) × (past : ℕ) × (channel_data_of s.payload ≡ Some (number, bytes, past)) × IsEither key (sent_in_channel_key bytes) s.from
 
 abbrev pub IsPeerDataUnder : ℕ → Sighting → Type 0
-IsPeerDataUnder key s = (key ≡ delivered_key s.from s.payload) ⊎ (key ≡ delivered_in_channel_key s.payload)
+IsPeerDataUnder key s = IsEither key (delivered_key s.from s.payload) s.to ⊎ IsEither key (delivered_in_channel_key s.payload) s.to
 
 -- An arrival that has the key: a client's request or data, or a peer's datagram.
 abbrev pub IsArrivalBy : Policy → ℕ → Sighting → Type 0
@@ -57,6 +65,14 @@ IsArrivalBy policy key s =
 -- there is a key, which the arrival has
 abbrev pub HasKey : Policy → Option ℕ → Sighting → Type 0
 HasKey policy key s = MatchOption key ⊥ (λ key. IsArrivalBy policy key s)
+
+-- the arrival has the key, and the one with that owner
+abbrev pub IsOwnedBy : Policy → ℕ → ℕ → Sighting → Type 0
+IsOwnedBy policy key owner s = IsArrivalBy policy key s × IsArrivalBy policy (owned_key key owner) s
+
+-- there is a key, and the arrival has both
+abbrev pub HasOwnedKey : Policy → Option ℕ → ℕ → Sighting → Type 0
+HasOwnedKey policy key owner s = MatchOption key ⊥ (λ key. IsOwnedBy policy key owner s)
 
 -- each arrival is listed under its keys
 abbrev pub AreArrivalsByKey : Taken → ByKey → Type 0

@@ -9,15 +9,16 @@ ghost use Rattle.audit_stun.specs.Parts.{parts_of};
 ghost use Rattle.audit_sightings.specs.Intake.{taken};
 ghost use Rattle.audit_rules.specs.Values.{Has, Names};
 ghost use Rattle.audit_faults.specs.declared.keyed.Keyed.{Keyed as OneKeyed};
-ghost use Rattle.audit_faults.specs.ArrivalKeys.{IsArrivalBy, IsChannelDataUnder, IsPeerDataUnder, IsRequestUnder, IsSendUnder, exchange_key as key_of_exchange, sent_key as key_of_sent};
+ghost use Rattle.audit_faults.specs.ArrivalKeys.{IsArrivalBy, IsChannelDataUnder, IsEither, IsPeerDataUnder, IsRequestUnder, IsSendUnder, exchange_key as key_of_exchange, sent_key as key_of_sent};
 ghost use Rattle.audit_faults.specs.Keyed.{AreKeyedBefore, IsKeyed, placed_as};
 
 use crate::cause_keys::{
-    delivered_in_channel_key, delivered_key, exchange_key, sent_in_channel_key, sent_key,
+    delivered_in_channel_key, delivered_key, exchange_key, owned_key, sent_in_channel_key, sent_key,
 };
 use crate::keyed::{Keyed, KeyedList, add_key, sort_keyed, wider};
+use crate::lease_keys::address_number;
 use crate::values::{address_in, channel_bytes, message_in};
-use audit_model::{Policy, Side, Sighting};
+use audit_model::{Addr, Policy, Side, Sighting};
 use audit_sightings::Intake;
 use audit_stun::numbers::attribute::{DATA, XOR_PEER_ADDRESS};
 use audit_stun::{Class, Message};
@@ -41,14 +42,29 @@ fn add_request(
     Ok(())
 }
 
-/// Adds the place of a message with data for a peer, as a Send indication.
+/// Adds the places of data: by its plain key, and by the one with its owner.
+fn add_data(
+    key: u64,
+    owner: Addr,
+    sighting: &Sighting,
+    keyed: &mut Vec<Keyed>,
+) -> Result<(), AllocError>
+    ensures here { OnOk result ((either : ℕ) → IsEither either key owner → Contains keyed.new.items (placed_as either sighting.now.id sighting.now)) }
+    ensures kept { OnOk result ((one : OneKeyed) → Contains keyed.old.items one → Contains keyed.new.items one) }
+{
+    add_key(key, sighting, keyed)?;
+    add_key(owned_key(key, address_number(owner)), sighting, keyed)?;
+    Ok(())
+}
+
+/// Adds the places of a message with data for a peer, as a Send indication.
 fn add_send(
     said: &Message<'_>,
     sighting: &Sighting,
     keyed: &mut Vec<Keyed>,
 ) -> Result<(), AllocError>
     ensures here { OnOk result ((peer : OneAddr) (bytes : List ℕ) → Names attributes.XOR_PEER_ADDRESS (parts_of said.now) peer →
-        Has attributes.DATA (parts_of said.now) bytes → Contains keyed.new.items (placed_as (key_of_sent peer bytes) sighting.now.id sighting.now)) }
+        Has attributes.DATA (parts_of said.now) bytes → (key : ℕ) → IsEither key (key_of_sent peer bytes) sighting.now.from → Contains keyed.new.items (placed_as key sighting.now.id sighting.now)) }
     ensures kept { OnOk result ((one : OneKeyed) → Contains keyed.old.items one → Contains keyed.new.items one) }
 {
     let Some(data) = said.first(DATA) else {
@@ -57,7 +73,7 @@ fn add_send(
     let Some(peer) = address_in(said, XOR_PEER_ADDRESS) else {
         return Ok(());
     };
-    add_key(sent_key(peer, data), sighting, keyed)?;
+    add_data(sent_key(peer, data), sighting.from, sighting, keyed)?;
     Ok(())
 }
 
@@ -74,13 +90,13 @@ fn add_message(sighting: &Sighting, keyed: &mut Vec<Keyed>) -> Result<(), AllocE
     Ok(())
 }
 
-/// Adds the place of ChannelData.
+/// Adds the places of ChannelData.
 fn add_channel(sighting: &Sighting, keyed: &mut Vec<Keyed>) -> Result<(), AllocError>
     ensures here { OnOk result ((key : ℕ) → IsChannelDataUnder key sighting.now → Contains keyed.new.items (placed_as key sighting.now.id sighting.now)) }
     ensures kept { OnOk result ((one : OneKeyed) → Contains keyed.old.items one → Contains keyed.new.items one) }
 {
     if let Some(data) = channel_bytes(sighting.payload.as_slice()) {
-        add_key(sent_in_channel_key(data), sighting, keyed)?;
+        add_data(sent_in_channel_key(data), sighting.from, sighting, keyed)?;
     }
     Ok(())
 }
@@ -118,9 +134,9 @@ fn add_of_peer(
     }
     let data = sighting.payload.as_slice();
     let named = delivered_key(sighting.from, data);
-    add_key(named, sighting, keyed)?;
+    add_data(named, sighting.to, sighting, keyed)?;
     let in_channel = delivered_in_channel_key(data);
-    add_key(in_channel, sighting, keyed)?;
+    add_data(in_channel, sighting.to, sighting, keyed)?;
     Ok(())
 }
 
@@ -172,6 +188,7 @@ fn add_rows(intake: &Intake, keyed: &mut Vec<Keyed>) -> Result<u64, AllocError>
 }
 
 /// The arrivals by key. It takes n log n time, and memory for three numbers of each of their keys.
+/// A request has one key, data of a client two, and a datagram of a peer four.
 pub fn arrivals_of(alloc: Global, intake: &Intake) -> Result<KeyedList, AllocError>
     ensures { IfOk result (λ arrivals. IsKeyed (taken intake.now) (IsArrivalBy (taken intake.now).policy) arrivals.places.items arrivals.width) }
 {

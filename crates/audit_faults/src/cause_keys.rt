@@ -2,7 +2,7 @@
 
 ghost use Rattle.std.specs.Prelude.{◌≡◌};
 ghost use Rattle.audit_stun.specs.Parts.{parts_of};
-ghost use Rattle.audit_faults.specs.ArrivalKeys.{exchange_key as key_of_exchange, sent_key as key_of_sent, sent_in_channel_key as key_of_sent_in_channel, delivered_key as key_of_delivered, delivered_in_channel_key as key_of_delivered_in_channel};
+ghost use Rattle.audit_faults.specs.ArrivalKeys.{exchange_key as key_of_exchange, sent_key as key_of_sent, sent_in_channel_key as key_of_sent_in_channel, delivered_key as key_of_delivered, delivered_in_channel_key as key_of_delivered_in_channel, owned_key as key_of_owned};
 
 use crate::keyed::{digest, transaction_key};
 use crate::lease_keys::{address_number, mixed, of_client};
@@ -26,6 +26,14 @@ pub fn exchange_key(client: Addr, listen: Addr, said: &Message<'_>) -> u64
 {
     let ends = of_client(EXCHANGE, client, address_number(listen));
     mixed(ends, transaction_key(said))
+}
+
+/// The key of data with its owner: the client that sent it, or the relayed address that a peer sent
+/// it to.
+pub fn owned_key(key: u64, owner: u64) -> u64
+    ensures { result ≡ key_of_owned key owner }
+{
+    mixed(key, owner)
 }
 
 /// The key of a Send indication's data for a peer.

@@ -3,8 +3,9 @@
 ghost use Rattle.std.specs.Prelude.{◌≡◌, ℕ};
 ghost use Rattle.audit_model.specs.declared.sighting.Sighting.{Sighting as OneSighting};
 ghost use Rattle.audit_model.specs.declared.sighting.Side.TheVariants as sides;
-ghost use Rattle.audit_faults.specs.ArrivalKeys.{HasKey};
+ghost use Rattle.audit_faults.specs.ArrivalKeys.{HasKey, HasOwnedKey};
 ghost use Rattle.audit_faults.specs.Causes.{Delivered, DeliveredInChannel, Responds, SentInChannel, SentOn};
+ghost use Rattle.audit_faults.specs.Leased.{address_number};
 
 use crate::cause_keys::{
     delivered_in_channel_key, delivered_key, exchange_key, sent_in_channel_key, sent_key,
@@ -30,7 +31,7 @@ pub fn key_of_requests(policy: &Policy, departure: &Sighting) -> Option<u64>
 
 /// That of the Send indications of which the departure has the data.
 pub fn key_of_sends(policy: &Policy, departure: &Sighting) -> Option<u64>
-    ensures { (arrival : OneSighting) → arrival.side ≡ sides.Arrives → SentOn policy.now arrival departure.now → HasKey policy.now result arrival }
+    ensures { (arrival : OneSighting) → arrival.side ≡ sides.Arrives → SentOn policy.now arrival departure.now → HasOwnedKey policy.now result (address_number arrival.from) arrival }
 {
     if !policy.relays(departure.from) {
         return None;
@@ -40,7 +41,7 @@ pub fn key_of_sends(policy: &Policy, departure: &Sighting) -> Option<u64>
 
 /// That of the clients' ChannelData of which the departure has the data.
 pub fn key_of_channel_data(policy: &Policy, departure: &Sighting) -> Option<u64>
-    ensures { (number : ℕ) (arrival : OneSighting) → arrival.side ≡ sides.Arrives → SentInChannel policy.now number arrival departure.now → HasKey policy.now result arrival }
+    ensures { (number : ℕ) (arrival : OneSighting) → arrival.side ≡ sides.Arrives → SentInChannel policy.now number arrival departure.now → HasOwnedKey policy.now result (address_number arrival.from) arrival }
 {
     if !policy.relays(departure.from) {
         return None;
@@ -50,7 +51,7 @@ pub fn key_of_channel_data(policy: &Policy, departure: &Sighting) -> Option<u64>
 
 /// That of the peers' datagrams of which the departure, a Data indication, has the data.
 pub fn key_of_named_peer(policy: &Policy, departure: &Sighting) -> Option<u64>
-    ensures { (arrival : OneSighting) → arrival.side ≡ sides.Arrives → Delivered policy.now arrival departure.now → HasKey policy.now result arrival }
+    ensures { (arrival : OneSighting) → arrival.side ≡ sides.Arrives → Delivered policy.now arrival departure.now → HasOwnedKey policy.now result (address_number arrival.to) arrival }
 {
     if !policy.listens(departure.from) {
         return None;
@@ -70,7 +71,7 @@ pub fn key_of_named_peer(policy: &Policy, departure: &Sighting) -> Option<u64>
 
 /// That of the peers' datagrams of which the departure, ChannelData, has the data.
 pub fn key_of_any_peer(policy: &Policy, departure: &Sighting) -> Option<u64>
-    ensures { (number : ℕ) (arrival : OneSighting) → arrival.side ≡ sides.Arrives → DeliveredInChannel policy.now number arrival departure.now → HasKey policy.now result arrival }
+    ensures { (number : ℕ) (arrival : OneSighting) → arrival.side ≡ sides.Arrives → DeliveredInChannel policy.now number arrival departure.now → HasOwnedKey policy.now result (address_number arrival.to) arrival }
 {
     if !policy.listens(departure.from) {
         return None;

@@ -22,6 +22,7 @@ use crate::index::{Index, extents_by_interface};
 use crate::last_grant::last_grant;
 use crate::laws::fault_excludes;
 use crate::leased::Leases;
+use crate::pairs::pairs_of;
 use crate::repeat_blocks::blocks_of;
 use crate::repeats::{Arrivals, repeats_of};
 use crate::requests::requests_of;
@@ -258,10 +259,13 @@ pub fn shown_faults(
     let repeats = repeats_kept.as_slice();
     let blocks_kept = blocks_of(alloc, intake, by_key.places, repeats)?;
     let blocks = blocks_kept.as_slice();
+    let pairs_kept = pairs_of(alloc, intake, answers)?;
+    let pairs = pairs_kept.as_slice();
     let arrivals = Arrivals {
         by_key,
         repeats,
         blocks,
+        pairs,
     };
     let index = Index {
         extents: extents.as_slice(),

@@ -11,11 +11,11 @@ ghost use Rattle.audit_faults.specs.Explains.{Explains, IsFault, NoneBefore};
 ghost use Rattle.audit_faults.specs.Grants.{IsCaptured};
 ghost use Rattle.audit_faults.specs.Index.{IsIndex};
 
+use crate::explained_by_keys::is_explained_by_keys;
 use crate::explains::explains;
 use crate::fault::Fault;
 use crate::index::{Index, span_in};
 use crate::near::is_explained_just_before;
-use crate::sought::is_explained_by_keys;
 use audit_keys::Credentials;
 use audit_model::{Side, SightId, Sighting};
 use audit_sightings::Intake;

@@ -84,7 +84,7 @@ pub fn add_key(key: u64, sighting: &Sighting, keyed: &mut Vec<Keyed>) -> Result<
 }
 
 /// The number by which places are sorted.
-fn number(key: u64, moment: u64) -> u128
+pub fn number(key: u64, moment: u64) -> u128
     ensures { result ≡ number_at key moment }
 {
     u128::from(key) * 18_446_744_073_709_551_616 + u128::from(moment)

@@ -25,6 +25,8 @@ pub struct Arrivals<'a> {
     pub repeats: &'a [Option<u32>],
     /// For each place, the block that ends there.
     pub blocks: &'a [RepeatBlock],
+    /// The clients with their relayed addresses, as pairs of numbers in both orders.
+    pub pairs: &'a [u128],
 }
 
 /// Whether two datagrams have the same direction and the same addresses.
@@ -76,8 +78,12 @@ fn is_repeat(policy: &Policy, earlier: &Sighting, later: &Sighting) -> bool
 }
 
 /// A number for the content of a payload: repeats have the same. The data of a Send indication is
-/// already in the key.
-fn content_number(payload: &[u8]) -> u64 {
+/// already in the key, and so is a peer's datagram.
+fn content_number(policy: &Policy, sighting: &Sighting) -> u64 {
+    if policy.relays(sighting.to) {
+        return 0;
+    }
+    let payload = sighting.payload.as_slice();
     if let Some(indication) = message_of(payload, Class::Indication, SEND) {
         if let Some(peer) = address_in(&indication, XOR_PEER_ADDRESS) {
             return address_number(peer);
@@ -90,7 +96,7 @@ fn content_number(payload: &[u8]) -> u64 {
 fn number_at(intake: &Intake, place: &Keyed) -> Option<u64> {
     let sighting = intake.sighting(place.sight)?;
     let ends = mixed(address_number(sighting.from), address_number(sighting.to));
-    let content = content_number(sighting.payload.as_slice());
+    let content = content_number(intake.policy(), sighting);
     Some(mixed(mixed(place.key, ends), content))
 }
 

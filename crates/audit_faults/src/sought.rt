@@ -1,19 +1,16 @@
-//! Whether a departure is explained by an arrival with one of its keys.
+//! Whether a departure is explained by an arrival with a key.
 
 ghost use Rattle.std.specs.Prelude.{◌≡◌, ◌↔◌, ◌+◌, ◌≤◌, ℕ, IsFalse, IsTrue, Some};
 ghost use Rattle.audit_model.specs.Window.{later};
 ghost use Rattle.audit_model.specs.declared.sighting.Sighting.{Sighting};
 ghost use Rattle.audit_keys.specs.KeyFor.{key_for};
 ghost use Rattle.audit_sightings.specs.Intake.{taken, sighting_at};
-ghost use Rattle.audit_faults.specs.ArrivalKeys.{HasKey, IsArrivalBy};
+ghost use Rattle.audit_faults.specs.ArrivalKeys.{IsArrivalBy};
 ghost use Rattle.audit_faults.specs.Explains.{Explains};
 ghost use Rattle.audit_faults.specs.Grants.{IsCaptured};
 ghost use Rattle.audit_faults.specs.Index.{AreArrivals, IsIndex};
 ghost use Rattle.audit_faults.specs.Repeats.{IsPlaced};
 
-use crate::departure_keys::{
-    key_of_any_peer, key_of_channel_data, key_of_named_peer, key_of_requests, key_of_sends,
-};
 use crate::explains::explains;
 use crate::fault::Fault;
 use crate::index::Index;
@@ -125,7 +122,7 @@ fn explains_last(
 /// Whether an arrival with the key explains the departure. The last one is tried first. Of equal
 /// datagrams only the first in reach is checked, since it explains what any of them does: if a
 /// client repeats one datagram, each search takes logarithmic time.
-fn explained_by(
+pub fn explained_by(
     intake: &Intake,
     index: &Index<'_>,
     arrivals: Arrivals<'_>,
@@ -166,67 +163,14 @@ fn explained_by(
     false
 }
 
-/// Whether an arrival with the key, if there is one, explains the departure.
-fn explained_by_key(
+/// How many places in reach of the departure have the key.
+pub fn count_in_reach(
     intake: &Intake,
-    index: &Index<'_>,
     arrivals: Arrivals<'_>,
-    credentials: &Credentials,
-    fault: Fault,
-    key: Option<u64>,
+    key: u64,
     departure: &Sighting,
-) -> bool
-    requires index { IsIndex (taken intake.now) index.now }
-    requires arrivals { AreArrivals (taken intake.now) arrivals }
-    ensures some { IsTrue result → ((arrival : Sighting) × IsCaptured (taken intake.now) arrival
-        × Explains (taken intake.now) (key_for credentials.now) fault arrival departure.now) }
-    ensures all { (arrival : Sighting) → IsCaptured (taken intake.now) arrival → HasKey (taken intake.now).policy key arrival →
-        Explains (taken intake.now) (key_for credentials.now) fault arrival departure.now → IsTrue result }
-{
-    match key {
-        Some(key) => explained_by(intake, index, arrivals, credentials, fault, key, departure),
-        None => false,
-    }
-}
-
-/// Whether an arrival with a key of the departure explains it. Each that explains it has one.
-pub fn is_explained_by_keys(
-    intake: &Intake,
-    index: &Index<'_>,
-    arrivals: Arrivals<'_>,
-    users: &Credentials,
-    fault: Fault,
-    departure: &Sighting,
-) -> bool
-    requires index { IsIndex (taken intake.now) index.now }
-    requires arrivals { AreArrivals (taken intake.now) arrivals }
-    ensures { IsTrue result ↔ ((arrival : Sighting) × IsCaptured (taken intake.now) arrival
-        × Explains (taken intake.now) (key_for users.now) fault arrival departure.now) }
-{
-    let policy = intake.policy();
-    let requests = key_of_requests(policy, departure);
-    let by_requests = explained_by_key(intake, index, arrivals, users, fault, requests, departure);
-    if by_requests {
-        return true;
-    }
-    let sends = key_of_sends(policy, departure);
-    let by_sends = explained_by_key(intake, index, arrivals, users, fault, sends, departure);
-    if by_sends {
-        return true;
-    }
-    let channel = key_of_channel_data(policy, departure);
-    let by_channel = explained_by_key(intake, index, arrivals, users, fault, channel, departure);
-    if by_channel {
-        return true;
-    }
-    let named_peer = key_of_named_peer(policy, departure);
-    let by_named_peer = explained_by_key(
-        intake, index, arrivals, users, fault, named_peer, departure,
-    );
-    if by_named_peer {
-        return true;
-    }
-    let any_peer = key_of_any_peer(policy, departure);
-    let by_any_peer = explained_by_key(intake, index, arrivals, users, fault, any_peer, departure);
-    by_any_peer
+) -> usize {
+    let first = earliest(departure, intake.policy().hold, arrivals.by_key.width);
+    let span = span_of_key(arrivals.by_key.places, key, first, departure.hi);
+    span.past.saturating_sub(span.first)
 }

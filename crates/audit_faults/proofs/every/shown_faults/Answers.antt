@@ -32,6 +32,7 @@ add_of_interface-requires-clause-arrivals c = record {
   keyed = rw (c.by_key-by_key.ensures.places, c.by_key-by_key.ensures.width) c.in_ok-kept_arrivals.ensures;
   repeats = rw c.as_slice-repeats.ensures.value c.in_ok-repeats_kept.ensures;
   blocks = rw c.as_slice-blocks.ensures.value c.in_ok-blocks_kept.ensures;
+  pairs = rw c.as_slice-pairs.ensures.value c.in_ok-pairs_kept.ensures;
 }
 
 pub add_of_interface-requires-clause-index : goal.add_of_interface-requires-clause-index
@@ -42,6 +43,7 @@ add_of_interface-requires-clause-index c = record {
     keyed = rw (c.by_key-by_key.ensures.places, c.by_key-by_key.ensures.width) c.in_ok-kept_arrivals.ensures;
     repeats = rw c.as_slice-repeats.ensures.value c.in_ok-repeats_kept.ensures;
     blocks = rw c.as_slice-blocks.ensures.value c.in_ok-blocks_kept.ensures;
+    pairs = rw c.as_slice-pairs.ensures.value c.in_ok-pairs_kept.ensures;
   };
 }
 

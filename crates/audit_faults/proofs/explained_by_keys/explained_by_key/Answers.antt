@@ -1,7 +1,7 @@
 use Rattle.std.proofs.Common.{ℕ, Option, subst}
 use Rattle.audit_sightings.specs.Intake.{taken}
 use Rattle.audit_faults.specs.ArrivalKeys.{HasKey}
-use Rattle.audit_faults.proofs.sought.explained_by_key.Goals as goal
+use Rattle.audit_faults.proofs.explained_by_keys.explained_by_key.Goals as goal
 
 pub returns-in-Some-clause-all : goal.returns-in-Some-clause-all
 returns-in-Some-clause-all c arrival captured has e =
