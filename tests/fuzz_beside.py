@@ -35,6 +35,7 @@ from fuzz import LONGEST, Stored, damaged, front_of
 from plain.reading import read_policy
 
 CONF = (pathlib.Path(__file__).parent / "prepare" / "inputs" / "secret.conf").read_bytes()
+SECRET = b"north\n"
 ENDS = {"turnprep": {0, 2, 3, 4}, "turnexplain": {0, 1, 2, 3, 4}}
 """The statuses of every command; `cut` has 6, too, and `client` 5 where there is no such lane."""
 
@@ -49,6 +50,7 @@ class Case:
         self.policy = read_policy(folder / "policy")
         self.files["policy"] = (folder / "policy").read_bytes()
         self.files["conf"] = CONF
+        self.files["secret"] = SECRET
         if (folder / "creds").exists():
             self.files["creds"] = (folder / "creds").read_bytes()
 
@@ -69,7 +71,7 @@ class Case:
             ["translate", "--policy", "policy", "--external-ip", f"{address}/10.0.0.1", "-o", "out", *self.captures],
             ["policy", "--turnserver-conf", "conf"],
             ["users", "--turnserver-conf", "conf", *self.captures],
-            ["users", "--secret", "north", *self.captures],
+            ["users", "--secret-file", "secret", *self.captures],
         ]
         explains = [
             ["verdict", *judged],

@@ -138,6 +138,7 @@ def wrong_texts(tries, room):
             "translate": ([tries.prepare, "translate", "--policy", name, "--external-ip", "198.18.0.1/192.0.2.1", "-o", out, CAPTURE], "P1 in policy line 1: a line of another form, or a line too few"),
             "policy": ([tries.prepare, "policy", "--turnserver-conf", name], "turnserver-conf line 1 has a byte that is zero: this is no configuration"),
             "users": ([tries.prepare, "users", "--turnserver-conf", name], "turnserver-conf line 1 has a byte that is zero: this is no configuration"),
+            "users of a secret": ([tries.prepare, "users", "--secret-file", name, CAPTURE], "secret-file line 1 has more than a secret: that is one line of up to 4096 bytes"),
         }
         for command, (words, refusal) in calls.items():
             tries.ends(f"{command} with {name}", words, 2, f"turnprep: refused {refusal}\n", (out, []), **limit)
@@ -159,6 +160,19 @@ def wrong_texts(tries, room):
         expected = (0, "") if refusal is None else (2, f"turnprep: refused turnserver-conf {refusal}\n")
         told = "" if refusal is None and done.returncode == 0 else done.stderr
         tries.tell(f"a configuration with {name}", (done.returncode, told) == expected, f"status {done.returncode}, {done.stderr[:200]!r}")
+    long = "has more than a secret: that is one line of up to 4096 bytes"
+    for name, text, refusal in [
+        ("no byte", b"", "line 1 has no secret"),
+        ("an empty line", b"\n", "line 1 has no secret"),
+        ("two lines", b"north\nsouth\n", f"line 2 {long}"),
+        ("4,097 bytes", b"n" * 4_097, f"line 1 {long}"),
+    ]:
+        secret = room / "secret"
+        secret.write_bytes(text)
+        tries.ends(f"a secret of {name}", [tries.prepare, "users", "--secret-file", secret, CAPTURE], 2, f"turnprep: refused secret-file {refusal}\n")
+    (room / "secret").write_bytes(b"n" * 4_095 + b"\n")
+    done = subprocess.run([tries.prepare, "users", "--secret-file", room / "secret", CAPTURE], capture_output=True, check=False)
+    tries.tell("a secret of 4,095 bytes", done.returncode == 0, f"status {done.returncode}, {done.stderr[:200]!r}")
 
 
 def named(tries, room):
@@ -192,8 +206,8 @@ def named(tries, room):
     for number, more in enumerate(([], ["--json"])):
         tries.ends(f"a lane that there isn't, {number}", explained(explain, "client", *captures, more=["--lane", "9", *more]), 5,
                    "turnexplain: there is no lane 9: there are 1, from 0 (turnexplain lanes)\n")
-    tries.ends("no source of users", [prepare, "users"], 5, "turnprep: users takes --turnserver-conf or --secret\n")
-    tries.ends("two sources of users", [prepare, "users", "--turnserver-conf", "x", "--secret", "y"], 5, "turnprep: users takes --turnserver-conf or --secret, and not both\n")
+    tries.ends("no source of users", [prepare, "users"], 5, "turnprep: users takes --turnserver-conf or --secret-file\n")
+    tries.ends("two sources of users", [prepare, "users", "--turnserver-conf", "x", "--secret-file", "y"], 5, "turnprep: users takes --turnserver-conf or --secret-file, and not both\n")
     for program in (prepare, explain):
         for words in (["a\x1b[31mb"], ["look", "--a\x1b[31mb"], ["verdict", "--a\x1b[31mb"], ["help", "a\x1b[31mb\u202e"]):
             done = subprocess.run([program, *words], capture_output=True, check=False)

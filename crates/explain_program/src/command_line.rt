@@ -1,4 +1,4 @@
-//! The command line, parsed by clap. Only this file, `commands` and `usage` use clap.
+//! The command line, parsed by clap. Only this file and `commands` use clap.
 
 ghost use Rattle.std.specs.Prelude.{◌≡◌, ℕ, true, false, IfNone, IfOk, IfSome, List, Option, Some, codes, map, option_map};
 ghost use Rattle.clap.specs.Words.{HasKind, Kinds, Row, Text, fault_of, found_of, rows_of, subcommand_of, subcommand_rows_of};
@@ -8,10 +8,10 @@ ghost use Rattle.explain_program.specs.Words.{AreNamed, IsRequested, HasFlag, Ha
 
 use crate::commands::command;
 use crate::pages::{Page, page_of};
-use crate::usage::usage_text;
 use audit_files::Workers;
 use clap::error::ErrorKind;
 use clap::{ArgMatches, Error};
+use command_usage::{escaped_words, usage_text};
 use std::alloc::{AllocError, Global};
 use std::convert::AsStr;
 
@@ -88,7 +88,9 @@ fn refused<'a, N: AsStr>(
     if error.kind() == ErrorKind::DisplayVersion {
         return Ok(Request::Release);
     }
-    Ok(Request::Usage(usage_text(alloc, words)?))
+    let escaped = escaped_words(alloc, words)?;
+    let text = usage_text(alloc, command(alloc)?, command(alloc)?, &escaped)?;
+    Ok(Request::Usage(text))
 }
 
 /// The number of a command's option.

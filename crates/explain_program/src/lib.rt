@@ -30,7 +30,6 @@ mod run_error;
 mod running;
 mod shape;
 mod system;
-mod usage;
 mod verdict;
 
 pub use as_json::explain_as_json;

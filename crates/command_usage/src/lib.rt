@@ -1,14 +1,15 @@
-//! The text for arguments that clap refuses.
+//! The text for arguments that clap refuses. It is the same each time, and free of bytes that
+//! control a terminal.
+#![tactic(auto)]
 
-use crate::commands::command;
-use clap::Error;
 use clap::error::ErrorKind;
+use clap::{Command, Error};
 use explain_text::Escaped;
 use std::alloc::{AllocError, Global};
 use std::convert::AsStr;
 
 /// The arguments, with each byte escaped that would control a terminal.
-fn escaped_words<N: AsStr>(alloc: Global, words: &[N]) -> Result<Vec<String>, AllocError> {
+pub fn escaped_words<N: AsStr>(alloc: Global, words: &[N]) -> Result<Vec<String>, AllocError> {
     let mut escaped = Vec::new(alloc);
     for word in words {
         let word = Escaped {
@@ -28,18 +29,17 @@ fn error_text(alloc: Global, error: Error) -> Result<String, AllocError> {
     Ok(text)
 }
 
-/// The error of clap for these arguments, or the usage if clap accepts them.
-fn refusal_text(alloc: Global, words: &[String]) -> Result<String, AllocError> {
-    let _matches = match command(alloc)?.try_get_matches_from(words) {
+/// The error of clap for these arguments, or the usage if clap accepts them. Since parsing uses a
+/// command up, it takes the same one again, for the usage.
+pub fn usage_text<'a>(
+    alloc: Global,
+    command: Command<'a>,
+    mut again: Command<'a>,
+    escaped: &'a [String],
+) -> Result<String, AllocError> {
+    let _matches = match command.try_get_matches_from(escaped) {
         Ok(matches) => matches,
         Err(error) => return error_text(alloc, error),
     };
-    command(alloc)?.render_usage()
-}
-
-/// The error of clap for refused arguments, free of bytes that control a terminal: clap gets the
-/// escaped arguments.
-pub fn usage_text<N: AsStr>(alloc: Global, words: &[N]) -> Result<String, AllocError> {
-    let escaped = escaped_words(alloc, words)?;
-    refusal_text(alloc, &escaped)
+    again.render_usage()
 }
