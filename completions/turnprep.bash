@@ -13,7 +13,7 @@ _turnprep() {
         '') offered='ready policy users join reassemble translate look cut help --help --version -h -V' ;;
         ready) offered='--turnserver-conf --policy --creds -o --since --until --lifetime --released-ms --from-start --no-tcp --keep-inner --help -h' ;;
         policy) offered='--turnserver-conf --listening-ip --relay-ip --translated --help -h' ;;
-        users) offered='--turnserver-conf --secret --realm --help -h' ;;
+        users) offered='--turnserver-conf --secret-file --realm --help -h' ;;
         join | reassemble) offered='-o --help -h' ;;
         translate) offered='--policy --external-ip -o --help -h' ;;
         look) offered='--policy --lifetime --help -h' ;;
@@ -22,14 +22,14 @@ _turnprep() {
         *) return ;;
     esac
     case $before in
-        --policy | --turnserver-conf | --creds) offered='' ;;
+        --policy | --turnserver-conf | --secret-file | --creds) offered='' ;;
         -o)
             offered=''
             if [[ $command != join ]]; then places=-d; fi
             ;;
         --lifetime) offered='600 3600 7200' ;;
         --released-ms) offered='100 1000 10000' ;;
-        --listening-ip | --relay-ip | --external-ip | --secret | --realm | --since | --until) return ;;
+        --listening-ip | --relay-ip | --external-ip | --realm | --since | --until) return ;;
     esac
     if [[ -n $offered && ($word == -* || -z $command || $command == policy || $command == help || $before == --lifetime || $before == --released-ms) ]]; then
         mapfile -t COMPREPLY < <(compgen -W "$offered" -- "$word")

@@ -23,7 +23,7 @@ BROKEN = "--policy ../two-lanes-broken/policy ../two-lanes-broken/cap.pcapng"
 PREPARING = {
     "join": "join -o OUT/ring.pcapng inputs/ring1.pcapng inputs/ring2.pcapng",
     "policy": "policy --turnserver-conf inputs/two.conf",
-    "users": "users --secret north --realm realm inputs/rest-secret.pcapng",
+    "users": "users --secret-file inputs/north --realm realm inputs/rest-secret.pcapng",
     "users of a configuration": "users --turnserver-conf inputs/plain.conf",
     "translate": "translate --policy inputs/policy-outer --external-ip 198.18.0.1/192.0.2.1 -o OUT inputs/external-ip.pcapng",
     "reassemble": "reassemble -o OUT inputs/external-ip.pcapng",

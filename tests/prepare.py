@@ -10,6 +10,7 @@ never written over, that a missing file of a ring is told, what `cut` tells of i
 of 0 (tests/hang_ups.py), and the comment of a big-endian capture and of one that was cut before.
 """
 
+import datetime
 import hashlib
 import pathlib
 import struct
@@ -96,7 +97,7 @@ def check_cut(program):
         done = run(program, ["cut", "--policy", "inputs/plain.conf", *words[2:]])
         if done.returncode != 2 or not done.stderr.endswith("in policy line 1: a line of another form, or a line too few\n"):
             faults.append("takes a policy that is none")
-        for wrong in (["--since", "2", "--until", "1"], ["--since", "x"], ["--released-ms", "60001"], ["--released-ms", "x"]):
+        for wrong in (["--since", "2", "--until", "1"], ["--since", "x"], ["--since", "2026-11-26T12:00:00"], ["--released-ms", "60001"], ["--released-ms", "x"]):
             if run(program, ["cut", *wrong, *words]).returncode != 5:
                 faults.append(f"takes {wrong}")
     return faults
@@ -131,6 +132,12 @@ def begun_at(capture, moment):
     return kept
 
 
+def date_and_time(moment):
+    """A moment as RFC 3339 has it, of a clock that is two hours ahead."""
+    second = datetime.datetime.fromtimestamp(moment // 10**9 + 7200, datetime.timezone.utc)
+    return f"{second:%Y-%m-%dT%H:%M:%S}.{moment % 10**9:09}+02:00"
+
+
 def check_since(program):
     """With --since the same is written as of a capture that begins at that moment."""
     faults = []
@@ -138,11 +145,14 @@ def check_since(program):
     for moment in MOMENTS:
         with tempfile.TemporaryDirectory() as room:
             folder = pathlib.Path(room)
-            for name in ("since", "begun"):
+            for name in ("since", "begun", "dated"):
                 (folder / name).mkdir()
             (folder / "long-midcall.pcapng").write_bytes(begun_at(capture, moment))
             words = ["cut", "--policy", "inputs/policy", "-o"]
             done = run(program, [*words, f"{room}/since", "--since", str(moment), "inputs/long-midcall.pcapng"])
+            dated = run(program, [*words, f"{room}/dated", "--since", date_and_time(moment), "inputs/long-midcall.pcapng"])
+            if dated.stdout != done.stdout:
+                faults.append(f"--since {date_and_time(moment)} differs from --since {moment}: {dated.stdout}{dated.stderr}")
             run(program, [*words, f"{room}/begun", f"{room}/long-midcall.pcapng"])
             written = [cut_comments.parted((folder / name / "long-midcall.pcapng").read_bytes())[0] for name in ("since", "begun")]
             if done.returncode != 0 or written[0] != written[1]:

@@ -7,6 +7,7 @@ use Rattle.clap.specs.Words.{IsAmong, Kinds, Row, Text, all_of, first_of, one_of
 use Rattle.clap.specs.declared.error.kind.ErrorKind.{ErrorKind}
 use Rattle.clap.specs.declared.error.kind.ErrorKind.TheVariants as kind
 use Rattle.prep_cut.specs.declared.stated.Stated.{Stated}
+use Rattle.prep_moment.specs.Moment.{moment_of}
 use Rattle.prep_program.specs.declared.command_line.Request.{Request}
 use Rattle.prep_program.specs.declared.command_line.Request.TheVariants.{Join, Policy, Look, Cut, Translate, Reassemble, Users, Ready, Help, Release, Usage}
 use Rattle.prep_program.specs.declared.ready.PolicySource.{PolicySource}
@@ -34,6 +35,15 @@ number_in most (Some text) = read_number (number_of most text)
 -- the number of an option
 abbrev pub number_named : ℕ → Text → List Row → Option (Option ℕ)
 number_named most name rows = number_in most (first_of name rows)
+
+-- the moment of a value; `Some None` without a value, and `None` if the value isn't a moment
+abbrev pub moment_in : Option Text → Option (Option ℕ)
+moment_in None = Some None
+moment_in (Some text) = option_map Some (moment_of text)
+
+-- the moment of an option
+abbrev pub moment_named : Text → List Row → Option (Option ℕ)
+moment_named name rows = moment_in (first_of name rows)
 
 abbrev pub one_more : {A : Type 0} → Result A TokenFault → Option (List A) → Option (List A)
 one_more (Ok one) (Some more) = Some (one ∷ more)
@@ -66,8 +76,8 @@ are_ordered (Some since) (Some until) = nat_le since until
 -- the operator's options for `cut`: moments in nanoseconds since 1970, a lifetime in seconds,
 -- milliseconds after a Refresh with LIFETIME 0
 pub record IsStated (rows : List Row) (stated : Stated) : Type 0 where
-  pub since' : number_named 18446744073709551615 (codes "since") rows ≡ Some stated.since
-  pub until' : number_named 18446744073709551615 (codes "until") rows ≡ Some stated.until
+  pub since' : moment_named (codes "since") rows ≡ Some stated.since
+  pub until' : moment_named (codes "until") rows ≡ Some stated.until
   pub ordered : are_ordered stated.since stated.until ≡ true
   pub lifetime' : option_map (λ stated. unwrap_or stated 3600) (number_named 1000000000 (codes "lifetime") rows) ≡ Some stated.lifetime
   pub released' : option_map (λ stated. unwrap_or stated 0) (number_named 60000 (codes "released-ms") rows) ≡ Some stated.released_ms
@@ -77,8 +87,8 @@ pub record IsStated (rows : List Row) (stated : Stated) : Type 0 where
 
 -- one source of users, and not the other
 abbrev pub HasSource : List Row → UsersSource → Type 0
-HasSource rows (Configuration file) = (first_of (codes "turnserver-conf") rows ≡ Some file.now) × (first_of (codes "secret") rows ≡ None)
-HasSource rows (Secret secret) = (first_of (codes "turnserver-conf") rows ≡ None) × (first_of (codes "secret") rows ≡ Some secret.now)
+HasSource rows (Configuration file) = (first_of (codes "turnserver-conf") rows ≡ Some file.now) × (first_of (codes "secret-file") rows ≡ None)
+HasSource rows (Secret file) = (first_of (codes "turnserver-conf") rows ≡ None) × (first_of (codes "secret-file") rows ≡ Some file.now)
 
 -- one source of a policy, and not the other
 abbrev pub HasPolicySource : List Row → PolicySource → Type 0

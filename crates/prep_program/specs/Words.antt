@@ -47,7 +47,7 @@ abbrev pub policy : App
 policy = with_rule (with_rule (with_rule (with_rule (new_app (codes "policy")) (required_file (codes "turnserver-conf"))) (repeated (codes "listening-ip"))) (repeated (codes "relay-ip"))) (flag (codes "translated"))
 
 abbrev pub users : App
-users = with_rule (with_rule (with_rule (with_rule (new_app (codes "users")) (file (codes "turnserver-conf"))) (valued (codes "secret"))) (valued (codes "realm"))) any_captures
+users = with_rule (with_rule (with_rule (with_rule (new_app (codes "users")) (file (codes "turnserver-conf"))) (file (codes "secret-file"))) (valued (codes "realm"))) any_captures
 
 abbrev pub join : App
 join = with_rule (with_rule (new_app (codes "join")) output) captures

@@ -12,7 +12,6 @@ mod options;
 mod policy;
 mod ready;
 mod reassemble;
-mod refusal;
 mod translate;
 mod users;
 mod values;
@@ -23,7 +22,6 @@ use self::look::look_request;
 use self::policy::policy_request;
 use self::ready::ready_request;
 use self::reassemble::reassemble_request;
-use self::refusal::usage_text;
 use self::translate::translate_request;
 use self::users::users_request;
 use self::values::{all_values, value_of};
@@ -37,6 +35,7 @@ use crate::translating::TranslateRequest;
 use crate::users::UsersRequest;
 use clap::error::ErrorKind;
 use clap::{ArgMatches, Error};
+use command_usage::{escaped_words, usage_text};
 use std::alloc::{AllocError, Global};
 use std::convert::AsStr;
 
@@ -101,7 +100,9 @@ fn refused<'a, N: AsStr>(
     if error.kind() == ErrorKind::DisplayVersion {
         return Ok(Request::Release);
     }
-    Ok(Request::Usage(usage_text(alloc, words)?))
+    let escaped = escaped_words(alloc, words)?;
+    let text = usage_text(alloc, command(alloc)?, command(alloc)?, &escaped)?;
+    Ok(Request::Usage(text))
 }
 
 /// The request of the arguments of `join`.

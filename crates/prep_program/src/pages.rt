@@ -96,15 +96,15 @@ Arguments:
 
 Options:
       --turnserver-conf <FILE>  coturn's configuration
-      --secret <S>              The secret of which passwords are made
-                                (static-auth-secret)
+      --secret-file <FILE>      A file with the secret of which passwords are
+                                made (static-auth-secret), in one line
       --realm <R>               The realm, where the configuration doesn't say
                                 it, or the only one that is wanted
   -h, --help                    Print help
 
 Examples:
   turnprep users --turnserver-conf /etc/turnserver.conf > creds
-  turnprep users --secret north --realm example.org call.pcapng > creds
+  turnprep users --secret-file secret --realm example.org call.pcapng > creds
 
 The second writes a user only where a request of it is signed by the base64 of
 the HMAC-SHA1 of its name.
@@ -212,8 +212,9 @@ Options:
       --policy <FILE>       The policy of the audit
   -o <DIR>                  The folder, which is there, in which files are made;
                             one that is there is never written over
-      --since <MOMENT>      Leave out what is before, in nanoseconds since 1970
-      --until <MOMENT>      Leave out what is after, in nanoseconds since 1970
+      --since <MOMENT>      Leave out what is before: in nanoseconds since 1970,
+                            or as 2026-12-01T09:00:00Z
+      --until <MOMENT>      Leave out what is after
       --lifetime <SECONDS>  The longest lifetime of an allocation from before,
                             in seconds: 3600 unless said
       --released-ms <MS>    Leave out what is relayed for a client for so long

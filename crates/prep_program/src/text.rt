@@ -4,7 +4,7 @@ ghost use Rattle.std.specs.Prelude.{◌≡◌, ℕ, List, Some, IfOk};
 
 use crate::source::{PIECE, Source};
 use crate::stop::Stop;
-use crate::text_check::{ConfCheck, PolicyCheck, TextCheck};
+use crate::text_check::{ConfCheck, PolicyCheck, SecretCheck, TextCheck};
 use std::alloc::Global;
 
 /// The bytes of a file, from its first to its last, unless the check refuses a prefix.
@@ -54,4 +54,17 @@ pub fn read_conf_text<S: Source>(alloc: Global, source: &mut S, name: &str) -> R
     ensures whole { (bytes : List ℕ) → S.holds source.old name.now ≡ Some bytes → IfOk result (λ text. text.items ≡ bytes) }
 {
     read_checked(alloc, source, name, &mut ConfCheck::new())
+}
+
+/// The bytes of a file with a secret: one line. A wrong file is refused at its first fault, and not
+/// read further.
+pub fn read_secret_text<S: Source>(
+    alloc: Global,
+    source: &mut S,
+    name: &str,
+) -> Result<Vec<u8>, Stop>
+    ensures kept { S.holds source.new ≡ S.holds source.old }
+    ensures whole { (bytes : List ℕ) → S.holds source.old name.now ≡ Some bytes → IfOk result (λ text. text.items ≡ bytes) }
+{
+    read_checked(alloc, source, name, &mut SecretCheck::new())
 }

@@ -8,6 +8,9 @@ use std::alloc::Global;
 /// The most bytes of a configuration's line.
 const LONGEST_LINE: u64 = 65_536;
 
+/// The most bytes of a secret, with a line feed at its end.
+const LONGEST_SECRET: u64 = 4096;
+
 /// The most bytes of a configuration.
 const LONGEST_TEXT: u64 = 16_777_216;
 
@@ -94,6 +97,41 @@ impl TextCheck for ConfCheck {
                     kind,
                 }));
             }
+        }
+        Ok(())
+    }
+}
+
+/// Checks that a secret is one line, and not too long.
+#[derive(Drop)]
+pub struct SecretCheck {
+    /// How many bytes were read.
+    total: u64,
+    /// Whether the last one was a line feed.
+    has_ended: bool,
+}
+
+impl SecretCheck {
+    /// Nothing was read yet.
+    pub fn new() -> SecretCheck {
+        SecretCheck {
+            total: 0,
+            has_ended: false,
+        }
+    }
+}
+
+impl TextCheck for SecretCheck {
+    fn take(&mut self, piece: &[u8]) -> Result<(), Stop> {
+        for byte in piece {
+            self.total = self.total.saturating_add(1);
+            if self.has_ended || self.total > LONGEST_SECRET {
+                return Err(Stop::Text(TextFault {
+                    line: if self.has_ended { 2 } else { 1 },
+                    kind: TextFaultKind::LongSecret,
+                }));
+            }
+            self.has_ended = *byte == b'\n';
         }
         Ok(())
     }

@@ -4,7 +4,8 @@ ghost use Rattle.prep_program.specs.Answered.{IsSuccess};
 
 use crate::source::{PIECE, Source};
 use crate::stop::Stop;
-use crate::text::read_conf_text;
+use crate::text::{read_conf_text, read_secret_text};
+use crate::text_fault::{TextFault, TextFaultKind};
 use audit_model::{Listed, Sink, put_all};
 use audit_pcapng::CaptureFault;
 use prep_join::JoinFault;
@@ -16,7 +17,7 @@ use std::alloc::Global;
 pub enum UsersSource<'a> {
     /// The file of coturn's configuration.
     Configuration(&'a str),
-    /// A secret.
+    /// The file of a secret.
     Secret(&'a str),
 }
 
@@ -99,9 +100,10 @@ pub fn run_users<S: Source, O: Sink, E: Sink>(
 {
     let captures = request.captures.as_slice();
     match request.source {
-        UsersSource::Secret(secret) => {
+        UsersSource::Secret(file) => {
+            let text = read_secret_text(alloc, source, file)?;
             let mut secrets = Listed::new(alloc);
-            secrets.push(secret_of(alloc, secret.as_bytes())?)?;
+            secrets.push(secret_of(alloc, &text)?)?;
             let realm = realm_of(alloc, request.realm)?;
             let roll = Roll::new(alloc, secrets, realm);
             write_signed(alloc, roll, captures, source, out, err)
@@ -124,7 +126,15 @@ pub fn run_users<S: Source, O: Sink, E: Sink>(
     }
 }
 
-fn secret_of(alloc: Global, bytes: &[u8]) -> Result<Secret, Stop> {
+/// The secret of a file's text: its line, without the line feed.
+fn secret_of(alloc: Global, text: &[u8]) -> Result<Secret, Stop> {
+    let bytes = text.strip_suffix(b"\n").unwrap_or(text);
+    if bytes.is_empty() {
+        return Err(Stop::Text(TextFault {
+            line: 1,
+            kind: TextFaultKind::NoSecret,
+        }));
+    }
     Ok(Secret {
         bytes: Listed::from(Vec::from_slice(alloc, bytes)?),
     })

@@ -123,7 +123,7 @@ impl fmt::Display for UsersFault {
             }
             UsersFault::SecretInDatabase { line } => write!(
                 f,
-                "turnserver-conf line {line} use-auth-secret: the secret is in a database: say --secret"
+                "turnserver-conf line {line} use-auth-secret: the secret is in a database: say --secret-file"
             ),
             UsersFault::Configured(fault) => write!(f, "{fault}"),
             UsersFault::Nobody => f.write_str(

@@ -31,7 +31,7 @@ fn users_command<'a>(alloc: Global) -> Result<Command<'a>, AllocError>
     Command::new(alloc, "users")
         .override_help(Page::Users.text())
         .arg(file(alloc, "turnserver-conf"))?
-        .arg(value(alloc, "secret", "S"))?
+        .arg(file(alloc, "secret-file"))?
         .arg(value(alloc, "realm", "R"))?
         .arg(any_captures(alloc))
 }

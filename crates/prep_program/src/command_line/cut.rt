@@ -5,7 +5,7 @@ ghost use Rattle.clap.specs.Words.{found_of, rows_of};
 ghost use Rattle.prep_cut.specs.declared.stated.Stated.{Stated as AnyStated};
 ghost use Rattle.prep_program.specs.Requests.{IsStated, NamesNothing, Requests, are_ordered};
 
-use super::values::{captures_of, flag_of, number_of, value_of};
+use super::values::{captures_of, flag_of, moment_in, number_of, value_of};
 use super::{Request, usage};
 use crate::list_head::USUAL_LIFETIME;
 use crate::set_aside::CutRequest;
@@ -16,7 +16,10 @@ use std::alloc::{AllocError, Global};
 /// The longest lifetime of an allocation that may be stated, in seconds.
 pub const LONGEST: u64 = 1_000_000_000;
 
-const NOT_A_NUMBER: &str = "turnprep: --since, --until and --lifetime are numbers\n";
+const NOT_A_MOMENT: &str =
+    "turnprep: --since and --until are nanoseconds since 1970, or a date and time as 2026-12-01T09:00:00Z\n";
+
+const NOT_A_LIFETIME: &str = "turnprep: --lifetime is a number up to 1000000000\n";
 
 /// The longest time after a success response to a Refresh with LIFETIME 0 that may be stated, in
 /// milliseconds.
@@ -43,14 +46,14 @@ pub fn stated_by(matches: &ArgMatches<'_>) -> Result<Stated, &'static str>
     ensures ok { IfOk result (IsStated (rows_of (found_of matches.now))) }
     ensures err { IfErr result (λ text. (any : AnyStated) → IsStated (rows_of (found_of matches.now)) any → ⊥) }
 {
-    let Some(since) = number_of(matches, "since", u64::MAX) else {
-        return Err(NOT_A_NUMBER);
+    let Some(since) = moment_in(matches, "since") else {
+        return Err(NOT_A_MOMENT);
     };
-    let Some(until) = number_of(matches, "until", u64::MAX) else {
-        return Err(NOT_A_NUMBER);
+    let Some(until) = moment_in(matches, "until") else {
+        return Err(NOT_A_MOMENT);
     };
     let Some(lifetime) = number_of(matches, "lifetime", LONGEST) else {
-        return Err(NOT_A_NUMBER);
+        return Err(NOT_A_LIFETIME);
     };
     let Some(released_ms) = number_of(matches, "released-ms", LONGEST_RELEASED) else {
         return Err(NOT_RELEASED);

@@ -11,9 +11,10 @@ use crate::users::{UsersRequest, UsersSource};
 use clap::ArgMatches;
 use std::alloc::{AllocError, Global};
 
-const NO_SOURCE: &str = "turnprep: users takes --turnserver-conf or --secret\n";
+const NO_SOURCE: &str = "turnprep: users takes --turnserver-conf or --secret-file\n";
 
-const TWO_SOURCES: &str = "turnprep: users takes --turnserver-conf or --secret, and not both\n";
+const TWO_SOURCES: &str =
+    "turnprep: users takes --turnserver-conf or --secret-file, and not both\n";
 
 /// The source of the users, if exactly one of the two is named.
 fn source_of<'a>(matches: &ArgMatches<'a>) -> Option<UsersSource<'a>>
@@ -22,17 +23,17 @@ fn source_of<'a>(matches: &ArgMatches<'a>) -> Option<UsersSource<'a>>
 {
     match (
         value_of(matches, "turnserver-conf"),
-        value_of(matches, "secret"),
+        value_of(matches, "secret-file"),
     ) {
         (Some(file), None) => Some(UsersSource::Configuration(file)),
-        (None, Some(secret)) => Some(UsersSource::Secret(secret)),
+        (None, Some(file)) => Some(UsersSource::Secret(file)),
         _ => None,
     }
 }
 
 /// The usage error if not exactly one is named.
 fn wrong_source(matches: &ArgMatches<'_>) -> &'static str {
-    match value_of(matches, "secret") {
+    match value_of(matches, "secret-file") {
         Some(_) => TWO_SOURCES,
         None => NO_SOURCE,
     }

@@ -2,10 +2,11 @@
 
 ghost use Rattle.std.specs.Prelude.{◌≡◌, IfNone, IfOk, IfSome, List, length, map, option_map};
 ghost use Rattle.clap.specs.Words.{Text, all_of, first_of, found_of, rows_of};
-ghost use Rattle.prep_program.specs.Requests.{HasCaptures, HasFlag, number_named, values_of};
+ghost use Rattle.prep_program.specs.Requests.{HasCaptures, HasFlag, moment_named, number_named, values_of};
 
 use audit_text::number;
 use clap::ArgMatches;
+use prep_moment::moment_of;
 use std::alloc::{AllocError, Global};
 
 /// The most captures of one audit.
@@ -58,6 +59,20 @@ pub fn number_of(matches: &ArgMatches<'_>, name: &str, most: u64) -> Option<Opti
     match number(word.as_bytes(), most) {
         Ok(number) => Some(Some(number)),
         Err(_) => None,
+    }
+}
+
+/// The moment of an option, in nanoseconds since 1970, if it is present; `None` if its value isn't
+/// a moment.
+pub fn moment_in(matches: &ArgMatches<'_>, name: &str) -> Option<Option<u64>>
+    ensures { result ≡ moment_named name.now (rows_of (found_of matches.now)) }
+{
+    let Some(word) = value_of(matches, name) else {
+        return Some(None);
+    };
+    match moment_of(word) {
+        Some(moment) => Some(Some(moment)),
+        None => None,
     }
 }
 
