@@ -1,13 +1,15 @@
 #!/usr/bin/env python3
-"""Makes docs/headline.txt, a reading copy of the definitions behind the headline, and the counts of lines in docs/HEADLINE.md.
+"""Makes docs/headline.txt, a reading copy of the definitions behind the headline, the counts of lines in docs/HEADLINE.md, and the
+copy's digest in the code of `turnexplain evidence`.
 
-    tools/reading_copy.py            writes both
+    tools/reading_copy.py            writes the three
     tools/reading_copy.py --check    tells what would change, and writes nothing; its status is 1 where something would
 
 docs/HEADLINE.md lists the files in which the definitions stand, and of some files the definitions that count. The copy has them in the
 order of dependence, each behind what it uses: without imports, and with the records, choices and wire numbers of the code that they name.
 """
 
+import hashlib
 import re
 import sys
 from dataclasses import dataclass, field
@@ -16,6 +18,9 @@ import crates
 
 PAGE = crates.TOP / "docs" / "HEADLINE.md"
 COPY = crates.TOP / "docs" / "headline.txt"
+# The code that states the copy's digest, and how.
+CODE = crates.TOP / "crates" / "explain_program" / "src" / "evidence.rt"
+DIGEST = re.compile(r'(?<=^const HEADLINE: &str = ")[0-9a-f]{64}(?=";$)', re.M)
 # A file of the page's lists: `crate/specs/File` (so many lines; sections). What it says. Of it: `a`, `b`.
 ENTRY = re.compile(r"^- `(?P<file>\w+/specs/\w+)` \((?P<count>\d+) lines?(?P<sections>;[^)]*)?\)\.(?P<rest>(?:.|\n(?!- |\n|[A-Z]))*)", re.M)
 # What stands above a list of files: so many lines in all.
@@ -181,12 +186,14 @@ def main(words):
         return 2
     page = PAGE.read_text(encoding="utf-8")
     specs = specs_of(page)
-    wanted = {PAGE: counted(page, specs), COPY: copy_of(specs)}
+    copy = copy_of(specs)
+    digest = hashlib.sha256(copy.encode()).hexdigest()
+    wanted = {PAGE: counted(page, specs), COPY: copy, CODE: DIGEST.sub(digest, CODE.read_text(encoding="utf-8"))}
     stale = [path for path, text in wanted.items() if not path.is_file() or path.read_text(encoding="utf-8") != text]
     if words:
         for path in stale:
             print(f"{path.relative_to(crates.TOP)} isn't what tools/reading_copy.py makes of the specs", file=sys.stderr)
-        print(f"reading copy: {2 - len(stale)} passed, {len(stale)} failed")
+        print(f"reading copy: {len(wanted) - len(stale)} passed, {len(stale)} failed")
         return 1 if stale else 0
     for path in stale:
         path.write_text(wanted[path], encoding="utf-8")
