@@ -1,7 +1,5 @@
 -- A machine that goes on from what was carried over a cut.
-use Rattle.std.specs.Prelude.{ℕ, ◌≡◌, ◌≢◌, ◌≤◌, ◌^◌, ◌⊎◌, Bool, List, length, Option, Some, None, if◌then◌else◌, is_some, slice_index_or, IsTrue, IsSomeAnd}
-use Rattle.std.specs.BTreeMap.{get}
-use Rattle.std.specs.Ordering.{nat_cmp}
+use Rattle.std.specs.Prelude.{ℕ, ◌≡◌, ◌≢◌, ◌≤◌, ◌<◌, ◌^◌, ◌⊎◌, Bool, List, length, Option, Some, None, if◌then◌else◌, slice_index_or, IsSomeAnd}
 use Rattle.audit_model.specs.declared.address.Addr.{Addr}
 use Rattle.audit_model.specs.declared.pair.Pair.{Pair}
 use Rattle.audit_model.specs.declared.sighting.SightId.{SightId}
@@ -19,6 +17,7 @@ use Rattle.audit_segments.specs.Shifted.{shifted, shifted_cut}
 use Rattle.audit_machine.specs.declared.carry_error.CarryError.{CarryError}
 use Rattle.audit_machine.specs.declared.carry_error.CarryError.TheVariants as errors
 use Rattle.audit_machine.specs.declared.counts.Counts.{Counts}
+use Rattle.audit_machine.specs.Counts.{count_of}
 use Rattle.audit_machine.specs.declared.machine.Machine.{Machine}
 use Rattle.audit_machine.specs.Machine.{cut_of}
 
@@ -40,9 +39,9 @@ absolute_cut_of bases m excluded = shifted_cut (base_at bases) excluded (cut_of 
 abbrev pub AreOneCut : List ℕ → Machine → List ℕ → Machine → (SightId → Bool) → Type 0
 AreOneCut bases one others other excluded = absolute_cut_of others other excluded ≡ absolute_cut_of bases one excluded
 
--- an interface from this one on has a count
+-- an interface from this one on has a count other than 0
 abbrev pub HasCountFrom : ℕ → Counts → Type 0
-HasCountFrom end counts = (iface : ℕ) × (end ≤ iface) × IsTrue (is_some (get nat_cmp counts.counts iface))
+HasCountFrom end counts = (iface : ℕ) × (end ≤ iface) × (0 < count_of counts iface)
 
 -- why counts can't have these bases
 abbrev pub LacksBase : Counts → List ℕ → CarryError → Type 0

@@ -44,13 +44,13 @@ impl Counts {
         Ok(())
     }
 
-    /// Whether each interface that has a count is before this one.
+    /// Whether each interface that has a count other than 0 is before this one.
     pub fn are_before(&self, end: u32) -> bool
         ensures yes { IsTrue result → (iface : ℕ) → end ≤ iface → count_of self.now iface ≡ 0 }
         ensures no { result ≡ false → HasCountFrom end self.now }
     {
-        for (iface, _) in self.counts.iter() {
-            if *iface >= end {
+        for (iface, count) in self.counts.iter() {
+            if *iface >= end && *count > 0 {
                 return false;
             }
         }
@@ -58,7 +58,7 @@ impl Counts {
     }
 
     /// The interfaces with these bases and their counts. There has to be a base for each interface
-    /// that has a count.
+    /// that has a count other than 0.
     pub fn interfaces(&self, alloc: Global, bases: &[u64]) -> Result<Vec<Interface>, CarryError>
         ensures placed { IfOk result (λ all. (iface : ℕ) → placed_in all.items iface ≡ count_of self.now iface) }
         ensures bases { IfOk result (λ all. bases_of all.items ≡ bases.now) }
