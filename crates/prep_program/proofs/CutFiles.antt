@@ -1,5 +1,5 @@
 -- The pieces of a capture that is cut.
-use Rattle.std.proofs.Common.{◌≡◌, ℕ, List, [], ◌++◌, Option, Result, Ok, Err, IfOk, OnOk, sym, ap, subst, ◌∙◌}
+use Rattle.std.proofs.Common.{◌≡◌, ℕ, List, [], ◌++◌, Option, Result, Ok, Err, IfOk, sym, ap, subst, ◌∙◌}
 use Rattle.std.proofs.lemmas.List.{append-nil}
 use Rattle.audit_model.specs.Sink.{followed_by}
 use Rattle.prep_cut.specs.declared.cutter.Cutter.{Cutter}
@@ -38,7 +38,3 @@ pub cut_ended : (cutter : Cutter) (plan : Plan) (proposals : List Proposal) (ear
     → IfOk r (λ cut. IsCut cut plan proposals earlier text s.current) → IfOk r (λ cut. Cuts cut plan proposals earlier whole before after)
 cut_ended cutter plan proposals earlier text whole before after (Ok cut) e s is = record { current = s.current; ended = subst (λ (t : List ℕ). IsCut cut plan proposals earlier t s.current) e is; added = s.added }
 cut_ended cutter plan proposals earlier text whole before after (Err stop) e s is = tt
-
-pub when_ended : {P : Type 0} → (r : Result WasCut Stop) → P → OnOk r P
-when_ended (Ok cut) p = p
-when_ended (Err stop) p = tt

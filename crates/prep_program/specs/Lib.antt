@@ -6,6 +6,7 @@ pub mod Joins
 pub mod Translations
 pub mod Reassemblies
 pub mod Cuts
+pub mod Hashings
 pub mod Recordings
 pub mod CutComment
 pub mod AllCuts

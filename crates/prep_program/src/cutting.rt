@@ -1,8 +1,8 @@
 //! Cuts captures that are files.
 
-ghost use Rattle.std.specs.Prelude.{◌≡◌, ◌≤◌, ◌++◌, [], ℕ, List, Option, Some, IfOk, OnOk, length};
+ghost use Rattle.std.specs.Prelude.{◌≡◌, ◌++◌, [], ℕ, List, Option, Some, IfOk, OnOk};
 ghost use Rattle.std.specs.List.{AllZip};
-ghost use Rattle.sha2.specs.Hashers.{Holds256};
+ghost use Rattle.sha2.specs.Sha256.{sha256};
 ghost use Rattle.prep_blocks.specs.declared.block.Block.{Block};
 ghost use Rattle.prep_cut.specs.Cutting.{IsCut, IsCutting};
 ghost use Rattle.prep_cut.specs.Marks.{Marked};
@@ -11,127 +11,50 @@ ghost use Rattle.prep_cut.specs.declared.plan.Proposal.{Proposal};
 ghost use Rattle.prep_program.specs.AllCuts.{CutsAll};
 ghost use Rattle.prep_program.specs.Cuts.{Cuts, CutSoFar};
 ghost use Rattle.prep_program.specs.Making.{files_of};
-ghost use Rattle.prep_program.specs.Pieces.{IsPieceAt};
 
+use crate::checksum::Checksum;
 use crate::cut_comment::section_of_cut;
 use crate::maker::{Maker, append_all};
-use crate::source::Source;
+use crate::source::{PIECE, Source};
 use crate::stop::Stop;
 use prep_cut::{CauseNumber, Cutter, Plan, Proposal, Tallies, Totals, WasCut};
-use sha2::{Digest, Sha256};
-use std::mem::swap;
-use std::thread::{Threads, join_mut};
-
-/// How many bytes are read at once: so many that the time to start a thread for them is negligible.
-const PIECE: usize = 262_144;
+use std::alloc::Global;
 
 /// Writes a capture without the excluded packets, from its first byte to its last, to the file that
-/// was made last. While a thread hashes a piece, another cuts it, writes what stays of it and reads
-/// the next one.
-pub fn cut_capture<R: Threads + AllocGlobal, S: Source, M: Maker>(
-    rt: &R,
+/// was made last, and adds its bytes to a checksum.
+pub fn cut_capture<S: Source, M: Maker>(
+    alloc: Global,
     source: &mut S,
     name: &str,
     cutter: Cutter<'_>,
     capture: u32,
     made: &mut M,
-    hasher: &mut Sha256,
+    checksum: &mut Checksum,
 ) -> Result<WasCut, Stop>
     ensures kept { S.holds source.new ≡ S.holds source.old }
     ensures others { M.making made.new ≡ M.making made.old }
-    ensures hashes { (text : List ℕ) → S.holds source.old name.now ≡ Some text → Holds256 hasher.old [] → OnOk result (Holds256 hasher.new text) }
     ensures cuts { (text : List ℕ) (plan : Plan) (proposals : List Proposal) (earlier : List Marked) → S.holds source.old name.now ≡ Some text →
         IsCutting cutter.entry plan proposals earlier [] [] →
         IfOk result (λ cut. Cuts cut plan proposals earlier text (M.taken made.old) (M.taken made.new)) }
 {
-    let alloc = rt.alloc();
     let mut cutter = cutter;
     let mut piece = vec![in alloc; 0u8; PIECE]?;
-    let mut next = vec![in alloc; 0u8; PIECE]?;
     let mut out = Vec::new(alloc);
     let mut at = 0u64;
-    let mut read = source.piece(name, at, &mut piece)?;
     'pieces: for _ in 0..u64::MAX {
+        let read = source.piece(name, at, &mut piece)?;
         if read == 0 {
             return end_capture(cutter, capture);
         }
-        let Some(after) = at.checked_add(read as u64) else {
+        let bytes = &piece[..read];
+        checksum.update(bytes);
+        cut_piece(&mut cutter, capture, bytes, made, &mut out)?;
+        let Some(next) = at.checked_add(read as u64) else {
             return Err(Stop::Read);
         };
-        read = take_piece(
-            rt,
-            source,
-            name,
-            after,
-            &mut next,
-            &mut cutter,
-            capture,
-            &piece[..read],
-            made,
-            hasher,
-            &mut out,
-        )?;
-        swap(&mut piece, &mut next);
-        at = after;
+        at = next;
     }
     Err(Stop::Read)
-}
-
-/// Cuts a piece, writes what stays of it, and reads the next one, while another thread hashes the
-/// piece.
-fn take_piece<R: Threads, S: Source, M: Maker>(
-    rt: &R,
-    source: &mut S,
-    name: &str,
-    after: u64,
-    next: &mut [u8],
-    cutter: &mut Cutter<'_>,
-    capture: u32,
-    piece: &[u8],
-    made: &mut M,
-    hasher: &mut Sha256,
-    out: &mut Vec<u8>,
-) -> Result<usize, Stop>
-    ensures kept { S.holds source.new ≡ S.holds source.old }
-    ensures others { M.making made.new ≡ M.making made.old }
-    ensures within { IfOk result (λ n. n ≤ length next.old) }
-    ensures read { (text : List ℕ) → S.holds source.old name.now ≡ Some text → IfOk result (λ n. IsPieceAt text after n next.new) }
-    ensures hashes { (bytes : List ℕ) → Holds256 hasher.old bytes → Holds256 hasher.new (bytes ++ piece.now) }
-    ensures ok { (plan : Plan) (proposals : List Proposal) (earlier : List Marked) (text : List ℕ) (before : Option (List ℕ)) →
-        CutSoFar cutter.old plan proposals earlier text before (M.taken made.old) →
-        OnOk result (CutSoFar cutter.new plan proposals earlier (text ++ piece.now) before (M.taken made.new)) }
-{
-    let ((), read) = join_mut(
-        rt,
-        &mut || hasher.update(piece),
-        &mut || cut_and_read(source, name, after, next, cutter, capture, piece, made, out),
-    );
-    read
-}
-
-/// Cuts a piece, writes what stays of it, and reads the next one.
-fn cut_and_read<S: Source, M: Maker>(
-    source: &mut S,
-    name: &str,
-    after: u64,
-    next: &mut [u8],
-    cutter: &mut Cutter<'_>,
-    capture: u32,
-    piece: &[u8],
-    made: &mut M,
-    out: &mut Vec<u8>,
-) -> Result<usize, Stop>
-    ensures kept { S.holds source.new ≡ S.holds source.old }
-    ensures others { M.making made.new ≡ M.making made.old }
-    ensures within { IfOk result (λ n. n ≤ length next.old) }
-    ensures read { (text : List ℕ) → S.holds source.old name.now ≡ Some text → IfOk result (λ n. IsPieceAt text after n next.new) }
-    ensures ok { (plan : Plan) (proposals : List Proposal) (earlier : List Marked) (text : List ℕ) (before : Option (List ℕ)) →
-        CutSoFar cutter.old plan proposals earlier text before (M.taken made.old) →
-        OnOk result (CutSoFar cutter.new plan proposals earlier (text ++ piece.now) before (M.taken made.new)) }
-{
-    cut_piece(cutter, capture, piece, made, out)?;
-    let read = source.piece(name, after, next)?;
-    Ok(read)
 }
 
 /// Cuts the next piece, and writes what stays of it. It uses the buffer for that.
@@ -174,6 +97,10 @@ pub struct ToCut<'a> {
     pub file: String,
     /// The proposal for each of its packets.
     pub proposals: Vec<Proposal>,
+    /// The SHA-256 of its bytes.
+    pub digest: [u8; 32],
+    /// The checksum of its bytes.
+    pub checksum: u64,
 }
 
 /// Captures that were cut.
@@ -184,28 +111,30 @@ pub struct AllCut {
 }
 
 /// Cuts captures one after another, each to its own file. The tallies are those of all captures,
-/// with this number of groups of unread packets.
-pub fn cut_captures<R: Threads + AllocGlobal, S: Source, M: Maker>(
-    rt: &R,
+/// with this number of groups of unread packets. A capture whose checksum differs is refused.
+pub fn cut_captures<S: Source, M: Maker>(
+    alloc: Global,
     source: &mut S,
     captures: &[ToCut<'_>],
     plan: &Plan,
     groups: CauseNumber,
     made: &mut M,
 ) -> Result<AllCut, Stop>
-    ensures { (texts : List (List ℕ)) → AllZip (λ one text. S.holds source.old one.name.now ≡ Some text) captures.now texts →
+    ensures { (texts : List (List ℕ)) → AllZip (λ one text. (S.holds source.old one.name.now ≡ Some text) × (one.digest ≡ sha256 text)) captures.now texts →
         IfOk result (λ all. CutsAll all plan.now captures.now texts (files_of (M.making made.old) (M.taken made.old)) (files_of (M.making made.new) (M.taken made.new))) }
 {
-    let alloc = rt.alloc();
     let mut tallies = Tallies::new(alloc, plan, groups as usize)?;
     let mut totals = Vec::new(alloc);
     let mut number = 0u32;
     for one in captures {
         made.make(one.file.as_str())?;
         let cutter = Cutter::new(alloc, plan, &one.proposals, tallies);
-        let mut hasher = Sha256::new();
-        let cut = cut_capture(rt, source, one.name, cutter, number, made, &mut hasher)?;
-        let section = section_of_cut(alloc, &cut.totals, &hasher.finalize())?;
+        let mut checksum = Checksum::new();
+        let cut = cut_capture(alloc, source, one.name, cutter, number, made, &mut checksum)?;
+        if checksum.value() != one.checksum {
+            return Err(Stop::Changed(number));
+        }
+        let section = section_of_cut(alloc, &cut.totals, &one.digest)?;
         append_all(made, section.as_slice())?;
         tallies = cut.tallies;
         totals.push(cut.totals)?;

@@ -2,12 +2,14 @@
 //! two output sinks. It returns the exit status.
 #![tactic(auto)]
 
+mod checksum;
 mod collected;
 mod command_line;
 mod cut_comment;
 mod cutting;
 mod folder;
 mod folders;
+mod hashing;
 mod joining;
 mod list;
 mod list_head;
@@ -16,6 +18,7 @@ mod looking;
 mod maker;
 mod page_of;
 mod pages;
+mod planning;
 mod policy;
 mod ready;
 mod reason;
@@ -35,6 +38,7 @@ mod users;
 
 pub use cutting::{AllCut, ToCut, cut_capture, cut_captures};
 pub use folders::Folders;
+pub use hashing::{Hashed, hash_captures};
 pub use joining::join_captures;
 pub use looking::LookRequest;
 pub use maker::{MakeFault, Maker};

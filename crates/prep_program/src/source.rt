@@ -15,7 +15,7 @@ pub const PIECE: usize = 65_536;
 pub struct ReadFailed;
 
 /// Reads the bytes of files, piece by piece.
-pub trait Source {
+pub trait Source: Send + Drop + Sized {
     ghost use Rattle.std.specs.Prelude.{ℕ, List, Option};
 
     /// The bytes of the file of a name. For a source that is `None`, nothing is claimed.
@@ -27,6 +27,15 @@ pub trait Source {
         ensures within { IfOk result (λ n. n ≤ length into.old) }
         ensures kept { holds self.new ≡ holds self.old }
         ensures bytes { (bytes : List ℕ) → holds self.old name.now ≡ Some bytes → IfOk result (λ n. IsPieceAt bytes at n into.new) };
+
+    /// A second source of the same files, from which another thread may read at the same time.
+    /// Nothing is read from it yet.
+    fn second(&self) -> Self
+        ensures { holds result ≡ holds self.now };
+
+    /// Ends a second source. If a failure was recorded in it and none here, it is recorded here.
+    fn end_second(&mut self, second: Self)
+        ensures { holds self.new ≡ holds self.old };
 
     /// Whether a file can be read more than once; a pipe can't.
     fn is_repeatable(&self, name: &str) -> bool;

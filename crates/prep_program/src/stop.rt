@@ -58,6 +58,8 @@ pub enum Stop {
     Memory,
     /// A file could not be read.
     Read,
+    /// The capture of this number changed between its two readings.
+    Changed(u32),
     /// A file couldn't be made, or output couldn't be written.
     Write,
     /// An output file exists already.
@@ -83,7 +85,7 @@ impl Stop {
             | Stop::Cut(_) => 2,
             Stop::Words(_) => 5,
             Stop::Memory => 3,
-            Stop::Read | Stop::Write | Stop::Exists => 4,
+            Stop::Read | Stop::Changed(_) | Stop::Write | Stop::Exists => 4,
         }
     }
 
@@ -157,6 +159,7 @@ impl fmt::Display for Stop {
             Stop::Words(text) => f.write_str(text),
             Stop::Memory => f.write_str("out of memory"),
             Stop::Read => f.write_str("a file can't be read"),
+            Stop::Changed(capture) => write!(f, "capture {capture} changed while it was read"),
             Stop::Write => f.write_str("the answer can't be written"),
             Stop::Exists => f.write_str("a file of that name exists"),
         }

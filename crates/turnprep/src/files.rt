@@ -1,7 +1,7 @@
 //! The files of the machine.
 
 use audit_model::{Sink, SinkFailed};
-use host::{Failure, NewFault, NewFiles, is_repeatable};
+use host::{Failure, NewFault, NewFiles, Reader, is_repeatable};
 use host_progress::{Progress, WatchedReader};
 use prep_program::{MakeFault, Maker, ReadFailed, Source};
 use std::alloc::Global;
@@ -10,12 +10,19 @@ use std::io;
 use std::rt::Files;
 use std::time::Clock;
 
+/// A reader, with the line on a terminal or without it.
+#[derive(Drop)]
+enum Reading<'r, R: Files<File = File> + Clock> {
+    Watched(WatchedReader<'r, R>),
+    Plain(Reader<'r, R>),
+}
+
 /// The files of the machine, each read from start to end, one at a time.
 #[derive(Drop)]
 pub struct HostFiles<'r, R: Files<File = File> + Clock> {
     rt: &'r R,
     alloc: Global,
-    reader: WatchedReader<'r, R>,
+    reader: Reading<'r, R>,
     failure: Option<Failure>,
 }
 
@@ -25,7 +32,7 @@ impl<'r, R: Files<File = File> + Clock> HostFiles<'r, R> {
         HostFiles {
             rt,
             alloc,
-            reader: WatchedReader::new(rt, progress),
+            reader: Reading::Watched(WatchedReader::new(rt, progress)),
             failure: None,
         }
     }
@@ -37,15 +44,34 @@ impl<'r, R: Files<File = File> + Clock> HostFiles<'r, R> {
     }
 }
 
-impl<R: Files<File = File> + Clock> Source for HostFiles<'_, R> {
+impl<R: Files<File = File> + Clock + Sync> Source for HostFiles<'_, R> {
     ghost use Rattle.std.specs.Prelude.{None};
 
     ghost holds = { λ _ _. None };
 
     fn piece(&mut self, name: &str, at: u64, into: &mut [u8]) -> Result<usize, ReadFailed> {
-        match self.reader.piece(name, at, into) {
+        let read = match &mut self.reader {
+            Reading::Watched(reader) => reader.piece(name, at, into),
+            Reading::Plain(reader) => reader.piece(name, at, into),
+        };
+        match read {
             Ok(read) => Ok(read),
             Err(error) => Err(self.fail(name, error)),
+        }
+    }
+
+    fn second(&self) -> Self {
+        HostFiles {
+            rt: self.rt,
+            alloc: self.alloc,
+            reader: Reading::Plain(Reader::new(self.rt)),
+            failure: None,
+        }
+    }
+
+    fn end_second(&mut self, second: Self) {
+        if self.failure.is_none() {
+            self.failure = second.failure;
         }
     }
 

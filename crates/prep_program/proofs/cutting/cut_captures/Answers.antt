@@ -41,17 +41,17 @@ loop-one-preserved g c = record {
       let t3 = g.M.Sink.taken c.append_all.new.maker in
       let first = files_of (g.M.Maker.making c.args.made.now) (g.M.Sink.taken c.args.made.now) in
       let before = c.loop-one.invariant.fed texts all in
-      let at = zip_at (λ (each : ToCut) (text : List ℕ). g.S.Source.holds c.args.source.now each.name.now ≡ Some text) to_cut texts index one [] all c.loop-one-test.true in
+      let at = zip_at (λ (each : ToCut) (text : List ℕ). (g.S.Source.holds c.args.source.now each.name.now ≡ Some text) × (each.digest ≡ sha256 text)) to_cut texts index one [] all c.loop-one-test.true in
       let text : List ℕ = get_or texts index [] in
       let e : get_or to_cut index one ≡ one = sym c.one-item.is in
       let holds : g.S.Source.holds c.loop-one.source one.name.now ≡ Some text =
-      ap (λ (h : List ℕ → Option (List ℕ)). h one.name.now) c.loop-one.invariant.same ∙ subst (λ (each : ToCut). g.S.Source.holds c.args.source.now each.name.now ≡ Some text) e at.1 in
+      ap (λ (h : List ℕ → Option (List ℕ)). h one.name.now) c.loop-one.invariant.same ∙ subst (λ (each : ToCut). g.S.Source.holds c.args.source.now each.name.now ≡ Some text) e at.1.0 in
       let earlier = all_marks (marks_of plan (take index to_cut) before.done) in
       let cutting = subst (λ (ps : List Proposal). IsCutting c.new-cutter.result plan ps earlier [] []) c.deref.ensures.value (c.new-cutter.ensures earlier before.tallies_are) in
       let cuts = c.in_ok-cut.ensures.cuts text plan one.proposals.items earlier holds cutting in
       let opened : m1 ≡ opened_by (string_bytes one.file) (files_of m0 t0) = c.in_ok-make.ensures.opened ∙ ap (λ (n : List ℕ). opened_by n (files_of m0 t0)) c.as_str.ensures.value in
-      let digest : List ℕ = c.finalize.result in
-      let hashed : digest ≡ sha256 text = c.finalize.ensures text (c.in_ok-cut.ensures.hashes text holds c.new-hasher.ensures) in
+      let digest : List ℕ = one.digest in
+      let hashed : digest ≡ sha256 text = subst (λ (each : ToCut). each.digest ≡ sha256 text) e at.1.1 in
       let put : t3 ≡ followed_by t2 (comment_of_cut c.in_ok-cut.cut.totals digest) =
       c.in_ok-append_all.ensures.ok ∙ ap (λ (s : List ℕ). followed_by t2 s) (c.as_slice.ensures.value ∙ c.in_ok-section.ensures) in
       let more = one_cut c.loop-one.totals.items c.loop-one.tallies plan (take index to_cut) (take index texts) first (files_of m0 t0) (files_of m3 t3) one text c.in_ok-cut.cut digest t1 t2 t3 before cuts hashed put
@@ -66,7 +66,7 @@ pub returns : goal.returns
 returns g c = λ texts all.
     let index = c.loop-one.one-index in
     let d = c.loop-one.invariant.fed texts all in
-    let past : length texts ≤ index = omega (arith, c.loop-one-test.false, zip_len (λ one text. g.S.Source.holds c.args.source.now one.name.now ≡ Some text) c.args.captures.now texts all) in
+    let past : length texts ≤ index = omega (arith, c.loop-one-test.false, zip_len (λ one text. (g.S.Source.holds c.args.source.now one.name.now ≡ Some text) × (one.digest ≡ sha256 text)) c.args.captures.now texts all) in
     let whole = take_all index c.args.captures.now (omega (arith, c.loop-one-test.false)) in
     let e : AreCut c.loop-one.totals.items c.loop-one.tallies c.args.plan.now c.args.captures.now texts _ _ =
     subst (λ (t : List (List ℕ)). AreCut c.loop-one.totals.items c.loop-one.tallies c.args.plan.now c.args.captures.now t (files_of (g.M.Maker.making c.args.made.now) (g.M.Sink.taken c.args.made.now)) (files_of (g.M.Maker.making c.loop-one.made) (g.M.Sink.taken c.loop-one.made))) (take_all index texts past)
